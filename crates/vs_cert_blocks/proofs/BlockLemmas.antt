@@ -10,9 +10,9 @@ use Rattle.vs_design.specs.declared.statement.EventTerm.{EventTerm}
 use Rattle.vs_design.specs.Parts.{Parts}
 use Rattle.vs_law_writes.specs.Writes.{statement_writes}
 use Rattle.vs_rules.specs.Paths.{Has, text_reads}
-use Rattle.vs_slots_paths.specs.Ranges.{HasSignal, HasTermAt}
-use Rattle.vs_slots_paths.specs.Reaches.{Chart}
-use Rattle.vs_slots_paths.proofs.RangeLemmas.{first_in, later_in, in_either}
+use Rattle.vs_cert_facts.specs.vs_slots_paths.specs.Ranges.{HasSignal, HasTermAt}
+use Rattle.vs_cert_facts.specs.vs_slots_paths.specs.Reaches.{Chart}
+use Rattle.vs_cert_facts.specs.vs_slots_paths.proofs.RangeLemmas.{first_in, later_in, in_either}
 use Rattle.vs_slots_ranges.specs.Places.{bit}
 use Rattle.vs_slots_ranges.specs.Ranges.{Cover}
 use Rattle.vs_slots_ranges.proofs.Words.{parted}

@@ -4,15 +4,15 @@ use Rattle.std.specs.List.{Contains, list_any}
 use Rattle.std.proofs.lemmas.List.{get_or_default}
 use Rattle.std.proofs.lemmas.List.Elements.{Contains-push_cases, Contains-get_or}
 use Rattle.std.proofs.lemmas.Option.{slice_get_within, get_or_from_slice_get}
-use Rattle.vs_logic4.proofs.Basics.{element_of}
+use Rattle.vs_design.specs.vs_logic4.proofs.Basics.{element_of}
 use Rattle.vs_design.specs.declared.range.BitRange.{BitRange}
 use Rattle.vs_design.specs.Uses.{covers}
 use Rattle.vs_flatcode.specs.Stops.{stop_at, stop_statement, stops_tos}
 use Rattle.vs_flatcode.specs.Ways.{none}
 use Rattle.vs_rules.specs.Paths.{Bit, Has}
-use Rattle.vs_slots_paths.specs.Reaches.{Chart, pause_at, pause_of}
-use Rattle.vs_slots_paths.specs.Ranges.{ranges_of, reads_at, HasSignal}
-use Rattle.vs_slots_paths.proofs.RangeLemmas.{in_either}
+use Rattle.vs_cert_facts.specs.vs_slots_paths.specs.Reaches.{Chart, pause_at, pause_of}
+use Rattle.vs_cert_facts.specs.vs_slots_paths.specs.Ranges.{ranges_of, reads_at, HasSignal}
+use Rattle.vs_cert_facts.specs.vs_slots_paths.proofs.RangeLemmas.{in_either}
 use Rattle.vs_slots_ranges.proofs.Words.{parted}
 use Rattle.vs_slots_signals.specs.Signals.{AreOf}
 use Rattle.vs_cert_blocks.specs.Early.{AreEarly, IsScanned, IsUnseen}

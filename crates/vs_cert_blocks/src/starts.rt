@@ -7,8 +7,8 @@ use crate::early::{are_up_to, greatest_of, least_of, noted};
 use crate::walks::{is_at_once, push_sure, row, statement_at};
 use std::alloc::{AllocError, Global};
 use std::collections::BTreeMap;
+use vs_cert_facts::vs_slots_paths::Tables;
 use vs_design::BitRange;
-use vs_slots_paths::Tables;
 use vs_slots_signals::SignalSet;
 
 // Gives a signal a place, where it has none yet and isn't among some.

@@ -3,3 +3,4 @@ pub mod Answers
 pub mod Marks
 pub mod Means
 pub mod Places
+pub use Rattle.vs_cert_starts.specs.vs_rules

@@ -10,3 +10,4 @@ pub use judging::check;
 pub use laws::{least_is_verdict, rules_by_places};
 pub use verdict::Verdict;
 pub use vs_cert_delays::{closed_are_kept, keeps_delays, keeps_residues, residues_by_places};
+pub use vs_cert_starts::vs_rules;

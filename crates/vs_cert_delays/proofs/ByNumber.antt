@@ -8,7 +8,7 @@ use Rattle.vs_rules.specs.Certificates.{residues_from}
 use Rattle.vs_rules.specs.Claims.{Claims, HasLists}
 use Rattle.vs_rules.specs.Rules.{K8}
 use Rattle.vs_slots_paths.specs.Reaches.{Chart}
-use Rattle.vs_cert_facts.specs.Facts.{AreCharts}
+use Rattle.vs_slots.specs.vs_cert_facts.specs.Facts.{AreCharts}
 use Rattle.vs_cert_delays.specs.Closed.{KeepsResidues}
 use Rattle.vs_cert_delays.specs.Residues.{ClosedAreKept}
 

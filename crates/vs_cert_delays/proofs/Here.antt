@@ -8,7 +8,7 @@ use Rattle.vs_design.specs.declared.statement.EventTerm.{EventTerm}
 use Rattle.vs_design.specs.declared.statement.Statement.{Statement}
 use Rattle.vs_flatcode.specs.Ways.{Pause, none, delay, event}
 use Rattle.vs_flatcode.specs.Stops.{stop_statement, stops_tos}
-use Rattle.vs_reach.specs.Reached.{Reached}
+use Rattle.vs_slots_paths.specs.vs_reach.specs.Reached.{Reached}
 use Rattle.vs_slots_paths.specs.declared.along.Along.TheVariants.{Plain}
 use Rattle.vs_slots_paths.specs.Indexes.{AreRows, row_of}
 use Rattle.vs_slots_paths.specs.Reaches.{Chart, IsPlace, InSlot0, pause_at, pause_of, places, stops_along}

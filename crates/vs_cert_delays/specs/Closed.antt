@@ -6,7 +6,7 @@ use Rattle.std.specs.declared.alloc.Global.{Global}
 use Rattle.vs_design.specs.declared.statement.Statement.{Statement}
 use Rattle.vs_flatcode.specs.Ways.{Pause, none, delay, event}
 use Rattle.vs_flatcode.specs.Stops.{stops_tos}
-use Rattle.vs_reach.specs.Reached.{Reached}
+use Rattle.vs_slots_paths.specs.vs_reach.specs.Reached.{Reached}
 use Rattle.vs_rules.specs.Certificates.{residues_from}
 use Rattle.vs_rules.specs.Controls.{controls_in, list_of}
 use Rattle.vs_slots_paths.specs.declared.along.Along.TheVariants.{Plain}

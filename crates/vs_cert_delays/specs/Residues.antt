@@ -9,7 +9,7 @@ use Rattle.vs_design.specs.Parts.{Parts}
 use Rattle.vs_flatcode.specs.Ways.{delay, event}
 use Rattle.vs_flatcode.specs.Stops.{Stop, stops_tos, IsText}
 use Rattle.vs_rules.specs.Controls.{controls_of, list_of}
-use Rattle.vs_reach.specs.Reached.{Reached}
+use Rattle.vs_slots_paths.specs.vs_reach.specs.Reached.{Reached}
 use Rattle.vs_slots_paths.specs.declared.along.Along.TheVariants.{Plain}
 use Rattle.vs_slots_paths.specs.Reaches.{Chart, IsPlace, InSlot0, pause_at, stops_along}
 use Rattle.vs_rules.specs.Claims.{Claims, HasLists, IsDelay}

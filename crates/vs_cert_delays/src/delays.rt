@@ -5,7 +5,7 @@ ghost use Rattle.vs_rules.specs.Rules.{K8};
 use crate::laws::closed_are_kept;
 use crate::residues::keeps_residues;
 use std::alloc::{AllocError, Global};
-use vs_cert_facts::Facts;
+use vs_slots::vs_cert_facts::Facts;
 
 /// Whether a process keeps the rule K8: one of kind delay has delay controls alone, a list of residues for each, and the lists are closed.
 pub fn keeps_delays(alloc: Global, facts: &Facts, i: usize) -> Result<bool, AllocError>

@@ -8,3 +8,4 @@ mod residues;
 pub use delays::keeps_delays;
 pub use laws::{closed_are_kept, residues_by_places};
 pub use residues::keeps_residues;
+pub use vs_slots;

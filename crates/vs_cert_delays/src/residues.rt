@@ -10,8 +10,8 @@ ghost use Rattle.vs_cert_delays.specs.Places.{list_at, HasNoEvent, PlaceBegins, 
 
 use std::alloc::{AllocError, Global};
 use vs_design::Statement;
-use vs_reach::{Rule, all_keep};
 use vs_slots::ControlLists;
+use vs_slots_paths::vs_reach::{Rule, all_keep};
 use vs_slots_paths::{Pause, Tables, controls, controls_before};
 
 // A residue after so many ticks.

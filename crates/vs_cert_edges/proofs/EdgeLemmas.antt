@@ -14,14 +14,14 @@ use Rattle.vs_rules.specs.Claims.{Claims, Kind, IsEdge, kind_for, kind_of}
 use Rattle.vs_rules.specs.Paths.{IsPoint}
 use Rattle.vs_rules.specs.Rules.{AreEdges, K7}
 use Rattle.vs_rules.specs.Slots.{FiresOf}
-use Rattle.vs_slots_paths.specs.Reaches.{Chart, IsPlace, pause_at, pause_of}
-use Rattle.vs_slots_paths.proofs.EachWalk.{terms_exact}
-use Rattle.vs_slots_paths.proofs.Texts.{place_of, place_back, step_on, step_back, control_on}
-use Rattle.vs_slots_paths.specs.Ranges.{HasTermAt}
+use Rattle.vs_cert_facts.specs.vs_slots_paths.specs.Reaches.{Chart, IsPlace, pause_at, pause_of}
+use Rattle.vs_cert_facts.specs.vs_slots_paths.proofs.EachWalk.{terms_exact}
+use Rattle.vs_cert_facts.specs.vs_slots_paths.proofs.Texts.{place_of, place_back, step_on, step_back, control_on}
+use Rattle.vs_cert_facts.specs.vs_slots_paths.specs.Ranges.{HasTermAt}
 use Rattle.vs_cert_edges.specs.EdgePlaces.{WaitsForEdges, FiresIn, K7_Places, EdgesAreByPlaces, AreKnown, IsKnown, IsPair}
 use Rattle.vs_cert_edges.specs.declared.edges.Term.{Term}
 use Rattle.vs_cert_facts.specs.Facts.{Case, AreCharts}
-use Rattle.vs_slots.proofs.KeptLemmas.{process_of, text_of, there_is}
+use Rattle.vs_slots_fanout.specs.vs_slots.proofs.KeptLemmas.{process_of, text_of, there_is}
 
 abbrev pause_in : Next → Pause
 pause_in (on l) = none

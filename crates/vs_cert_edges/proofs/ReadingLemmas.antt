@@ -10,22 +10,22 @@ use Rattle.vs_design.specs.Parts.{Parts}
 use Rattle.vs_flatcode.specs.Places.{perform, turns, Todo}
 use Rattle.vs_flatcode.specs.Numbers.{number_next}
 use Rattle.vs_flatcode.specs.Stops.{Stop, IsText}
-use Rattle.vs_law_threads.specs.Threads.{todo_reads, own_shows, todo_shows}
+use Rattle.vs_rules.specs.vs_law_threads.specs.Threads.{todo_reads, own_shows, todo_shows}
 use Rattle.vs_rules.specs.Claims.{Claims, IsRootOf, IsSequential, edges, delays}
 use Rattle.vs_rules.specs.Paths.{IsHot}
 use Rattle.vs_rules.specs.Rules.{K9, Reads, IsOwnRead, IsOwnEdge, AreApart}
-use Rattle.vs_slots_paths.specs.Reaches.{Chart, IsPlace}
-use Rattle.vs_slots_paths.proofs.EachPoint.{reads_here, shows_here, reads_numbered}
-use Rattle.vs_slots_paths.proofs.EachWalk.{hot_exact, terms_exact}
-use Rattle.vs_slots_paths.proofs.Texts.{place_of, place_back}
-use Rattle.vs_slots_paths.specs.Ranges.{HasTermAt, reads_at, shows_at}
-use Rattle.vs_slots_paths.specs.Walks.{InHot}
+use Rattle.vs_cert_facts.specs.vs_slots_paths.specs.Reaches.{Chart, IsPlace}
+use Rattle.vs_cert_facts.specs.vs_slots_paths.proofs.EachPoint.{reads_here, shows_here, reads_numbered}
+use Rattle.vs_cert_facts.specs.vs_slots_paths.proofs.EachWalk.{hot_exact, terms_exact}
+use Rattle.vs_cert_facts.specs.vs_slots_paths.proofs.Texts.{place_of, place_back}
+use Rattle.vs_cert_facts.specs.vs_slots_paths.specs.Ranges.{HasTermAt, reads_at, shows_at}
+use Rattle.vs_cert_facts.specs.vs_slots_paths.specs.Walks.{InHot}
 use Rattle.vs_cert_edges.specs.ReadingPlaces.{ReadsAt, OwnReadAt, OwnEdgeAt, IsTermApart, MayReadOf, MayReadRange, MayReadAt, ReadingsAreByPlaces, RootsApart}
 use Rattle.vs_cert_facts.specs.Facts.{Case, AreCharts}
-use Rattle.vs_slots.proofs.KeptLemmas.{process_of, text_of}
+use Rattle.vs_slots_fanout.specs.vs_slots.proofs.KeptLemmas.{process_of, text_of}
 use Rattle.vs_cert_edges.proofs.PairLemmas.{by_places}
-use Rattle.vs_slots.proofs.FiringLemmas.{numbered_layer}
-use Rattle.vs_slots.proofs.RunLemmas.{runs_are_exact}
+use Rattle.vs_slots_fanout.specs.vs_slots.proofs.FiringLemmas.{numbered_layer}
+use Rattle.vs_slots_fanout.specs.vs_slots.proofs.RunLemmas.{runs_are_exact}
 use Rattle.vs_cert_edges.proofs.EdgeLemmas.{edges_are_by_places, has_chart}
 
 shows_numbered : (k : Todo) (r : BitRange) → Contains (todo_shows k) r → (n : ℕ) × (number_next k ≡ Some n)

@@ -9,8 +9,8 @@ use Rattle.vs_flatcode.specs.Ways.{Pause, none, delay, event}
 use Rattle.vs_rules.specs.Claims.{Claims, IsEdge, IsRootOf}
 use Rattle.vs_rules.specs.Rules.{AreEdges, K7}
 use Rattle.vs_rules.specs.Slots.{Fires, FiresOf}
-use Rattle.vs_slots_paths.specs.Reaches.{Chart, IsPlace, pause_at}
-use Rattle.vs_slots_paths.specs.Ranges.{HasTermAt}
+use Rattle.vs_cert_facts.specs.vs_slots_paths.specs.Reaches.{Chart, IsPlace, pause_at}
+use Rattle.vs_cert_facts.specs.vs_slots_paths.specs.Ranges.{HasTermAt}
 use Rattle.vs_cert_edges.specs.declared.edges.Term.{Term}
 
 -- it goes on through no control, or waits for edges alone

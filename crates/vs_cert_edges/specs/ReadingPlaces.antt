@@ -6,15 +6,15 @@ use Rattle.vs_design.specs.declared.range.BitRange.{BitRange}
 use Rattle.vs_design.specs.declared.statement.EventTerm.{EventTerm}
 use Rattle.vs_design.specs.Parts.{Parts}
 use Rattle.vs_flatcode.specs.Stops.{Stop, IsText}
-use Rattle.vs_process.specs.Executions.{is_level}
+use Rattle.vs_cert_facts.specs.vs_process.specs.Executions.{is_level}
 use Rattle.vs_rules.specs.Claims.{Claims, IsSequential, IsRootOf, IsWriter}
 use Rattle.vs_rules.specs.Drivers.{IsBlocking, InCone}
 use Rattle.vs_rules.specs.Rules.{K9}
 use Rattle.vs_rules.specs.Slots.{Fires, HasWriteSlot}
-use Rattle.vs_slots_paths.specs.Reaches.{Chart, IsPlace}
-use Rattle.vs_slots_paths.specs.Ranges.{HasTermAt, reads_at, shows_at}
-use Rattle.vs_slots_paths.specs.Walks.{InHot}
-use Rattle.vs_slots.specs.Runs.{HasRun}
+use Rattle.vs_cert_facts.specs.vs_slots_paths.specs.Reaches.{Chart, IsPlace}
+use Rattle.vs_cert_facts.specs.vs_slots_paths.specs.Ranges.{HasTermAt, reads_at, shows_at}
+use Rattle.vs_cert_facts.specs.vs_slots_paths.specs.Walks.{InHot}
+use Rattle.vs_slots_fanout.specs.vs_slots.specs.Runs.{HasRun}
 use Rattle.vs_cert_edges.specs.EdgePlaces.{FiresIn}
 
 -- what counts as a read of the statement at a place

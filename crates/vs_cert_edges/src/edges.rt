@@ -1,19 +1,19 @@
 //! The rule K7, on processes that wait for edges.
 ghost use Rattle.std.specs.Prelude.{ℕ, ◌≡◌, ◌↔◌, Some, IfOk, IsTrue, slice_get};
 ghost use Rattle.std.specs.List.{Contains, list_any};
-ghost use Rattle.vs_process.specs.Executions.{is_level};
+ghost use Rattle.vs_cert_facts.specs.vs_process.specs.Executions.{is_level};
 ghost use Rattle.vs_rules.specs.Rules.{K7};
-ghost use Rattle.vs_slots_paths.specs.Reaches.{pause_at, pause_view, IsPlace};
+ghost use Rattle.vs_cert_facts.specs.vs_slots_paths.specs.Reaches.{pause_at, pause_view, IsPlace};
 ghost use Rattle.vs_cert_edges.specs.declared.edges.Term as edges;
 ghost use Rattle.vs_cert_edges.specs.EdgePlaces.{AreKnown, AreRootsApart, IsKnown, IsOneSignal, IsPair, K7_Places, WaitsForEdges};
 
 use crate::lists::are_same;
 use std::alloc::{AllocError, Global};
+use vs_cert_facts::vs_slots_paths::{Pause, Tables, terms};
 use vs_design::EventTerm;
-use vs_logic4::Edge;
+use vs_design::vs_logic4::Edge;
 use vs_reach::{Rule, all_keep, is_apart};
-use vs_slots::{Slots, are_apart};
-use vs_slots_paths::{Pause, Tables, terms};
+use vs_slots_fanout::vs_slots::{Slots, are_apart};
 
 // ---- what is waited for
 

@@ -9,3 +9,4 @@ mod readings;
 pub use edges::{Term, keeps_edges};
 pub use laws::{edges_are_by_places, readings_are_by_places};
 pub use readings::keeps_readings;
+pub use vs_slots_fanout;

@@ -6,21 +6,21 @@ ghost use Rattle.vs_design.specs.declared.statement.EventTerm as statement;
 ghost use Rattle.vs_rules.specs.Claims.{IsWriter};
 ghost use Rattle.vs_rules.specs.Drivers.{InCone};
 ghost use Rattle.vs_rules.specs.Rules.{K9};
-ghost use Rattle.vs_slots_cones.specs.Wires.{IsWiringOf};
-ghost use Rattle.vs_slots_paths.specs.Ranges.{HasTermAt};
-ghost use Rattle.vs_slots_paths.specs.Reaches.{places, IsPlace};
-ghost use Rattle.vs_slots_paths.specs.Walks.{InHot};
+ghost use Rattle.vs_slots_fanout.specs.vs_slots_cones.specs.Wires.{IsWiringOf};
+ghost use Rattle.vs_cert_facts.specs.vs_slots_paths.specs.Ranges.{HasTermAt};
+ghost use Rattle.vs_cert_facts.specs.vs_slots_paths.specs.Reaches.{places, IsPlace};
+ghost use Rattle.vs_cert_facts.specs.vs_slots_paths.specs.Walks.{InHot};
 ghost use Rattle.vs_cert_edges.specs.ReadingPlaces.{ApartAt, IsEdgeOf, IsTermApart, MayReadAt, MayReadOf, MayReadRange, OwnEdgeAt, OwnReadAt, RootsApart};
 
 use crate::lists::all_are;
 use std::alloc::{AllocError, Global};
+use vs_cert_facts::vs_slots_paths::{Tables, hot, terms};
+use vs_design::vs_logic4::Edge;
 use vs_design::{BitRange, EventTerm};
-use vs_logic4::Edge;
 use vs_reach::{Rule, all_keep};
-use vs_slots::{Slots, are_apart};
-use vs_slots_cones::Cones;
 use vs_slots_fanout::WriteClasses;
-use vs_slots_paths::{Tables, hot, terms};
+use vs_slots_fanout::vs_slots::{Slots, are_apart};
+use vs_slots_fanout::vs_slots_cones::Cones;
 
 // Whether a root isn't written at a residue at which a term of another root can fire.
 fn is_term_apart<'a>(

@@ -12,10 +12,10 @@ use Rattle.vs_design.specs.declared.design.Assign.{Assign}
 use Rattle.vs_design.specs.declared.design.Process.{Process}
 use Rattle.vs_design.specs.declared.signal.Signal.{Signal}
 use Rattle.vs_design.specs.Parts.{Parts}
-use Rattle.vs_rules.specs.Certificates.{kind_from, name_from, name_unless_empty, edge_claim, process_claim}
-use Rattle.vs_rules.specs.Certificates as from
-use Rattle.vs_rules.specs.Claims.{Name, Claims, SignalClaim, ProcessClaim, EdgeClaim, times_in, signal_names, process_names, edge_signals, edge_names, names_of_edge, signal_claim, kind_in, claim_of, claim_for, kind_of, kind_for, place_of}
-use Rattle.vs_rules.specs.Claims.{IsSignalNamed, IsProcessNamed, IsAssignNamed, signal_name, process_name, assign_name}
+use Rattle.vs_cert_index.specs.vs_rules.specs.Certificates.{kind_from, name_from, name_unless_empty, edge_claim, process_claim}
+use Rattle.vs_cert_index.specs.vs_rules.specs.Certificates as from
+use Rattle.vs_cert_index.specs.vs_rules.specs.Claims.{Name, Claims, SignalClaim, ProcessClaim, EdgeClaim, times_in, signal_names, process_names, edge_signals, edge_names, names_of_edge, signal_claim, kind_in, claim_of, claim_for, kind_of, kind_for, place_of}
+use Rattle.vs_cert_index.specs.vs_rules.specs.Claims.{IsSignalNamed, IsProcessNamed, IsAssignNamed, signal_name, process_name, assign_name}
 use Rattle.vs_slots_paths.specs.Reaches.{Chart}
 use Rattle.vs_cert_facts.specs.declared.names.Names.{Names}
 use Rattle.vs_cert_index.specs.Places.{place_in}

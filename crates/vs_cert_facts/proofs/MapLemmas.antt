@@ -8,8 +8,8 @@ use Rattle.vs_design.specs.declared.design.Process.{Process}
 use Rattle.vs_design.specs.declared.statement.Statement.{Statement}
 use Rattle.vs_design.specs.Parts.{Parts}
 use Rattle.vs_design.specs.WellFormed.{WellFormed, is_sound_process, is_sound_statement, counts_from, numbers, is_body_of}
-use Rattle.vs_flatcode.specs.declared.stops.TextMap as h
-use Rattle.vs_flatcode.specs.Stops.{IsText}
+use Rattle.vs_process.specs.vs_flatcode.specs.declared.stops.TextMap as h
+use Rattle.vs_process.specs.vs_flatcode.specs.Stops.{IsText}
 use Rattle.vs_slots_paths.specs.Reaches.{Chart, chart_of}
 use Rattle.vs_cert_facts.specs.Facts.{AreCharts, bodies}
 

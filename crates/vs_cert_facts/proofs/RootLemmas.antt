@@ -9,8 +9,8 @@ use Rattle.vs_certificate.specs.declared.members.Certificate.{Certificate}
 use Rattle.vs_certificate.specs.declared.members.EdgeSignal.{EdgeSignal}
 use Rattle.vs_design.specs.declared.signal.Signal.{Signal}
 use Rattle.vs_design.specs.Parts.{Parts}
-use Rattle.vs_rules.specs.Certificates.{edge_claim, name_from}
-use Rattle.vs_rules.specs.Claims.{Name, Claims, EdgeClaim, signal_name, edge_signals, times_in, IsSignalNamed, IsRootOf, IsRoot}
+use Rattle.vs_cert_index.specs.vs_rules.specs.Certificates.{edge_claim, name_from}
+use Rattle.vs_cert_index.specs.vs_rules.specs.Claims.{Name, Claims, EdgeClaim, signal_name, edge_signals, times_in, IsSignalNamed, IsRootOf, IsRoot}
 use Rattle.vs_slots_paths.specs.Reaches.{Chart}
 use Rattle.vs_cert_facts.specs.declared.names.Names.{Names}
 use Rattle.vs_cert_index.specs.Places.{place_in}

@@ -7,9 +7,9 @@ use Rattle.vs_certificate.specs.declared.members.ClaimedKind.{ClaimedKind}
 use Rattle.vs_design.specs.declared.design.Process.{Process}
 use Rattle.vs_design.specs.declared.statement.Statement.{Statement}
 use Rattle.vs_design.specs.Parts.{Parts}
-use Rattle.vs_flatcode.specs.Stops.{IsText}
-use Rattle.vs_rules.specs.Certificates.{claims_of, kind_from, residues_from}
-use Rattle.vs_rules.specs.Claims.{Claims, EdgeClaim, Kind, IsDelay, HasLists, IsSignalNamed}
+use Rattle.vs_process.specs.vs_flatcode.specs.Stops.{IsText}
+use Rattle.vs_cert_index.specs.vs_rules.specs.Certificates.{claims_of, kind_from, residues_from}
+use Rattle.vs_cert_index.specs.vs_rules.specs.Claims.{Claims, EdgeClaim, Kind, IsDelay, HasLists, IsSignalNamed}
 use Rattle.vs_slots_paths.specs.Reaches.{Chart}
 
 -- a design, what a certificate claims of it, and the maps of the texts of its processes

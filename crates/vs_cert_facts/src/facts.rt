@@ -2,11 +2,11 @@
 ghost use Rattle.std.specs.Prelude.{ℕ, ◌≡◌, ◌↔◌, ◌⊎◌, ◌==◌, true, Some, IfOk, OnOk, IsTrue, not, is_some, length, option_map, slice_get};
 ghost use Rattle.std.specs.List.{Contains};
 ghost use Rattle.vs_design.specs.WellFormed.{WellFormed};
-ghost use Rattle.vs_rules.specs.Certificates.{claims_of, mode_from, grain_from, name_unless_empty};
-ghost use Rattle.vs_rules.specs.Claims.{claim_of, mode_in, writer_in, second_in, kind_of, names_process, assign_name, process_name};
-ghost use Rattle.vs_rules.specs.Claims.{place_of, times_in, signal_names, process_names, edge_signals, edge_names};
-ghost use Rattle.vs_rules.specs.Claims.{IsSignalNamed, IsProcessNamed, IsAssignNamed, IsWriter, IsSecond, IsBlock, IsEdge, IsDelay, IsSequential, IsRootOf, IsRoot};
-ghost use Rattle.vs_rules.specs.Limits.{IsCertificate};
+ghost use Rattle.vs_cert_index.specs.vs_rules.specs.Certificates.{claims_of, mode_from, grain_from, name_unless_empty};
+ghost use Rattle.vs_cert_index.specs.vs_rules.specs.Claims.{claim_of, mode_in, writer_in, second_in, kind_of, names_process, assign_name, process_name};
+ghost use Rattle.vs_cert_index.specs.vs_rules.specs.Claims.{place_of, times_in, signal_names, process_names, edge_signals, edge_names};
+ghost use Rattle.vs_cert_index.specs.vs_rules.specs.Claims.{IsSignalNamed, IsProcessNamed, IsAssignNamed, IsWriter, IsSecond, IsBlock, IsEdge, IsDelay, IsSequential, IsRootOf, IsRoot};
+ghost use Rattle.vs_cert_index.specs.vs_rules.specs.Limits.{IsCertificate};
 ghost use Rattle.vs_cert_facts.specs.declared.facts.EntriesOf.TheVariants.{One};
 ghost use Rattle.vs_cert_facts.specs.Facts.{AreCharts, AreListsOf, IsRootAt, case_of, seen, kind_seen};
 ghost use Rattle.vs_cert_facts.specs.passes.Kept.{AreEntriesOf, entry_seen};

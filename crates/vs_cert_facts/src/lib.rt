@@ -9,3 +9,5 @@ mod words;
 
 pub use facts::Facts;
 pub use maps::{codes, tables, texts};
+pub use vs_process;
+pub use vs_slots_paths;

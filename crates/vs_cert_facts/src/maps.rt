@@ -5,7 +5,7 @@ ghost use Rattle.vs_cert_facts.specs.Facts.{AreCharts, bodies};
 
 use std::alloc::{AllocError, Global};
 use vs_design::Design;
-use vs_flatcode::{Code, TextMap, compile};
+use vs_process::vs_flatcode::{Code, TextMap, compile};
 use vs_slots_paths::Tables;
 
 /// The flat codes of the processes of a design, in design order.

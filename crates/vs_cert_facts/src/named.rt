@@ -1,6 +1,6 @@
 //! What has a name.
 ghost use Rattle.std.specs.Prelude.{◌≡◌, ℕ, List, IfOk, map};
-ghost use Rattle.vs_rules.specs.Certificates.{name_from};
+ghost use Rattle.vs_cert_index.specs.vs_rules.specs.Certificates.{name_from};
 
 use std::alloc::{AllocError, Global};
 use vs_cert_index::Index;

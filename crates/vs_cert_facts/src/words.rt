@@ -1,8 +1,8 @@
 //! What the words of a certificate say.
 ghost use Rattle.std.specs.Prelude.{◌≡◌, ◌↔◌, IsTrue, Some};
 ghost use Rattle.vs_certificate.specs.JsonValue.{version_number};
-ghost use Rattle.vs_rules.specs.Certificates.{displays_from, grain_from, kind_from};
-ghost use Rattle.vs_rules.specs.Claims.{edges};
+ghost use Rattle.vs_cert_index.specs.vs_rules.specs.Certificates.{displays_from, grain_from, kind_from};
+ghost use Rattle.vs_cert_index.specs.vs_rules.specs.Claims.{edges};
 ghost use Rattle.vs_cert_facts.specs.Facts.{kind_seen};
 ghost use Rattle.vs_cert_facts.specs.passes.Kept.{IsBlockKind, AreKindLists};
 

@@ -7,8 +7,8 @@ use Rattle.vs_rules.specs.Claims.{Claims, HasKind, IsBlock, IsSequential}
 use Rattle.vs_rules.specs.Drivers.{block, DriverNeeds, InCone}
 use Rattle.vs_rules.specs.Paths.{Writes}
 use Rattle.vs_rules.specs.Rules.{BlockNeeds}
-use Rattle.vs_slots_paths.specs.Ranges.{HasSignal, now_at, reads_at, shows_at}
-use Rattle.vs_slots_paths.specs.Reaches.{Chart, IsPlace, InSlot0, InPrologue}
+use Rattle.vs_slots_cones.specs.vs_slots_paths.specs.Ranges.{HasSignal, now_at, reads_at, shows_at}
+use Rattle.vs_slots_cones.specs.vs_slots_paths.specs.Reaches.{Chart, IsPlace, InSlot0, InPrologue}
 use Rattle.vs_slots_uses.specs.Texts.{Texts}
 use Rattle.vs_cert_facts.specs.Facts.{Case}
 

@@ -1,1 +1,2 @@
 pub mod FirstSlot
+pub use Rattle.vs_slots_cones

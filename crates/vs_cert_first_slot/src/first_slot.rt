@@ -5,8 +5,8 @@ ghost use Rattle.vs_design.specs.Kinds.{is_variable};
 ghost use Rattle.vs_rules.specs.Claims.{IsSequential};
 ghost use Rattle.vs_rules.specs.Rules.{K10_Process};
 ghost use Rattle.vs_slots_cones.specs.Wires.{IsWiringOf};
-ghost use Rattle.vs_slots_paths.specs.Ranges.{now_at};
-ghost use Rattle.vs_slots_paths.specs.Reaches.{InSlot0, InPrologue};
+ghost use Rattle.vs_slots_cones.specs.vs_slots_paths.specs.Ranges.{now_at};
+ghost use Rattle.vs_slots_cones.specs.vs_slots_paths.specs.Reaches.{InSlot0, InPrologue};
 ghost use Rattle.vs_cert_first_slot.specs.FirstSlot.{IsOwn, AreOwn, NoneHangs, ReadsOwn, KeepsFirst};
 
 use crate::hung::hung;
@@ -16,7 +16,7 @@ use vs_cert_facts::Facts;
 use vs_design::{BitRange, SignalKind};
 use vs_reach::{Rule, all_keep};
 use vs_slots_cones::Cones;
-use vs_slots_paths::Tables;
+use vs_slots_cones::vs_slots_paths::Tables;
 use vs_slots_uses::Uses;
 
 /// What the rule K10 asks of processes. A contract sees the facts.

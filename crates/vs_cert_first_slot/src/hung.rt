@@ -4,8 +4,8 @@ ghost use Rattle.std.specs.List.{Contains};
 ghost use Rattle.vs_design.specs.declared.range.BitRange as range;
 ghost use Rattle.vs_rules.specs.Rules.{BlockNeeds};
 ghost use Rattle.vs_slots_cones.specs.Wires.{IsWiringOf};
-ghost use Rattle.vs_slots_paths.specs.Ranges.{shows_at};
-ghost use Rattle.vs_slots_paths.specs.Reaches.{IsPlace};
+ghost use Rattle.vs_slots_cones.specs.vs_slots_paths.specs.Ranges.{shows_at};
+ghost use Rattle.vs_slots_cones.specs.vs_slots_paths.specs.Reaches.{IsPlace};
 ghost use Rattle.vs_cert_facts.specs.Facts.{seen};
 ghost use Rattle.vs_cert_first_slot.specs.FirstSlot.{NeedsIn, ShowsIn, AreHung};
 ghost use Rattle.vs_cert_first_slot.specs.FirstSlot as first;
@@ -14,7 +14,7 @@ use std::alloc::{AllocError, Global};
 use vs_cert_facts::Facts;
 use vs_design::BitRange;
 use vs_slots_cones::Cones;
-use vs_slots_paths::Tables;
+use vs_slots_cones::vs_slots_paths::Tables;
 
 // Puts what is shown at a place, where it is a point.
 fn push_shows_at(

@@ -3,9 +3,9 @@ use Rattle.std.proofs.Common.{◌≡◌, ℕ, zero, suc, ◌+◌, ◌⊎◌, ◌
 use Rattle.std.specs.List.{flat_map}
 use Rattle.std.proofs.lemmas.List.{map-append}
 use Rattle.vs_certificate.specs.declared.members.Certificate.{Certificate}
-use Rattle.vs_rules.specs.Certificates.{claims_of, edge_claim, name_from, process_claim, signal_claim}
-use Rattle.vs_rules.specs.Claims.{Name, Claims, ProcessClaim, SignalClaim, all_names, names_of_edge}
-use Rattle.vs_rules.specs.Verdict.{Subject, numbers}
+use Rattle.vs_cert_index.specs.vs_rules.specs.Certificates.{claims_of, edge_claim, name_from, process_claim, signal_claim}
+use Rattle.vs_cert_index.specs.vs_rules.specs.Claims.{Name, Claims, ProcessClaim, SignalClaim, all_names, names_of_edge}
+use Rattle.vs_cert_index.specs.vs_rules.specs.Verdict.{Subject, numbers}
 use Rattle.vs_cert_names.specs.declared.subjects.Subject as kept
 use Rattle.vs_cert_names.specs.Subjects.{subject_view}
 

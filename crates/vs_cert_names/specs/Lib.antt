@@ -1,2 +1,3 @@
 pub mod Subjects
 pub mod Ordered
+pub use Rattle.vs_certificate

@@ -1,5 +1,5 @@
 -- Subjects of rules, as they are kept.
-use Rattle.vs_rules.specs.Verdict.{Subject, signal, assign, process, listed}
+use Rattle.vs_cert_index.specs.vs_rules.specs.Verdict.{Subject, signal, assign, process, listed}
 use Rattle.vs_cert_names.specs.declared.subjects.Subject as kept
 use Rattle.vs_cert_names.specs.declared.subjects.Subject.TheVariants as subjects
 

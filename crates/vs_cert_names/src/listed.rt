@@ -1,8 +1,8 @@
 //! The names of all lists of a certificate.
 ghost use Rattle.std.specs.Prelude.{◌≡◌, ◌++◌, map, IfOk, OnOk};
 ghost use Rattle.std.specs.List.{flat_map};
-ghost use Rattle.vs_rules.specs.Certificates.{edge_claim, name_from, process_claim, signal_claim};
-ghost use Rattle.vs_rules.specs.Claims.{all_names, names_of_edge, ProcessClaim, SignalClaim};
+ghost use Rattle.vs_cert_index.specs.vs_rules.specs.Certificates.{edge_claim, name_from, process_claim, signal_claim};
+ghost use Rattle.vs_cert_index.specs.vs_rules.specs.Claims.{all_names, names_of_edge, ProcessClaim, SignalClaim};
 ghost use Rattle.vs_cert_index.specs.Places.{texts};
 
 use std::alloc::{AllocError, Global};

@@ -1,8 +1,8 @@
 //! The rule K1: each list of a certificate names what it is a list of, each once, and nothing else.
 ghost use Rattle.std.specs.Prelude.{◌≡◌, ◌↔◌, ◌⊎◌, IsTrue};
-ghost use Rattle.vs_rules.specs.Claims.{IsBlock, signal_names, process_names, edge_names, times_in};
-ghost use Rattle.vs_rules.specs.Rules.{K1_Signal, K1_Assign, K1_Process, K1_Name, IsListed};
-ghost use Rattle.vs_rules.specs.Verdict.{OfAll};
+ghost use Rattle.vs_cert_index.specs.vs_rules.specs.Claims.{IsBlock, signal_names, process_names, edge_names, times_in};
+ghost use Rattle.vs_cert_index.specs.vs_rules.specs.Rules.{K1_Signal, K1_Assign, K1_Process, K1_Name, IsListed};
+ghost use Rattle.vs_cert_index.specs.vs_rules.specs.Verdict.{OfAll};
 ghost use Rattle.vs_cert_names.specs.Subjects.{subject_view};
 ghost use Rattle.vs_cert_names.specs.Ordered.{IsOrdered};
 

@@ -1,8 +1,8 @@
 //! The subjects of the rules.
 ghost use Rattle.std.specs.Prelude.{◌≡◌, ◌++◌, map, slice_get, IfOk, OnOk};
-ghost use Rattle.vs_rules.specs.Claims.{signal_name, assign_name, process_name};
-ghost use Rattle.vs_rules.specs.Verdict.{numbers, subjects, place_of};
-ghost use Rattle.vs_rules.specs.Verdict as verdict;
+ghost use Rattle.vs_cert_index.specs.vs_rules.specs.Claims.{signal_name, assign_name, process_name};
+ghost use Rattle.vs_cert_index.specs.vs_rules.specs.Verdict.{numbers, subjects, place_of};
+ghost use Rattle.vs_cert_index.specs.vs_rules.specs.Verdict as verdict;
 ghost use Rattle.vs_cert_facts.specs.Facts.{seen};
 ghost use Rattle.vs_cert_index.specs.Places.{texts};
 ghost use Rattle.vs_cert_names.specs.Subjects.{subject_view};

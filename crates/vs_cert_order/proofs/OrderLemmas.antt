@@ -12,11 +12,11 @@ use Rattle.vs_design.specs.Parts.{Parts}
 use Rattle.vs_design.specs.Uses.{reads}
 use Rattle.vs_design.specs.declared.design.Process.{Process}
 use Rattle.std.proofs.lemmas.List.Elements.{Contains-get_or}
-use Rattle.vs_rules.specs.Claims.{Claims, HasKind, IsBlock}
-use Rattle.vs_rules.specs.Drivers.{Driver, assign, block, IsDriver, DriverReads, DriverWrites, IsSource, StandsBefore, WritesBit}
-use Rattle.vs_rules.specs.Paths.{Bit, IsBit, Has, reads_for, text_reads}
-use Rattle.vs_rules.specs.Rules.{K4, IsSelf, IsCovered}
-use Rattle.vs_slots_paths.proofs.RangeLemmas.{first_in, later_in, in_either}
+use Rattle.vs_slots_ranges.specs.vs_rules.specs.Claims.{Claims, HasKind, IsBlock}
+use Rattle.vs_slots_ranges.specs.vs_rules.specs.Drivers.{Driver, assign, block, IsDriver, DriverReads, DriverWrites, IsSource, StandsBefore, WritesBit}
+use Rattle.vs_slots_ranges.specs.vs_rules.specs.Paths.{Bit, IsBit, Has, reads_for, text_reads}
+use Rattle.vs_slots_ranges.specs.vs_rules.specs.Rules.{K4, IsSelf, IsCovered}
+use Rattle.vs_slots_cones.specs.vs_slots_paths.proofs.RangeLemmas.{first_in, later_in, in_either}
 use Rattle.vs_slots_ranges.specs.Ranges.{Cover, Share}
 use Rattle.vs_slots_ranges.proofs.Words.{parted}
 use Rattle.vs_slots_cones.specs.declared.writers.Written.{Written}

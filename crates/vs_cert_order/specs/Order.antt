@@ -3,10 +3,10 @@ use Rattle.std.specs.Prelude.{ℕ, ◌≡◌, ◌<◌, ◌⊎◌, ◌↔◌, fal
 use Rattle.std.specs.List.{Contains}
 use Rattle.vs_design.specs.declared.range.BitRange.{BitRange}
 use Rattle.vs_design.specs.Parts.{Parts}
-use Rattle.vs_rules.specs.Claims.{Claims, HasKind}
-use Rattle.vs_rules.specs.Drivers.{Driver, IsDriver, DriverWrites, IsSource, StandsBefore, WritesBit}
-use Rattle.vs_rules.specs.Paths.{Bit, IsBit, Has}
-use Rattle.vs_rules.specs.Rules.{IsSelf, IsCovered}
+use Rattle.vs_slots_ranges.specs.vs_rules.specs.Claims.{Claims, HasKind}
+use Rattle.vs_slots_ranges.specs.vs_rules.specs.Drivers.{Driver, IsDriver, DriverWrites, IsSource, StandsBefore, WritesBit}
+use Rattle.vs_slots_ranges.specs.vs_rules.specs.Paths.{Bit, IsBit, Has}
+use Rattle.vs_slots_ranges.specs.vs_rules.specs.Rules.{IsSelf, IsCovered}
 use Rattle.vs_slots_cones.specs.declared.writers.Written.{Written}
 use Rattle.vs_slots_cones.specs.Wires.{driver_at}
 

@@ -1,8 +1,8 @@
 //! Which of two drivers stands in the order before the other.
 ghost use Rattle.std.specs.Prelude.{ℕ, ◌≡◌, ◌⊎◌, ◌↔◌, IsTrue, option_map};
-ghost use Rattle.vs_rules.specs.Claims.{place_of};
-ghost use Rattle.vs_rules.specs.Drivers.{driver_name, StandsBefore};
-ghost use Rattle.vs_rules.specs.Rules.{IsSelf};
+ghost use Rattle.vs_slots_ranges.specs.vs_rules.specs.Claims.{place_of};
+ghost use Rattle.vs_slots_ranges.specs.vs_rules.specs.Drivers.{driver_name, StandsBefore};
+ghost use Rattle.vs_slots_ranges.specs.vs_rules.specs.Rules.{IsSelf};
 ghost use Rattle.vs_slots_cones.specs.Wires.{driver_at};
 
 use vs_cert_facts::Facts;

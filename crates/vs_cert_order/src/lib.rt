@@ -6,3 +6,4 @@ mod order;
 mod rule;
 
 pub use rule::{keeps_assign_order, keeps_process_order};
+pub use vs_cert_facts;

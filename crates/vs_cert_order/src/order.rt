@@ -2,8 +2,8 @@
 ghost use Rattle.std.specs.Prelude.{◌≡◌, ◌⊎◌, ◌↔◌, false, not, IfOk, IsTrue};
 ghost use Rattle.std.specs.List.{Contains};
 ghost use Rattle.vs_design.specs.Kinds.{is_variable};
-ghost use Rattle.vs_rules.specs.Claims.{HasKind};
-ghost use Rattle.vs_rules.specs.Drivers.{IsSource};
+ghost use Rattle.vs_slots_ranges.specs.vs_rules.specs.Claims.{HasKind};
+ghost use Rattle.vs_slots_ranges.specs.vs_rules.specs.Drivers.{IsSource};
 ghost use Rattle.vs_slots_ranges.specs.Ranges.{Cover, Share};
 ghost use Rattle.vs_slots_cones.specs.declared.writers.Written as written;
 ghost use Rattle.vs_slots_cones.specs.Wires.{driver_at};

@@ -1,7 +1,7 @@
 //! The rule K4 of a driver, on the facts of a certificate.
 ghost use Rattle.std.specs.Prelude.{◌↔◌, IfOk, IsTrue};
-ghost use Rattle.vs_rules.specs.Drivers.{assign, block};
-ghost use Rattle.vs_rules.specs.Rules.{K4};
+ghost use Rattle.vs_slots_ranges.specs.vs_rules.specs.Drivers.{assign, block};
+ghost use Rattle.vs_slots_ranges.specs.vs_rules.specs.Rules.{K4};
 ghost use Rattle.vs_slots_cones.specs.Wires.{driver_at, IsWiringOf};
 ghost use Rattle.vs_cert_order.specs.Order.{KeepsReads};
 
@@ -10,7 +10,7 @@ use std::alloc::{AllocError, Global};
 use vs_cert_facts::Facts;
 use vs_design::{BitRange, reads};
 use vs_slots_cones::Cones;
-use vs_slots_paths::text_reads;
+use vs_slots_cones::vs_slots_paths::text_reads;
 
 // Whether a driver, by its number, keeps the rule K4 where it reads these ranges.
 fn keeps_reads<'a>(

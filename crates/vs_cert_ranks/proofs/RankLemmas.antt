@@ -6,10 +6,10 @@ use Rattle.vs_reach.specs.Owed.{owed}
 use Rattle.vs_reach.specs.Reached.{Reached, begins, goes_on}
 use Rattle.vs_reach.proofs.Sweep.{owed_set}
 use Rattle.vs_slots_copies.proofs.ListLemmas.{same_read}
-use Rattle.vs_slots_paths.specs.declared.along.Along.TheVariants.{ZeroTime}
-use Rattle.vs_slots_paths.specs.Inside.{along_in}
-use Rattle.vs_slots_paths.specs.Reaches.{Chart, IsPlace, places, stops_along}
-use Rattle.vs_slots_paths.proofs.Join.{only}
+use Rattle.vs_cert_facts.specs.vs_slots_paths.specs.declared.along.Along.TheVariants.{ZeroTime}
+use Rattle.vs_cert_facts.specs.vs_slots_paths.specs.Inside.{along_in}
+use Rattle.vs_cert_facts.specs.vs_slots_paths.specs.Reaches.{Chart, IsPlace, places, stops_along}
+use Rattle.vs_cert_facts.specs.vs_slots_paths.proofs.Join.{only}
 use Rattle.vs_cert_ranks.specs.declared.ranks.Ranks.{Ranks}
 use Rattle.vs_cert_ranks.specs.Ranks.{AreRanks, ApartAt, GoesUp, IsApart, Rises, rank_of}
 use Rattle.vs_cert_ranks.specs.Places.{NeverHotIn, WritesAt}

@@ -8,10 +8,10 @@ use Rattle.std.proofs.lemmas.List.Elements.{Contains-append_left, Contains-appen
 use Rattle.std.proofs.lemmas.Option.{none-some, same_Some, slice_get-get_or, slice_get_within}
 use Rattle.vs_design.specs.declared.range.BitRange.{BitRange}
 use Rattle.vs_design.specs.Tables.{rows}
-use Rattle.vs_slots_paths.specs.Indexes.{all_put}
-use Rattle.vs_slots_paths.specs.Ranges.{HasSignal}
-use Rattle.vs_slots_paths.specs.Reaches.{Chart}
-use Rattle.vs_slots_paths.proofs.IndexLemmas.{more_put, put_length}
+use Rattle.vs_cert_facts.specs.vs_slots_paths.specs.Indexes.{all_put}
+use Rattle.vs_cert_facts.specs.vs_slots_paths.specs.Ranges.{HasSignal}
+use Rattle.vs_cert_facts.specs.vs_slots_paths.specs.Reaches.{Chart}
+use Rattle.vs_cert_facts.specs.vs_slots_paths.proofs.IndexLemmas.{more_put, put_length}
 use Rattle.vs_slots_uses.specs.Written.{HasGrown, StandsIn}
 use Rattle.vs_cert_facts.specs.Facts.{Case, AreCharts}
 use Rattle.vs_cert_ranks.specs.Ranks.{AreOwnPlaces}

@@ -1,8 +1,8 @@
 -- Where signals are written and hot, by the places of maps.
 use Rattle.std.specs.Prelude.{ℕ, ◌⊎◌}
-use Rattle.vs_slots_paths.specs.Ranges.{HasSignal, now_at, later_at}
-use Rattle.vs_slots_paths.specs.Reaches.{Chart, IsPlace}
-use Rattle.vs_slots_paths.specs.Walks.{InHot}
+use Rattle.vs_cert_facts.specs.vs_slots_paths.specs.Ranges.{HasSignal, now_at, later_at}
+use Rattle.vs_cert_facts.specs.vs_slots_paths.specs.Reaches.{Chart, IsPlace}
+use Rattle.vs_cert_facts.specs.vs_slots_paths.specs.Walks.{InHot}
 
 -- the statement at a place writes the signal, by `=` or by `<=`
 abbrev pub WritesAt : Chart → ℕ → ℕ → Type 0

@@ -4,9 +4,9 @@ use Rattle.std.specs.List.{Contains}
 use Rattle.std.specs.declared.vec.Vec.{Vec}
 use Rattle.std.specs.declared.alloc.Global.{Global}
 use Rattle.vs_flatcode.specs.Stops.{stops_tos}
-use Rattle.vs_rules.specs.Claims.{IsDelay, IsWriter}
-use Rattle.vs_slots_paths.specs.declared.along.Along.TheVariants.{ZeroTime}
-use Rattle.vs_slots_paths.specs.Reaches.{Chart, places, stops_along}
+use Rattle.vs_slots_uses.specs.vs_rules.specs.Claims.{IsDelay, IsWriter}
+use Rattle.vs_cert_facts.specs.vs_slots_paths.specs.declared.along.Along.TheVariants.{ZeroTime}
+use Rattle.vs_cert_facts.specs.vs_slots_paths.specs.Reaches.{Chart, places, stops_along}
 use Rattle.vs_slots_uses.specs.Written.{StandsIn}
 use Rattle.vs_cert_facts.specs.Facts.{Case}
 use Rattle.vs_cert_ranks.specs.declared.ranks.Ranks.{Ranks}

@@ -4,4 +4,6 @@
 mod ranks;
 mod writes;
 
+pub use vs_cert_facts;
+pub use vs_reach;
 pub use writes::Writes;

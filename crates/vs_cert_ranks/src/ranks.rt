@@ -3,12 +3,12 @@ ghost use Rattle.std.specs.Prelude.{ℕ, ◌≡◌, ◌+◌, ◌<◌, ◌≤◌,
 ghost use Rattle.std.specs.List.{Contains};
 ghost use Rattle.std.specs.Bool.{OnTrue, OnFalse};
 ghost use Rattle.vs_reach.specs.Reached.{IsMarkedNow, WasMarked};
-ghost use Rattle.vs_slots_paths.specs.declared.along.Along.TheVariants.{ZeroTime};
-ghost use Rattle.vs_slots_paths.specs.Reaches.{Chart, passes, pause_view, stops_along};
+ghost use Rattle.vs_cert_facts.specs.vs_slots_paths.specs.declared.along.Along.TheVariants.{ZeroTime};
+ghost use Rattle.vs_cert_facts.specs.vs_slots_paths.specs.Reaches.{Chart, passes, pause_view, stops_along};
 ghost use Rattle.vs_cert_ranks.specs.Ranks.{AreRanks, ApartAt, GoesUp, IsApart, IsBelow, Rises, RisesFrom, rank_of};
 
 use std::alloc::{AllocError, Global};
-use vs_slots_paths::{Pause, Tables};
+use vs_cert_facts::vs_slots_paths::{Pause, Tables};
 
 /// Two ranks of each place of a process. From a place to those to which ways that take no time lead from it, neither goes down. The code of a text
 /// is written from its end to its start, so what is done first has a greater place.

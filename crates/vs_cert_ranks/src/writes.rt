@@ -1,9 +1,9 @@
 //! The places at which signals are written by their writers.
 ghost use Rattle.std.specs.Prelude.{ℕ, ◌≡◌, ◌<◌, ◌↔◌, ◌⊎◌, Some, length, slice_get, IfOk, OnOk, IsTrue};
 ghost use Rattle.std.specs.List.{Contains};
-ghost use Rattle.vs_rules.specs.Claims.{IsDelay, IsWriter};
-ghost use Rattle.vs_slots_paths.specs.Ranges.{HasSignal};
-ghost use Rattle.vs_slots_paths.specs.Reaches.{Chart, places};
+ghost use Rattle.vs_slots_uses.specs.vs_rules.specs.Claims.{IsDelay, IsWriter};
+ghost use Rattle.vs_cert_facts.specs.vs_slots_paths.specs.Ranges.{HasSignal};
+ghost use Rattle.vs_cert_facts.specs.vs_slots_paths.specs.Reaches.{Chart, places};
 ghost use Rattle.vs_slots_uses.specs.Written.{HasGrown, StandsIn};
 ghost use Rattle.vs_cert_ranks.specs.Ranks.{AreAllRanks, AreOwnPlaces, AreRanksOf};
 ghost use Rattle.vs_cert_ranks.specs.Places.{NeverHotIn, WritesAt};
@@ -12,8 +12,8 @@ use crate::ranks::Ranks;
 use std::alloc::{AllocError, Global};
 use std::marker::Model;
 use vs_cert_facts::Facts;
+use vs_cert_facts::vs_slots_paths::{Tables, empty_rows, put_all};
 use vs_design::BitRange;
-use vs_slots_paths::{Tables, empty_rows, put_all};
 
 /// For each signal the places at which its writer writes it, where that is of kind delay, and the ranks of the places of such processes. A
 /// contract sees the design, what the certificate claims of it, and the maps of the texts of the processes.

@@ -4,8 +4,8 @@ use Rattle.vs_certificate.specs.declared.members.SignalMode.{SignalMode}
 use Rattle.vs_certificate.specs.declared.members.SignalMode.TheVariants as modes
 use Rattle.vs_design.specs.declared.design.Process.{Process}
 use Rattle.vs_design.specs.Parts.{Parts}
-use Rattle.vs_flatcode.specs.Places.{Todo}
-use Rattle.vs_flatcode.specs.Stops.{Stop, IsText}
+use Rattle.vs_process.specs.vs_flatcode.specs.Places.{Todo}
+use Rattle.vs_process.specs.vs_flatcode.specs.Stops.{Stop, IsText}
 use Rattle.vs_rules.specs.Claims.{Claims, IsDelay, IsWriter}
 use Rattle.vs_rules.specs.Paths.{IsPoint, IsHot, WritesAny}
 use Rattle.vs_rules.specs.Rules.{HasWriter, CopiesRoot, IsSoundRoot}

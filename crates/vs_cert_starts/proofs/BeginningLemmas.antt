@@ -2,9 +2,9 @@
 use Rattle.std.proofs.Common.{◌≡◌, ◌↔◌, ◌==◌, ℕ, suc, ◌+◌, ◌<◌, ◌≤◌, ◌⊎◌, Bool, true, false, IsTrue, Option, Some, None, List, [], ◌∷◌, length, get_or, slice_get, nat_lt, refl, sym, ◌∙◌, ap, subst, inl, inr, arith, pos, neg_ℤ, ◌+ℤ◌, if◌then◌else◌, eqb-true, lt-ltb, ltb-true}
 use Rattle.std.proofs.lemmas.Bool.{cases_lt, cases_Bool, true≢false}
 use Rattle.std.proofs.lemmas.Option.{none-some, same_Some, slice_get-get_or, slice_get_within, slice_get_past}
-use Rattle.vs_logic4.specs.declared.digit.Digit.{Digit}
-use Rattle.vs_logic4.specs.declared.digit.Digit.TheVariants as dg
-use Rattle.vs_logic4.specs.Parts.{selected}
+use Rattle.vs_design.specs.vs_logic4.specs.declared.digit.Digit.{Digit}
+use Rattle.vs_design.specs.vs_logic4.specs.declared.digit.Digit.TheVariants as dg
+use Rattle.vs_design.specs.vs_logic4.specs.Parts.{selected}
 use Rattle.vs_design.specs.declared.design.Process.{Process}
 use Rattle.vs_design.specs.declared.expression.Typed.{Typed}
 use Rattle.vs_design.specs.declared.range.BitRange.{BitRange}
@@ -19,18 +19,18 @@ use Rattle.vs_design.specs.Parts.{Parts}
 use Rattle.vs_design.specs.Uses.{aim_range, is_of, reads}
 use Rattle.vs_design.specs.WellFormed.{aim_width}
 use Rattle.vs_eval.specs.Values.{target_value}
-use Rattle.vs_flatcode.specs.Places.{perform, turns, Todo}
-use Rattle.vs_flatcode.specs.Stops.{Stop, next_statement, stop_at, stop_statement, IsText}
-use Rattle.vs_law_threads.specs.Bits.{HasBit}
-use Rattle.vs_law_threads.proofs.Lists.{contains_at, place_of}
+use Rattle.vs_slots_cold.specs.vs_flatcode.specs.Places.{perform, turns, Todo}
+use Rattle.vs_slots_cold.specs.vs_flatcode.specs.Stops.{Stop, next_statement, stop_at, stop_statement, IsText}
+use Rattle.vs_rules.specs.vs_law_threads.specs.Bits.{HasBit}
+use Rattle.vs_rules.specs.vs_law_threads.proofs.Lists.{contains_at, place_of}
 use Rattle.vs_rules.specs.Paths.{Bit, IsBit, WritesAny}
 use Rattle.vs_rules.specs.Constants.{GivesDigit, IsKnown, given, is_nothing, places_give, place_gives, any_aims}
 use Rattle.vs_rules.specs.Constants as k
 use Rattle.vs_rules.specs.Blocks.{Begins, statement_update, todo_update}
-use Rattle.vs_slots_paths.specs.declared.along.Along.TheVariants.{ZeroTime}
-use Rattle.vs_slots_paths.specs.Reaches.{Chart, InSlot0}
-use Rattle.vs_slots_paths.proofs.EachWalk.{writes_now_at, writes_later_at}
-use Rattle.vs_slots_paths.proofs.Texts.{from_on, from_back}
+use Rattle.vs_slots_cones.specs.vs_slots_paths.specs.declared.along.Along.TheVariants.{ZeroTime}
+use Rattle.vs_slots_cones.specs.vs_slots_paths.specs.Reaches.{Chart, InSlot0}
+use Rattle.vs_slots_cones.specs.vs_slots_paths.proofs.EachWalk.{writes_now_at, writes_later_at}
+use Rattle.vs_slots_cones.specs.vs_slots_paths.proofs.Texts.{from_on, from_back}
 use Rattle.vs_cert_starts.specs.Missing.{IsSure}
 use Rattle.vs_cert_starts.specs.Beginnings.{IsNamed, HasAt, AnyHas, IsKnownOne, GivesBit, GivesInWord, GivesAim, GivesNamed, BeginsLayer, BeginsBy, BeginsAt, WritesAt, StartsSurely, AreNamed}
 use Rattle.vs_cert_starts.specs.Started.{StartsFor}
@@ -336,7 +336,7 @@ gives_is d named target value b there any digit is t told = (λ h. (there, any, 
 pub asked : (P Q R : Type 0) → P → Q → (t : Bool) → (IsTrue t ↔ R) → (IsTrue t ↔ (P → Q → R))
 asked P Q R p q t told = (λ h x y. told.0 h, λ f. told.1 (f p q))
 
-pub surely_is : (d : Parts) (named : List BitRange) (g : ℕ) (t : Chart) → ((p : ℕ) → InSlot0 t p → p < Rattle.vs_slots_paths.specs.Reaches.places t) → IsSure t (BeginsAt d named g t) → (n : ℕ) → n ≡ Rattle.vs_slots_paths.specs.Reaches.places t →
+pub surely_is : (d : Parts) (named : List BitRange) (g : ℕ) (t : Chart) → ((p : ℕ) → InSlot0 t p → p < Rattle.vs_slots_cones.specs.vs_slots_paths.specs.Reaches.places t) → IsSure t (BeginsAt d named g t) → (n : ℕ) → n ≡ Rattle.vs_slots_cones.specs.vs_slots_paths.specs.Reaches.places t →
     (b : Bool) → (IsTrue b ↔ ((p : ℕ) → p < n → InSlot0 t p → WritesAt t g p → BeginsAt d named g t p)) → (IsTrue b ↔ StartsSurely d named g t)
 surely_is d named g t below sure n is b told = (
   λ h. record { only = λ p early any. told.0 h p (subst (λ (m : ℕ). p < m) (sym is) (below p early)) early any; sure = sure },

@@ -11,20 +11,20 @@ use Rattle.vs_design.specs.declared.statement.Statement.TheOpen.{Statement-F}
 use Rattle.vs_design.specs.declared.statement.Statement.TheViews.{out-Statement}
 use Rattle.vs_design.specs.declared.statement.Target.{Target}
 use Rattle.vs_design.specs.Parts.{Parts}
-use Rattle.vs_flatcode.specs.Places.{perform, turns, Todo, flat}
-use Rattle.vs_flatcode.specs.Nexts.{nexts}
-use Rattle.vs_flatcode.specs.Steps.{Next, on, after, wait}
-use Rattle.vs_flatcode.specs.Ways.{Pause, none, delay, event, next_by}
-use Rattle.vs_flatcode.specs.Maps.{statement_pause, todo_pause}
-use Rattle.vs_flatcode.specs.Stops.{LeadsIn, Stop, stops_tos, next_statement, IsText}
+use Rattle.vs_slots_cold.specs.vs_flatcode.specs.Places.{perform, turns, Todo, flat}
+use Rattle.vs_slots_cold.specs.vs_flatcode.specs.Nexts.{nexts}
+use Rattle.vs_slots_cold.specs.vs_flatcode.specs.Steps.{Next, on, after, wait}
+use Rattle.vs_slots_cold.specs.vs_flatcode.specs.Ways.{Pause, none, delay, event, next_by}
+use Rattle.vs_slots_cold.specs.vs_flatcode.specs.Maps.{statement_pause, todo_pause}
+use Rattle.vs_slots_cold.specs.vs_flatcode.specs.Stops.{LeadsIn, Stop, stops_tos, next_statement, IsText}
 use Rattle.vs_reach.specs.Reached.{Reached, AreReached, begins, goes_on}
-use Rattle.vs_slots_paths.specs.declared.along.Along.TheVariants.{ZeroTime}
-use Rattle.vs_slots_paths.specs.Reaches.{Chart, InSlot0, passes, pause_at, places}
-use Rattle.vs_slots_paths.specs.Inside.{along_in}
-use Rattle.vs_slots_paths.specs.Ranges.{statement_at}
-use Rattle.vs_slots_paths.specs.Walks.{AreMarked}
-use Rattle.vs_slots_paths.proofs.Join.{only, head_in}
-use Rattle.vs_slots_paths.proofs.Texts.{begins_with, pause_here, step_on, step_back, control_on}
+use Rattle.vs_slots_cones.specs.vs_slots_paths.specs.declared.along.Along.TheVariants.{ZeroTime}
+use Rattle.vs_slots_cones.specs.vs_slots_paths.specs.Reaches.{Chart, InSlot0, passes, pause_at, places}
+use Rattle.vs_slots_cones.specs.vs_slots_paths.specs.Inside.{along_in}
+use Rattle.vs_slots_cones.specs.vs_slots_paths.specs.Ranges.{statement_at}
+use Rattle.vs_slots_cones.specs.vs_slots_paths.specs.Walks.{AreMarked}
+use Rattle.vs_slots_cones.specs.vs_slots_paths.proofs.Join.{only, head_in}
+use Rattle.vs_slots_cones.specs.vs_slots_paths.proofs.Texts.{begins_with, pause_here, step_on, step_back, control_on}
 use Rattle.vs_rules.specs.Points.{Goes}
 use Rattle.vs_rules.specs.Blocks.{Begins, Missing, statement_update, todo_update}
 use Rattle.vs_cert_starts.specs.Missing.{MissingAt, unmarked, is_end, is_one, stops_here, IsSure}

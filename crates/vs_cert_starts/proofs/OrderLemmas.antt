@@ -5,15 +5,15 @@ use Rattle.std.specs.Str.{bytes_eq}
 use Rattle.std.proofs.lemmas.Bool.{cases_eq, cases_lt}
 use Rattle.std.proofs.lemmas.Option.{none-some, same_Some, slice_get_within}
 use Rattle.std.proofs.lemmas.Slice.Eq.{bytes_eq-Decides}
-use Rattle.vs_logic4.proofs.Basics.{element_of as any_at}
+use Rattle.vs_design.specs.vs_logic4.proofs.Basics.{element_of as any_at}
 use Rattle.vs_design.specs.declared.design.Assign.{Assign}
 use Rattle.vs_design.specs.declared.range.BitRange.{BitRange}
 use Rattle.vs_design.specs.Parts.{Parts}
 use Rattle.vs_design.specs.Uses.{covers, reads, writes}
 use Rattle.vs_design.specs.WellFormed.{WellFormed}
-use Rattle.vs_law_threads.specs.Bits.{HasBit}
-use Rattle.vs_law_threads.proofs.Lists.{contains_at}
-use Rattle.vs_process.proofs.Lists.{map_at, set_same, set_other, distinct_place}
+use Rattle.vs_rules.specs.vs_law_threads.specs.Bits.{HasBit}
+use Rattle.vs_rules.specs.vs_law_threads.proofs.Lists.{contains_at}
+use Rattle.vs_cert_facts.specs.vs_process.proofs.Lists.{map_at, set_same, set_other, distinct_place}
 use Rattle.vs_rules.specs.Claims.{Claims, Name, assign_name, place_of, times_in}
 use Rattle.vs_rules.specs.Drivers.{Driver, assign, WritesBit, StandsBefore}
 use Rattle.vs_rules.specs.Rules.{K1_Assign, K4, IsSelf}

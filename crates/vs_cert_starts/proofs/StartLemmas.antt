@@ -8,16 +8,16 @@ use Rattle.vs_design.specs.declared.design.Process.{Process}
 use Rattle.vs_design.specs.declared.range.BitRange.{BitRange}
 use Rattle.vs_design.specs.declared.statement.EventTerm.{EventTerm}
 use Rattle.vs_design.specs.Parts.{Parts}
-use Rattle.vs_law_threads.specs.Blocks.{outputs_for}
-use Rattle.vs_law_threads.proofs.Lists.{contains_at, place_of}
-use Rattle.vs_law_writes.specs.Writes.{statement_writes}
+use Rattle.vs_rules.specs.vs_law_threads.specs.Blocks.{outputs_for}
+use Rattle.vs_rules.specs.vs_law_threads.proofs.Lists.{contains_at, place_of}
+use Rattle.vs_slots_cones.specs.vs_law_writes.specs.Writes.{statement_writes}
 use Rattle.vs_rules.specs.Claims.{Claims, Kind, Start, block, cold, starter, kind_of, kind_for, HasStart, IsBlock}
 use Rattle.vs_rules.specs.Paths.{Writes}
 use Rattle.vs_rules.specs.Drivers.{block as driver, DriverNeeds, IsSource, Passes}
 use Rattle.vs_rules.specs.Blocks.{K11, IsCold, Starts, WaitsForSources}
-use Rattle.vs_slots_paths.specs.Reaches.{Chart}
-use Rattle.vs_slots_paths.specs.Ranges.{HasSignal, HasTermAt}
-use Rattle.vs_slots_paths.proofs.EachWalk.{terms_exact}
+use Rattle.vs_slots_cones.specs.vs_slots_paths.specs.Reaches.{Chart}
+use Rattle.vs_slots_cones.specs.vs_slots_paths.specs.Ranges.{HasSignal, HasTermAt}
+use Rattle.vs_slots_cones.specs.vs_slots_paths.proofs.EachWalk.{terms_exact}
 use Rattle.vs_slots_cold.specs.Cold.{StaysAtEach}
 use Rattle.vs_slots_cones.specs.Wires.{IsWiringOf, Wiring, OfWiring}
 use Rattle.vs_cert_facts.specs.Facts.{AreCharts}

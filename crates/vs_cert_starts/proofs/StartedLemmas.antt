@@ -9,8 +9,8 @@ use Rattle.vs_design.specs.declared.signal.Signal.{Signal}
 use Rattle.vs_design.specs.declared.statement.EventTerm.{EventTerm}
 use Rattle.vs_design.specs.Parts.{Parts}
 use Rattle.vs_design.specs.WellFormed.{WellFormed, counts_from, is_body_of, is_sound_process, is_sound_statement, numbers}
-use Rattle.vs_law_threads.proofs.Lists.{contains_at, place_of}
-use Rattle.vs_process.proofs.Lists.{all_slice}
+use Rattle.vs_rules.specs.vs_law_threads.proofs.Lists.{contains_at, place_of}
+use Rattle.vs_cert_facts.specs.vs_process.proofs.Lists.{all_slice}
 use Rattle.vs_rules.specs.Claims.{Claims, Mode, claim_for, mode_in, kind_for, nonblocking, HasMode, IsDelay, IsWriter}
 use Rattle.vs_rules.specs.Blocks.{CopiesWhole, HasStarter}
 use Rattle.vs_cert_starts.specs.Beginnings.{AreNamed}

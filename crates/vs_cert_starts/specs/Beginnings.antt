@@ -1,7 +1,7 @@
 -- Statements that are sure to change a bit of a variable that a control names.
 use Rattle.std.specs.Prelude.{ℕ, ◌≡◌, ◌<◌, ◌⊎◌, ◌↔◌, Option, Some, None, List}
 use Rattle.std.specs.List.{Contains}
-use Rattle.vs_logic4.specs.declared.digit.Digit.{Digit}
+use Rattle.vs_design.specs.vs_logic4.specs.declared.digit.Digit.{Digit}
 use Rattle.vs_design.specs.declared.expression.Typed.{Typed}
 use Rattle.vs_design.specs.declared.range.BitRange.{BitRange}
 use Rattle.vs_design.specs.declared.statement.Aim.{Aim}
@@ -15,8 +15,8 @@ use Rattle.vs_rules.specs.Paths.{Bit, IsBit, Has}
 use Rattle.vs_rules.specs.Constants.{GivesDigit, IsKnown, given}
 use Rattle.vs_rules.specs.Drivers.{Names}
 use Rattle.vs_rules.specs.Blocks.{CopiesWhole}
-use Rattle.vs_slots_paths.specs.Reaches.{Chart, InSlot0}
-use Rattle.vs_slots_paths.specs.Ranges.{HasSignal, later_at, now_at, statement_at}
+use Rattle.vs_slots_cones.specs.vs_slots_paths.specs.Reaches.{Chart, InSlot0}
+use Rattle.vs_slots_cones.specs.vs_slots_paths.specs.Ranges.{HasSignal, later_at, now_at, statement_at}
 use Rattle.vs_cert_starts.specs.Missing.{IsSure}
 
 -- the bit of a range's signal at the word and place of a bit

@@ -2,10 +2,10 @@
 use Rattle.std.specs.Prelude.{ℕ, ◌<◌, Bool, true, false, List, [], get_or, slice_index_or, if◌then◌else◌}
 use Rattle.std.specs.List.{Contains, All}
 use Rattle.std.proofs.lemmas.List.Elements.{All-nil, All-contains, Contains-get_or}
-use Rattle.vs_flatcode.specs.Stops.{LeadsIn, Stop}
-use Rattle.vs_slots_paths.specs.declared.along.Along.TheVariants.{ZeroTime}
-use Rattle.vs_slots_paths.specs.Inside.{along_in}
-use Rattle.vs_slots_paths.specs.Reaches.{stops_along}
+use Rattle.vs_slots_cold.specs.vs_flatcode.specs.Stops.{LeadsIn, Stop}
+use Rattle.vs_slots_cones.specs.vs_slots_paths.specs.declared.along.Along.TheVariants.{ZeroTime}
+use Rattle.vs_slots_cones.specs.vs_slots_paths.specs.Inside.{along_in}
+use Rattle.vs_slots_cones.specs.vs_slots_paths.specs.Reaches.{stops_along}
 use Rattle.vs_cert_starts.specs.Missing.{unmarked}
 
 all_below : (xs : List ℕ) (n : ℕ) → ((q : ℕ) → Contains xs q → q < n) → All (λ q. q < n) xs

@@ -4,3 +4,4 @@ pub mod Inside
 pub mod Beginnings
 pub mod Started
 pub mod Starts
+pub use Rattle.vs_rules

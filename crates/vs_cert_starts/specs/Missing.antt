@@ -2,10 +2,10 @@
 use Rattle.std.specs.Prelude.{ℕ, ◌≡◌, ◌||◌, not, Bool, true, false, Option, Some, None, List, [], ◌∷◌, slice_index_or, if◌then◌else◌}
 use Rattle.std.specs.List.{Contains}
 use Rattle.vs_design.specs.declared.statement.Statement.{Statement}
-use Rattle.vs_flatcode.specs.Stops.{Stop, stops_tos}
-use Rattle.vs_slots_paths.specs.declared.along.Along.TheVariants.{ZeroTime}
-use Rattle.vs_slots_paths.specs.Reaches.{Chart, passes, pause_at, stops_along}
-use Rattle.vs_slots_paths.specs.Ranges.{statement_at}
+use Rattle.vs_slots_cold.specs.vs_flatcode.specs.Stops.{Stop, stops_tos}
+use Rattle.vs_slots_cones.specs.vs_slots_paths.specs.declared.along.Along.TheVariants.{ZeroTime}
+use Rattle.vs_slots_cones.specs.vs_slots_paths.specs.Reaches.{Chart, passes, pause_at, stops_along}
+use Rattle.vs_slots_cones.specs.vs_slots_paths.specs.Ranges.{statement_at}
 
 -- a walk leads there from the start, on which nothing of the sort is done
 pub data MissingAt (t : Chart) (sort : ℕ → Type 0) : ℕ → Type 0 where

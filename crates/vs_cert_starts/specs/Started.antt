@@ -4,8 +4,8 @@ use Rattle.std.specs.List.{Contains}
 use Rattle.vs_design.specs.declared.range.BitRange.{BitRange}
 use Rattle.vs_design.specs.declared.statement.EventTerm.{EventTerm}
 use Rattle.vs_design.specs.Parts.{Parts}
-use Rattle.vs_flatcode.specs.Places.{Todo}
-use Rattle.vs_flatcode.specs.Steps.{after, wait}
+use Rattle.vs_slots_cold.specs.vs_flatcode.specs.Places.{Todo}
+use Rattle.vs_slots_cold.specs.vs_flatcode.specs.Steps.{after, wait}
 use Rattle.vs_rules.specs.Points.{Goes}
 use Rattle.vs_rules.specs.Claims.{Claims, nonblocking, HasMode, IsDelay, IsWriter}
 use Rattle.vs_rules.specs.Paths.{HasTerm, IsSlot0, WritesAny, Writes}

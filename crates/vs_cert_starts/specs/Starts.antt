@@ -6,7 +6,7 @@ use Rattle.vs_design.specs.declared.statement.EventTerm.{EventTerm}
 use Rattle.vs_design.specs.Parts.{Parts}
 use Rattle.vs_rules.specs.Claims.{Claims, cold, starter, HasStart}
 use Rattle.vs_rules.specs.Drivers.{block, DriverNeeds, IsSource, Passes}
-use Rattle.vs_slots_paths.specs.Ranges.{HasSignal}
+use Rattle.vs_slots_cones.specs.vs_slots_paths.specs.Ranges.{HasSignal}
 
 -- a signal is a source, or one that is written
 abbrev pub IsFine : Parts → Claims → List BitRange → ℕ → Type 0

@@ -3,22 +3,22 @@ ghost use Rattle.std.specs.Prelude.{ℕ, ◌≡◌, ◌<◌, ◌↔◌, ◌⊎�
 ghost use Rattle.vs_design.specs.declared.statement.Statement.TheViews.{out-Statement};
 ghost use Rattle.vs_design.specs.Uses.{has_bit, has_word};
 ghost use Rattle.vs_design.specs.WellFormed.{width_at};
-ghost use Rattle.vs_flatcode.specs.Stops.{statement_view};
+ghost use Rattle.vs_slots_cold.specs.vs_flatcode.specs.Stops.{statement_view};
 ghost use Rattle.vs_rules.specs.Paths as paths;
 ghost use Rattle.vs_rules.specs.Constants.{GivesDigit, IsKnown};
-ghost use Rattle.vs_slots_constants.specs.Givings.{bit_view};
-ghost use Rattle.vs_slots_paths.specs.Reaches.{InSlot0};
-ghost use Rattle.vs_slots_paths.specs.Ranges.{statement_at};
+ghost use Rattle.vs_slots_copies.specs.vs_slots_constants.specs.Givings.{bit_view};
+ghost use Rattle.vs_slots_cones.specs.vs_slots_paths.specs.Reaches.{InSlot0};
+ghost use Rattle.vs_slots_cones.specs.vs_slots_paths.specs.Ranges.{statement_at};
 ghost use Rattle.vs_cert_starts.specs.Beginnings.{HasAt, AnyHas, IsKnownOne, GivesBit, GivesInWord, GivesAim, GivesNamed};
 ghost use Rattle.vs_cert_starts.specs.Beginnings.{BeginsBy, BeginsLayer, BeginsAt, WritesAt, StartsSurely};
 
 use crate::missing::{is_sure, statement_at};
 use std::alloc::{AllocError, Global};
+use vs_design::vs_logic4::Digit;
 use vs_design::{Aim, BitRange, Design, Statement, Target, Typed};
-use vs_logic4::Digit;
 use vs_reach::{Rule, all_keep};
-use vs_slots_constants::{Bit, given};
-use vs_slots_paths::Tables;
+use vs_slots_cones::vs_slots_paths::Tables;
+use vs_slots_copies::vs_slots_constants::{Bit, given};
 
 // Whether a range has a word.
 fn has_word(range: BitRange, word: usize) -> bool

@@ -12,3 +12,5 @@ mod starts;
 pub use apart::Starts;
 pub use order::in_order;
 pub use starts::{keeps_start, keeps_start_by};
+pub use vs_rules;
+pub use vs_slots_cold;

@@ -1,17 +1,17 @@
 //! Walks on a map from its start that take no time, on which nothing of a sort is done.
 ghost use Rattle.std.specs.Prelude.{ℕ, ◌≡◌, ◌<◌, ◌↔◌, false, length, slice_index_or, IfOk, IsTrue};
-ghost use Rattle.vs_flatcode.specs.Stops.{LeadsIn, statement_view};
-ghost use Rattle.vs_slots_paths.specs.declared.along.Along.TheVariants.{ZeroTime};
-ghost use Rattle.vs_slots_paths.specs.Reaches.{passes, pause_view, places};
-ghost use Rattle.vs_slots_paths.specs.Ranges.{statement_at};
-ghost use Rattle.vs_slots_paths.specs.Walks.{AreMarked};
+ghost use Rattle.vs_slots_cold.specs.vs_flatcode.specs.Stops.{LeadsIn, statement_view};
+ghost use Rattle.vs_slots_cones.specs.vs_slots_paths.specs.declared.along.Along.TheVariants.{ZeroTime};
+ghost use Rattle.vs_slots_cones.specs.vs_slots_paths.specs.Reaches.{passes, pause_view, places};
+ghost use Rattle.vs_slots_cones.specs.vs_slots_paths.specs.Ranges.{statement_at};
+ghost use Rattle.vs_slots_cones.specs.vs_slots_paths.specs.Walks.{AreMarked};
 ghost use Rattle.vs_cert_starts.specs.Missing.{MissingAt, IsSure, is_end, is_one, stops_here, unmarked};
 ghost use Rattle.vs_cert_starts.specs.Inside.{unmarked_in};
 
 use std::alloc::{AllocError, Global};
 use vs_design::Statement;
 use vs_reach::{Graph, Rule, all_keep, reach};
-use vs_slots_paths::{Pause, Tables, marks_of};
+use vs_slots_cones::vs_slots_paths::{Pause, Tables, marks_of};
 
 // Whether ways that go on so take no time.
 fn takes_no_time(pause: Pause) -> bool

@@ -2,16 +2,16 @@
 ghost use Rattle.std.specs.Prelude.{ℕ, ◌≡◌, ◌<◌, ◌↔◌, true, Some, length, slice_get, IfOk, IsTrue};
 ghost use Rattle.vs_design.specs.WellFormed.{counts_from, numbers};
 ghost use Rattle.vs_design.specs.declared.design.Process as declared;
-ghost use Rattle.vs_flatcode.specs.Stops.{LeadsIn};
-ghost use Rattle.vs_slots_paths.specs.Reaches.{chart_of, places};
+ghost use Rattle.vs_slots_cold.specs.vs_flatcode.specs.Stops.{LeadsIn};
+ghost use Rattle.vs_slots_cones.specs.vs_slots_paths.specs.Reaches.{chart_of, places};
 ghost use Rattle.vs_cert_starts.specs.Beginnings.{AreNamed, StartsSurely};
 ghost use Rattle.vs_cert_starts.specs.Started.{StartsFor};
 
 use crate::begins::starts_surely;
 use std::alloc::{AllocError, Global};
 use vs_design::{BitRange, Design};
-use vs_flatcode::{Code, TextMap, compile};
-use vs_slots_paths::Tables;
+use vs_slots_cold::vs_flatcode::{Code, TextMap, compile};
+use vs_slots_cones::vs_slots_paths::Tables;
 
 fn on_tables(
     alloc: Global,

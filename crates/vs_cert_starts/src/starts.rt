@@ -2,14 +2,14 @@
 ghost use Rattle.std.specs.Prelude.{ℕ, ◌≡◌, ◌<◌, ◌↔◌, ◌⊎◌, false, true, Some, length, slice_get, slice_index_or, IfOk, IsTrue, option_map};
 ghost use Rattle.std.specs.List.{Contains};
 ghost use Rattle.vs_design.specs.declared.statement.EventTerm as event;
-ghost use Rattle.vs_law_writes.specs.Writes.{statement_writes};
-ghost use Rattle.vs_law_threads.specs.Blocks.{outputs};
+ghost use Rattle.vs_slots_cones.specs.vs_law_writes.specs.Writes.{statement_writes};
+ghost use Rattle.vs_rules.specs.vs_law_threads.specs.Blocks.{outputs};
 ghost use Rattle.vs_rules.specs.Certificates.{kind_from, start_from};
 ghost use Rattle.vs_rules.specs.Claims as claims;
 ghost use Rattle.vs_rules.specs.Claims.{block, cold, starter, HasStart, IsBlock};
 ghost use Rattle.vs_rules.specs.Blocks as rules;
 ghost use Rattle.vs_rules.specs.Blocks.{K5, K11, IsCold, WaitsForSources, HasStarter};
-ghost use Rattle.vs_slots_paths.specs.Ranges.{HasSignal};
+ghost use Rattle.vs_slots_cones.specs.vs_slots_paths.specs.Ranges.{HasSignal};
 ghost use Rattle.vs_slots_cones.specs.Wires.{IsWiringOf};
 ghost use Rattle.vs_cert_facts.specs.Facts.{kind_seen};
 ghost use Rattle.vs_cert_starts.specs.Started.{AreTerms};
@@ -21,11 +21,11 @@ use std::alloc::{AllocError, Global};
 use vs_cert_facts::Facts;
 use vs_certificate::{ClaimedKind, Start};
 use vs_design::{BitRange, EventTerm};
-use vs_law_writes::statement_writes;
 use vs_slots_cold::Beginning;
 use vs_slots_cones::Cones;
+use vs_slots_cones::vs_law_writes::statement_writes;
+use vs_slots_cones::vs_slots_paths::terms;
 use vs_slots_copies::Copies;
-use vs_slots_paths::terms;
 
 // The start of a kind that is there, where it is that of a combinational block.
 fn kind_start(kind: &ClaimedKind) -> Option<Start>

@@ -7,17 +7,17 @@ use Rattle.vs_design.specs.Parts.{Parts}
 use Rattle.vs_flatcode.specs.Places.{Todo}
 use Rattle.vs_flatcode.specs.Stops.{stop_at, stop_statement, stops_tos, stops_behind, IsText}
 use Rattle.vs_reach.specs.Reached.{Reached, begins, goes_on}
-use Rattle.vs_rules.specs.Claims.{Name, names_process}
-use Rattle.vs_rules.specs.Paths.{IsPoint, IsSlot0, IsLate, WritesNow, WritesLater, is_plain}
-use Rattle.vs_slots_paths.specs.declared.along.Along.TheVariants.{Any, ZeroTime}
-use Rattle.vs_slots_paths.specs.Ranges.{HasSignal, now_at, later_at}
-use Rattle.vs_slots_paths.specs.Reaches.{Chart, IsPlace, InSlot0, places, stops_along, statement_passes}
-use Rattle.vs_slots_paths.specs.Walks.{AreMarked, HasControl, InLate}
-use Rattle.vs_slots_paths.proofs.EachPoint.{all_points}
-use Rattle.vs_slots_paths.proofs.EachWalk.{walk_path, path_walk, late_sorts, writes_now_at, writes_later_at}
-use Rattle.vs_slots_paths.proofs.Join.{tail_in, true_if}
-use Rattle.vs_slots_paths.proofs.Texts.{place_back, from_on, from_back}
-use Rattle.vs_slots_paths.proofs.WalkLemmas.{place_below, walk_place}
+use Rattle.vs_slots_uses.specs.vs_rules.specs.Claims.{Name, names_process}
+use Rattle.vs_slots_uses.specs.vs_rules.specs.Paths.{IsPoint, IsSlot0, IsLate, WritesNow, WritesLater, is_plain}
+use Rattle.vs_cert_facts.specs.vs_slots_paths.specs.declared.along.Along.TheVariants.{Any, ZeroTime}
+use Rattle.vs_cert_facts.specs.vs_slots_paths.specs.Ranges.{HasSignal, now_at, later_at}
+use Rattle.vs_cert_facts.specs.vs_slots_paths.specs.Reaches.{Chart, IsPlace, InSlot0, places, stops_along, statement_passes}
+use Rattle.vs_cert_facts.specs.vs_slots_paths.specs.Walks.{AreMarked, HasControl, InLate}
+use Rattle.vs_cert_facts.specs.vs_slots_paths.proofs.EachPoint.{all_points}
+use Rattle.vs_cert_facts.specs.vs_slots_paths.proofs.EachWalk.{walk_path, path_walk, late_sorts, writes_now_at, writes_later_at}
+use Rattle.vs_cert_facts.specs.vs_slots_paths.proofs.Join.{tail_in, true_if}
+use Rattle.vs_cert_facts.specs.vs_slots_paths.proofs.Texts.{place_back, from_on, from_back}
+use Rattle.vs_cert_facts.specs.vs_slots_paths.proofs.WalkLemmas.{place_below, walk_place}
 use Rattle.vs_cert_facts.specs.Facts.{AreCharts}
 
 -- a process that is there, with its map

@@ -5,12 +5,12 @@ use Rattle.std.proofs.lemmas.Option.{none-some, same_Some, slice_get-get_or}
 use Rattle.vs_design.specs.declared.signal.Signal.{Signal}
 use Rattle.vs_design.specs.Kinds.{is_variable}
 use Rattle.vs_design.specs.Parts.{Parts}
-use Rattle.vs_rules.specs.Claims.{Name, Claims, names_process, HasKind, IsWriter, IsSecond}
-use Rattle.vs_rules.specs.Paths.{IsPoint, IsSlot0, IsLate, WritesNow, WritesLater}
-use Rattle.vs_rules.specs.Rules.{NeverNow, NeverLater}
-use Rattle.vs_slots_paths.specs.Ranges.{HasSignal, now_at, later_at}
-use Rattle.vs_slots_paths.specs.Reaches.{Chart, IsPlace, InSlot0, places}
-use Rattle.vs_slots_paths.specs.Walks.{AreMarked, InLate}
+use Rattle.vs_slots_uses.specs.vs_rules.specs.Claims.{Name, Claims, names_process, HasKind, IsWriter, IsSecond}
+use Rattle.vs_slots_uses.specs.vs_rules.specs.Paths.{IsPoint, IsSlot0, IsLate, WritesNow, WritesLater}
+use Rattle.vs_slots_uses.specs.vs_rules.specs.Rules.{NeverNow, NeverLater}
+use Rattle.vs_cert_facts.specs.vs_slots_paths.specs.Ranges.{HasSignal, now_at, later_at}
+use Rattle.vs_cert_facts.specs.vs_slots_paths.specs.Reaches.{Chart, IsPlace, InSlot0, places}
+use Rattle.vs_cert_facts.specs.vs_slots_paths.specs.Walks.{AreMarked, InLate}
 use Rattle.vs_cert_facts.specs.Facts.{AreCharts}
 use Rattle.vs_slots_uses.specs.Texts.{Texts, texts_of, AllNow, AllLater}
 use Rattle.vs_cert_writers.specs.Writers.{IsEarly, FirstAlone, FirstAloneLater}

@@ -14,13 +14,13 @@ use Rattle.vs_design.specs.Readers.{readings, readers_from, readers}
 use Rattle.vs_design.specs.Uses.{reads, is_of}
 use Rattle.vs_flatcode.specs.Places.{Todo, ended, start_place, todo_of}
 use Rattle.vs_flatcode.specs.Steps.{Next, on, after, wait}
-use Rattle.vs_rules.specs.Points.{Among, Goes, Point, first_todo}
-use Rattle.vs_rules.specs.Points as r
-use Rattle.vs_rules.specs.Paths.{ListsSignal, HasTerm}
-use Rattle.vs_slots_paths.specs.Ranges.{HasSignal}
-use Rattle.vs_slots_paths.specs.Reaches.{Chart}
-use Rattle.vs_slots_paths.proofs.EachWalk.{terms_exact}
-use Rattle.vs_slots_paths.proofs.RangeLemmas.{first_in, later_in, in_either, lists_signal}
+use Rattle.vs_slots_uses.specs.vs_rules.specs.Points.{Among, Goes, Point, first_todo}
+use Rattle.vs_slots_uses.specs.vs_rules.specs.Points as r
+use Rattle.vs_slots_uses.specs.vs_rules.specs.Paths.{ListsSignal, HasTerm}
+use Rattle.vs_cert_facts.specs.vs_slots_paths.specs.Ranges.{HasSignal}
+use Rattle.vs_cert_facts.specs.vs_slots_paths.specs.Reaches.{Chart}
+use Rattle.vs_cert_facts.specs.vs_slots_paths.proofs.EachWalk.{terms_exact}
+use Rattle.vs_cert_facts.specs.vs_slots_paths.proofs.RangeLemmas.{first_in, later_in, in_either, lists_signal}
 use Rattle.vs_cert_facts.specs.Facts.{AreCharts}
 use Rattle.vs_slots_uses.specs.Texts.{WaitsFor}
 use Rattle.vs_cert_writers.proofs.Here.{here}

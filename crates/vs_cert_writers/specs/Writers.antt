@@ -4,8 +4,8 @@ use Rattle.vs_design.specs.Parts.{Parts}
 use Rattle.vs_flatcode.specs.Places.{Todo}
 use Rattle.vs_cert_facts.specs.Facts.{Case}
 use Rattle.vs_slots_uses.specs.Texts.{Texts, texts_of}
-use Rattle.vs_rules.specs.Claims.{Name, Claims, claim_of, writer_in, second_in, IsWriter, IsSecond, IsBlock}
-use Rattle.vs_rules.specs.Paths.{IsPoint, IsSlot0, IsLate, WritesNow, WritesLater, WritesAny, Writes}
+use Rattle.vs_slots_uses.specs.vs_rules.specs.Claims.{Name, Claims, claim_of, writer_in, second_in, IsWriter, IsSecond, IsBlock}
+use Rattle.vs_slots_uses.specs.vs_rules.specs.Paths.{IsPoint, IsSlot0, IsLate, WritesNow, WritesLater, WritesAny, Writes}
 
 -- the design and the maps of what is claimed
 abbrev pub texts_in : Case → Texts

@@ -3,13 +3,13 @@ ghost use Rattle.std.specs.Prelude.{ℕ, ◌≡◌, ◌<◌, ◌↔◌, Some, tr
 ghost use Rattle.std.specs.List.{Contains};
 ghost use Rattle.vs_design.specs.Kinds.{is_variable};
 ghost use Rattle.vs_design.specs.declared.signal.Signal.{Signal};
-ghost use Rattle.vs_rules.specs.Certificates.{mode_from};
-ghost use Rattle.vs_rules.specs.Claims.{HasKind, IsBlock, IsSequential};
+ghost use Rattle.vs_slots_uses.specs.vs_rules.specs.Certificates.{mode_from};
+ghost use Rattle.vs_slots_uses.specs.vs_rules.specs.Claims.{HasKind, IsBlock, IsSequential};
 ghost use Rattle.vs_design.specs.declared.design.Assign.{Assign};
 ghost use Rattle.vs_design.specs.declared.statement.EventTerm.{EventTerm};
 ghost use Rattle.vs_design.specs.Uses.{reads};
-ghost use Rattle.vs_rules.specs.Paths.{HasTerm, ListsSignal, Writes, reads_of};
-ghost use Rattle.vs_rules.specs.Rules.{HasWriter, IsAsModeSays, IsPrivate, K3, MayBlock, NeverLater, NeverNow};
+ghost use Rattle.vs_slots_uses.specs.vs_rules.specs.Paths.{HasTerm, ListsSignal, Writes, reads_of};
+ghost use Rattle.vs_slots_uses.specs.vs_rules.specs.Rules.{HasWriter, IsAsModeSays, IsPrivate, K3, MayBlock, NeverLater, NeverNow};
 ghost use Rattle.vs_cert_writers.specs.Writers.{texts_in};
 
 use crate::points::NotOf;

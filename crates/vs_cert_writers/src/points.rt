@@ -1,8 +1,8 @@
 //! Rules of the points of one process.
 ghost use Rattle.std.specs.Prelude.{ℕ, ◌≡◌, ◌<◌, ◌↔◌, false, slice_index_or, IsTrue};
-ghost use Rattle.vs_slots_paths.specs.Reaches.{places, InSlot0};
+ghost use Rattle.vs_cert_facts.specs.vs_slots_paths.specs.Reaches.{places, InSlot0};
 
-use vs_slots_paths::Tables;
+use vs_cert_facts::vs_slots_paths::Tables;
 use vs_slots_uses::SiteRule;
 
 /// A point is none of a process.

@@ -1,8 +1,8 @@
 //! The rule K2, on the writer and the second of a signal.
 ghost use Rattle.std.specs.Prelude.{ℕ, ◌≡◌, ◌<◌, ◌↔◌, ◌⊎◌, Some, length, IsTrue};
 ghost use Rattle.std.specs.List.{Contains};
-ghost use Rattle.vs_rules.specs.Claims.{IsBlock};
-ghost use Rattle.vs_rules.specs.Rules.{K2};
+ghost use Rattle.vs_slots_uses.specs.vs_rules.specs.Claims.{IsBlock};
+ghost use Rattle.vs_slots_uses.specs.vs_rules.specs.Rules.{K2};
 ghost use Rattle.vs_cert_writers.specs.Writers.{texts_in, AreNamed, WriterWrites, SecondWrites, NoBlock, IsEarly, FirstAlone, FirstAloneLater};
 
 use crate::points::{NotInSlot0, NotMarked, NotOf};

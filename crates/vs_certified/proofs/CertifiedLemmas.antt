@@ -10,11 +10,11 @@ use Rattle.vs_process.specs.declared.moves.Grain.TheVariants.{Block, Statement}
 use Rattle.vs_process.specs.declared.moves.Move.{Move}
 use Rattle.vs_process.specs.Executions.{after, Legal, is_complete, lines_of, slots, trace}
 use Rattle.vs_process.specs.States.{State}
-use Rattle.vs_vcd_writing.specs.Shown.{Shows, slot_at}
-use Rattle.vs_vcd_writing.specs.Text.{vcd_header, vcd_slots, vcd_text}
-use Rattle.vs_vcd_writing.specs.Values.{shown_value}
+use Rattle.vs_kernel.specs.vs_vcd_writing.specs.Shown.{Shows, slot_at}
+use Rattle.vs_kernel.specs.vs_vcd_writing.specs.Text.{vcd_header, vcd_slots, vcd_text}
+use Rattle.vs_kernel.specs.vs_vcd_writing.specs.Values.{shown_value}
 use Rattle.vs_independence.specs.Displays.{LinesAreOfSlots}
-use Rattle.vs_rules.specs.Claims.{Claims}
+use Rattle.vs_cert_check.specs.vs_rules.specs.Claims.{Claims}
 use Rattle.vs_cert_check.specs.Means.{IsIndependent}
 use Rattle.vs_kernel.specs.Runs.{EndsAs, RanTo, StopsAt, text_so_far}
 use Rattle.vs_kernel.specs.Shows.{ShowsSlotEnds}

@@ -5,8 +5,8 @@ use Rattle.vs_certificate.specs.declared.members.Certificate.{Certificate}
 use Rattle.vs_certificate.specs.JsonValue.{value_of}
 use Rattle.vs_certificate.specs.Reading.{IsFaultOf, Passes}
 use Rattle.vs_design.specs.Parts.{Parts}
-use Rattle.vs_rules.specs.Certificates.{claims_of}
-use Rattle.vs_rules.specs.Verdict.{IsVerdict, no_verdict}
+use Rattle.vs_cert_check.specs.vs_rules.specs.Certificates.{claims_of}
+use Rattle.vs_cert_check.specs.vs_rules.specs.Verdict.{IsVerdict, no_verdict}
 use Rattle.vs_cert_check.specs.Answers.{verdict_view, HasNumber}
 use Rattle.vs_cert_check.specs.Means.{Means}
 use Rattle.vs_cert_check.specs.Verdicts.{rule_of}

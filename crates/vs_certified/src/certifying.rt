@@ -8,9 +8,9 @@ use std::alloc::Global;
 use vs_cert_check::{Verdict, check};
 use vs_certificate::from_json;
 use vs_independence::lines_are_of_slots;
+use vs_kernel::vs_vcd_writing::Sink;
 use vs_kernel::{Outcome, dumps_show_slot_ends};
 use vs_simulate::{Policy, design_of, names_of_one_line, run_design};
-use vs_vcd_writing::Sink;
 
 /// Runs the design that a source and the name of a top module define, as `simulate` does, where it keeps all rules of a certificate, which is given
 /// by its JSON text. The source is read first, then the certificate, and then the rules are checked. Unless the design keeps them all nothing is

@@ -8,3 +8,6 @@ mod judging;
 pub use certifying::certified;
 pub use fault::CertifiedFault;
 pub use judging::judge;
+pub use vs_cert_check;
+pub use vs_kernel;
+pub use vs_kernel::vs_vcd_writing;

@@ -16,3 +16,4 @@ pub mod Uses
 pub mod WellFormed
 pub mod Writes
 pub mod passes
+pub use Rattle.vs_logic4

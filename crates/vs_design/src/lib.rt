@@ -32,4 +32,5 @@ pub use statement_uses::{event_terms, has_control, statement_reads};
 pub use store::{Store, over};
 pub use timescale::{DEFAULT_TIMESCALE, Magnitude, TimeSpan, TimeUnit, Timescale};
 pub use uses::{bits_from, reads, writes};
+pub use vs_logic4;
 pub use write::{Part, Write};

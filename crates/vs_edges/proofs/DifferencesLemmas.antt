@@ -6,11 +6,11 @@ use Rattle.std.proofs.lemmas.List.{length-take, length-drop}
 use Rattle.std.proofs.Math.Arith.{mod-mul}
 use Rattle.std.proofs.lemmas.Bool.{eqb-true, eq-eqb, cases_Bool, false≢true, false_from_ne_true}
 use Rattle.std.proofs.lemmas.Nat.{and_mask, pow_pos, xor_shr, xor_mod}
-use Rattle.vs_logic4.specs.declared.digit.Digit.{Digit}
-use Rattle.vs_logic4.specs.declared.digit.Digit.TheVariants.{Zero, One, X, Z}
-use Rattle.vs_logic4.specs.Planes.{value_bit, unknown_bit, value_plane, unknown_plane}
-use Rattle.vs_logic4.specs.PlaneLaws.{value_bit-lt, unknown_bit-lt}
-use Rattle.vs_logic4.specs.Vectors.{same_digit, same_digits}
+use Rattle.vs_design.specs.vs_logic4.specs.declared.digit.Digit.{Digit}
+use Rattle.vs_design.specs.vs_logic4.specs.declared.digit.Digit.TheVariants.{Zero, One, X, Z}
+use Rattle.vs_design.specs.vs_logic4.specs.Planes.{value_bit, unknown_bit, value_plane, unknown_plane}
+use Rattle.vs_design.specs.vs_logic4.specs.PlaneLaws.{value_bit-lt, unknown_bit-lt}
+use Rattle.vs_design.specs.vs_logic4.specs.Vectors.{same_digit, same_digits}
 use Rattle.vs_design.specs.declared.range.Bits.{Bits}
 use Rattle.vs_design.specs.Stores.{chosen_bits}
 use Rattle.vs_edges.specs.Differences.{difference, word_difference, has_some, bits_differ, HaveOneSize}

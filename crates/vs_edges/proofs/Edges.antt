@@ -6,14 +6,14 @@ use Rattle.std.proofs.lemmas.Nat.Bits.{bit_at_and, bit_at_or, bit_at_xor, bit_at
 use Rattle.std.proofs.lemmas.List.{drop_all}
 use Rattle.std.specs.Bool.{beq}
 use Rattle.std.proofs.Math.Nat.{pow-succ', div-div-eq-div-mul, zero-div}
-use Rattle.vs_logic4.specs.declared.digit.Digit.{Digit}
-use Rattle.vs_logic4.specs.declared.digit.Digit.TheVariants.{Zero, One, X, Z}
-use Rattle.vs_logic4.specs.declared.edge.Edge.{Edge}
-use Rattle.vs_logic4.specs.declared.edge.Edge.TheVariants.{Any, Posedge, Negedge}
-use Rattle.vs_logic4.specs.Edges.{is_edge}
-use Rattle.vs_logic4.specs.Planes.{digit_of_bits, value_bit, unknown_bit, value_plane, unknown_plane}
-use Rattle.vs_logic4.specs.PlaneLaws.{value_bit-lt, unknown_bit-lt, digit_of_bits-of}
-use Rattle.vs_logic4.proofs.Bits.{holds4, tests4_at}
+use Rattle.vs_design.specs.vs_logic4.specs.declared.digit.Digit.{Digit}
+use Rattle.vs_design.specs.vs_logic4.specs.declared.digit.Digit.TheVariants.{Zero, One, X, Z}
+use Rattle.vs_design.specs.vs_logic4.specs.declared.edge.Edge.{Edge}
+use Rattle.vs_design.specs.vs_logic4.specs.declared.edge.Edge.TheVariants.{Any, Posedge, Negedge}
+use Rattle.vs_design.specs.vs_logic4.specs.Edges.{is_edge}
+use Rattle.vs_design.specs.vs_logic4.specs.Planes.{digit_of_bits, value_bit, unknown_bit, value_plane, unknown_plane}
+use Rattle.vs_design.specs.vs_logic4.specs.PlaneLaws.{value_bit-lt, unknown_bit-lt, digit_of_bits-of}
+use Rattle.vs_design.specs.vs_logic4.proofs.Bits.{holds4, tests4_at}
 use Rattle.vs_edges.specs.Waking.{first_digit, is_edge_of}
 
 -- ---- the bits of a plane

@@ -5,13 +5,13 @@ use Rattle.std.proofs.Math.Nat.{mod-eq_of_lt, pow-le-pow_right, zero-div, div-lt
 use Rattle.std.proofs.lemmas.Bool.{eqb-true, eq-eqb, cases_Bool, false≢true, false_from_ne_true}
 use Rattle.std.proofs.lemmas.Nat.{and_comm, and_le_l, pow_pos, pow-add, shl-shr}
 use Rattle.std.proofs.lemmas.Nat.Bits.{and_pow, and_high, and_high_mask, bit_at-lt}
-use Rattle.vs_logic4.specs.declared.digit.Digit.{Digit}
-use Rattle.vs_logic4.specs.declared.digit.Digit.TheVariants.{Zero}
-use Rattle.vs_logic4.specs.declared.edge.Edge.{Edge}
-use Rattle.vs_logic4.specs.declared.edge.Edge.TheVariants.{Any, Posedge, Negedge}
-use Rattle.vs_logic4.specs.Edges.{is_edge}
-use Rattle.vs_logic4.specs.Planes.{value_plane, unknown_plane}
-use Rattle.vs_logic4.specs.PlaneLaws.{value_plane-lt, unknown_plane-lt}
+use Rattle.vs_design.specs.vs_logic4.specs.declared.digit.Digit.{Digit}
+use Rattle.vs_design.specs.vs_logic4.specs.declared.digit.Digit.TheVariants.{Zero}
+use Rattle.vs_design.specs.vs_logic4.specs.declared.edge.Edge.{Edge}
+use Rattle.vs_design.specs.vs_logic4.specs.declared.edge.Edge.TheVariants.{Any, Posedge, Negedge}
+use Rattle.vs_design.specs.vs_logic4.specs.Edges.{is_edge}
+use Rattle.vs_design.specs.vs_logic4.specs.Planes.{value_plane, unknown_plane}
+use Rattle.vs_design.specs.vs_logic4.specs.PlaneLaws.{value_plane-lt, unknown_plane-lt}
 use Rattle.vs_design.specs.declared.range.Bits.{Bits}
 use Rattle.vs_design.specs.declared.range.BitRange.{BitRange}
 use Rattle.vs_design.specs.declared.statement.EventTerm.{EventTerm}

@@ -5,10 +5,10 @@ use Rattle.std.specs.Option.{option_eq}
 use Rattle.std.proofs.lemmas.Bool.{and_parts, and_from, or_parts, or_from, eqb-true, eq-eqb, cases_Bool, false≢true}
 use Rattle.std.proofs.lemmas.Bool.Decides.{eqb_tells}
 use Rattle.std.proofs.lemmas.Option.{slice_get-map}
-use Rattle.vs_logic4.specs.declared.digit.Digit.{Digit}
-use Rattle.vs_logic4.specs.Lengths.{length-with_part}
-use Rattle.vs_logic4.specs.Sameness.{same_digits_self, same_digits-true}
-use Rattle.vs_logic4.specs.Vectors.{same_digits}
+use Rattle.vs_design.specs.vs_logic4.specs.declared.digit.Digit.{Digit}
+use Rattle.vs_design.specs.vs_logic4.specs.Lengths.{length-with_part}
+use Rattle.vs_design.specs.vs_logic4.specs.Sameness.{same_digits_self, same_digits-true}
+use Rattle.vs_design.specs.vs_logic4.specs.Vectors.{same_digits}
 use Rattle.vs_design.specs.declared.range.Bits.{Bits}
 use Rattle.vs_design.specs.declared.range.BitRange.{BitRange}
 use Rattle.vs_design.specs.declared.write.Part.{Part}
@@ -17,7 +17,7 @@ use Rattle.vs_design.specs.Uses.{is_of, has_word}
 use Rattle.vs_design.specs.Writes.{Write}
 use Rattle.vs_edges.specs.Differences.{HaveOneSize, bits_differ, part_changes}
 use Rattle.vs_design.proofs.Stores.{same_words-true, same_words_self, slice_get-changed_at as changed_at-here, word_in-words}
-use Rattle.vs_logic4.proofs.Basics.{not_false, same_lists}
+use Rattle.vs_design.specs.vs_logic4.proofs.Basics.{not_false, same_lists}
 
 -- ---- one part
 

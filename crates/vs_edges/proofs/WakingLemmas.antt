@@ -2,12 +2,12 @@
 use Rattle.std.proofs.Common.{◌≡◌, ℕ, ◌==◌, ◌||◌, ◌&&◌, Bool, true, false, Option, Some, None, List, [], ◌∷◌, map, length, slice_get, inl, inr, refl, sym, ◌∙◌, ap, ap₂}
 use Rattle.std.specs.List.{list_any}
 use Rattle.std.proofs.lemmas.Bool.{cases_Bool, eqb-true, eq-eqb, false≢true, false_from_ne_true}
-use Rattle.vs_logic4.specs.declared.digit.Digit.{Digit}
-use Rattle.vs_logic4.specs.declared.digit.Digit.TheVariants.{Zero, One, X, Z}
-use Rattle.vs_logic4.specs.declared.edge.Edge.{Edge}
-use Rattle.vs_logic4.specs.declared.edge.Edge.TheVariants.{Any, Posedge, Negedge}
-use Rattle.vs_logic4.specs.Sameness.{same_digits-true}
-use Rattle.vs_logic4.specs.Vectors.{same_digits}
+use Rattle.vs_design.specs.vs_logic4.specs.declared.digit.Digit.{Digit}
+use Rattle.vs_design.specs.vs_logic4.specs.declared.digit.Digit.TheVariants.{Zero, One, X, Z}
+use Rattle.vs_design.specs.vs_logic4.specs.declared.edge.Edge.{Edge}
+use Rattle.vs_design.specs.vs_logic4.specs.declared.edge.Edge.TheVariants.{Any, Posedge, Negedge}
+use Rattle.vs_design.specs.vs_logic4.specs.Sameness.{same_digits-true}
+use Rattle.vs_design.specs.vs_logic4.specs.Vectors.{same_digits}
 use Rattle.vs_design.specs.declared.range.Bits.{Bits}
 use Rattle.vs_design.specs.declared.range.BitRange.{BitRange}
 use Rattle.vs_design.specs.declared.statement.EventTerm.{EventTerm}
@@ -20,7 +20,7 @@ use Rattle.vs_edges.specs.Waking.{lowest_digit, is_edge_of, wakes_by, wakes, fir
 use Rattle.vs_edges.proofs.DifferencesLemmas.{sees_difference}
 use Rattle.vs_edges.proofs.StoresLemmas.{is_at, put_keeps, changed_by_parts, same_bits_differ}
 use Rattle.vs_design.proofs.Stores.{word_in-words}
-use Rattle.vs_logic4.proofs.Basics.{any_none}
+use Rattle.vs_design.specs.vs_logic4.proofs.Basics.{any_none}
 
 -- ---- no change
 

@@ -1,10 +1,10 @@
 //! Edges of the bits of a word (IEEE 1364-2005, clause 9.7.2).
 ghost use Rattle.std.specs.Prelude.{◌≡◌, ◌<◌, ◌==◌, ℕ, get_or};
 ghost use Rattle.std.specs.Int.{bit_at};
-ghost use Rattle.vs_logic4.specs.declared.digit.Digit.TheVariants.{Zero};
-ghost use Rattle.vs_logic4.specs.Edges.{is_edge};
+ghost use Rattle.vs_design.specs.vs_logic4.specs.declared.digit.Digit.TheVariants.{Zero};
+ghost use Rattle.vs_design.specs.vs_logic4.specs.Edges.{is_edge};
 
-use vs_logic4::{Edge, Vec4};
+use vs_design::vs_logic4::{Edge, Vec4};
 
 /// The places at which the change of a word is such an edge, as the bits of a number. A place past a word's end counts as a digit 0.
 #[inline(always)]

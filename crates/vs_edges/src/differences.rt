@@ -2,8 +2,8 @@
 ghost use Rattle.std.specs.Prelude.{◌≡◌, length};
 ghost use Rattle.vs_edges.specs.Differences.{difference, has_some, sees};
 
+use vs_design::vs_logic4::Vec4;
 use vs_design::{BitRange, Bits};
-use vs_logic4::Vec4;
 
 /// The places at which two vectors of one size differ, as the bits of a number.
 pub fn difference(before: Vec4, behind: Vec4) -> u64

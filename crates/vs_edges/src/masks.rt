@@ -1,12 +1,12 @@
 //! Changes of words by their planes, and which of them wake whom by masks: what a run compares at each write.
 ghost use Rattle.std.specs.Prelude.{◌≡◌};
-ghost use Rattle.vs_logic4.specs.declared.edge.Edge.TheVariants.{Any, Negedge, Posedge};
+ghost use Rattle.vs_design.specs.vs_logic4.specs.declared.edge.Edge.TheVariants.{Any, Negedge, Posedge};
 ghost use Rattle.vs_edges.specs.Masks.{AreEdgesOf, IsMaskOf, IsTermMask, has_bits, lowest_bit, mask_in, range_bits, range_mask, term_mask};
 ghost use Rattle.vs_edges.specs.Waking.{edge_word};
 ghost use Rattle.vs_edges.specs.passes.Masks.{IsBitMask, IsLowestMask, IsWordOf};
 
+use vs_design::vs_logic4::Edge;
 use vs_design::{BitRange, Bits, EventTerm};
-use vs_logic4::Edge;
 
 /// The planes of a word before and after a write.
 #[derive(Clone, Copy)]

@@ -4,8 +4,8 @@ ghost use Rattle.vs_edges.specs.Waking.{edge_digit, edge_word, is_edge_of, term_
 
 use crate::bits::is_edge_at;
 use crate::differences::{difference, sees};
+use vs_design::vs_logic4::{Edge, Vec4};
 use vs_design::{Bits, EventTerm};
-use vs_logic4::{Edge, Vec4};
 
 /// Whether the change of a word is such an edge of the lowest bit of a range.
 #[inline(always)]

@@ -12,8 +12,8 @@ use Rattle.vs_widths.specs.Names.{meaning_of, Binds, Declares}
 use Rattle.vs_elab_connections.specs.Connections.{names_given, has_twice, has_other, by_name}
 use Rattle.vs_elab_connections.specs.passes.Ends.{borrowed, read_end, value_under, IsSet, Gathers, is_named_mismatch, GathersMore}
 use Rattle.std.proofs.lemmas.Bool.{or_from as both_false, or_left as left_true, or_right as right_true}
-use Rattle.vs_logic4.proofs.Basics.{front_of as drop_at}
-use Rattle.vs_logic4.proofs.Basics.{or_four as swap, or_none as or_false}
+use Rattle.vs_syntax.specs.vs_logic4.proofs.Basics.{front_of as drop_at}
+use Rattle.vs_syntax.specs.vs_logic4.proofs.Basics.{or_four as swap, or_none as or_false}
 
 -- ---- names among others
 

@@ -7,7 +7,7 @@ use Rattle.std.proofs.lemmas.List.{take_more, append-nil}
 use Rattle.std.proofs.lemmas.List.Concat.{flat_map-append}
 use Rattle.std.proofs.lemmas.List.Folds.{list_any-append, list_any-from_Any}
 use Rattle.std.proofs.lemmas.Bool.{and_from as both_true, or_from as both_false, or_left as left_true, or_right as right_true}
-use Rattle.vs_logic4.proofs.Basics.{take_push}
+use Rattle.vs_syntax.specs.vs_logic4.proofs.Basics.{take_push}
 
 pub any_of_map : {A : Type 0} (p : A → Bool) (xs : List A) → list_any (λ b. b) (map p xs) ≡ list_any p xs
 any_of_map p [] = refl

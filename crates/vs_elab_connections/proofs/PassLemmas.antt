@@ -7,7 +7,7 @@ use Rattle.vs_syntax.specs.declared.tree.Expr.{Expr}
 use Rattle.vs_elab_connections.specs.passes.Ends.{read_end, read_ends}
 use Rattle.vs_elab_connections.specs.Connections.{in_text, in_order}
 use Rattle.vs_elab_connections.specs.Overrides.{Parameter, first_end, other_ends, overridable, given_from}
-use Rattle.vs_logic4.proofs.Basics.{front_of as drop_at}
+use Rattle.vs_syntax.specs.vs_logic4.proofs.Basics.{front_of as drop_at}
 
 -- one element made more
 pub moved : {A B : Type 0} (f : A → B) (old new : List A) (x : A) (y : B) (before rest whole : List B) → new ≡ old ++ x ∷ [] → f x ≡ y → before ≡ y ∷ rest → map f old ++ before ≡ whole → map f new ++ rest ≡ whole

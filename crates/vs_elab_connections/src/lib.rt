@@ -10,3 +10,5 @@ pub use forms::said;
 pub use parameters::{
     Given, Parameter, block_parameters, given_alone, given_to, module_parameters,
 };
+pub use vs_elab_pieces;
+pub use vs_widths;

@@ -14,7 +14,7 @@ use Rattle.vs_design.specs.declared.signal.Signal.{Signal}
 use Rattle.vs_design.specs.WellFormed.{width_at, bits_or_all, have_common, share_a_bit}
 use Rattle.vs_elab_contents.specs.Marks.{IsMarked, drives_place, Marks, AreWithin, IsReach, SharesBit, MarksOne, MarksAll}
 use Rattle.std.proofs.lemmas.Map.Keys.{any_passes_from_place as passes}
-use Rattle.vs_logic4.proofs.Basics.{at_end as slice_last, at_front as slice_front, element_of, take_push}
+use Rattle.vs_design.specs.vs_logic4.proofs.Basics.{at_end as slice_last, at_front as slice_front, element_of, take_push}
 
 -- ---- places
 

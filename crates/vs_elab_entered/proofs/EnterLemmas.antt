@@ -20,44 +20,44 @@ use Rattle.vs_width_selects.specs.declared.faults.WidthFault.{WidthFault}
 use Rattle.vs_width_selects.specs.declared.faults.WidthFault.TheVariants as width
 use Rattle.vs_width_selects.specs.Environment.{Environment}
 use Rattle.vs_width_selects.specs.Findings.{Lacks, Refuses}
-use Rattle.vs_widths.specs.Names.{meaning_of, by_bytes}
+use Rattle.vs_elab_generate.specs.vs_widths.specs.Names.{meaning_of, by_bytes}
 use Rattle.vs_elab_pieces.specs.Pieces.{NamedBlock, Piece, local, inside, pieces_of, block_pieces, blocks_among}
 use Rattle.vs_elab_pieces.specs.Reads.{read_piece}
 use Rattle.vs_elab_pieces.specs.declared.scope.ScopePiece.{ScopePiece as FoundPiece}
-use Rattle.vs_scopes.specs.declared.faults.Reason.{Reason}
-use Rattle.vs_scopes.specs.declared.faults.Reason.TheVariants.{NoModule, Inside, PortMismatch, ParameterMismatch, DeclaredTwice, DrivenTwice, Limit, Width, Endless, Unnamed, Timescales, Format}
-use Rattle.vs_scopes.specs.declared.faults.ElabFault.{ElabFault}
-use Rattle.vs_scopes.specs.declared.faults.ParameterRefusal.{ParameterRefusal}
-use Rattle.vs_scopes.specs.declared.faults.ParameterRefusal.TheVariants as refusal
-use Rattle.vs_scopes.specs.declared.printed.PathName.{PathName as FoundName}
-use Rattle.vs_scopes.specs.Printed.{PathName, plainly, Path}
-use Rattle.vs_scopes.specs.Parameters.{said, given_from, parameters_among, is_override_mismatch, any_fault, own_faults, known_behind, constants_of}
-use Rattle.vs_scopes.specs.Ports.{ports_of}
-use Rattle.vs_scopes.specs.Declarations.{Use, Bindings, valueless_of, early_names}
-use Rattle.vs_scopes.specs.Nets.{nothing_seen, permits_nets}
-use Rattle.vs_scopes.specs.Generate.{instance, generated}
-use Rattle.vs_scopes.specs.Generate as g
-use Rattle.vs_scopes.specs.Scopes.{Scope, Before, nowhere, outward, environment, named, named_at, module_named, instance_scope, block_scope, early_block, text_of, block_text, sight_in, block_given, with_constants, has_no_values, is_inside, is_port_mismatch, block_fault, opened_instance, opened_block}
-use Rattle.vs_scopes.specs.passes.Answers.{borrowed, Told, IsFaultAt}
-use Rattle.vs_scopes.specs.passes.Names.{read_title}
-use Rattle.vs_scopes.specs.passes.Parts.{read_port, read_ends}
+use Rattle.vs_elab_implicit_nets.specs.vs_scopes.specs.declared.faults.Reason.{Reason}
+use Rattle.vs_elab_implicit_nets.specs.vs_scopes.specs.declared.faults.Reason.TheVariants.{NoModule, Inside, PortMismatch, ParameterMismatch, DeclaredTwice, DrivenTwice, Limit, Width, Endless, Unnamed, Timescales, Format}
+use Rattle.vs_elab_implicit_nets.specs.vs_scopes.specs.declared.faults.ElabFault.{ElabFault}
+use Rattle.vs_elab_implicit_nets.specs.vs_scopes.specs.declared.faults.ParameterRefusal.{ParameterRefusal}
+use Rattle.vs_elab_implicit_nets.specs.vs_scopes.specs.declared.faults.ParameterRefusal.TheVariants as refusal
+use Rattle.vs_elab_implicit_nets.specs.vs_scopes.specs.declared.printed.PathName.{PathName as FoundName}
+use Rattle.vs_elab_implicit_nets.specs.vs_scopes.specs.Printed.{PathName, plainly, Path}
+use Rattle.vs_elab_implicit_nets.specs.vs_scopes.specs.Parameters.{said, given_from, parameters_among, is_override_mismatch, any_fault, own_faults, known_behind, constants_of}
+use Rattle.vs_elab_implicit_nets.specs.vs_scopes.specs.Ports.{ports_of}
+use Rattle.vs_elab_implicit_nets.specs.vs_scopes.specs.Declarations.{Use, Bindings, valueless_of, early_names}
+use Rattle.vs_elab_implicit_nets.specs.vs_scopes.specs.Nets.{nothing_seen, permits_nets}
+use Rattle.vs_elab_implicit_nets.specs.vs_scopes.specs.Generate.{instance, generated}
+use Rattle.vs_elab_implicit_nets.specs.vs_scopes.specs.Generate as g
+use Rattle.vs_elab_implicit_nets.specs.vs_scopes.specs.Scopes.{Scope, Before, nowhere, outward, environment, named, named_at, module_named, instance_scope, block_scope, early_block, text_of, block_text, sight_in, block_given, with_constants, has_no_values, is_inside, is_port_mismatch, block_fault, opened_instance, opened_block}
+use Rattle.vs_elab_implicit_nets.specs.vs_scopes.specs.passes.Answers.{borrowed, Told, IsFaultAt}
+use Rattle.vs_elab_implicit_nets.specs.vs_scopes.specs.passes.Names.{read_title}
+use Rattle.vs_elab_implicit_nets.specs.vs_scopes.specs.passes.Parts.{read_port, read_ends}
 use Rattle.std.proofs.lemmas.Bool.{or_from as both_false}
-use Rattle.vs_scopes.proofs.AnswerLemmas.{told_at, told_by}
-use Rattle.vs_elab_parameters.specs.declared.evaluating.ParameterValues.{ParameterValues}
-use Rattle.vs_elab_parameters.specs.passes.Values.{AreValues, AreNoValues, AreBlockValues, early_inside, block_faults}
-use Rattle.vs_elab_listed.specs.declared.opened.ListedScope.{ListedScope as FoundScope}
+use Rattle.vs_elab_implicit_nets.specs.vs_scopes.proofs.AnswerLemmas.{told_at, told_by}
+use Rattle.vs_elab_implicit_nets.specs.vs_elab_parameters.specs.declared.evaluating.ParameterValues.{ParameterValues}
+use Rattle.vs_elab_implicit_nets.specs.vs_elab_parameters.specs.passes.Values.{AreValues, AreNoValues, AreBlockValues, early_inside, block_faults}
+use Rattle.vs_elab_implicit_nets.specs.vs_elab_listed.specs.declared.opened.ListedScope.{ListedScope as FoundScope}
 use Rattle.vs_elab_implicit_nets.specs.declared.members.Members.{Members}
 use Rattle.vs_elab_implicit_nets.specs.passes.Nets.{AreMembers}
-use Rattle.vs_elab_listed.specs.Opened.{IsWithin, StandsAround, IsSeenFrom, HasSight, sight_from, IsHome, SaysModules, IsEntered, AreOpened}
-use Rattle.vs_elab_listed.specs.ScopeFaults.{of_module, parameter_fault, override_fault}
-use Rattle.vs_elab_listed.specs.passes.Connecting.{ConnectsTo}
+use Rattle.vs_elab_implicit_nets.specs.vs_elab_listed.specs.Opened.{IsWithin, StandsAround, IsSeenFrom, HasSight, sight_from, IsHome, SaysModules, IsEntered, AreOpened}
+use Rattle.vs_elab_implicit_nets.specs.vs_elab_listed.specs.ScopeFaults.{of_module, parameter_fault, override_fault}
+use Rattle.vs_elab_implicit_nets.specs.vs_elab_listed.specs.passes.Connecting.{ConnectsTo}
 use Rattle.vs_elab_entered.specs.passes.Blocks.{text_name}
 use Rattle.vs_elab_entered.specs.declared.entering.NamedModule.{NamedModule}
 use Rattle.vs_elab_entered.specs.passes.Entering.{Lists, IsParameterFault, EntersInstance, EntersInstanceNot, IsBlockRefusal, EntersBlock, EntersBlockNot, Enters, EntersNot}
-use Rattle.vs_logic4.proofs.Basics.{slice_front, at_end as slice_end}
-use Rattle.vs_elab_listed.proofs.SiteLemmas.{home_more}
+use Rattle.vs_design.specs.vs_logic4.proofs.Basics.{slice_front, at_end as slice_end}
+use Rattle.vs_elab_implicit_nets.specs.vs_elab_listed.proofs.SiteLemmas.{home_more}
 use Rattle.vs_elab_entered.proofs.SeatLemmas.{opened_here}
-use Rattle.vs_elab_listed.proofs.SiteLemmas.{meaning_behind}
+use Rattle.vs_elab_implicit_nets.specs.vs_elab_listed.proofs.SiteLemmas.{meaning_behind}
 
 -- what was read stands at its place
 pub got : {A : Type 0} (xs : List A) (i : ℕ) (x : A) → i < length xs → x ≡ get_or xs i x → slice_get xs i ≡ Some x

@@ -5,21 +5,21 @@ use Rattle.std.specs.Borrow.{Bor}
 use Rattle.vs_syntax.specs.declared.tree.Module.{Module}
 use Rattle.vs_syntax.specs.declared.tree.ModuleItem.{ModuleItem}
 use Rattle.vs_width_selects.specs.declared.constants.Const.{Const}
-use Rattle.vs_widths.specs.Names.{meaning_of}
+use Rattle.vs_elab_generate.specs.vs_widths.specs.Names.{meaning_of}
 use Rattle.vs_elab_pieces.specs.Pieces.{NamedBlock, Piece, pieces_of, block_pieces}
 use Rattle.vs_elab_generate.specs.Reads.{read_constant}
-use Rattle.vs_scopes.specs.declared.faults.ElabFault.{ElabFault}
-use Rattle.vs_scopes.specs.declared.printed.PathName.{PathName as FoundName}
-use Rattle.vs_scopes.specs.Printed.{PathName, plainly}
-use Rattle.vs_scopes.specs.Declarations.{Use, Bindings}
-use Rattle.vs_scopes.specs.Nets.{permits_nets}
-use Rattle.vs_scopes.specs.Generate.{instance, generated}
-use Rattle.vs_scopes.specs.Generate as g
-use Rattle.vs_scopes.specs.Scopes.{Scope, Before, seen_from, module_named, is_inside, block_scope}
-use Rattle.vs_scopes.specs.passes.Answers.{Told}
-use Rattle.vs_scopes.specs.passes.Names.{read_title}
-use Rattle.vs_elab_listed.specs.declared.opened.ListedScope.{ListedScope as FoundScope}
-use Rattle.vs_elab_listed.specs.Opened.{StandsAround, IsEntered, AreOpened, AreSeated}
+use Rattle.vs_elab_implicit_nets.specs.vs_scopes.specs.declared.faults.ElabFault.{ElabFault}
+use Rattle.vs_elab_implicit_nets.specs.vs_scopes.specs.declared.printed.PathName.{PathName as FoundName}
+use Rattle.vs_elab_implicit_nets.specs.vs_scopes.specs.Printed.{PathName, plainly}
+use Rattle.vs_elab_implicit_nets.specs.vs_scopes.specs.Declarations.{Use, Bindings}
+use Rattle.vs_elab_implicit_nets.specs.vs_scopes.specs.Nets.{permits_nets}
+use Rattle.vs_elab_implicit_nets.specs.vs_scopes.specs.Generate.{instance, generated}
+use Rattle.vs_elab_implicit_nets.specs.vs_scopes.specs.Generate as g
+use Rattle.vs_elab_implicit_nets.specs.vs_scopes.specs.Scopes.{Scope, Before, seen_from, module_named, is_inside, block_scope}
+use Rattle.vs_elab_implicit_nets.specs.vs_scopes.specs.passes.Answers.{Told}
+use Rattle.vs_elab_implicit_nets.specs.vs_scopes.specs.passes.Names.{read_title}
+use Rattle.vs_elab_implicit_nets.specs.vs_elab_listed.specs.declared.opened.ListedScope.{ListedScope as FoundScope}
+use Rattle.vs_elab_implicit_nets.specs.vs_elab_listed.specs.Opened.{StandsAround, IsEntered, AreOpened, AreSeated}
 use Rattle.vs_elab_entered.specs.passes.Blocks.{text_name}
 use Rattle.vs_elab_entered.specs.passes.Entering.{EntersInstance, EntersInstanceNot, EntersBlock, EntersBlockNot, Enters, EntersNot}
 use Rattle.vs_elab_entered.proofs.SeatLemmas.{opened_here}

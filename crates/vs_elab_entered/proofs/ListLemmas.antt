@@ -2,7 +2,7 @@
 use Rattle.std.proofs.Common.{◌≡◌, ℕ, zero, suc, ◌+◌, ◌<◌, ◌⊎◌, inl, inr, ⊎_elim, Bool, true, false, ◌||◌, List, [], ◌∷◌, ◌++◌, Some, length, map, filter, All, refl, ap, sym, subst, ◌∙◌, arith, zero-add}
 use Rattle.std.specs.List.{slice_get, list_any, AllZip}
 use Rattle.std.proofs.lemmas.Option.{none-some, same_Some, slice_get_within, get_or_from_slice_get}
-use Rattle.vs_logic4.proofs.Basics.{any_front as any_left, at_end as slice_end, filter_append as count_append, or_parts as any_either, slice_back, slice_front, zip_append}
+use Rattle.vs_design.specs.vs_logic4.proofs.Basics.{any_front as any_left, at_end as slice_end, filter_append as count_append, or_parts as any_either, slice_back, slice_front, zip_append}
 
 -- ---- places
 

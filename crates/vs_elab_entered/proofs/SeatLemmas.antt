@@ -2,12 +2,12 @@
 use Rattle.std.proofs.Common.{◌≡◌, ℕ, ◌<◌, ◌≤◌, ⊎_elim, List, [], ◌∷◌, ◌++◌, Option, Some, None, length, ap, sym, subst, ◌∙◌, arith}
 use Rattle.std.specs.List.{slice_get}
 use Rattle.std.proofs.lemmas.Option.{none-some, slice_get_within, same_Some}
-use Rattle.vs_scopes.specs.Scopes.{Scope}
-use Rattle.vs_elab_listed.specs.declared.opened.ListedScope.{ListedScope as FoundScope}
-use Rattle.vs_elab_listed.specs.Opened.{IsWithin, StandsAround, HasSight, IsEntered, IsOpened, AreOpened, AreSeated}
-use Rattle.vs_elab_listed.proofs.SiteLemmas.{opened_more}
+use Rattle.vs_elab_implicit_nets.specs.vs_scopes.specs.Scopes.{Scope}
+use Rattle.vs_elab_implicit_nets.specs.vs_elab_listed.specs.declared.opened.ListedScope.{ListedScope as FoundScope}
+use Rattle.vs_elab_implicit_nets.specs.vs_elab_listed.specs.Opened.{IsWithin, StandsAround, HasSight, IsEntered, IsOpened, AreOpened, AreSeated}
+use Rattle.vs_elab_implicit_nets.specs.vs_elab_listed.proofs.SiteLemmas.{opened_more}
 use Rattle.vs_elab_entered.proofs.ListLemmas.{slice_push, same_at, zip_length, zip_right, zip_left, zip_map}
-use Rattle.vs_logic4.proofs.Basics.{zip_append}
+use Rattle.vs_design.specs.vs_logic4.proofs.Basics.{zip_append}
 
 -- ---- a list that stands for scopes
 

@@ -3,39 +3,39 @@ ghost use Rattle.std.specs.Prelude.{◌≡◌, ◌<◌, [], List, Some, length, 
 ghost use Rattle.std.specs.List.{list_any};
 ghost use Rattle.std.specs.Str.{bytes_eq};
 ghost use Rattle.vs_syntax.specs.declared.tree.Module.{Module as Tree};
-ghost use Rattle.vs_widths.specs.Names.{by_bytes};
+ghost use Rattle.vs_elab_generate.specs.vs_widths.specs.Names.{by_bytes};
 ghost use Rattle.vs_elab_pieces.specs.Reads.{read_piece};
 ghost use Rattle.vs_elab_pieces.specs.Pieces.{pieces_of};
 ghost use Rattle.vs_elab_generate.specs.Reads.{read_use, read_constant, read_inner};
-ghost use Rattle.vs_scopes.specs.Generate.{instance, generated};
-ghost use Rattle.vs_scopes.specs.Ports.{ports_of};
-ghost use Rattle.vs_scopes.specs.Printed.{plainly};
-ghost use Rattle.vs_scopes.specs.Scopes.{Scope, environment, named};
-ghost use Rattle.vs_scopes.specs.passes.Answers.{borrowed, IsFaultAt, Told};
-ghost use Rattle.vs_scopes.specs.passes.Names.{read_title};
-ghost use Rattle.vs_scopes.specs.passes.Parts.{read_end, read_port};
-ghost use Rattle.vs_elab_parameters.specs.passes.Values.{AreValues, AreNoValues};
-ghost use Rattle.vs_elab_listed.specs.Opened.{AreOpened, AreSeated};
+ghost use Rattle.vs_elab_implicit_nets.specs.vs_scopes.specs.Generate.{instance, generated};
+ghost use Rattle.vs_elab_implicit_nets.specs.vs_scopes.specs.Ports.{ports_of};
+ghost use Rattle.vs_elab_implicit_nets.specs.vs_scopes.specs.Printed.{plainly};
+ghost use Rattle.vs_elab_implicit_nets.specs.vs_scopes.specs.Scopes.{Scope, environment, named};
+ghost use Rattle.vs_elab_implicit_nets.specs.vs_scopes.specs.passes.Answers.{borrowed, IsFaultAt, Told};
+ghost use Rattle.vs_elab_implicit_nets.specs.vs_scopes.specs.passes.Names.{read_title};
+ghost use Rattle.vs_elab_implicit_nets.specs.vs_scopes.specs.passes.Parts.{read_end, read_port};
+ghost use Rattle.vs_elab_implicit_nets.specs.vs_elab_parameters.specs.passes.Values.{AreValues, AreNoValues};
+ghost use Rattle.vs_elab_implicit_nets.specs.vs_elab_listed.specs.Opened.{AreOpened, AreSeated};
 ghost use Rattle.vs_elab_entered.specs.passes.Blocks.{text_name};
 ghost use Rattle.vs_elab_entered.specs.passes.Entering.{Lists, before_next, IsParameterFault, IsBlockRefusal, EntersInstance, EntersInstanceNot, EntersBlock, EntersBlockNot, Enters, EntersNot, IsShallow};
 
 use std::alloc::Global;
 use std::slice;
 use vs_design::ScopeKind;
+use vs_elab_generate::vs_widths::{Levels, Names};
 use vs_elab_generate::{Inner, Use};
-use vs_elab_implicit_nets::{Enclosing, block_members, module_members};
-use vs_elab_listed::{
+use vs_elab_implicit_nets::vs_elab_listed::{
     ListedScope, Numbering, connections, fault_at, named_fault, names_outward, path_inside,
     scope_fault,
 };
-use vs_elab_parameters::{ParameterValues, block_values, values};
-use vs_elab_pieces::{ScopePiece, block_pieces, pieces};
-use vs_scopes::{
+use vs_elab_implicit_nets::vs_elab_parameters::{ParameterValues, block_values, values};
+use vs_elab_implicit_nets::vs_scopes::{
     ElabFault, ModulePort, ParameterRefusal, PartName, PathName, Reason, module_ports, with_first,
 };
+use vs_elab_implicit_nets::{Enclosing, block_members, module_members};
+use vs_elab_pieces::{ScopePiece, block_pieces, pieces};
 use vs_syntax::{Module, ModuleItem};
 use vs_width_selects::{Const, WidthFault};
-use vs_widths::{Levels, Names};
 
 /// A module, as it is listed.
 #[derive(Clone, Copy)]

@@ -5,3 +5,4 @@
 mod entering;
 
 pub use entering::{NamedModule, enter, plain_title};
+pub use vs_elab_implicit_nets;

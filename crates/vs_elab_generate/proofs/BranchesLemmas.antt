@@ -10,8 +10,8 @@ use Rattle.vs_syntax.specs.declared.tree.ModuleItem.TheOpen as m
 use Rattle.vs_syntax.specs.declared.tree.ModuleItem.TheVariants.{rolls-If}
 use Rattle.vs_syntax.specs.declared.tree.ModuleItem.TheViews.{roll-ModuleItem, out-ModuleItem, out-roll-ModuleItem}
 use Rattle.vs_syntax.specs.declared.tree.ModuleItem.TheFolds.{fold-ModuleItem, fold-roll-ModuleItem, map-ModuleItem}
-use Rattle.vs_width_selects.specs.declared.faults.WidthReason.{WidthReason}
-use Rattle.vs_width_selects.specs.Environment.{Environment}
+use Rattle.vs_scopes.specs.vs_width_selects.specs.declared.faults.WidthReason.{WidthReason}
+use Rattle.vs_scopes.specs.vs_width_selects.specs.Environment.{Environment}
 use Rattle.vs_elab_pieces.specs.Pieces.{unboxed}
 use Rattle.vs_elab_pieces.specs.Reads.{read_content}
 use Rattle.vs_elab_pieces.specs.declared.contents.Content.{Content as Found}

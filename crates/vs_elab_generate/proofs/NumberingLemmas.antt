@@ -6,7 +6,7 @@ use Rattle.std.proofs.lemmas.Bool.Decides.{nat_tests}
 use Rattle.vs_widths.specs.Names.{meaning_of}
 use Rattle.vs_scopes.specs.Generate.{numbered_name, free_name}
 use Rattle.vs_elab_generate.specs.passes.Numbering.{AreNames}
-use Rattle.vs_logic4.proofs.Basics.{none_left, one_less}
+use Rattle.vs_design.specs.vs_logic4.proofs.Basics.{none_left, one_less}
 
 is_over : (n : ℕ) → 1024 < n → nat_lt 1024 n ≡ true
 is_over n h = grind (arith, nat_tests)

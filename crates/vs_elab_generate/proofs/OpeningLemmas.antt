@@ -2,8 +2,8 @@
 use Rattle.std.proofs.Common.{◌≡◌, ℕ, suc, ◌+◌, ◌<◌, Bool, true, false, true≢false, ◌||◌, is_none, List, [], ◌∷◌, ◌++◌, Option, Some, None, length, map, drop, get_or, cond, Bor, refl, ap, ap₂, sym, ◌∙◌, arith}
 use Rattle.std.proofs.lemmas.List.{append-nil}
 use Rattle.vs_syntax.specs.declared.tree.ModuleItem.{ModuleItem}
-use Rattle.vs_width_selects.specs.declared.constants.Const.{Const}
-use Rattle.vs_width_selects.specs.Environment.{Environment}
+use Rattle.vs_scopes.specs.vs_width_selects.specs.declared.constants.Const.{Const}
+use Rattle.vs_scopes.specs.vs_width_selects.specs.Environment.{Environment}
 use Rattle.vs_elab_pieces.specs.Pieces.{Content, nothing, block, Piece}
 use Rattle.vs_elab_pieces.specs.Reads.{read_content, read_piece}
 use Rattle.vs_elab_pieces.specs.declared.contents.Content.{Content as FoundContent}

@@ -3,21 +3,21 @@ use Rattle.std.proofs.Common.{◌≡◌, ℕ, ℤ, zero, suc, ◌+◌, ◌-◌, 
 use Rattle.std.specs.Str.{bytes_eq}
 use Rattle.std.proofs.Math.Path.{fun_ext}
 use Rattle.std.proofs.lemmas.List.{append-nil}
-use Rattle.vs_logic4.specs.declared.digit.Digit.{Digit}
-use Rattle.vs_logic4.specs.Vectors.{resized, extension_digit}
+use Rattle.vs_design.specs.vs_logic4.specs.declared.digit.Digit.{Digit}
+use Rattle.vs_design.specs.vs_logic4.specs.Vectors.{resized, extension_digit}
 use Rattle.vs_design.specs.declared.range.BitRange.{BitRange}
 use Rattle.vs_syntax.specs.declared.tree.Expr.{Expr}
 use Rattle.vs_syntax.specs.declared.tree.LoopHeader.{LoopHeader}
-use Rattle.vs_width_selects.specs.declared.bindings.Binding.{Binding}
-use Rattle.vs_width_selects.specs.declared.bindings.Binding.TheVariants.{Constant}
-use Rattle.vs_width_selects.specs.declared.constants.Const.{Const}
-use Rattle.vs_width_selects.specs.declared.faults.WidthReason.{WidthReason}
-use Rattle.vs_width_selects.specs.declared.faults.WidthReason.TheVariants.{NotConstant}
-use Rattle.vs_width_selects.specs.Environment.{Environment}
-use Rattle.vs_width_selects.specs.Findings.{Finding, Has, Lacks, stands, alone, not_constant}
-use Rattle.vs_width_selects.specs.Meants.{Meant}
-use Rattle.vs_width_selects.specs.Constants.{where_none, constant_finding, constant_in}
-use Rattle.vs_width_selects.specs.Selects.{size_found}
+use Rattle.vs_scopes.specs.vs_width_selects.specs.declared.bindings.Binding.{Binding}
+use Rattle.vs_scopes.specs.vs_width_selects.specs.declared.bindings.Binding.TheVariants.{Constant}
+use Rattle.vs_scopes.specs.vs_width_selects.specs.declared.constants.Const.{Const}
+use Rattle.vs_scopes.specs.vs_width_selects.specs.declared.faults.WidthReason.{WidthReason}
+use Rattle.vs_scopes.specs.vs_width_selects.specs.declared.faults.WidthReason.TheVariants.{NotConstant}
+use Rattle.vs_scopes.specs.vs_width_selects.specs.Environment.{Environment}
+use Rattle.vs_scopes.specs.vs_width_selects.specs.Findings.{Finding, Has, Lacks, stands, alone, not_constant}
+use Rattle.vs_scopes.specs.vs_width_selects.specs.Meants.{Meant}
+use Rattle.vs_scopes.specs.vs_width_selects.specs.Constants.{where_none, constant_finding, constant_in}
+use Rattle.vs_scopes.specs.vs_width_selects.specs.Selects.{size_found}
 use Rattle.vs_widths.specs.Expressions.{meant}
 use Rattle.vs_widths.specs.Names.{meaning_of, Binds}
 use Rattle.vs_widths.proofs.NameLemmas.{or_else, meaning_of_append}
@@ -33,7 +33,7 @@ use Rattle.std.proofs.lemmas.Bool.{or_from as both_false}
 use Rattle.vs_scopes.proofs.SizeLemmas.{no_faults}
 use Rattle.vs_elab_generate.specs.passes.Turns.{turn_fault, expression_fault, step_fault, next_value, behind, is_found, IsGenvarValue}
 use Rattle.vs_elab_generate.proofs.FaultLemmas.{none_any, some_any, width_refused}
-use Rattle.vs_logic4.proofs.Basics.{and_false as neither_true, none_left, one_less}
+use Rattle.vs_design.specs.vs_logic4.proofs.Basics.{and_false as neither_true, none_left, one_less}
 
 -- ---- headers
 

@@ -1,2 +1,3 @@
 pub mod Reads
 pub mod passes
+pub use Rattle.vs_widths

@@ -1,7 +1,7 @@
 -- What opens scopes, by what it refers to.
 use Rattle.std.specs.Prelude.{ℕ, List, [], ◌∷◌, Option, None, Some, map}
 use Rattle.std.specs.Borrow.{Bor}
-use Rattle.vs_width_selects.specs.declared.constants.Const.{Const}
+use Rattle.vs_scopes.specs.vs_width_selects.specs.declared.constants.Const.{Const}
 use Rattle.vs_elab_pieces.specs.Reads.{referred, read_block}
 use Rattle.vs_scopes.specs.Declarations.{Use}
 use Rattle.vs_scopes.specs.Generate.{Inner, instance, generated, named}

@@ -1,15 +1,15 @@
 //! The conditions of generate constructs.
 ghost use Rattle.std.specs.Prelude.{◌≡◌};
 ghost use Rattle.std.specs.List.{list_any};
-ghost use Rattle.vs_logic4.specs.declared.digit.Digit.TheVariants as d;
-ghost use Rattle.vs_logic4.specs.Vectors.{same_digit};
+ghost use Rattle.vs_design.specs.vs_logic4.specs.declared.digit.Digit.TheVariants as d;
+ghost use Rattle.vs_design.specs.vs_logic4.specs.Vectors.{same_digit};
 ghost use Rattle.vs_widths.specs.Names.{meaning_of};
 ghost use Rattle.vs_scopes.specs.Generate.{holds, condition_fault};
 ghost use Rattle.vs_scopes.specs.passes.Answers.{Elaborates};
 ghost use Rattle.vs_scopes.specs.passes.Sizes.{width_faults};
 
 use std::alloc::Global;
-use vs_logic4::{Digit, Vec4};
+use vs_design::vs_logic4::{Digit, Vec4};
 use vs_scopes::BodyFault;
 use vs_syntax::Expr;
 use vs_widths::{Levels, constant};

@@ -15,3 +15,4 @@ pub use counting::turns_behind;
 pub use loops::turns;
 pub use numbering::unnamed_name;
 pub use opening::{Inner, Use, inners};
+pub use vs_widths;

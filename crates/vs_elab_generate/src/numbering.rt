@@ -6,8 +6,8 @@ ghost use Rattle.vs_scopes.specs.Generate.{free_name, unnamed_name};
 ghost use Rattle.vs_elab_generate.specs.passes.Numbering.{AreNames, free_with};
 
 use std::alloc::{AllocError, Global};
+use vs_scopes::vs_width_selects::Binding;
 use vs_scopes::{PartName, numbered_name};
-use vs_width_selects::Binding;
 use vs_widths::Names;
 
 /// A name has at most so many bytes (profile).

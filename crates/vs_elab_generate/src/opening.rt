@@ -17,9 +17,9 @@ use crate::numbering::unnamed_name;
 use std::alloc::{AllocError, Global};
 use std::slice;
 use vs_elab_pieces::{Content, NamedBlock, ScopePiece, content_of, item_blocks};
+use vs_scopes::vs_width_selects::{Binding, Const};
 use vs_scopes::{BodyFault, PartName, PathName, Reason};
 use vs_syntax::{Connections, Expr, Instance, Item, LoopHeader, ModuleItem};
-use vs_width_selects::{Binding, Const};
 use vs_widths::{Levels, Names};
 
 /// An instance, with the name of its module and the values of its parameters (IEEE 1364-2005, clause 12.1.2).

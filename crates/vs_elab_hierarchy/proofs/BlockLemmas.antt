@@ -6,7 +6,7 @@ use Rattle.std.specs.Str.{bytes_eq}
 use Rattle.std.proofs.lemmas.Option.{none-some, same_Some, slice_get_within}
 use Rattle.std.proofs.lemmas.Slice.Eq.{bytes_eq-Decides}
 use Rattle.vs_syntax.specs.declared.tree.Module.{Module}
-use Rattle.vs_widths.specs.Names.{meaning_of, Binds as NamesBind}
+use Rattle.vs_elab_parameters.specs.vs_widths.specs.Names.{meaning_of, Binds as NamesBind}
 use Rattle.vs_scopes.specs.declared.printed.PartName.{PartName as FoundPart}
 use Rattle.vs_scopes.specs.declared.printed.PartName.TheVariants as part
 use Rattle.vs_scopes.specs.declared.printed.PathName.{PathName as FoundName}

@@ -7,9 +7,9 @@ use Rattle.std.proofs.lemmas.Map.Keys.{apart_from_distinct}
 use Rattle.std.proofs.lemmas.Slice.Eq.{bytes_eq-Decides}
 use Rattle.vs_syntax.specs.declared.tree.Module.{Module}
 use Rattle.vs_syntax.specs.declared.tree.ModuleItem.{ModuleItem}
-use Rattle.vs_width_selects.specs.declared.constants.Const.{Const}
-use Rattle.vs_width_selects.specs.Environment.{Environment}
-use Rattle.vs_elab_pieces.specs.Pieces.{NamedBlock, blocks_of, Piece, plain, loop, choice, local, inside, net, Content, nothing, block, content_of}
+use Rattle.vs_scopes.specs.vs_width_selects.specs.declared.constants.Const.{Const}
+use Rattle.vs_scopes.specs.vs_width_selects.specs.Environment.{Environment}
+use Rattle.vs_elab_listed.specs.vs_elab_pieces.specs.Pieces.{NamedBlock, blocks_of, Piece, plain, loop, choice, local, inside, net, Content, nothing, block, content_of}
 use Rattle.vs_scopes.specs.declared.faults.Reason.{Reason}
 use Rattle.vs_scopes.specs.declared.faults.Reason.TheVariants.{NoModule, Inside, PortMismatch, ParameterMismatch, DeclaredTwice, DrivenTwice, Limit, Width, Endless, Unnamed, Timescales, Format}
 use Rattle.vs_scopes.specs.declared.faults.BodyFault.{BodyFault}
@@ -24,13 +24,13 @@ use Rattle.vs_scopes.specs.passes.Answers.{Told, Refuses, IsRefusal}
 use Rattle.vs_scopes.proofs.Folds.{any_false_at}
 use Rattle.vs_scopes.proofs.AnswerLemmas.{told_by, told_part}
 use Rattle.vs_elab_listed.specs.ScopeFaults.{Repeated, of_module, AtInstance, parameter_fault, override_fault, HasConstructFault, PassesLimit, PassesTurns, HoldsOpening, HoldsOpeningIn}
-use Rattle.vs_elab_implicit_nets.specs.passes.Nets.{IsNamedAsNet}
+use Rattle.vs_elab_entered.specs.vs_elab_implicit_nets.specs.passes.Nets.{IsNamedAsNet}
 use Rattle.vs_elab_entered.specs.passes.Entering.{IsSoundUse, IsSoundInner, EntersNot}
 use Rattle.vs_elab_scope.specs.passes.Own.{IsSoundOwn, HoldsOwn}
 use Rattle.vs_elab_scope.specs.passes.Adding.{AddsInnerNot}
 use Rattle.vs_elab_hierarchy.specs.passes.Opens.{HasInnerNot, IsSoundInside}
 use Rattle.vs_elab_entered.proofs.ListLemmas.{slice_either, all_at}
-use Rattle.vs_logic4.proofs.Basics.{slice_front, slice_back}
+use Rattle.vs_design.specs.vs_logic4.proofs.Basics.{slice_front, slice_back}
 use Rattle.vs_elab_scope.proofs.OwnLemmas.{is_deep, is_few}
 use Rattle.vs_elab_hierarchy.proofs.OpenLemmas.{below_append, within_inside}
 

@@ -4,12 +4,12 @@ use Rattle.std.specs.List.{slice_get}
 use Rattle.std.proofs.lemmas.List.{map-append, length-append, take_all}
 use Rattle.vs_syntax.specs.declared.tree.Module.{Module}
 use Rattle.vs_design.specs.declared.design.Entry.TheVariants.{Leave}
-use Rattle.vs_width_selects.specs.Environment.{Environment}
-use Rattle.vs_widths.specs.Names.{meaning_of}
-use Rattle.vs_elab_pieces.specs.Pieces.{Piece}
-use Rattle.vs_elab_generate.specs.declared.opening.Inner.{Inner as FoundInner}
-use Rattle.vs_elab_generate.specs.Reads.{read_inner}
-use Rattle.vs_elab_generate.specs.passes.Numbering.{AreNames}
+use Rattle.vs_scopes.specs.vs_width_selects.specs.Environment.{Environment}
+use Rattle.vs_elab_parameters.specs.vs_widths.specs.Names.{meaning_of}
+use Rattle.vs_elab_listed.specs.vs_elab_pieces.specs.Pieces.{Piece}
+use Rattle.vs_elab_listed.specs.vs_elab_generate.specs.declared.opening.Inner.{Inner as FoundInner}
+use Rattle.vs_elab_listed.specs.vs_elab_generate.specs.Reads.{read_inner}
+use Rattle.vs_elab_listed.specs.vs_elab_generate.specs.passes.Numbering.{AreNames}
 use Rattle.vs_scopes.specs.declared.faults.Reason.{Reason}
 use Rattle.vs_scopes.specs.declared.faults.BodyFault.{BodyFault}
 use Rattle.vs_scopes.specs.declared.faults.ElabFault.{ElabFault}
@@ -18,7 +18,7 @@ use Rattle.vs_scopes.specs.Declarations.{Bindings}
 use Rattle.vs_scopes.specs.Generate.{Inner, inner_from, constructs_fault}
 use Rattle.vs_scopes.specs.Scopes.{Scope, behind, within_first, text_names, environment, seen_from, inner_of, below, scopes_within}
 use Rattle.vs_scopes.specs.passes.Answers.{Told, Refuses, IsRefusal}
-use Rattle.vs_logic4.proofs.Basics.{take_push}
+use Rattle.vs_design.specs.vs_logic4.proofs.Basics.{take_push}
 use Rattle.vs_scopes.proofs.AnswerLemmas.{refused_by}
 use Rattle.vs_elab_listed.specs.declared.opened.ListedScope.{ListedScope as FoundScope}
 use Rattle.vs_elab_listed.specs.declared.opened.Numbering.{Numbering}
@@ -31,7 +31,7 @@ use Rattle.vs_elab_scope.specs.passes.Own.{IsSoundOwn}
 use Rattle.vs_elab_scope.specs.passes.Adding.{AddsInnerAt, AddsInnerNot, IsHolding}
 use Rattle.vs_elab_hierarchy.specs.passes.Opens.{FindsInner, HasInner, IsReady, OpensInside, HoldsInner, OpensInsideNot}
 use Rattle.vs_elab_entered.proofs.ListLemmas.{all_at}
-use Rattle.vs_logic4.proofs.Basics.{slice_front, at_end as slice_end}
+use Rattle.vs_design.specs.vs_logic4.proofs.Basics.{slice_front, at_end as slice_end}
 use Rattle.vs_elab_entered.proofs.EnterLemmas.{known_levels}
 use Rattle.vs_elab_scope.proofs.OwnLemmas.{is_deep}
 use Rattle.vs_elab_scope.proofs.AddLemmas.{opened_before, planned_behind}

@@ -6,7 +6,7 @@ use Rattle.std.proofs.lemmas.List.Elements.{All-append, All-nil, All-cons}
 use Rattle.std.proofs.lemmas.Option.{none-some, same_Some}
 use Rattle.vs_syntax.specs.declared.tree.Module.{Module}
 use Rattle.vs_design.specs.declared.design.Entry.TheVariants.{Leave}
-use Rattle.vs_elab_pieces.specs.Pieces.{NamedBlock}
+use Rattle.vs_elab_listed.specs.vs_elab_pieces.specs.Pieces.{NamedBlock}
 use Rattle.vs_scopes.specs.Generate.{Inner}
 use Rattle.vs_scopes.specs.Generate as g
 use Rattle.vs_scopes.specs.Scopes.{Scope, Before, behind, within_first, inner_of, is_named_as_net, opened, listed, below, scopes_within}
@@ -19,7 +19,7 @@ use Rattle.vs_elab_scope.specs.passes.Adding.{IsPlanned, AddsInner}
 use Rattle.vs_elab_scope.specs.passes.Own.{own_lines, AddsLines}
 use Rattle.vs_elab_hierarchy.specs.passes.Opens.{HasInner, IsSoundInside, scopes_inside, lines_inside, OpensInside, HoldsInner}
 use Rattle.vs_elab_entered.proofs.ListLemmas.{slice_push, slice_either}
-use Rattle.vs_logic4.proofs.Basics.{slice_front, at_end as slice_end, zip_append}
+use Rattle.vs_design.specs.vs_logic4.proofs.Basics.{slice_front, at_end as slice_end, zip_append}
 use Rattle.vs_elab_scope.proofs.AddLemmas.{behind_append, behind_none, planned_behind}
 
 -- ---- the scopes below what opens them

@@ -12,14 +12,14 @@ use Rattle.std.proofs.lemmas.Map.Keys.{IsDistinct-push}
 use Rattle.std.proofs.lemmas.Slice.Eq.{bytes_eq-Decides}
 use Rattle.vs_syntax.specs.declared.tree.Module.{Module}
 use Rattle.vs_design.specs.declared.design.ScopeKind.TheVariants as opened_by
-use Rattle.vs_width_selects.specs.declared.constants.Const.{Const}
-use Rattle.vs_width_selects.specs.declared.faults.WidthReason.{WidthReason}
-use Rattle.vs_width_selects.specs.declared.faults.WidthReason.TheVariants.{TooWide, Unknown, NotConstant, WrongKind}
-use Rattle.vs_width_selects.specs.Environment.{Environment}
-use Rattle.vs_widths.specs.Names.{meaning_of, by_bytes, Declares as NamesDeclare}
-use Rattle.vs_elab_pieces.specs.Pieces.{pieces_of}
-use Rattle.vs_elab_pieces.specs.Reads.{read_piece}
-use Rattle.vs_elab_pieces.specs.declared.scope.ScopePiece.{ScopePiece as FoundPiece}
+use Rattle.vs_scopes.specs.vs_width_selects.specs.declared.constants.Const.{Const}
+use Rattle.vs_scopes.specs.vs_width_selects.specs.declared.faults.WidthReason.{WidthReason}
+use Rattle.vs_scopes.specs.vs_width_selects.specs.declared.faults.WidthReason.TheVariants.{TooWide, Unknown, NotConstant, WrongKind}
+use Rattle.vs_scopes.specs.vs_width_selects.specs.Environment.{Environment}
+use Rattle.vs_elab_parameters.specs.vs_widths.specs.Names.{meaning_of, by_bytes, Declares as NamesDeclare}
+use Rattle.vs_elab_listed.specs.vs_elab_pieces.specs.Pieces.{pieces_of}
+use Rattle.vs_elab_listed.specs.vs_elab_pieces.specs.Reads.{read_piece}
+use Rattle.vs_elab_listed.specs.vs_elab_pieces.specs.declared.scope.ScopePiece.{ScopePiece as FoundPiece}
 use Rattle.vs_scopes.specs.declared.faults.Reason.{Reason}
 use Rattle.vs_scopes.specs.declared.faults.Reason.TheVariants.{NoModule, Inside, PortMismatch, ParameterMismatch, DeclaredTwice, DrivenTwice, Limit, Width, Endless, Unnamed, Timescales, Format}
 use Rattle.vs_scopes.specs.declared.faults.ElabFault.{ElabFault}
@@ -33,7 +33,7 @@ use Rattle.vs_scopes.specs.passes.Answers.{borrowed, Told, IsFaultAt}
 use Rattle.vs_scopes.specs.passes.Names.{read_title}
 use Rattle.vs_scopes.specs.passes.Parts.{read_port, read_ends}
 use Rattle.std.proofs.lemmas.Bool.{or_from as both_false}
-use Rattle.vs_logic4.proofs.Basics.{take_push}
+use Rattle.vs_design.specs.vs_logic4.proofs.Basics.{take_push}
 use Rattle.vs_scopes.proofs.AnswerLemmas.{told_at, told_by}
 use Rattle.vs_elab_parameters.specs.declared.evaluating.ParameterValues.{ParameterValues}
 use Rattle.vs_elab_parameters.specs.passes.Values.{AreValues}
@@ -43,9 +43,9 @@ use Rattle.vs_elab_listed.specs.Opened.{IsHome, StandsAround, HasSight, AreOpene
 use Rattle.vs_elab_listed.specs.Outlines.{declared, outline_within, outline_of, IsEntry}
 use Rattle.vs_elab_listed.specs.ScopeFaults.{Repeated, of_module, top_fault, HoldsOpeningIn, StandsOpening}
 use Rattle.vs_elab_listed.proofs.BindLemmas.{bytes_eq_equiv, place_of_any}
-use Rattle.vs_logic4.proofs.Basics.{left_false, right_false}
-use Rattle.vs_elab_implicit_nets.specs.declared.members.Members.{Members}
-use Rattle.vs_elab_implicit_nets.specs.passes.Nets.{AreMembers}
+use Rattle.vs_design.specs.vs_logic4.proofs.Basics.{left_false, right_false}
+use Rattle.vs_elab_entered.specs.vs_elab_implicit_nets.specs.declared.members.Members.{Members}
+use Rattle.vs_elab_entered.specs.vs_elab_implicit_nets.specs.passes.Nets.{AreMembers}
 use Rattle.vs_elab_entered.specs.declared.entering.NamedModule.{NamedModule}
 use Rattle.vs_elab_entered.specs.passes.Blocks.{AreNamed}
 use Rattle.vs_elab_entered.specs.passes.Entering.{module_names, Lists, ListsNot}

@@ -10,3 +10,4 @@ pub use Rattle.vs_elab_listed.specs.Outlines
 pub use Rattle.vs_elab_listed.specs.ScopeFaults
 pub use Rattle.vs_elab_listed.specs.Opened
 pub mod passes
+pub use Rattle.vs_elab_scope

@@ -4,12 +4,12 @@ use Rattle.std.specs.Prelude.{MatchResult}
 use Rattle.std.specs.List.{list_any}
 use Rattle.std.proofs.lemmas.Option.{none-some, same_Some}
 use Rattle.vs_syntax.specs.declared.tree.ModuleItem.{ModuleItem}
-use Rattle.vs_width_selects.specs.declared.constants.Const.{Const}
-use Rattle.vs_elab_pieces.specs.Uses.{names_used}
-use Rattle.vs_elab_pieces.specs.Reads.{read_piece}
-use Rattle.vs_elab_pieces.specs.declared.scope.ScopePiece.{ScopePiece as FoundPiece}
-use Rattle.vs_elab_generate.specs.Reads.{read_inner}
-use Rattle.vs_elab_generate.specs.declared.opening.Inner.{Inner as FoundInner}
+use Rattle.vs_scopes.specs.vs_width_selects.specs.declared.constants.Const.{Const}
+use Rattle.vs_elab_listed.specs.vs_elab_pieces.specs.Uses.{names_used}
+use Rattle.vs_elab_listed.specs.vs_elab_pieces.specs.Reads.{read_piece}
+use Rattle.vs_elab_listed.specs.vs_elab_pieces.specs.declared.scope.ScopePiece.{ScopePiece as FoundPiece}
+use Rattle.vs_elab_listed.specs.vs_elab_generate.specs.Reads.{read_inner}
+use Rattle.vs_elab_listed.specs.vs_elab_generate.specs.declared.opening.Inner.{Inner as FoundInner}
 use Rattle.vs_scopes.specs.declared.faults.Reason.{Reason}
 use Rattle.vs_scopes.specs.declared.faults.Reason.TheVariants.{NoModule, Inside, PortMismatch, ParameterMismatch, DeclaredTwice, DrivenTwice, Limit, Width, Endless, Unnamed, Timescales, Format}
 use Rattle.vs_scopes.specs.declared.faults.ElabFault.{ElabFault}
@@ -24,12 +24,12 @@ use Rattle.vs_elab_listed.specs.declared.sights.Level.{Level}
 use Rattle.vs_elab_listed.specs.declared.sights.Level.TheVariants.{Here, Late, Outward}
 use Rattle.vs_elab_listed.specs.declared.sights.Sight.TheVariants as f
 use Rattle.vs_elab_listed.specs.passes.Sights.{level_of, sight_of_level, IsSight}
-use Rattle.vs_logic4.proofs.Basics.{at_front}
+use Rattle.vs_design.specs.vs_logic4.proofs.Basics.{at_front}
 use Rattle.vs_elab_listed.proofs.SightLemmas.{level_sight}
-use Rattle.vs_widths.specs.Names.{meaning_of}
+use Rattle.vs_elab_parameters.specs.vs_widths.specs.Names.{meaning_of}
 use Rattle.vs_scopes.specs.Declarations.{Bindings}
 use Rattle.vs_elab_implicit_nets.specs.passes.Nets.{IsTold, IsLate, late_among, IsNetName, IsNamedAsNet}
-use Rattle.vs_logic4.proofs.Basics.{at_place}
+use Rattle.vs_design.specs.vs_logic4.proofs.Basics.{at_place}
 
 -- ---- one name
 

@@ -8,8 +8,8 @@ ghost use Rattle.vs_elab_implicit_nets.specs.passes.Nets.{IsAround, IsPlaced};
 
 use vs_design::ScopeKind;
 use vs_elab_listed::{ListedScope, Sight, sight_around};
-use vs_width_selects::Binding;
-use vs_widths::Names;
+use vs_elab_parameters::vs_widths::Names;
+use vs_scopes::vs_width_selects::Binding;
 
 /// What is around a scope: the scopes before it, what it is, the place of the scope around it, and that of the piece there that opens it.
 #[derive(Clone, Copy)]

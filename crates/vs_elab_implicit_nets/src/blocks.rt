@@ -1,7 +1,7 @@
 //! Generate blocks with the names of implicit nets.
 ghost use Rattle.std.specs.Prelude.{◌≡◌, ◌<◌, ◌&&◌, ◌∷◌, [], false, is_some, is_none, List, Some, length, map, slice_get, MatchResult};
 ghost use Rattle.std.specs.List.{list_any};
-ghost use Rattle.vs_elab_generate.specs.Reads.{read_inner};
+ghost use Rattle.vs_elab_listed.specs.vs_elab_generate.specs.Reads.{read_inner};
 ghost use Rattle.vs_scopes.specs.Scopes.{Scope, is_implicit, is_named_as_net};
 ghost use Rattle.vs_scopes.specs.passes.Answers.{Told};
 ghost use Rattle.vs_scopes.specs.passes.Names.{read_part};
@@ -9,10 +9,10 @@ ghost use Rattle.vs_elab_listed.specs.Opened.{AreOpened, AreSeated};
 ghost use Rattle.vs_elab_implicit_nets.specs.passes.Nets.{IsNetName, IsNamedAsNet};
 
 use std::alloc::Global;
-use vs_elab_generate::Inner;
+use vs_elab_listed::vs_elab_generate::Inner;
 use vs_elab_listed::{ListedScope, named_fault};
+use vs_scopes::vs_width_selects::Binding;
 use vs_scopes::{ElabFault, PartName, Reason, numbered_name};
-use vs_width_selects::Binding;
 
 /// Whether a name that a scope declares as a port or net at this place is none of its text.
 fn is_told_alone(told: Option<usize>, text: Option<Binding>) -> bool

@@ -1,6 +1,6 @@
 //! Nets that are declared behind their use.
 ghost use Rattle.std.specs.Prelude.{◌≡◌, ◌<◌, [], List, length, map, MatchResult};
-ghost use Rattle.vs_elab_pieces.specs.Reads.{read_piece};
+ghost use Rattle.vs_elab_listed.specs.vs_elab_pieces.specs.Reads.{read_piece};
 ghost use Rattle.vs_scopes.specs.Nets.{coming_paths};
 ghost use Rattle.vs_scopes.specs.Scopes.{Scope, sight_in, late_nets};
 ghost use Rattle.vs_scopes.specs.passes.Answers.{borrowed, Told};
@@ -10,11 +10,11 @@ ghost use Rattle.vs_elab_implicit_nets.specs.passes.Nets.{IsAround, IsPlaced, Is
 
 use crate::around::Enclosing;
 use std::alloc::Global;
+use vs_elab_listed::vs_elab_pieces::{ScopePiece, names_used};
 use vs_elab_listed::{Level, Sight, member_fault, named_fault, own_sight, sight_around};
-use vs_elab_pieces::{ScopePiece, names_used};
+use vs_elab_parameters::vs_widths::Names;
+use vs_scopes::vs_width_selects::Binding;
 use vs_scopes::{ElabFault, PathName, Reason};
-use vs_width_selects::Binding;
-use vs_widths::Names;
 
 /// Sees that a name, which the scope itself doesn't declare, is none of a net that is declared behind.
 fn check_outward(alloc: Global, around: Enclosing, name: &[u8]) -> Result<(), ElabFault>

@@ -14,3 +14,6 @@ pub use blocks::check_blocks;
 pub use late::check_late;
 pub use members::{Members, block_members, module_members};
 pub use permits::permits_behind;
+pub use vs_elab_listed;
+pub use vs_elab_parameters;
+pub use vs_scopes;

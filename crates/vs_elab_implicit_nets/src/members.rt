@@ -1,8 +1,8 @@
 //! What stands in a scope, with its implicit nets.
 ghost use Rattle.std.specs.Prelude.{◌≡◌, List, map, IfOk};
-ghost use Rattle.vs_widths.specs.Names.{by_bytes};
-ghost use Rattle.vs_elab_pieces.specs.Pieces.{pieces_of};
-ghost use Rattle.vs_elab_pieces.specs.Reads.{read_piece};
+ghost use Rattle.vs_elab_parameters.specs.vs_widths.specs.Names.{by_bytes};
+ghost use Rattle.vs_elab_listed.specs.vs_elab_pieces.specs.Pieces.{pieces_of};
+ghost use Rattle.vs_elab_listed.specs.vs_elab_pieces.specs.Reads.{read_piece};
 ghost use Rattle.vs_scopes.specs.Declarations.{Bindings};
 ghost use Rattle.vs_scopes.specs.Ports.{ports_of};
 ghost use Rattle.vs_scopes.specs.Scopes.{Scope, text_of, block_text};
@@ -15,11 +15,11 @@ use crate::nets::with_nets;
 use crate::texts::{block_text, module_text};
 use std::alloc::{AllocError, Global};
 use vs_elab_listed::told;
-use vs_elab_pieces::ScopePiece;
+use vs_elab_listed::vs_elab_pieces::ScopePiece;
+use vs_elab_parameters::vs_widths::Names;
 use vs_scopes::ModulePort;
+use vs_scopes::vs_width_selects::{Binding, Const};
 use vs_syntax::Module;
-use vs_width_selects::{Binding, Const};
-use vs_widths::Names;
 
 /// What stands in a scope.
 #[derive(Drop)]

@@ -1,6 +1,6 @@
 //! Implicit nets among the pieces of a scope.
 ghost use Rattle.std.specs.Prelude.{◌≡◌, ◌∷◌, [], ℕ, List, map, IfOk, OnOk};
-ghost use Rattle.vs_elab_pieces.specs.Reads.{read_piece};
+ghost use Rattle.vs_elab_listed.specs.vs_elab_pieces.specs.Reads.{read_piece};
 ghost use Rattle.vs_scopes.specs.Nets.{is_known, with_nets, pieces_with_nets};
 ghost use Rattle.vs_scopes.specs.Scopes.{Scope};
 ghost use Rattle.vs_scopes.specs.passes.Answers.{borrowed};
@@ -10,9 +10,9 @@ ghost use Rattle.vs_elab_implicit_nets.specs.passes.Nets.{IsAround, IsPlaced, Ad
 
 use crate::around::{Enclosing, is_known};
 use std::alloc::{AllocError, Global};
-use vs_elab_pieces::{ScopePiece, names_used};
-use vs_width_selects::Binding;
-use vs_widths::Names;
+use vs_elab_listed::vs_elab_pieces::{ScopePiece, names_used};
+use vs_elab_parameters::vs_widths::Names;
+use vs_scopes::vs_width_selects::Binding;
 
 /// Adds the net of a name that is used, where the name isn't known and wasn't used before.
 fn add_net<'s>(

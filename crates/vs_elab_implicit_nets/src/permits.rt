@@ -2,7 +2,7 @@
 ghost use Rattle.std.specs.Prelude.{◌≡◌};
 ghost use Rattle.vs_scopes.specs.Nets.{permits, permits_behind};
 
-use vs_lexer::{Directive, ImplicitNet};
+use vs_syntax::vs_lexer::{Directive, ImplicitNet};
 
 /// Whether undeclared names are nets behind a directive, where it was so before it (IEEE 1364-2005, clause 19.2).
 fn permits(before: bool, directive: Directive) -> bool

@@ -1,8 +1,8 @@
 //! The names that the text of a scope declares.
 ghost use Rattle.std.specs.Prelude.{◌≡◌, map, IfOk, OnOk};
-ghost use Rattle.vs_widths.specs.Names.{by_bytes};
-ghost use Rattle.vs_elab_pieces.specs.Pieces.{pieces_of};
-ghost use Rattle.vs_elab_pieces.specs.Reads.{read_piece};
+ghost use Rattle.vs_elab_parameters.specs.vs_widths.specs.Names.{by_bytes};
+ghost use Rattle.vs_elab_listed.specs.vs_elab_pieces.specs.Pieces.{pieces_of};
+ghost use Rattle.vs_elab_listed.specs.vs_elab_pieces.specs.Reads.{read_piece};
 ghost use Rattle.vs_scopes.specs.Ports.{ports_of};
 ghost use Rattle.vs_scopes.specs.Scopes.{text_of, block_text, constant_names};
 ghost use Rattle.vs_scopes.specs.passes.Declared.{AddsNames};
@@ -10,12 +10,12 @@ ghost use Rattle.vs_scopes.specs.passes.Parts.{read_port};
 ghost use Rattle.vs_elab_implicit_nets.specs.passes.Nets.{MeansAs};
 
 use std::alloc::{AllocError, Global};
+use vs_elab_listed::vs_elab_pieces::ScopePiece;
+use vs_elab_parameters::vs_widths::Names;
 use vs_elab_parameters::{SignalNames, early_names};
-use vs_elab_pieces::ScopePiece;
+use vs_scopes::vs_width_selects::{Binding, Const};
 use vs_scopes::{ModulePort, add_first, block_parameters, module_parameters};
 use vs_syntax::Module;
-use vs_width_selects::{Binding, Const};
-use vs_widths::Names;
 
 /// The names that the text of a module of these ports and pieces declares, with what they are bound to before the values of its parameters are
 /// known (IEEE 1364-2005, clause 12.7).

@@ -29,18 +29,18 @@ use Rattle.vs_design.specs.declared.signal.Signal.{Signal}
 use Rattle.vs_design.specs.Parts.{Parts}
 use Rattle.vs_width_selects.specs.declared.constants.Const.{Const}
 use Rattle.vs_width_selects.specs.Environment.{Environment}
-use Rattle.vs_scopes.specs.Printed.{PathName, plainly}
-use Rattle.vs_scopes.specs.Parameters.{said, any_fault}
-use Rattle.vs_scopes.specs.Ports.{ModulePort, KindSaid, port_as, ports_from, port_said, kind_said, joined_port, port_of_items, port_by_items, is_name_list, listed_ports, ports_of, port_names, names_where, is_joined, without_name}
-use Rattle.vs_scopes.specs.Ranges.{Sized}
-use Rattle.vs_scopes.specs.Declarations.{Use, DeclaredName, declared_by_port, declared_as, declared_by_item, declared_local, declared_locally, declared_in, not_joined, declared_among, names_in}
-use Rattle.vs_scopes.specs.Nets.{permits_nets, nothing_seen}
-use Rattle.vs_scopes.specs.Generate.{Inner, instance, generated, named}
-use Rattle.vs_scopes.specs.Scopes.{Scope, nowhere, declarations_of, names_of, environment, text_names, inner_of, sight_in, module_named, Before, behind, text_of, module_pieces, block_text, top_scope, instance_scope, block_scope, is_inside, has_no_values, block_fault, opened_instance, opened_block, opened, listed, below, within_first, scopes_within, deepest, opened_top, scopes_of}
-use Rattle.vs_elab_listed.specs.Outlines.{Declared, declared, signal_of, signals_of, Line, enter, declare, leave, declare_from, outline_around, outline_below, outline_within, outline_of, IsEntry}
+use Rattle.vs_elaborate.specs.vs_scopes.specs.Printed.{PathName, plainly}
+use Rattle.vs_elaborate.specs.vs_scopes.specs.Parameters.{said, any_fault}
+use Rattle.vs_elaborate.specs.vs_scopes.specs.Ports.{ModulePort, KindSaid, port_as, ports_from, port_said, kind_said, joined_port, port_of_items, port_by_items, is_name_list, listed_ports, ports_of, port_names, names_where, is_joined, without_name}
+use Rattle.vs_elaborate.specs.vs_scopes.specs.Ranges.{Sized}
+use Rattle.vs_elaborate.specs.vs_scopes.specs.Declarations.{Use, DeclaredName, declared_by_port, declared_as, declared_by_item, declared_local, declared_locally, declared_in, not_joined, declared_among, names_in}
+use Rattle.vs_elaborate.specs.vs_scopes.specs.Nets.{permits_nets, nothing_seen}
+use Rattle.vs_elaborate.specs.vs_scopes.specs.Generate.{Inner, instance, generated, named}
+use Rattle.vs_elaborate.specs.vs_scopes.specs.Scopes.{Scope, nowhere, declarations_of, names_of, environment, text_names, inner_of, sight_in, module_named, Before, behind, text_of, module_pieces, block_text, top_scope, instance_scope, block_scope, is_inside, has_no_values, block_fault, opened_instance, opened_block, opened, listed, below, within_first, scopes_within, deepest, opened_top, scopes_of}
+use Rattle.vs_elab_operands.specs.vs_elab_listed.specs.Outlines.{Declared, declared, signal_of, signals_of, Line, enter, declare, leave, declare_from, outline_around, outline_below, outline_within, outline_of, IsEntry}
 use Rattle.vs_design.specs.declared.timescale.Timescale.{Timescale}
 use Rattle.vs_elaborate.specs.DesignOf.{Represents}
-use Rattle.vs_elab_path_laws.specs.Laws.{FitsTurn}
+use Rattle.vs_elaborate.specs.vs_elab_path_laws.specs.Laws.{FitsTurn}
 use Rattle.vs_elab_laws.specs.Named.{IsTurnOf, HasName, HasPart, IsNamedEntry, HasNames, HasGoodModules, NumberedPass}
 use Rattle.vs_elab_laws.proofs.GoodTextLemmas.{both, halves, each_append}
 use Rattle.vs_elab_laws.proofs.GoodNameLemmas.{all_module_item_names, all_join}

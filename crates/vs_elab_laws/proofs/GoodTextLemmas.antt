@@ -5,7 +5,7 @@ use Rattle.std.specs.List.{list_all, list_any, AllByRecursion}
 use Rattle.std.specs.Str.{bytes_eq}
 use Rattle.std.proofs.lemmas.Bool.{and_parts, and_from}
 use Rattle.std.proofs.lemmas.List.Folds.{list_all-append}
-use Rattle.vs_scopes.specs.Generate.{numbered_name, free_name, name_of_block}
+use Rattle.vs_elaborate.specs.vs_scopes.specs.Generate.{numbered_name, free_name, name_of_block}
 use Rattle.vs_elab_laws.specs.Named.{NumberedPass}
 
 pub both : {A : Type 0} (p : A → Bool) (xs ys : List A) → list_all p xs ≡ true → list_all p ys ≡ true → list_all p (xs ++ ys) ≡ true

@@ -23,12 +23,12 @@ use Rattle.vs_width_selects.specs.Environment.{Environment}
 use Rattle.vs_width_selects.specs.Findings.{stands}
 use Rattle.vs_width_selects.specs.Meants.{Meant, own}
 use Rattle.vs_width_selects.specs.Constants.{constant_finding}
-use Rattle.vs_widths.specs.Expressions.{meant}
-use Rattle.vs_scopes.specs.Printed.{PathName}
-use Rattle.vs_scopes.specs.Ranges.{sized_as, number_fault}
-use Rattle.vs_scopes.specs.Parameters.{neither, constant_by, with_constant, any_fault}
-use Rattle.vs_scopes.specs.Declarations.{Use, uses_by_item}
-use Rattle.vs_scopes.specs.Generate.{genvar_number, Turns, turns, faulty, endless, one_more, turns_from, wrong_genvar, wrong_name, turn_limit, turns_of, turn_number, piece_turns, turns_among, Taken, takes, refused, decided, branch_taken, other_taken, chosen, name_of_block, Inner, instance, generated, named, generates, content_inner, turns_inner, loop_inner, choice_inner, inner_in, behind_piece, inner_from}
+use Rattle.vs_elab_operands.specs.vs_widths.specs.Expressions.{meant}
+use Rattle.vs_elaborate.specs.vs_scopes.specs.Printed.{PathName}
+use Rattle.vs_elaborate.specs.vs_scopes.specs.Ranges.{sized_as, number_fault}
+use Rattle.vs_elaborate.specs.vs_scopes.specs.Parameters.{neither, constant_by, with_constant, any_fault}
+use Rattle.vs_elaborate.specs.vs_scopes.specs.Declarations.{Use, uses_by_item}
+use Rattle.vs_elaborate.specs.vs_scopes.specs.Generate.{genvar_number, Turns, turns, faulty, endless, one_more, turns_from, wrong_genvar, wrong_name, turn_limit, turns_of, turn_number, piece_turns, turns_among, Taken, takes, refused, decided, branch_taken, other_taken, chosen, name_of_block, Inner, instance, generated, named, generates, content_inner, turns_inner, loop_inner, choice_inner, inner_in, behind_piece, inner_from}
 use Rattle.vs_elab_laws.proofs.LayerLemmas.{content_layer, taken_layered, taken_layer}
 use Rattle.vs_elab_laws.proofs.PairLemmas.{pair_append, pair_map, pair_same}
 use Rattle.vs_elab_laws.proofs.SameTypedLemmas.{by_both, same_meant}

@@ -24,12 +24,12 @@ use Rattle.vs_width_selects.specs.Environment.{Environment}
 use Rattle.vs_width_selects.specs.Findings.{stands}
 use Rattle.vs_width_selects.specs.Meants.{Meant}
 use Rattle.vs_width_selects.specs.Constants.{constant_finding}
-use Rattle.vs_scopes.specs.Ranges.{sized_as}
-use Rattle.vs_scopes.specs.Connections.{in_text, in_order, by_name, ends_of, has_twice, has_other, is_mismatch}
-use Rattle.vs_scopes.specs.Parameters.{Parameter, said, header_parameters, item_parameter, parameters_in, piece_parameters, parameters_among, parameters_of, overridable, Given, first_end, other_ends, given_from, overriding, given_to, is_override_mismatch, the_size, neither, vector_takes, takes_by, constant_by, takes_fault, given_meant, constant_given, own_fault, outer_fault, with_given, bound_given, known_after, known_behind, blamed_given, blamed_after, known_for, constants_of, own_faults, outer_faults, any_fault}
-use Rattle.vs_scopes.specs.Ports.{ModulePort, ports_of}
-use Rattle.vs_scopes.specs.Declarations.{Bindings, DeclaredName, bound_to, unsized_of, valueless_of, signal_names, pending_names, early_names}
-use Rattle.vs_scopes.specs.Scopes.{Scope, nowhere, outward, text_of, early, environment, constant_names, has_no_values, block_given, with_constants, early_block, block_text, block_fault}
+use Rattle.vs_elaborate.specs.vs_scopes.specs.Ranges.{sized_as}
+use Rattle.vs_elaborate.specs.vs_scopes.specs.Connections.{in_text, in_order, by_name, ends_of, has_twice, has_other, is_mismatch}
+use Rattle.vs_elaborate.specs.vs_scopes.specs.Parameters.{Parameter, said, header_parameters, item_parameter, parameters_in, piece_parameters, parameters_among, parameters_of, overridable, Given, first_end, other_ends, given_from, overriding, given_to, is_override_mismatch, the_size, neither, vector_takes, takes_by, constant_by, takes_fault, given_meant, constant_given, own_fault, outer_fault, with_given, bound_given, known_after, known_behind, blamed_given, blamed_after, known_for, constants_of, own_faults, outer_faults, any_fault}
+use Rattle.vs_elaborate.specs.vs_scopes.specs.Ports.{ModulePort, ports_of}
+use Rattle.vs_elaborate.specs.vs_scopes.specs.Declarations.{Bindings, DeclaredName, bound_to, unsized_of, valueless_of, signal_names, pending_names, early_names}
+use Rattle.vs_elaborate.specs.vs_scopes.specs.Scopes.{Scope, nowhere, outward, text_of, early, environment, constant_names, has_no_values, block_given, with_constants, early_block, block_text, block_fault}
 use Rattle.vs_elab_pieces.specs.Pieces.{Piece, pieces_of}
 use Rattle.vs_elab_laws.proofs.PairLemmas.{pair_append, pair_map, pair_flat, pair_length, pair_same}
 use Rattle.vs_elab_laws.proofs.SamePieceLemmas.{SamePiece, plain_same, loop_same, choice_same, local_same, inside_same, net_same}

@@ -23,13 +23,13 @@ use Rattle.vs_width_selects.specs.Environment.{Environment}
 use Rattle.vs_width_selects.specs.Findings.{too_wide}
 use Rattle.vs_width_selects.specs.Meants.{Meant, own}
 use Rattle.vs_width_selects.specs.Constants.{constant_finding, whole_at}
-use Rattle.vs_widths.specs.Expressions.{meant}
-use Rattle.vs_scopes.specs.declared.faults.Reason.{Reason}
-use Rattle.vs_scopes.specs.declared.faults.Reason.TheVariants.{NoModule, Inside, PortMismatch, ParameterMismatch, DeclaredTwice, DrivenTwice, Limit, Width, Endless, Unnamed, Timescales, Format}
-use Rattle.vs_scopes.specs.Ranges.{Sized, Words, range_bounds, words_fault, words_as, is_array_of_nets, number_fault, both_bounds, is_over, shape_with, distance_or, sized_as}
-use Rattle.vs_scopes.specs.Parameters.{said}
-use Rattle.vs_scopes.specs.Ports.{PortSource, ModulePort, kind_of_port, scalar_form, port_as, ports_from, is_among, said_in, port_said, KindSaid, kind_among, kind_in, kind_said, joined_port, port_of_items, port_by_items, is_name_list, listed_ports, ports_of, port_names, port_names_in, is_of_items, is_joined, names_where, left_over, ports_again}
-use Rattle.vs_scopes.specs.Declarations.{DeclaredName, size_of_kind, declared_by_port, declared_as, declared_by_item, declared_local, declared_locally, declared_in, not_joined, declared_among, declared_names, Use, use_of, uses_by_item, genvars_in, each_once, inner_names_in, inner_names_among}
+use Rattle.vs_elab_operands.specs.vs_widths.specs.Expressions.{meant}
+use Rattle.vs_elaborate.specs.vs_scopes.specs.declared.faults.Reason.{Reason}
+use Rattle.vs_elaborate.specs.vs_scopes.specs.declared.faults.Reason.TheVariants.{NoModule, Inside, PortMismatch, ParameterMismatch, DeclaredTwice, DrivenTwice, Limit, Width, Endless, Unnamed, Timescales, Format}
+use Rattle.vs_elaborate.specs.vs_scopes.specs.Ranges.{Sized, Words, range_bounds, words_fault, words_as, is_array_of_nets, number_fault, both_bounds, is_over, shape_with, distance_or, sized_as}
+use Rattle.vs_elaborate.specs.vs_scopes.specs.Parameters.{said}
+use Rattle.vs_elaborate.specs.vs_scopes.specs.Ports.{PortSource, ModulePort, kind_of_port, scalar_form, port_as, ports_from, is_among, said_in, port_said, KindSaid, kind_among, kind_in, kind_said, joined_port, port_of_items, port_by_items, is_name_list, listed_ports, ports_of, port_names, port_names_in, is_of_items, is_joined, names_where, left_over, ports_again}
+use Rattle.vs_elaborate.specs.vs_scopes.specs.Declarations.{DeclaredName, size_of_kind, declared_by_port, declared_as, declared_by_item, declared_local, declared_locally, declared_in, not_joined, declared_among, declared_names, Use, use_of, uses_by_item, genvars_in, each_once, inner_names_in, inner_names_among}
 use Rattle.vs_elab_pieces.specs.Pieces.{NamedBlock, blocks_of, Piece, plain, pieces_of, content_of}
 use Rattle.vs_elab_laws.proofs.PairLemmas.{pair_map, pair_same, flat_one}
 use Rattle.vs_elab_laws.proofs.SamePieceLemmas.{SameBlock, item_blocks_of, SamePiece, plain_same, loop_same, choice_same, local_same, inside_same, net_same, pieces_same, block_name_same, contents_same, branches_same, others_same}

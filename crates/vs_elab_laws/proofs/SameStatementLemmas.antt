@@ -37,10 +37,10 @@ use Rattle.vs_width_selects.specs.Environment.{Environment}
 use Rattle.vs_width_selects.specs.Constants.{constant_finding, natural_at}
 use Rattle.vs_width_selects.specs.Findings.{Finding, Has, together, alike}
 use Rattle.vs_width_selects.specs.Meants.{own}
-use Rattle.vs_widths.specs.Expressions.{meant, name_meant}
-use Rattle.vs_widths.specs.Typing.{IsTypedAs}
-use Rattle.vs_widths.specs.declared.kinds.AssignmentKind.TheVariants.{Procedural}
-use Rattle.vs_scopes.specs.Printed.{plainly, Path}
+use Rattle.vs_elab_operands.specs.vs_widths.specs.Expressions.{meant, name_meant}
+use Rattle.vs_elab_operands.specs.vs_widths.specs.Typing.{IsTypedAs}
+use Rattle.vs_elab_operands.specs.vs_widths.specs.declared.kinds.AssignmentKind.TheVariants.{Procedural}
+use Rattle.vs_elaborate.specs.vs_scopes.specs.Printed.{plainly, Path}
 use Rattle.vs_elab_operands.specs.Members.{places}
 use Rattle.vs_elab_operands.specs.Surroundings.{Surroundings}
 use Rattle.vs_elab_operands.specs.Statements.{IsAssignment, IsOperand, delay_meant, delay_of, due_of, IsArgument, IsCall, print_text, print_values, AreEvents, label_exprs, common_finding, case_finding, AreTypedAt, no_typed, more_typed, IsStatement, is_null, is_assign, is_later, is_block, is_named, is_if, is_case, is_for, is_while, is_repeat, is_forever, is_delay, is_event, is_print, is_finish, is_dump, IsElse, no_else, an_else, AreItems, no_items, more_items, AreStatements, are_none, are_more}

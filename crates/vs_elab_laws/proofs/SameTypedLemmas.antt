@@ -21,11 +21,11 @@ use Rattle.vs_design.specs.declared.expression.Typed.{Typed}
 use Rattle.vs_width_selects.specs.Environment.{Environment}
 use Rattle.vs_width_selects.specs.Meants.{Meant}
 use Rattle.vs_width_selects.specs.Selects.{Select, select_meant}
-use Rattle.vs_widths.specs.declared.kinds.AssignmentKind.{AssignmentKind}
-use Rattle.vs_widths.specs.Lefts.{Aimed, aimed, aimed_step, name_aimed, concat_aimed, is_left, is_left_step, as_left, as_left_step, expr_aimed, no_target}
-use Rattle.vs_widths.proofs.ExprLemmas.{as_left_Name, as_left_Select, as_left_Concat}
-use Rattle.vs_widths.specs.Expressions.{meant, meant_step, meant_select, meant_selects, name_meant, unary_meant, chain_meant, choice_meant, concat_meant, repeat_meant, cast_meant}
-use Rattle.vs_widths.specs.Typing.{IsTypedAs}
+use Rattle.vs_elab_operands.specs.vs_widths.specs.declared.kinds.AssignmentKind.{AssignmentKind}
+use Rattle.vs_elab_operands.specs.vs_widths.specs.Lefts.{Aimed, aimed, aimed_step, name_aimed, concat_aimed, is_left, is_left_step, as_left, as_left_step, expr_aimed, no_target}
+use Rattle.vs_elab_operands.specs.vs_widths.proofs.ExprLemmas.{as_left_Name, as_left_Select, as_left_Concat}
+use Rattle.vs_elab_operands.specs.vs_widths.specs.Expressions.{meant, meant_step, meant_select, meant_selects, name_meant, unary_meant, chain_meant, choice_meant, concat_meant, repeat_meant, cast_meant}
+use Rattle.vs_elab_operands.specs.vs_widths.specs.Typing.{IsTypedAs}
 use Rattle.vs_elab_laws.specs.Same.{SameTyped}
 
 -- what is related to what one is

@@ -3,8 +3,8 @@ use Rattle.std.proofs.Common.{◌≡◌, ℕ, ◌&&◌, Bool, true, false, List,
 use Rattle.std.specs.List.{list_all}
 use Rattle.std.specs.Str.{bytes_eq}
 use Rattle.vs_logic4.proofs.Basics.{and_left, and_right}
-use Rattle.vs_lex_tokens.specs.declared.token.Kind.{Kind}
-use Rattle.vs_lex_tokens.specs.declared.token.Kind.TheVariants as k
+use Rattle.vs_lexer.specs.vs_lex_tokens.specs.declared.token.Kind.{Kind}
+use Rattle.vs_lexer.specs.vs_lex_tokens.specs.declared.token.Kind.TheVariants as k
 use Rattle.vs_lexer.specs.Tokens.{Lexeme}
 use Rattle.vs_lex_names.specs.PrintableNames.{name_passes, token_passes}
 use Rattle.vs_syntax.specs.Symbols.{Symbol, a_name, symbol_named, system_names, symbol_of, symbols}

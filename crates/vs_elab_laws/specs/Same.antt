@@ -23,9 +23,9 @@ use Rattle.vs_design.specs.Parts.{Parts}
 use Rattle.vs_design.specs.Stores.{Store}
 use Rattle.vs_design.specs.Uses.{reads, writes, target_reads}
 use Rattle.vs_design.specs.WellFormed.{size_of, numbers}
-use Rattle.vs_eval.specs.Values.{value_of}
-use Rattle.vs_eval.specs.Targets.{assigned}
-use Rattle.vs_elab_listed.specs.Outlines.{declared}
+use Rattle.vs_width_selects.specs.vs_eval.specs.Values.{value_of}
+use Rattle.vs_width_selects.specs.vs_eval.specs.Targets.{assigned}
+use Rattle.vs_elab_operands.specs.vs_elab_listed.specs.Outlines.{declared}
 
 -- The expressions say the same: one size, one value in every store, and the same ranges read (clauses 5.4 and 5.5).
 pub record SameTyped (x x' : Typed) : Type 0 where

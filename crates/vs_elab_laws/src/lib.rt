@@ -5,3 +5,4 @@
 mod laws;
 
 pub use laws::{names_are_of_source, names_of_modules_are_tokens, names_of_one_line, one_design};
+pub use vs_lex_names;

@@ -13,25 +13,25 @@ use Rattle.vs_syntax.specs.declared.tree.Declarator.{Declarator}
 use Rattle.vs_syntax.specs.declared.tree.Item.{Item}
 use Rattle.vs_syntax.specs.declared.tree.Item.TheVariants as t
 use Rattle.vs_syntax.specs.declared.tree.LocalDeclaration.{LocalDeclaration}
-use Rattle.vs_elab_pieces.specs.declared.scope.ScopePiece.{ScopePiece as FoundPiece}
-use Rattle.vs_elab_pieces.specs.declared.scope.ScopePiece.TheVariants as p
-use Rattle.vs_elab_pieces.specs.Reads.{read_piece}
+use Rattle.vs_elab_ports.specs.vs_elab_pieces.specs.declared.scope.ScopePiece.{ScopePiece as FoundPiece}
+use Rattle.vs_elab_ports.specs.vs_elab_pieces.specs.declared.scope.ScopePiece.TheVariants as p
+use Rattle.vs_elab_ports.specs.vs_elab_pieces.specs.Reads.{read_piece}
 use Rattle.vs_syntax.specs.declared.tree.Form.{Form}
 use Rattle.vs_syntax.specs.declared.tree.Range.{Range}
 use Rattle.vs_scopes.specs.declared.sizes.Size.{Size}
 use Rattle.vs_scopes.specs.declared.words.WordCount.{WordCount}
-use Rattle.vs_width_selects.specs.Environment.{Environment}
+use Rattle.vs_scopes.specs.vs_width_selects.specs.Environment.{Environment}
 use Rattle.vs_design.specs.declared.signal.Signal.{Signal}
 use Rattle.vs_design.specs.declared.signal.SignalKind.{SignalKind}
 use Rattle.vs_design.specs.declared.design.Entry.TheVariants.{Declare}
-use Rattle.vs_width_selects.specs.declared.bindings.Meaning.{Meaning}
-use Rattle.vs_width_selects.specs.declared.bindings.Binding.{Binding}
-use Rattle.vs_width_selects.specs.declared.bindings.Binding.TheVariants as b
+use Rattle.vs_scopes.specs.vs_width_selects.specs.declared.bindings.Meaning.{Meaning}
+use Rattle.vs_scopes.specs.vs_width_selects.specs.declared.bindings.Binding.{Binding}
+use Rattle.vs_scopes.specs.vs_width_selects.specs.declared.bindings.Binding.TheVariants as b
 use Rattle.vs_scopes.specs.declared.faults.Reason.{Reason}
 use Rattle.vs_scopes.specs.declared.faults.Reason.TheVariants.{NoModule, Inside, PortMismatch, ParameterMismatch, DeclaredTwice, DrivenTwice, Limit, Width, Endless, Unnamed, Timescales, Format}
 use Rattle.vs_scopes.specs.declared.faults.BodyFault.{BodyFault}
 use Rattle.vs_scopes.specs.declared.faults.ElabFault.{ElabFault}
-use Rattle.vs_widths.specs.Names.{meaning_of, Declares as NamesDeclare}
+use Rattle.vs_elab_ports.specs.vs_widths.specs.Names.{meaning_of, Declares as NamesDeclare}
 use Rattle.vs_scopes.specs.Printed.{Path}
 use Rattle.vs_scopes.specs.Ranges.{Sized, shape_with, sized_as, words_as}
 use Rattle.vs_scopes.specs.Ports.{without_name}
@@ -51,7 +51,7 @@ use Rattle.vs_scopes.proofs.Folds.{any_push}
 use Rattle.std.proofs.lemmas.Bool.{or_from as both_false, or_left as left_true, or_right as right_true}
 use Rattle.vs_scopes.proofs.AnswerLemmas.{told_at, told_by, told_part, refused_by, Kept, kept_none}
 use Rattle.vs_elab_listed.proofs.BindLemmas.{bound_push, bound_twice, numbered_push, numbered_keys, repeated_more}
-use Rattle.vs_logic4.proofs.Basics.{any_front, any_map, map_twice}
+use Rattle.vs_design.specs.vs_logic4.proofs.Basics.{any_front, any_map, map_twice}
 
 -- ---- signals
 

@@ -6,7 +6,7 @@ use Rattle.std.specs.Borrow.{Bor}
 use Rattle.std.proofs.lemmas.List.{append-nil, reverse-append}
 use Rattle.std.proofs.lemmas.Option.{none-some, same_Some, slice_get_read}
 use Rattle.vs_design.specs.declared.design.ScopeKind.{ScopeKind}
-use Rattle.vs_widths.specs.Names.{meaning_of, nested_names}
+use Rattle.vs_elab_ports.specs.vs_widths.specs.Names.{meaning_of, nested_names}
 use Rattle.vs_design.specs.declared.design.ScopeKind.TheVariants as opened_by
 use Rattle.vs_scopes.specs.Parameters.{said}
 use Rattle.vs_scopes.specs.Declarations.{Bindings}
@@ -16,8 +16,8 @@ use Rattle.vs_scopes.specs.passes.Names.{read_path}
 use Rattle.vs_elab_listed.specs.declared.opened.ListedScope.{ListedScope as FoundScope}
 use Rattle.vs_elab_listed.specs.Opened.{IsWithin, IsOutermost, StandsAround, HasSight, IsHome, IsEntered, IsOpened, AreOpened, AreSeated}
 use Rattle.vs_elab_listed.specs.passes.Sites.{outward_place}
-use Rattle.vs_logic4.proofs.Basics.{at_front}
-use Rattle.vs_logic4.proofs.Basics.{zip_at}
+use Rattle.vs_design.specs.vs_logic4.proofs.Basics.{at_front}
+use Rattle.vs_design.specs.vs_logic4.proofs.Basics.{zip_at}
 
 -- ---- more scopes behind those
 

@@ -11,3 +11,6 @@ pub mod Outlines
 pub mod ScopeFaults
 pub mod Opened
 pub mod passes
+pub use Rattle.vs_elab_generate
+pub use Rattle.vs_elab_ports.specs.vs_elab_pieces
+pub use Rattle.vs_elab_ports

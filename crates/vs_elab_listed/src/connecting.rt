@@ -9,9 +9,9 @@ ghost use Rattle.vs_elab_listed.specs.passes.Connecting.{ConnectsTo};
 
 use std::alloc::{AllocError, Global};
 use vs_elab_generate::Use;
+use vs_elab_ports::vs_widths::is_left;
 use vs_scopes::{ModulePort, ends};
 use vs_syntax::{Direction, Expr};
-use vs_widths::is_left;
 
 /// The names of ports.
 fn names_of_ports<'s>(alloc: Global, ports: &[ModulePort<'s>]) -> Result<Vec<&'s [u8]>, AllocError>

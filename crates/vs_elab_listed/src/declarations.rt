@@ -1,8 +1,8 @@
 //! What a scope declares, as signals of a design.
 ghost use Rattle.std.specs.Prelude.{◌≡◌, ◌<◌, ◌∷◌, [], Option, length, map, IfOk};
 ghost use Rattle.vs_syntax.specs.declared.tree.Range.{Range};
-ghost use Rattle.vs_elab_pieces.specs.Pieces.{plain, local, net};
-ghost use Rattle.vs_elab_pieces.specs.Reads.{read_piece};
+ghost use Rattle.vs_elab_ports.specs.vs_elab_pieces.specs.Pieces.{plain, local, net};
+ghost use Rattle.vs_elab_ports.specs.vs_elab_pieces.specs.Reads.{read_piece};
 ghost use Rattle.vs_scopes.specs.Ranges.{Sized, Words, words_as};
 ghost use Rattle.vs_scopes.specs.Declarations.{declared_as, declared_local, declared_by_port, declared_in, declared_among, selectable};
 ghost use Rattle.vs_scopes.specs.Scopes.{Scope};
@@ -18,15 +18,15 @@ use crate::opened::Numbering;
 use crate::telling::{fault_at, member_fault, part_fault};
 use std::alloc::{AllocError, Global};
 use vs_design::{Bounds, Entry, Signal, SignalKind};
-use vs_elab_pieces::ScopePiece;
 use vs_elab_ports::take_one;
+use vs_elab_ports::vs_elab_pieces::ScopePiece;
+use vs_elab_ports::vs_widths::{Levels, Names};
+use vs_scopes::vs_width_selects::{Binding, Meaning, Shape};
 use vs_scopes::{
     BodyFault, ElabFault, INTEGER, ModulePort, PathName, Reason, Size, WordCount, declared_size,
     declared_words, port_size, print_member, print_name,
 };
 use vs_syntax::{Declarator, Item, Local, LocalDeclaration};
-use vs_width_selects::{Binding, Meaning, Shape};
-use vs_widths::{Levels, Names};
 
 /// A design has at most this many signals.
 const SIGNAL_LIMIT: usize = 65536;

@@ -21,3 +21,6 @@ pub use opened::{Hierarchy, ListedScope, Numbering};
 pub use sights::{Level, Sight, own_sight, sight_around, told};
 pub use sites::{names_around, names_outward, path, path_inside};
 pub use telling::{fault_at, member_fault, named_fault, scope_fault};
+pub use vs_elab_generate;
+pub use vs_elab_ports;
+pub use vs_elab_ports::vs_elab_pieces;

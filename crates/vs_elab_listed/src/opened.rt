@@ -3,11 +3,11 @@ ghost use Rattle.std.specs.Prelude.{◌≡◌, []};
 
 use std::alloc::Global;
 use vs_design::{Entry, ScopeKind, Signal};
-use vs_elab_pieces::ScopePiece;
+use vs_elab_ports::vs_elab_pieces::ScopePiece;
+use vs_elab_ports::vs_widths::Names;
+use vs_scopes::vs_width_selects::{Binding, Const};
 use vs_scopes::{ModulePort, PathName};
 use vs_syntax::Expr;
-use vs_width_selects::{Binding, Const};
-use vs_widths::Names;
 
 /// A scope of a source: the top, an instance, a generate block or a named block (IEEE 1364-2005, clause 12.1).
 ///

@@ -4,8 +4,8 @@ ghost use Rattle.std.specs.declared.vec.Vec.{Vec};
 ghost use Rattle.std.specs.declared.alloc.Global.{Global};
 ghost use Rattle.vs_syntax.specs.declared.tree.Declarator.{Declarator};
 ghost use Rattle.vs_design.specs.Kinds.{is_variable};
-ghost use Rattle.vs_widths.specs.Names.{meaning_of};
-ghost use Rattle.vs_elab_pieces.specs.Reads.{read_piece};
+ghost use Rattle.vs_elab_ports.specs.vs_widths.specs.Names.{meaning_of};
+ghost use Rattle.vs_elab_ports.specs.vs_elab_pieces.specs.Reads.{read_piece};
 ghost use Rattle.vs_scopes.specs.Nets.{told_in, told_from, is_before, is_net};
 ghost use Rattle.vs_scopes.specs.Scopes.{Scope, sight_in};
 ghost use Rattle.vs_scopes.specs.passes.Declared.{AddsNames};
@@ -17,11 +17,11 @@ use crate::opened::ListedScope;
 use crate::sites::outward_place;
 use std::alloc::{AllocError, Global};
 use vs_design::{ScopeKind, SignalKind};
-use vs_elab_pieces::ScopePiece;
+use vs_elab_ports::vs_elab_pieces::ScopePiece;
+use vs_elab_ports::vs_widths::Names;
 use vs_scopes::add_first;
+use vs_scopes::vs_width_selects::Binding;
 use vs_syntax::{Declarator, Item};
-use vs_width_selects::Binding;
-use vs_widths::Names;
 
 /// How a name stands at a place of the text (IEEE 1364-2005, clauses 4.5 and 12.7).
 #[derive(Clone, Copy)]

@@ -14,7 +14,7 @@ use Rattle.vs_design.specs.declared.statement.CallKind.{CallKind}
 use Rattle.vs_strobe.specs.declared.fault.FormatReason.{FormatReason}
 use Rattle.vs_strobe.specs.declared.fault.FormatReason.TheVariants.{BadDirective, TooFewArguments, TooManyArguments}
 use Rattle.vs_strobe.specs.Pieces.{format_fault}
-use Rattle.vs_width_selects.specs.Environment.{Environment}
+use Rattle.vs_scopes.specs.vs_width_selects.specs.Environment.{Environment}
 use Rattle.vs_scopes.specs.declared.faults.Reason.{Reason}
 use Rattle.vs_scopes.specs.declared.faults.Reason.TheVariants.{Width, Format}
 use Rattle.vs_scopes.specs.declared.faults.BodyFault.{BodyFault}
@@ -22,7 +22,7 @@ use Rattle.vs_scopes.specs.Printed.{Path, printed}
 use Rattle.vs_scopes.specs.passes.Answers.{Elaborates, Refuses}
 use Rattle.vs_scopes.proofs.AnswerLemmas.{refused_by, answered_by}
 use Rattle.vs_scopes.proofs.Folds.{any_push, any_at}
-use Rattle.vs_logic4.proofs.Basics.{take_push}
+use Rattle.vs_design.specs.vs_logic4.proofs.Basics.{take_push}
 use Rattle.vs_elab_operands.specs.Surroundings.{Surroundings}
 use Rattle.vs_elab_operands.specs.Statements.{call_kind, print_text, print_values, operand_fault, argument_fault, print_fault, IsArgument, IsCall, is_wrong}
 use Rattle.vs_elab_operands.specs.passes.Bodies.{format_faults, call_fault, MakesCall}

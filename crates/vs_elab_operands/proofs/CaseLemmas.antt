@@ -7,12 +7,12 @@ use Rattle.vs_syntax.specs.declared.tree.Expr.{Expr}
 use Rattle.vs_syntax.specs.declared.tree.CaseLabel.{CaseLabel}
 use Rattle.vs_syntax.specs.declared.tree.Stmt.{Stmt}
 use Rattle.vs_design.specs.declared.expression.Typed.{Typed}
-use Rattle.vs_width_selects.specs.declared.shape.Shape.{Shape}
-use Rattle.vs_width_selects.specs.declared.faults.WidthReason.{WidthReason}
-use Rattle.vs_width_selects.specs.declared.faults.WidthFault.{WidthFault}
-use Rattle.vs_width_selects.specs.declared.faults.WidthFault.TheVariants as fault
-use Rattle.vs_width_selects.specs.Environment.{Environment}
-use Rattle.vs_width_selects.specs.Findings.{Finding, Has, Lacks, stands, together, alike, Refuses as Found}
+use Rattle.vs_scopes.specs.vs_width_selects.specs.declared.shape.Shape.{Shape}
+use Rattle.vs_scopes.specs.vs_width_selects.specs.declared.faults.WidthReason.{WidthReason}
+use Rattle.vs_scopes.specs.vs_width_selects.specs.declared.faults.WidthFault.{WidthFault}
+use Rattle.vs_scopes.specs.vs_width_selects.specs.declared.faults.WidthFault.TheVariants as fault
+use Rattle.vs_scopes.specs.vs_width_selects.specs.Environment.{Environment}
+use Rattle.vs_scopes.specs.vs_width_selects.specs.Findings.{Finding, Has, Lacks, stands, together, alike, Refuses as Found}
 use Rattle.vs_widths.specs.Expressions.{meant}
 use Rattle.vs_widths.specs.Typing.{IsTypedAs}
 use Rattle.vs_scopes.specs.declared.faults.Reason.{Reason}
@@ -20,11 +20,11 @@ use Rattle.vs_scopes.specs.declared.faults.Reason.TheVariants.{NoModule, Inside,
 use Rattle.vs_scopes.specs.passes.Answers.{Refuses, body_fault}
 use Rattle.vs_scopes.proofs.Folds.{any_at, any_push, flat_more}
 use Rattle.std.proofs.lemmas.Bool.{or_right as right_true, or_left as left_true}
-use Rattle.vs_logic4.proofs.Basics.{take_push}
+use Rattle.vs_design.specs.vs_logic4.proofs.Basics.{take_push}
 use Rattle.vs_scopes.proofs.AnswerLemmas.{flat_split}
 use Rattle.vs_elab_operands.specs.Statements.{AreTypedAt, no_typed, more_typed, operand_fault, label_exprs, common_finding, case_finding, case_fault, is_default, has_two_defaults}
 use Rattle.vs_elab_operands.specs.passes.Bodies.{IsCase, Shapes}
-use Rattle.vs_logic4.proofs.Basics.{or_none}
+use Rattle.vs_design.specs.vs_logic4.proofs.Basics.{or_none}
 
 -- ---- sizes and signs
 

@@ -11,8 +11,8 @@ use Rattle.vs_syntax.specs.declared.tree.EventControl.{EventControl}
 use Rattle.vs_syntax.specs.declared.tree.EventControl.TheVariants as c
 use Rattle.vs_syntax.specs.declared.tree.EventExpr.{EventExpr}
 use Rattle.vs_syntax.specs.declared.tree.Separator.{Separator}
-use Rattle.vs_logic4.specs.declared.edge.Edge.{Edge}
-use Rattle.vs_logic4.specs.declared.edge.Edge.TheVariants.{Any}
+use Rattle.vs_design.specs.vs_logic4.specs.declared.edge.Edge.{Edge}
+use Rattle.vs_design.specs.vs_logic4.specs.declared.edge.Edge.TheVariants.{Any}
 use Rattle.vs_design.specs.declared.statement.Statement.{Statement}
 use Rattle.vs_design.specs.Statements.{statement_reads}
 use Rattle.vs_widths.specs.Expressions.{meant_selects}
@@ -22,12 +22,12 @@ use Rattle.vs_design.specs.declared.statement.Aim.{Aim}
 use Rattle.vs_design.specs.declared.statement.Aim.TheVariants.{Fixed, Chosen}
 use Rattle.vs_design.specs.declared.statement.EventTerm.{EventTerm}
 use Rattle.vs_design.specs.declared.statement.Target.{Target}
-use Rattle.vs_width_selects.specs.Each.{Each, each_none, each_more}
-use Rattle.vs_width_selects.specs.declared.bindings.Binding.{Binding}
-use Rattle.vs_width_selects.specs.declared.faults.WidthReason.{WidthReason}
-use Rattle.vs_width_selects.specs.Environment.{Environment}
-use Rattle.vs_width_selects.specs.Findings.{stands}
-use Rattle.vs_width_selects.specs.Selects.{Select, Named}
+use Rattle.vs_scopes.specs.vs_width_selects.specs.Each.{Each, each_none, each_more}
+use Rattle.vs_scopes.specs.vs_width_selects.specs.declared.bindings.Binding.{Binding}
+use Rattle.vs_scopes.specs.vs_width_selects.specs.declared.faults.WidthReason.{WidthReason}
+use Rattle.vs_scopes.specs.vs_width_selects.specs.Environment.{Environment}
+use Rattle.vs_scopes.specs.vs_width_selects.specs.Findings.{stands}
+use Rattle.vs_scopes.specs.vs_width_selects.specs.Selects.{Select, Named}
 use Rattle.vs_widths.specs.declared.kinds.AssignmentKind.TheVariants.{Event}
 use Rattle.vs_widths.specs.Lefts.{Aimed, name_aimed, takes_reads}
 use Rattle.vs_widths.specs.Aiming.{IsPlace, IsTarget, is_none_read}
@@ -37,7 +37,7 @@ use Rattle.vs_scopes.specs.declared.faults.BodyFault.{BodyFault}
 use Rattle.vs_scopes.specs.passes.Answers.{Refuses, Elaborates}
 use Rattle.vs_scopes.specs.passes.Sizes.{width_faults}
 use Rattle.vs_scopes.proofs.Folds.{any_at, any_push}
-use Rattle.vs_logic4.proofs.Basics.{take_push}
+use Rattle.vs_design.specs.vs_logic4.proofs.Basics.{take_push}
 use Rattle.vs_scopes.proofs.AnswerLemmas.{refused_by, answered_by}
 use Rattle.vs_scopes.proofs.SizeLemmas.{no_faults}
 use Rattle.vs_elab_operands.specs.Statements.{IsTerm, AreTerms, no_terms, more_terms, AreEvents, are_star, are_grouped, are_name, are_terms, event_aimed, events_aimed, event_fault, level_term, watched}

@@ -15,7 +15,7 @@ use Rattle.vs_syntax.specs.declared.tree.Stmt.TheOpen as f
 use Rattle.vs_syntax.specs.declared.tree.CaseLabel.{CaseLabel}
 use Rattle.vs_syntax.specs.declared.tree.DelayValue.{DelayValue}
 use Rattle.vs_syntax.specs.declared.tree.EventControl.{EventControl}
-use Rattle.vs_lex_tokens.specs.declared.token.Literal.{Literal}
+use Rattle.vs_syntax.specs.vs_lex_tokens.specs.declared.token.Literal.{Literal}
 use Rattle.vs_syntax.specs.declared.tree.PrintTask.{PrintTask}
 use Rattle.vs_syntax.specs.declared.tree.PrintArguments.{PrintArguments}
 use Rattle.vs_syntax.specs.declared.tree.DumpTask.{DumpTask}
@@ -29,7 +29,7 @@ use Rattle.vs_design.specs.declared.statement.Target.{Target}
 use Rattle.vs_design.specs.declared.statement.EventTerm.{EventTerm}
 use Rattle.vs_design.specs.declared.statement.Ticks.{Ticks}
 use Rattle.vs_design.specs.declared.statement.Call.{Call}
-use Rattle.vs_logic4.specs.declared.case.CaseKind.{CaseKind}
+use Rattle.vs_design.specs.vs_logic4.specs.declared.case.CaseKind.{CaseKind}
 use Rattle.vs_design.specs.declared.statement.Statement.{Statement}
 use Rattle.vs_design.specs.declared.statement.Statement.TheVariants as d
 use Rattle.vs_design.specs.declared.statement.Statement.TheVariants.{rolls-Null as drolls-Null, rolls-Assign as drolls-Assign, rolls-Later as drolls-Later, rolls-Block as drolls-Block, rolls-If as drolls-If, rolls-Case as drolls-Case, rolls-While as drolls-While, rolls-Repeat as drolls-Repeat, rolls-Delay as drolls-Delay, rolls-Event as drolls-Event, rolls-Forever as drolls-Forever, rolls-Call as drolls-Call, rolls-Finish as drolls-Finish}
@@ -42,7 +42,7 @@ use Rattle.vs_elab_operands.specs.Members.{places}
 use Rattle.vs_elab_operands.specs.Surroundings.{Surroundings}
 use Rattle.vs_elab_operands.specs.passes.Bodies.{counting, else_list}
 use Rattle.vs_scopes.proofs.Folds.{any_of_map}
-use Rattle.vs_logic4.proofs.Basics.{or_none}
+use Rattle.vs_design.specs.vs_logic4.proofs.Basics.{or_none}
 
 -- ---- faults, by form
 

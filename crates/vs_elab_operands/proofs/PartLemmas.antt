@@ -15,20 +15,20 @@ use Rattle.vs_syntax.specs.declared.tree.CaseLabel.{CaseLabel}
 use Rattle.vs_syntax.specs.declared.tree.DelayValue.{DelayValue}
 use Rattle.vs_syntax.specs.declared.tree.EventControl.{EventControl}
 use Rattle.vs_design.specs.declared.expression.Typed.{Typed}
-use Rattle.vs_logic4.specs.declared.case.CaseKind.{CaseKind}
-use Rattle.vs_width_selects.specs.declared.shape.Shape.{Shape}
+use Rattle.vs_design.specs.vs_logic4.specs.declared.case.CaseKind.{CaseKind}
+use Rattle.vs_scopes.specs.vs_width_selects.specs.declared.shape.Shape.{Shape}
 use Rattle.vs_design.specs.declared.statement.Statement.{Statement}
 use Rattle.vs_widths.specs.declared.kinds.AssignmentKind.TheVariants.{Procedural}
 use Rattle.vs_scopes.specs.declared.faults.Reason.{Reason}
 use Rattle.vs_scopes.specs.declared.faults.Reason.TheVariants.{NoModule, Inside, PortMismatch, ParameterMismatch, DeclaredTwice, DrivenTwice, Limit, Width, Endless, Unnamed, Timescales, Format}
-use Rattle.vs_width_selects.specs.Environment.{Environment}
-use Rattle.vs_width_selects.specs.Findings.{stands}
+use Rattle.vs_scopes.specs.vs_width_selects.specs.Environment.{Environment}
+use Rattle.vs_scopes.specs.vs_width_selects.specs.Findings.{stands}
 use Rattle.vs_widths.specs.Expressions.{meant}
 use Rattle.vs_elab_operands.proofs.CaseLemmas.{exprs_in, exprs_of, stands_common}
 use Rattle.std.proofs.lemmas.List.Folds.{list_any-append}
-use Rattle.vs_elab_pieces.specs.Pieces.{NamedBlock, blocks_in, blocks_among}
-use Rattle.vs_elab_pieces.specs.passes.Parts.{blocks_behind}
-use Rattle.vs_elab_pieces.proofs.PiecesLemmas.{blocks_Block, blocks_If, blocks_Case}
+use Rattle.vs_elab_listed.specs.vs_elab_pieces.specs.Pieces.{NamedBlock, blocks_in, blocks_among}
+use Rattle.vs_elab_listed.specs.vs_elab_pieces.specs.passes.Parts.{blocks_behind}
+use Rattle.vs_elab_listed.specs.vs_elab_pieces.proofs.PiecesLemmas.{blocks_Block, blocks_If, blocks_Case}
 use Rattle.vs_elab_operands.specs.Statements.{assign_fault, operand_fault, delay_fault, event_fault, case_fault, label_exprs, has_fault, count_of, total, is_overfull}
 use Rattle.vs_elab_operands.specs.Members.{places}
 use Rattle.vs_elab_operands.specs.Surroundings.{Surroundings}
@@ -37,7 +37,7 @@ use Rattle.vs_elab_operands.specs.passes.Bodies.{counting, statement_burden, sta
 use Rattle.vs_elab_operands.proofs.BlockLemmas.{blocks_Named, blocks_For, blocks_While, blocks_Repeat, blocks_Forever, blocks_Delay, blocks_Event, IsPart, AreFree}
 use Rattle.std.proofs.lemmas.Bool.{or_left as left_true, or_right as right_true}
 use Rattle.vs_elab_operands.proofs.FormLemmas.{count_Block, count_Case, count_Delay, count_Event, count_For, count_Forever, count_If, count_Named, count_Repeat, count_While, counts, fault_Block, fault_Case, fault_Delay, fault_Event, fault_For, fault_Forever, fault_If, fault_Repeat, fault_While, item_count, labels_of}
-use Rattle.vs_logic4.proofs.Basics.{any_none as none_any, left_false, or_four, right_false}
+use Rattle.vs_design.specs.vs_logic4.proofs.Basics.{any_none as none_any, left_false, or_four, right_false}
 
 -- ---- too many statements
 

@@ -4,3 +4,6 @@ pub mod Surroundings
 pub mod Statements
 pub mod Processes
 pub mod passes
+pub use Rattle.vs_elab_listed
+pub use Rattle.vs_scopes
+pub use Rattle.vs_widths

@@ -3,8 +3,8 @@ ghost use Rattle.std.specs.Prelude.{◌≡◌, ◌∷◌, [], IfOk, map};
 ghost use Rattle.vs_design.specs.declared.statement.Aim.TheVariants.{Fixed};
 ghost use Rattle.vs_design.specs.Statements.{statement_reads};
 ghost use Rattle.vs_design.specs.declared.expression.Slice.{Slice};
-ghost use Rattle.vs_logic4.specs.declared.edge.Edge.TheVariants.{Any};
-ghost use Rattle.vs_width_selects.specs.Findings.{stands};
+ghost use Rattle.vs_design.specs.vs_logic4.specs.declared.edge.Edge.TheVariants.{Any};
+ghost use Rattle.vs_scopes.specs.vs_width_selects.specs.Findings.{stands};
 ghost use Rattle.vs_widths.specs.declared.kinds.AssignmentKind.TheVariants.{Event};
 ghost use Rattle.vs_widths.specs.Lefts.{name_aimed};
 ghost use Rattle.vs_widths.specs.Names.{meaning_of};
@@ -14,8 +14,8 @@ ghost use Rattle.vs_elab_operands.specs.Statements.{IsTerm, AreTerms, AreEvents,
 ghost use Rattle.vs_elab_operands.specs.passes.Bodies.{IsAlone, terms_fault};
 
 use std::alloc::{AllocError, Global};
+use vs_design::vs_logic4::Edge;
 use vs_design::{Aim, BitRange, EventTerm, Slice, Statement, Target, bits_from, statement_reads};
-use vs_logic4::Edge;
 use vs_scopes::BodyFault;
 use vs_syntax::{EventControl, EventExpr, Separator};
 use vs_widths::{AssignmentKind, Levels, name_target, selected_target};

@@ -17,3 +17,6 @@ pub use events::event_terms;
 pub use faults::{StatementFault, deeper};
 pub use operands::{delay, due, operand};
 pub use views::{Ratio, View};
+pub use vs_elab_listed;
+pub use vs_scopes::vs_width_selects;
+pub use vs_widths;

@@ -1,7 +1,7 @@
 //! Expressions of statements that stand alone, and delays.
 ghost use Rattle.std.specs.Prelude.{◌≡◌, ◌*◌, ◌^◌, ◌<◌, ◌≤◌, Some, IfOk, IfErr, MatchOption};
-ghost use Rattle.vs_width_selects.specs.Constants.{constant_finding};
-ghost use Rattle.vs_width_selects.specs.Findings.{Refuses};
+ghost use Rattle.vs_scopes.specs.vs_width_selects.specs.Constants.{constant_finding};
+ghost use Rattle.vs_scopes.specs.vs_width_selects.specs.Findings.{Refuses};
 ghost use Rattle.vs_widths.specs.Expressions.{name_meant};
 ghost use Rattle.vs_widths.specs.Names.{meaning_of};
 ghost use Rattle.vs_scopes.specs.passes.Answers.{Elaborates};
@@ -10,9 +10,9 @@ ghost use Rattle.vs_elab_operands.specs.passes.Bodies.{IsConstantAs};
 
 use std::alloc::Global;
 use vs_design::{Ticks, Typed};
+use vs_scopes::vs_width_selects::{Binding, Const, WidthFault, WidthReason};
 use vs_scopes::{BodyFault, Reason};
 use vs_syntax::{DelayValue, Expr};
-use vs_width_selects::{Binding, Const, WidthFault, WidthReason};
 use vs_widths::{Levels, constant, shape_of, typed};
 
 /// Delays reach fewer ticks than this.

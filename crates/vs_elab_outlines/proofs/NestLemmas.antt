@@ -10,16 +10,16 @@ use Rattle.vs_design.specs.declared.design.ScopeKind.{ScopeKind}
 use Rattle.vs_design.specs.declared.design.ScopeKind.TheVariants as k
 use Rattle.vs_design.specs.declared.signal.Signal.{Signal}
 use Rattle.vs_design.specs.Parts.{Parts}
-use Rattle.vs_scopes.specs.Generate.{Inner}
-use Rattle.vs_scopes.specs.Printed.{printed_part}
-use Rattle.vs_scopes.specs.Scopes.{Scope, Before, behind, declarations_of, has_no_values, inner_of, listed, nowhere, opened, opened_top, scopes_within, top_scope, within_first}
+use Rattle.vs_elab_laws.specs.vs_scopes.specs.Generate.{Inner}
+use Rattle.vs_elab_laws.specs.vs_scopes.specs.Printed.{printed_part}
+use Rattle.vs_elab_laws.specs.vs_scopes.specs.Scopes.{Scope, Before, behind, declarations_of, has_no_values, inner_of, listed, nowhere, opened, opened_top, scopes_within, top_scope, within_first}
 use Rattle.vs_elab_listed.specs.Outlines.{Line, declare, enter, leave, declare_from, outline_around, outline_below, outline_within}
 use Rattle.vs_vcd_lines.specs.Names.{IsScopeName}
-use Rattle.vs_vcd_writing.specs.Codes.{is_array}
-use Rattle.vs_vcd_reading.specs.Plain.{PlainDeclaration}
-use Rattle.vs_vcd_reading.specs.Plain.{PlainDeclaration as p}
-use Rattle.vs_vcd_reading.specs.Layout.{AreDeclared, AreScopes, AreVariables, IsPlainVariable}
-use Rattle.vs_vcd_reading.specs.Layout.{AreScopes as z, AreVariables as v}
+use Rattle.vs_vcd_lines.specs.vs_vcd_writing.specs.Codes.{is_array}
+use Rattle.vs_vcd_law.specs.vs_vcd_reading.specs.Plain.{PlainDeclaration}
+use Rattle.vs_vcd_law.specs.vs_vcd_reading.specs.Plain.{PlainDeclaration as p}
+use Rattle.vs_vcd_law.specs.vs_vcd_reading.specs.Layout.{AreDeclared, AreScopes, AreVariables, IsPlainVariable}
+use Rattle.vs_vcd_law.specs.vs_vcd_reading.specs.Layout.{AreScopes as z, AreVariables as v}
 use Rattle.vs_vcd_law.specs.Said.{said_of, variable_of}
 
 -- what a dump says of a line

@@ -7,11 +7,11 @@ use Rattle.std.specs.Prelude.{◌==◌}
 use Rattle.std.specs.List.{flat_map}
 use Rattle.vs_syntax.specs.declared.tree.Module.{Module}
 use Rattle.vs_design.specs.WellFormed.{counts_from}
-use Rattle.vs_scopes.specs.Nets.{permits_nets}
-use Rattle.vs_scopes.specs.Generate.{Inner}
-use Rattle.vs_scopes.specs.Scopes.{Scope, Before, behind, below, declarations_of, deepest, inner_of, listed, module_named, opened, opened_top, scopes_of, scopes_within, signal_count, within_first}
+use Rattle.vs_elab_laws.specs.vs_scopes.specs.Nets.{permits_nets}
+use Rattle.vs_elab_laws.specs.vs_scopes.specs.Generate.{Inner}
+use Rattle.vs_elab_laws.specs.vs_scopes.specs.Scopes.{Scope, Before, behind, below, declarations_of, deepest, inner_of, listed, module_named, opened, opened_top, scopes_of, scopes_within, signal_count, within_first}
 use Rattle.vs_elab_listed.specs.Outlines.{Line, declare, enter, leave, declare_from, outline_around, outline_below, outline_of, outline_within, signal_of, signals_of}
-use Rattle.vs_elab_path_laws.proofs.PathsOpened.{what_is_opened, what_is_opened_top}
+use Rattle.vs_elab_laws.specs.vs_elab_path_laws.proofs.PathsOpened.{what_is_opened, what_is_opened_top}
 use Rattle.vs_vcd_lines.proofs.CutLemmas.{eqb_is}
 
 -- the signal that a line declares

@@ -10,15 +10,15 @@ use Rattle.vs_design.specs.declared.design.Entry.TheVariants.{Enter, Declare, Le
 use Rattle.vs_design.specs.declared.timescale.Timescale.{Timescale}
 use Rattle.vs_design.specs.Parts.{Parts}
 use Rattle.vs_design.specs.WellFormed.{counts_from, declared_in}
-use Rattle.vs_scopes.specs.Nets.{permits_nets}
-use Rattle.vs_scopes.specs.Scopes.{deepest, module_named, opened_top, scopes_of, signal_count}
+use Rattle.vs_elab_laws.specs.vs_scopes.specs.Nets.{permits_nets}
+use Rattle.vs_elab_laws.specs.vs_scopes.specs.Scopes.{deepest, module_named, opened_top, scopes_of, signal_count}
 use Rattle.vs_elab_listed.specs.Outlines.{Line, declare, declared, enter, leave, outline_of, IsEntry}
-use Rattle.vs_elaborate.specs.DesignOf.{Represents}
+use Rattle.vs_elab_laws.specs.vs_elaborate.specs.DesignOf.{Represents}
 use Rattle.vs_vcd_law.specs.Conditions.{IsOutlined}
 use Rattle.vs_vcd_law.specs.Said.{said_by}
 use Rattle.vs_vcd_lines.specs.Names.{IsScopeName}
-use Rattle.vs_vcd_reading.specs.Layout.{AreDeclared}
-use Rattle.vs_vcd_reading.specs.Plain.{PlainDeclaration as q}
+use Rattle.vs_vcd_law.specs.vs_vcd_reading.specs.Layout.{AreDeclared}
+use Rattle.vs_vcd_law.specs.vs_vcd_reading.specs.Plain.{PlainDeclaration as q}
 use Rattle.vs_elab_outlines.specs.Outlined.{HasPrintedNames, IsPrintedEntry, IsPrintedSignal, OutlinesAreInOrder}
 use Rattle.vs_elab_outlines.proofs.NumberLemmas.{count_up, counts_up, length-count_up, numbers_of, outline_counts, signals_counted}
 use Rattle.vs_elab_outlines.proofs.NestLemmas.{AreGood, AreNamed, said, top_declared}

@@ -7,17 +7,17 @@ use Rattle.std.specs.List.{list_all, flat_map}
 use Rattle.std.proofs.Math.Nat.{mod-lt}
 use Rattle.std.proofs.lemmas.Bool.{and_parts, and_from, cond_both, ne_eqb}
 use Rattle.std.proofs.lemmas.List.Folds.{list_all-append}
-use Rattle.vs_lex_tokens.specs.Bytes.{in_escaped}
-use Rattle.vs_lex_names.specs.PrintableNames.{is_printable_name}
+use Rattle.vs_syntax.specs.vs_lex_tokens.specs.Bytes.{in_escaped}
+use Rattle.vs_elab_laws.specs.vs_lex_names.specs.PrintableNames.{is_printable_name}
 use Rattle.vs_design.specs.declared.design.Entry.{Entry}
 use Rattle.vs_design.specs.declared.design.Entry.TheVariants.{Enter, Declare, Leave}
 use Rattle.vs_design.specs.declared.design.ScopeKind.{ScopeKind}
 use Rattle.vs_design.specs.declared.design.ScopeKind.TheVariants.{Module, Begin}
 use Rattle.vs_design.specs.declared.signal.Signal.{Signal}
 use Rattle.vs_design.specs.Parts.{Parts}
-use Rattle.vs_scopes.specs.Generate.{numbered_name}
-use Rattle.vs_scopes.specs.Printed.{PathName, is_simple, escaped_byte, printed_name, printed_part, printed_turn}
-use Rattle.vs_elab_path_laws.specs.Laws.{FitsTurn}
+use Rattle.vs_elab_laws.specs.vs_scopes.specs.Generate.{numbered_name}
+use Rattle.vs_elab_laws.specs.vs_scopes.specs.Printed.{PathName, is_simple, escaped_byte, printed_name, printed_part, printed_turn}
+use Rattle.vs_elab_laws.specs.vs_elab_path_laws.specs.Laws.{FitsTurn}
 use Rattle.vs_elab_laws.specs.Named.{HasName, HasNames, IsNamedEntry, IsTurnOf}
 use Rattle.vs_vcd_lines.specs.Lines.{IsRange}
 use Rattle.vs_vcd_lines.specs.Names.{is_printable, IsEscaped, IsName, IsScopeName, IsShort, IsTurn}

@@ -5,16 +5,16 @@ use Rattle.std.proofs.lemmas.Option.{none-some}
 use Rattle.vs_syntax.specs.declared.tree.Module.{Module}
 use Rattle.vs_syntax.specs.declared.tree.Source.{Source}
 use Rattle.vs_design.specs.Parts.{Parts}
-use Rattle.vs_width_selects.specs.declared.faults.WidthReason.{WidthReason}
-use Rattle.vs_width_selects.specs.declared.faults.WidthReason.TheVariants.{TooWide, Unknown, NotConstant, WrongKind}
-use Rattle.vs_width_selects.specs.Environment.{Environment}
-use Rattle.vs_scopes.specs.declared.faults.Reason.TheVariants.{NoModule, Width}
-use Rattle.vs_scopes.specs.Nets.{permits_nets}
-use Rattle.vs_scopes.specs.Parameters.{Parameter, given_from, given_to, own_faults, outer_faults, parameters_of}
-use Rattle.vs_scopes.specs.Printed.{plainly}
-use Rattle.vs_scopes.specs.Scopes.{early, has_no_values, module_named, nowhere, opened_top, top_scope}
+use Rattle.vs_elab_laws.specs.vs_width_selects.specs.declared.faults.WidthReason.{WidthReason}
+use Rattle.vs_elab_laws.specs.vs_width_selects.specs.declared.faults.WidthReason.TheVariants.{TooWide, Unknown, NotConstant, WrongKind}
+use Rattle.vs_elab_laws.specs.vs_width_selects.specs.Environment.{Environment}
+use Rattle.vs_elab_laws.specs.vs_scopes.specs.declared.faults.Reason.TheVariants.{NoModule, Width}
+use Rattle.vs_elab_laws.specs.vs_scopes.specs.Nets.{permits_nets}
+use Rattle.vs_elab_laws.specs.vs_scopes.specs.Parameters.{Parameter, given_from, given_to, own_faults, outer_faults, parameters_of}
+use Rattle.vs_elab_laws.specs.vs_scopes.specs.Printed.{plainly}
+use Rattle.vs_elab_laws.specs.vs_scopes.specs.Scopes.{early, has_no_values, module_named, nowhere, opened_top, top_scope}
 use Rattle.vs_elab_listed.specs.ScopeFaults.{of_module, top_fault}
-use Rattle.vs_elaborate.specs.DesignOf.{DesignOf}
+use Rattle.vs_elab_laws.specs.vs_elaborate.specs.DesignOf.{DesignOf}
 
 -- nothing overrides the parameters of the top
 no_outer : (w : WidthReason) (around : Environment) (ps : List Parameter) → outer_faults w around (given_from ps []) ≡ false

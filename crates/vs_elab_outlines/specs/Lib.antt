@@ -1,1 +1,3 @@
 pub mod Outlined
+pub use Rattle.vs_elab_laws
+pub use Rattle.vs_elab_laws.specs.vs_lex_names

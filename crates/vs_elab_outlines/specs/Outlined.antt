@@ -1,8 +1,8 @@
 -- Which outlines are those of value change dumps.
 use Rattle.std.specs.Prelude.{ℕ, List}
 use Rattle.std.specs.List.{All}
-use Rattle.vs_lexer.specs.Spelling.{IsSpelled}
-use Rattle.vs_lexer.specs.Tokens.{Lexeme}
+use Rattle.vs_syntax.specs.vs_lexer.specs.Spelling.{IsSpelled}
+use Rattle.vs_syntax.specs.vs_lexer.specs.Tokens.{Lexeme}
 use Rattle.vs_syntax.specs.declared.tree.Source.{Source}
 use Rattle.vs_syntax.specs.Derives.{Derives}
 use Rattle.vs_syntax.specs.Symbols.{symbols}
@@ -10,7 +10,7 @@ use Rattle.vs_design.specs.declared.design.Entry.{Entry}
 use Rattle.vs_design.specs.declared.design.Entry.TheVariants.{Enter, Declare, Leave}
 use Rattle.vs_design.specs.declared.signal.Signal.{Signal}
 use Rattle.vs_design.specs.Parts.{Parts}
-use Rattle.vs_elaborate.specs.DesignOf.{DesignOf}
+use Rattle.vs_elab_laws.specs.vs_elaborate.specs.DesignOf.{DesignOf}
 use Rattle.vs_vcd_lines.specs.Lines.{IsRange}
 use Rattle.vs_vcd_lines.specs.Names.{IsName, IsScopeName}
 use Rattle.vs_vcd_law.specs.Conditions.{IsOutlined}

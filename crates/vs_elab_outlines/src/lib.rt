@@ -5,3 +5,4 @@
 mod laws;
 
 pub use laws::{names_are_printed, outlines_are_in_order, outlines_of_texts_are_in_order};
+pub use vs_elab_laws;

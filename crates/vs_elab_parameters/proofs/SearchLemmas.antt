@@ -5,11 +5,11 @@ use Rattle.std.specs.Str.{bytes_eq}
 use Rattle.std.proofs.lemmas.Bool.{cases_lt}
 use Rattle.std.proofs.lemmas.List.{length-map}
 use Rattle.std.proofs.lemmas.Option.{none-some, same_Some, slice_get_read, slice_get-get_or, get_or_from_slice_get}
-use Rattle.vs_width_selects.specs.declared.bindings.Binding.TheVariants.{Pending}
-use Rattle.vs_width_selects.specs.declared.constants.Const.{Const}
-use Rattle.vs_width_selects.specs.declared.faults.WidthReason.{WidthReason}
-use Rattle.vs_width_selects.specs.declared.faults.WidthReason.TheVariants.{TooWide, Unknown, NotConstant, WrongKind}
-use Rattle.vs_width_selects.specs.Environment.{Environment}
+use Rattle.vs_scopes.specs.vs_width_selects.specs.declared.bindings.Binding.TheVariants.{Pending}
+use Rattle.vs_scopes.specs.vs_width_selects.specs.declared.constants.Const.{Const}
+use Rattle.vs_scopes.specs.vs_width_selects.specs.declared.faults.WidthReason.{WidthReason}
+use Rattle.vs_scopes.specs.vs_width_selects.specs.declared.faults.WidthReason.TheVariants.{TooWide, Unknown, NotConstant, WrongKind}
+use Rattle.vs_scopes.specs.vs_width_selects.specs.Environment.{Environment}
 use Rattle.vs_widths.specs.Names.{meaning_of, Binds}
 use Rattle.vs_scopes.specs.Parameters.{Given, own_fault, outer_fault, outer_faults, with_given}
 use Rattle.vs_scopes.specs.Declarations.{Bindings}
@@ -20,11 +20,11 @@ use Rattle.vs_scopes.specs.passes.Declared.{first_of}
 use Rattle.vs_scopes.specs.passes.Parts.{read_given}
 use Rattle.vs_scopes.proofs.DeclaredLemmas.{bytes_eq-sym}
 use Rattle.vs_scopes.proofs.PassLemmas.{map_at}
-use Rattle.vs_logic4.proofs.Basics.{front_of as drop_at}
+use Rattle.vs_design.specs.vs_logic4.proofs.Basics.{front_of as drop_at}
 use Rattle.vs_elab_parameters.specs.passes.Values.{RefusesValues, IsGiven}
 use Rattle.vs_elab_parameters.specs.passes.Finding.{number_of, found_constants, AreAll, AreFaulty, told_of, AreWaiting, IsNext, IsStuck}
 use Rattle.std.proofs.lemmas.Map.Keys.{any_passes_from_place as any_true_at}
-use Rattle.vs_logic4.proofs.Basics.{at_place as get_map}
+use Rattle.vs_design.specs.vs_logic4.proofs.Basics.{at_place as get_map}
 
 -- a value that isn't found
 pub unfound_at : (vs : List (Option Const)) (k : ℕ) (v : Option Const) (t : Bool) → k < length vs → v ≡ get_or vs k v → is_some v ≡ not t → t ≡ true → slice_get vs k ≡ Some None

@@ -3,25 +3,25 @@ use Rattle.std.proofs.Common.{◌≡◌, ℕ, ◌+◌, ◌-◌, ◌<◌, ◌≤�
 use Rattle.std.specs.Str.{bytes_eq}
 use Rattle.std.proofs.Math.Path.{fun_ext}
 use Rattle.std.proofs.lemmas.List.{append-nil}
-use Rattle.vs_logic4.specs.declared.digit.Digit.{Digit}
-use Rattle.vs_logic4.specs.Vectors.{resized, extension_digit}
+use Rattle.vs_design.specs.vs_logic4.specs.declared.digit.Digit.{Digit}
+use Rattle.vs_design.specs.vs_logic4.specs.Vectors.{resized, extension_digit}
 use Rattle.vs_syntax.specs.declared.tree.Expr.{Expr}
 use Rattle.vs_syntax.specs.declared.tree.Connections.{Connections}
 use Rattle.vs_syntax.specs.declared.tree.Module.{Module}
 use Rattle.vs_syntax.specs.declared.tree.Range.{Range}
 use Rattle.vs_design.specs.declared.range.BitRange.{BitRange}
 use Rattle.vs_design.specs.declared.signal.Bounds.{Bounds}
-use Rattle.vs_width_selects.specs.declared.shape.Shape.{Shape}
-use Rattle.vs_width_selects.specs.declared.bindings.Binding.TheVariants.{Constant}
-use Rattle.vs_width_selects.specs.declared.constants.Const.{Const}
-use Rattle.vs_width_selects.specs.declared.faults.WidthReason.{WidthReason}
-use Rattle.vs_width_selects.specs.declared.faults.WidthFault.{WidthFault}
-use Rattle.vs_width_selects.specs.declared.faults.WidthFault.TheVariants as f
-use Rattle.vs_width_selects.specs.Environment.{Environment}
-use Rattle.vs_width_selects.specs.Findings.{Finding, Has, Lacks, Refuses, stands, alone}
-use Rattle.vs_width_selects.specs.Meants.{Meant, own}
-use Rattle.vs_width_selects.specs.Selects.{size_found}
-use Rattle.vs_width_selects.specs.Constants.{where_none, constant_finding, constant_in}
+use Rattle.vs_scopes.specs.vs_width_selects.specs.declared.shape.Shape.{Shape}
+use Rattle.vs_scopes.specs.vs_width_selects.specs.declared.bindings.Binding.TheVariants.{Constant}
+use Rattle.vs_scopes.specs.vs_width_selects.specs.declared.constants.Const.{Const}
+use Rattle.vs_scopes.specs.vs_width_selects.specs.declared.faults.WidthReason.{WidthReason}
+use Rattle.vs_scopes.specs.vs_width_selects.specs.declared.faults.WidthFault.{WidthFault}
+use Rattle.vs_scopes.specs.vs_width_selects.specs.declared.faults.WidthFault.TheVariants as f
+use Rattle.vs_scopes.specs.vs_width_selects.specs.Environment.{Environment}
+use Rattle.vs_scopes.specs.vs_width_selects.specs.Findings.{Finding, Has, Lacks, Refuses, stands, alone}
+use Rattle.vs_scopes.specs.vs_width_selects.specs.Meants.{Meant, own}
+use Rattle.vs_scopes.specs.vs_width_selects.specs.Selects.{size_found}
+use Rattle.vs_scopes.specs.vs_width_selects.specs.Constants.{where_none, constant_finding, constant_in}
 use Rattle.vs_widths.specs.Expressions.{meant}
 use Rattle.vs_widths.specs.Names.{meaning_of, by_bytes, Binds}
 use Rattle.vs_scopes.specs.declared.sizes.Size.{Size}

@@ -8,3 +8,4 @@ mod order;
 
 pub use early::{SignalNames, early_names};
 pub use evaluating::{ParameterValues, block_values, values};
+pub use vs_widths;

@@ -11,7 +11,7 @@ use Rattle.vs_scopes.specs.Nets.{permits_nets}
 use Rattle.vs_scopes.specs.Scopes.{Scope, is_instance, Before, before, behind, within_first, inner_of, declarations_of, turns_in, module_named, opened, listed, below, scopes_within, signal_count, instance_count, turn_count, deepest, opened_top, scopes_of}
 use Rattle.vs_elab_path_laws.specs.Laws.{ScopesAreNumbered}
 use Rattle.vs_elab_path_laws.proofs.PathsOpened.{what_is_opened, nothing_before, what_is_opened_top}
-use Rattle.vs_logic4.proofs.Basics.{filter_append}
+use Rattle.vs_design.specs.vs_logic4.proofs.Basics.{filter_append}
 
 -- ---- what stands before scopes
 

@@ -11,7 +11,7 @@ use Rattle.vs_elab_path_laws.specs.Laws.{HasTurnsThatFit, scope_paths}
 use Rattle.vs_elab_path_laws.proofs.PathsDiffer.{paths_not_same}
 use Rattle.vs_elab_path_laws.proofs.PathsPrinted.{printed_same, parts_same}
 use Rattle.vs_elab_path_laws.proofs.PathsLists.{each_more, each_append, distinct_append}
-use Rattle.vs_logic4.proofs.Basics.{bytes_apart as texts_apart}
+use Rattle.vs_design.specs.vs_logic4.proofs.Basics.{bytes_apart as texts_apart}
 
 -- ---- printed paths
 

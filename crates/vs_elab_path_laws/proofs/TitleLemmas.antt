@@ -29,7 +29,7 @@ use Rattle.vs_elab_path_laws.proofs.PathsOpened.{title_of}
 use Rattle.vs_elab_path_laws.proofs.PathsText.{keys_append, keys_bound}
 use Rattle.vs_elab_path_laws.proofs.TurnLemmas.{turns_differ}
 use Rattle.vs_elab_path_laws.proofs.BranchLemmas.{Among, among_first, among_left, among_right, IsNamedIn, chosen_named}
-use Rattle.vs_logic4.proofs.Basics.{bytes_apart}
+use Rattle.vs_design.specs.vs_logic4.proofs.Basics.{bytes_apart}
 
 -- ---- names that differ
 

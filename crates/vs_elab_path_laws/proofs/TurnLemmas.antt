@@ -9,13 +9,13 @@ use Rattle.std.proofs.lemmas.Int.{ints}
 use Rattle.std.proofs.lemmas.Option.{none-some, same_Some}
 use Rattle.std.proofs.lemmas.List.{length-take}
 use Rattle.std.proofs.lemmas.List.Elements.{All-from_recursion}
-use Rattle.vs_logic4.specs.declared.digit.Digit.{Digit}
-use Rattle.vs_logic4.specs.declared.digit.Digit.TheVariants.{One}
-use Rattle.vs_logic4.specs.Vectors.{same_digit, top_digit}
-use Rattle.vs_logic4.specs.Comparisons.{is_known}
-use Rattle.vs_logic4.specs.Arithmetic.{number, signed_number, of_integer, known_signed_number}
-use Rattle.vs_logic4.proofs.Numbers.{number-lt}
-use Rattle.vs_logic4.proofs.Properties.{of_integer-integer}
+use Rattle.vs_design.specs.vs_logic4.specs.declared.digit.Digit.{Digit}
+use Rattle.vs_design.specs.vs_logic4.specs.declared.digit.Digit.TheVariants.{One}
+use Rattle.vs_design.specs.vs_logic4.specs.Vectors.{same_digit, top_digit}
+use Rattle.vs_design.specs.vs_logic4.specs.Comparisons.{is_known}
+use Rattle.vs_design.specs.vs_logic4.specs.Arithmetic.{number, signed_number, of_integer, known_signed_number}
+use Rattle.vs_design.specs.vs_logic4.proofs.Numbers.{number-lt}
+use Rattle.vs_design.specs.vs_logic4.proofs.Properties.{of_integer-integer}
 use Rattle.vs_syntax.specs.declared.tree.Expr.{Expr}
 use Rattle.vs_syntax.specs.declared.tree.LoopHeader.{LoopHeader}
 use Rattle.vs_width_selects.specs.declared.constants.Const.{Const}

@@ -1,1 +1,2 @@
 pub mod Laws
+pub use Rattle.vs_elab_pieces

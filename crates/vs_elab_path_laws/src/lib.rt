@@ -7,3 +7,4 @@ pub use laws::{
     paths_differ, printed_parts_differ, printed_paths_differ, scopes_are_numbered,
     scopes_stand_in_scopes, turns_differ, turns_fit,
 };
+pub use vs_elab_pieces;

@@ -2,7 +2,7 @@
 use Rattle.std.proofs.Common.{◌≡◌, ℕ, suc, ◌+◌, ◌*◌, max, ◌<◌, ◌≤◌, List, length, get_or, ap, arith}
 use denote.Param.Weighed.{most, at_most}
 use Rattle.std.proofs.Math.Nat.{mul-le-mul_left}
-use Rattle.vs_logic4.proofs.Basics.{first_most, second_most}
+use Rattle.vs_syntax.specs.vs_logic4.proofs.Basics.{first_most, second_most}
 
 -- what is in an element of a list is no deeper than the list
 pub falls_in : {X : Type 0} (k o : ℕ) (depth : X → ℕ) (xs : List X) (i t n : ℕ) (a : X) → i < length xs → a ≡ get_or xs i a → k * most depth xs + suc o ≡ t → n ≤ depth a → k * n + o < t

@@ -4,8 +4,8 @@ use Rattle.std.specs.List.{flat_map, list_all}
 use Rattle.std.proofs.lemmas.List.Folds.{list_all-append}
 use Rattle.std.specs.declared.boxed.Box.{Box}
 use Rattle.std.specs.declared.alloc.Global.{Global}
-use Rattle.vs_logic4.specs.declared.operators.Binary.{Binary}
-use Rattle.vs_lex_tokens.specs.declared.token.Directive.{Directive}
+use Rattle.vs_syntax.specs.vs_logic4.specs.declared.operators.Binary.{Binary}
+use Rattle.vs_syntax.specs.vs_lex_tokens.specs.declared.token.Directive.{Directive}
 use Rattle.vs_syntax.specs.declared.tree.Connection.{Connection}
 use Rattle.vs_syntax.specs.declared.tree.Connections.{Connections}
 use Rattle.vs_syntax.specs.declared.tree.Connections.TheVariants.{Ordered, Named}
@@ -29,7 +29,7 @@ use Rattle.vs_syntax.specs.Symbols.{Symbol, a_name}
 use Rattle.vs_syntax.specs.Views.{row_of, commas_tree, listed_tree, link_tree, head_of, arms_of, choice_tree, select_tree, some_tree, expr_step, expr_tree, chosen_tree, left_step, left_tree, net_assignment_tree, end_tree, connection_tree, connections_tree, instance_tree, item_tree, else_tree, module_item_step, module_item_tree, module_tree, directive_tree, directed_trees}
 use Rattle.vs_elab_pieces.specs.Uses.{Bytes, select_names, expr_names_step, expr_names, select_expr_names, left_names_step, left_names, end_names, connection_names, connections_names, instance_names, assignment_names, names_used_by, used_step, names_used_in, names_used_among, UsedAreTokens}
 use Rattle.std.proofs.lemmas.Bool.{and_from as and_of}
-use Rattle.vs_logic4.proofs.Basics.{and_left as first_of, and_right as second_of}
+use Rattle.vs_syntax.specs.vs_logic4.proofs.Basics.{and_left as first_of, and_right as second_of}
 
 -- ---- trees
 

@@ -5,8 +5,8 @@ use Rattle.std.proofs.lemmas.List.Folds.{flat_map-map}
 use Rattle.std.specs.declared.vec.Vec.{Vec}
 use Rattle.std.specs.declared.boxed.Box.{Box}
 use Rattle.std.specs.declared.alloc.Global.{Global}
-use Rattle.vs_logic4.specs.declared.operators.Binary.{Binary}
-use Rattle.vs_logic4.specs.declared.operators.Unary.{Unary}
+use Rattle.vs_syntax.specs.vs_logic4.specs.declared.operators.Binary.{Binary}
+use Rattle.vs_syntax.specs.vs_logic4.specs.declared.operators.Unary.{Unary}
 use Rattle.vs_syntax.specs.declared.tree.Expr.{Expr, Expr-F, roll-Expr, fold-roll-Expr, map-Expr}
 use Rattle.vs_syntax.specs.declared.tree.Expr.TheOpen as x
 use Rattle.vs_syntax.specs.declared.tree.Expr.TheVariants as e

@@ -1,7 +1,7 @@
 -- The names that are used where an undeclared one is an implicit net.
 use Rattle.std.specs.Prelude.{ℕ, ◌≡◌, Bool, true, List, [], ◌∷◌, ◌++◌, Option, None, Some}
 use Rattle.std.specs.List.{flat_map, list_all}
-use Rattle.vs_logic4.specs.declared.operators.Binary.{Binary}
+use Rattle.vs_syntax.specs.vs_logic4.specs.declared.operators.Binary.{Binary}
 use Rattle.vs_syntax.specs.declared.tree.Connection.{Connection}
 use Rattle.vs_syntax.specs.declared.tree.Connections.{Connections}
 use Rattle.vs_syntax.specs.declared.tree.Connections.TheVariants.{Ordered, Named}

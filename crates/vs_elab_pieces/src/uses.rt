@@ -7,7 +7,7 @@ ghost use Rattle.vs_elab_pieces.specs.passes.Parts.{exprs_names, links_names, pa
 
 use crate::scope::ScopePiece;
 use std::alloc::{AllocError, Global};
-use vs_logic4::Binary;
+use vs_syntax::vs_logic4::Binary;
 use vs_syntax::{Connection, Connections, Expr, Instance, Item, Left, NetAssignment, PartSelect};
 
 /// Adds a name.

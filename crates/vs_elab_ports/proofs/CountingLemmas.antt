@@ -8,7 +8,7 @@ use Rattle.vs_widths.specs.Names.{meaning_of, Binds}
 use Rattle.vs_scopes.specs.Ports.{without_name, left_over}
 use Rattle.vs_scopes.specs.passes.Answers.{borrowed}
 use Rattle.vs_scopes.proofs.DeclaredLemmas.{bytes_eq-sym}
-use Rattle.vs_logic4.proofs.Basics.{take_push}
+use Rattle.vs_design.specs.vs_logic4.proofs.Basics.{take_push}
 use Rattle.vs_elab_ports.specs.passes.Counting.{occurrences, count_of, Counts, TakesOne, Leaves}
 
 -- ---- counting

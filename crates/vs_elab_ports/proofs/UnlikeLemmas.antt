@@ -1,20 +1,20 @@
 -- Bounds that a range doesn't have.
 use Rattle.std.proofs.Common.{◌≡◌, Bool, true, false, true≢false, ◌||◌, ◌&&◌, is_none, List, [], Option, Some, None, refl, ap, sym}
 use Rattle.std.specs.Prelude.{ℤ}
-use Rattle.vs_logic4.specs.declared.digit.Digit.{Digit}
+use Rattle.vs_design.specs.vs_logic4.specs.declared.digit.Digit.{Digit}
 use Rattle.vs_syntax.specs.declared.tree.Expr.{Expr}
 use Rattle.vs_syntax.specs.declared.tree.Range.{Range}
-use Rattle.vs_width_selects.specs.declared.faults.WidthReason.{WidthReason}
-use Rattle.vs_width_selects.specs.Environment.{Environment}
-use Rattle.vs_width_selects.specs.Findings.{Finding, Has, Lacks, not_constant}
-use Rattle.vs_width_selects.specs.Meants.{own}
-use Rattle.vs_width_selects.specs.Constants.{constant_finding, whole_at}
+use Rattle.vs_scopes.specs.vs_width_selects.specs.declared.faults.WidthReason.{WidthReason}
+use Rattle.vs_scopes.specs.vs_width_selects.specs.Environment.{Environment}
+use Rattle.vs_scopes.specs.vs_width_selects.specs.Findings.{Finding, Has, Lacks, not_constant}
+use Rattle.vs_scopes.specs.vs_width_selects.specs.Meants.{own}
+use Rattle.vs_scopes.specs.vs_width_selects.specs.Constants.{constant_finding, whole_at}
 use Rattle.vs_widths.specs.Expressions.{meant}
 use Rattle.vs_scopes.specs.declared.faults.Reason.{Reason}
 use Rattle.vs_scopes.specs.declared.faults.Reason.TheVariants.{NoModule, Inside, PortMismatch, ParameterMismatch, DeclaredTwice, DrivenTwice, Limit, Endless, Unnamed, Timescales, Format, Width}
 use Rattle.vs_scopes.specs.Ranges.{number_fault, bound_of, bound_fault, both_bounds, bounds_fault, range_bounds}
 use Rattle.vs_scopes.specs.passes.Sizes.{width_faults}
-use Rattle.vs_logic4.proofs.Basics.{and_right}
+use Rattle.vs_design.specs.vs_logic4.proofs.Basics.{and_right}
 
 none_is : {A : Type 0} (o : Option A) → is_none o ≡ true → o ≡ None
 none_is None h = refl

@@ -10,3 +10,5 @@ pub use again::ports_again;
 pub use counts::{counted, take_one};
 pub use stray::has_stray_port;
 pub use unlike::is_unlike;
+pub use vs_elab_pieces;
+pub use vs_widths;

@@ -7,8 +7,8 @@ use Rattle.std.proofs.lemmas.List.Sums.{sum-map, sum_by-append}
 use Rattle.std.proofs.lemmas.List.Elements.{All-append, All-nil, All-cons}
 use Rattle.std.proofs.lemmas.Option.{none-some, same_Some}
 use Rattle.vs_syntax.specs.declared.tree.Module.{Module}
-use Rattle.vs_width_selects.specs.declared.constants.Const.{Const}
-use Rattle.vs_elab_pieces.specs.Pieces.{Piece, block_pieces, pieces_of}
+use Rattle.vs_scopes.specs.vs_width_selects.specs.declared.constants.Const.{Const}
+use Rattle.vs_elab_listed.specs.vs_elab_pieces.specs.Pieces.{Piece, block_pieces, pieces_of}
 use Rattle.vs_scopes.specs.Printed.{PathName, plainly, Path}
 use Rattle.vs_scopes.specs.Parameters.{any_fault}
 use Rattle.vs_scopes.specs.Declarations.{Use, Bindings}
@@ -24,7 +24,7 @@ use Rattle.vs_elab_entered.specs.passes.Entering.{before_next, Enters, IsShallow
 use Rattle.vs_elab_scope.specs.passes.Adding.{with_names, IsPlanned, IsNext, CountsOne, AddsScope, AddsInner, AddsInnerNot}
 use Rattle.vs_elab_scope.specs.passes.Own.{IsSoundOwn, HasFewTurns, OpensOwn, HoldsOwn}
 use Rattle.vs_elab_entered.proofs.ListLemmas.{all_at}
-use Rattle.vs_logic4.proofs.Basics.{filter_append as count_append}
+use Rattle.vs_design.specs.vs_logic4.proofs.Basics.{filter_append as count_append}
 use Rattle.vs_elab_entered.proofs.SeatLemmas.{opened_many, opened_push, seated_push, entered_around, entered_home, opened_here}
 use Rattle.vs_elab_scope.proofs.OwnLemmas.{is_few}
 use Rattle.vs_scopes.specs.declared.faults.ElabFault.{ElabFault}

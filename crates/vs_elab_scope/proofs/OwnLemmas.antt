@@ -18,10 +18,10 @@ use Rattle.vs_design.specs.declared.design.ScopeKind.TheVariants as opened_by
 use Rattle.vs_design.specs.declared.design.Entry.TheVariants.{Enter}
 use Rattle.vs_design.specs.declared.signal.SignalKind.{SignalKind}
 use Rattle.vs_design.specs.declared.signal.SignalKind.TheVariants as k
-use Rattle.vs_width_selects.specs.declared.bindings.Binding.{Binding}
-use Rattle.vs_width_selects.specs.declared.bindings.Binding.TheVariants as b
-use Rattle.vs_width_selects.specs.Environment.{Environment}
-use Rattle.vs_elab_pieces.specs.Pieces.{Piece, plain, loop, choice, local, inside, net}
+use Rattle.vs_scopes.specs.vs_width_selects.specs.declared.bindings.Binding.{Binding}
+use Rattle.vs_scopes.specs.vs_width_selects.specs.declared.bindings.Binding.TheVariants as b
+use Rattle.vs_scopes.specs.vs_width_selects.specs.Environment.{Environment}
+use Rattle.vs_elab_listed.specs.vs_elab_pieces.specs.Pieces.{Piece, plain, loop, choice, local, inside, net}
 use Rattle.vs_scopes.specs.declared.faults.Reason.{Reason}
 use Rattle.vs_scopes.specs.declared.faults.Reason.TheVariants.{NoModule, Inside, PortMismatch, ParameterMismatch, DeclaredTwice, DrivenTwice, Limit, Width, Endless, Unnamed, Timescales, Format}
 use Rattle.vs_scopes.specs.declared.faults.ElabFault.{ElabFault}
@@ -37,12 +37,12 @@ use Rattle.vs_scopes.specs.declared.ports.ModulePort.{ModulePort as FoundPort}
 use Rattle.vs_scopes.specs.declared.printed.PathName.{PathName as FoundName}
 use Rattle.vs_scopes.proofs.Folds.{any_false_at}
 use Rattle.std.proofs.lemmas.Bool.{or_from as both_false}
-use Rattle.vs_logic4.proofs.Basics.{take_push}
-use Rattle.vs_elab_implicit_nets.specs.passes.Nets.{IsLate}
+use Rattle.vs_design.specs.vs_logic4.proofs.Basics.{take_push}
+use Rattle.vs_elab_entered.specs.vs_elab_implicit_nets.specs.passes.Nets.{IsLate}
 use Rattle.vs_scopes.proofs.AnswerLemmas.{told_at, told_by}
-use Rattle.vs_elab_ports.specs.passes.Counting.{Counts}
+use Rattle.vs_elab_listed.specs.vs_elab_ports.specs.passes.Counting.{Counts}
 use Rattle.vs_scopes.specs.Generate.{turns_among}
-use Rattle.vs_elab_generate.specs.passes.Turns.{CountsTurns}
+use Rattle.vs_elab_listed.specs.vs_elab_generate.specs.passes.Turns.{CountsTurns}
 use Rattle.vs_elab_listed.specs.declared.opened.ListedScope.{ListedScope as FoundScope}
 use Rattle.vs_elab_listed.specs.declared.opened.Numbering.{Numbering}
 use Rattle.vs_elab_listed.specs.declared.declarations.Declared.{Declared as Declaring}
@@ -56,8 +56,8 @@ use Rattle.vs_elab_listed.proofs.BindLemmas.{place_of_any, repeated_more, number
 use Rattle.vs_elab_scope.specs.passes.Own.{AreAlike, HasFewTurns, OpensNames, HoldsOwn, IsFitting, HasFittingPieces, IsAgainNot, DeclaresAll, DeclaresAllNot, Binds, BindsNot, OpensOwn, EntersLast}
 use Rattle.vs_elab_entered.proofs.SeatLemmas.{within_front}
 use Rattle.vs_elab_entered.proofs.ListLemmas.{slice_push, any_append, any_right, any_none_map}
-use Rattle.vs_logic4.proofs.Basics.{slice_front, slice_back, any_front as any_left, or_parts as any_either}
-use Rattle.vs_logic4.proofs.Basics.{any_map, not_false}
+use Rattle.vs_design.specs.vs_logic4.proofs.Basics.{slice_front, slice_back, any_front as any_left, or_parts as any_either}
+use Rattle.vs_design.specs.vs_logic4.proofs.Basics.{any_map, not_false}
 
 -- ---- limits
 

@@ -1,7 +1,7 @@
 //! Scopes are listed, each with its own members.
 ghost use Rattle.std.specs.Prelude.{◌≡◌, List, MatchResult};
 ghost use Rattle.vs_syntax.specs.declared.tree.Module.{Module as Tree};
-ghost use Rattle.vs_elab_generate.specs.Reads.{read_inner};
+ghost use Rattle.vs_elab_listed.specs.vs_elab_generate.specs.Reads.{read_inner};
 ghost use Rattle.vs_scopes.specs.Scopes.{Scope};
 ghost use Rattle.vs_scopes.specs.passes.Answers.{Told};
 ghost use Rattle.vs_elab_entered.specs.passes.Entering.{before_next};
@@ -13,10 +13,10 @@ use std::alloc::Global;
 use std::mem;
 use vs_design::ScopeKind;
 use vs_elab_entered::{NamedModule, enter};
-use vs_elab_generate::Inner;
+use vs_elab_listed::vs_elab_generate::Inner;
 use vs_elab_listed::{ListedScope, Numbering, path_inside};
 use vs_scopes::ElabFault;
-use vs_width_selects::Binding;
+use vs_scopes::vs_width_selects::Binding;
 use vs_widths::Names;
 
 /// Counts a scope as an instance, where it is one, and the turns of generate loops behind it.

@@ -6,11 +6,11 @@ use Rattle.std.specs.declared.alloc.Global.{Global}
 use Rattle.vs_syntax.specs.declared.tree.Stmt.TheVariants as s
 use Rattle.vs_syntax.specs.declared.tree.DumpTask.{DumpTask}
 use Rattle.vs_syntax.specs.declared.tree.DumpArgument.{DumpArgument}
-use Rattle.vs_lex_tokens.specs.declared.token.Literal.{Literal}
+use Rattle.vs_syntax.specs.vs_lex_tokens.specs.declared.token.Literal.{Literal}
 use Rattle.vs_design.specs.declared.statement.Statement.{Statement}
 use Rattle.vs_design.specs.declared.statement.Statement.TheVariants as d
-use Rattle.vs_scopes.specs.Printed.{Path}
-use Rattle.vs_elab_listed.specs.declared.opened.ListedScope.{ListedScope as FoundScope}
+use Rattle.vs_elab_operands.specs.vs_scopes.specs.Printed.{Path}
+use Rattle.vs_elab_operands.specs.vs_elab_listed.specs.declared.opened.ListedScope.{ListedScope as FoundScope}
 use Rattle.vs_elab_operands.specs.declared.faults.StatementFault.{StatementFault}
 use Rattle.vs_elab_operands.specs.Surroundings.{Surroundings}
 use Rattle.vs_elab_operands.specs.passes.Faults.{IsBelow}

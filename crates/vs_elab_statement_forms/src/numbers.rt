@@ -1,6 +1,6 @@
 //! The numbers of statements, and assignments with theirs.
 ghost use Rattle.std.specs.Prelude.{◌≡◌, length, IfErr, MatchResult};
-ghost use Rattle.vs_scopes.specs.Printed.{Path};
+ghost use Rattle.vs_elab_operands.specs.vs_scopes.specs.Printed.{Path};
 ghost use Rattle.vs_elab_operands.specs.Surroundings.{Surroundings};
 ghost use Rattle.vs_elab_operands.specs.passes.Faults.{IsBelow};
 ghost use Rattle.vs_elab_operands.specs.passes.Views.{IsView};
@@ -9,9 +9,9 @@ ghost use Rattle.vs_elab_statement_forms.specs.passes.Forms.{TakesOne, TakesOneN
 
 use std::alloc::Global;
 use vs_design::{Target, Typed};
+use vs_elab_operands::vs_widths::AssignmentKind;
 use vs_elab_operands::{StatementFault, View, assignment};
 use vs_syntax::{Expr, Left};
-use vs_widths::AssignmentKind;
 
 /// The kind of an assignment that is a statement.
 pub const PROCEDURAL: AssignmentKind = AssignmentKind::Procedural;

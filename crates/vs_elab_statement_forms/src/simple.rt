@@ -2,7 +2,7 @@
 ghost use Rattle.std.specs.Prelude.{◌≡◌, length, IfErr, MatchResult};
 ghost use Rattle.vs_syntax.specs.declared.tree.Stmt.TheVariants as form;
 ghost use Rattle.vs_design.specs.declared.statement.Statement.TheVariants as made;
-ghost use Rattle.vs_scopes.specs.Printed.{Path};
+ghost use Rattle.vs_elab_operands.specs.vs_scopes.specs.Printed.{Path};
 ghost use Rattle.vs_elab_operands.specs.Surroundings.{Surroundings};
 ghost use Rattle.vs_elab_operands.specs.passes.Faults.{IsBelow};
 ghost use Rattle.vs_elab_operands.specs.passes.Views.{IsView, IsPlaced};

@@ -6,17 +6,17 @@ use Rattle.std.specs.List.{flat_map}
 use Rattle.std.specs.declared.alloc.Global.{Global}
 use Rattle.std.specs.declared.boxed.Box.{Box}
 use Rattle.std.specs.declared.vec.Vec.{Vec}
-use Rattle.vs_logic4.specs.declared.case.CaseKind.{CaseKind}
+use Rattle.vs_design.specs.vs_logic4.specs.declared.case.CaseKind.{CaseKind}
 use Rattle.vs_syntax.specs.declared.tree.CaseLabel.{CaseLabel}
 use Rattle.vs_syntax.specs.declared.tree.Expr.{Expr}
 use Rattle.vs_syntax.specs.declared.tree.LocalDeclaration.{LocalDeclaration}
 use Rattle.vs_syntax.specs.declared.tree.Stmt.{Stmt, size-Stmt}
 use Rattle.vs_syntax.specs.declared.tree.Stmt.TheVariants as s
-use Rattle.vs_widths.specs.Names.{meaning_of}
+use Rattle.vs_elab_operands.specs.vs_widths.specs.Names.{meaning_of}
 use Rattle.vs_elab_pieces.specs.Pieces.{NamedBlock, blocks_among, blocks_in}
 use Rattle.vs_elab_pieces.specs.passes.Parts.{blocks_in_items}
 use Rattle.vs_elab_pieces.proofs.PiecesLemmas.{blocks_Block, blocks_Case}
-use Rattle.vs_elab_listed.specs.declared.opened.ListedScope.{ListedScope as FoundScope}
+use Rattle.vs_elab_operands.specs.vs_elab_listed.specs.declared.opened.ListedScope.{ListedScope as FoundScope}
 use Rattle.vs_elab_operands.specs.passes.Bodies.{else_list}
 use Rattle.vs_elab_operands.proofs.BlockLemmas.{blocks_Named}
 use Rattle.vs_elab_operands.proofs.PartLemmas.{if_blocks}

@@ -1,6 +1,6 @@
 //! The bodies of processes (IEEE 1364-2005, clauses 6.2.1 and 9.9).
 ghost use Rattle.std.specs.Prelude.{length, IfErr};
-ghost use Rattle.vs_scopes.specs.Printed.{Path};
+ghost use Rattle.vs_elab_operands.specs.vs_scopes.specs.Printed.{Path};
 ghost use Rattle.vs_elab_operands.specs.Members.{named_signal, sets, runs, repeats};
 ghost use Rattle.vs_elab_operands.specs.Surroundings.{Surroundings};
 ghost use Rattle.vs_elab_operands.specs.passes.Faults.{IsBelow};

@@ -14,8 +14,8 @@ use Rattle.vs_scopes.proofs.AnswerLemmas.{Kept, Grown, told_by}
 use Rattle.vs_elab_operands.specs.Members.{PortDriver, port_driver, port_drivers}
 use Rattle.vs_scopes.specs.passes.Names.{read_title, read_path}
 use Rattle.vs_scopes.specs.declared.printed.PathName.{PathName as FoundName}
-use Rattle.vs_elab_listed.specs.Opened.{StandsAround}
-use Rattle.vs_logic4.proofs.Basics.{get_or_same as again}
+use Rattle.vs_elab_operands.specs.vs_elab_listed.specs.Opened.{StandsAround}
+use Rattle.vs_design.specs.vs_logic4.proofs.Basics.{get_or_same as again}
 
 -- ---- ports and what they are connected to, a place at a time
 

@@ -10,7 +10,7 @@ use Rattle.vs_scopes.proofs.Folds.{flat_more}
 use Rattle.std.proofs.lemmas.Bool.{or_from as both_false, or_left as left_true, or_right as right_true}
 use Rattle.vs_elaborate.specs.Timescales.{first_or_default}
 use Rattle.vs_elaborate.specs.passes.Scales.{first_of}
-use Rattle.vs_logic4.proofs.Basics.{any_front as any_first}
+use Rattle.vs_design.specs.vs_logic4.proofs.Basics.{any_front as any_first}
 
 -- ---- the first of several lists
 

@@ -12,10 +12,10 @@ use Rattle.vs_design.specs.declared.design.Process.{Process}
 use Rattle.std.proofs.lemmas.Bool.{and_parts}
 use Rattle.std.proofs.lemmas.Option.{slice_get_within}
 use Rattle.std.proofs.lemmas.List.Elements.{All-nil, All-cons, All-append}
-use Rattle.vs_widths.specs.declared.kinds.AssignmentKind.TheVariants.{Continuous}
-use Rattle.vs_width_selects.specs.Environment.{Environment}
-use Rattle.vs_widths.specs.Expressions.{meant, name_meant}
-use Rattle.vs_widths.proofs.ReadLemmas.{reads_within}
+use Rattle.vs_elab_operands.specs.vs_widths.specs.declared.kinds.AssignmentKind.TheVariants.{Continuous}
+use Rattle.vs_scopes.specs.vs_width_selects.specs.Environment.{Environment}
+use Rattle.vs_elab_operands.specs.vs_widths.specs.Expressions.{meant, name_meant}
+use Rattle.vs_elab_operands.specs.vs_widths.proofs.ReadLemmas.{reads_within}
 use Rattle.vs_elab_operands.specs.Statements.{assigned_to}
 use Rattle.vs_elab_operands.specs.Members.{Behavior, drivers_of, port_drivers_of, PortDriver, into, out_of, Driver, of_port, of_text}
 use Rattle.vs_elab_operands.specs.Surroundings.{Surroundings}

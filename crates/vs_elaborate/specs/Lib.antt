@@ -4,8 +4,8 @@ pub use Rattle.vs_scopes.specs.Connections
 pub use Rattle.vs_scopes.specs.Parameters
 pub use Rattle.vs_scopes.specs.Scopes
 pub use Rattle.vs_scopes.specs.Texts
-pub use Rattle.vs_elab_listed.specs.Outlines
-pub use Rattle.vs_elab_listed.specs.ScopeFaults
+pub use Rattle.vs_elab_operands.specs.vs_elab_listed.specs.Outlines
+pub use Rattle.vs_elab_operands.specs.vs_elab_listed.specs.ScopeFaults
 pub use Rattle.vs_elab_operands.specs.Members
 pub use Rattle.vs_elab_operands.specs.Statements
 pub use Rattle.vs_elab_operands.specs.Surroundings
@@ -15,3 +15,5 @@ pub use Rattle.vs_elab_operands.specs.Processes
 pub mod Faults
 pub mod DesignOf
 pub mod passes
+pub use Rattle.vs_elab_path_laws
+pub use Rattle.vs_scopes

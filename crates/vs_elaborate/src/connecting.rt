@@ -1,7 +1,7 @@
 //! The continuous assignments of the ports of a scope, as parts of a design.
 ghost use Rattle.std.specs.Prelude.{◌≡◌, ◌∷◌, [], map, true, false};
-ghost use Rattle.vs_widths.specs.Names.{meaning_of};
-ghost use Rattle.vs_widths.specs.Lefts.{is_left};
+ghost use Rattle.vs_elab_operands.specs.vs_widths.specs.Names.{meaning_of};
+ghost use Rattle.vs_elab_operands.specs.vs_widths.specs.Lefts.{is_left};
 ghost use Rattle.vs_scopes.specs.Printed.{Path};
 ghost use Rattle.vs_elab_operands.specs.Surroundings.{Surroundings};
 ghost use Rattle.vs_scopes.specs.Scopes.{Scope, is_wrong_end, has_wrong_end};
@@ -14,10 +14,10 @@ ghost use Rattle.vs_elaborate.specs.passes.Filling.{IsFrame, IsLeftEnd, Connects
 use crate::frames::{Frame, outer_fault};
 use std::alloc::Global;
 use vs_design::{Assign, Target, Typed};
+use vs_elab_operands::vs_widths::{AssignmentKind, Levels, expr_target, name_target};
 use vs_elab_operands::{name_source, source};
 use vs_scopes::{BodyFault, ElabFault, ModulePort, print_port_part};
 use vs_syntax::{Direction, Expr};
-use vs_widths::{AssignmentKind, Levels, expr_target, name_target};
 
 /// The kind of an assignment that drives a net.
 const CONTINUOUS: AssignmentKind = AssignmentKind::Continuous;

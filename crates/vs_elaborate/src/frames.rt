@@ -11,7 +11,7 @@ ghost use Rattle.vs_elab_operands.specs.passes.Views.{IsPlaced};
 ghost use Rattle.vs_elaborate.specs.passes.Filling.{IsFrame, IsFaultIn, RunFails};
 
 use std::alloc::Global;
-use vs_elab_listed::{fault_at, path};
+use vs_elab_operands::vs_elab_listed::{fault_at, path};
 use vs_elab_operands::{StatementFault, View};
 use vs_scopes::{BodyFault, ElabFault, PathName, Reason};
 

@@ -10,4 +10,5 @@ mod source;
 mod timescales;
 
 pub use source::elaborate;
+pub use vs_scopes;
 pub use vs_scopes::{ElabFault, Reason, fault_text};

@@ -1,8 +1,8 @@
 //! The processes of a scope, as parts of a design.
 ghost use Rattle.std.specs.Prelude.{◌≡◌, ◌∷◌, [], Some, length, IfErr};
 ghost use Rattle.std.specs.List.{flat_map};
-ghost use Rattle.vs_elab_pieces.specs.Pieces.{blocks_of};
-ghost use Rattle.vs_elab_pieces.specs.Reads.{read_piece};
+ghost use Rattle.vs_elab_path_laws.specs.vs_elab_pieces.specs.Pieces.{blocks_of};
+ghost use Rattle.vs_elab_path_laws.specs.vs_elab_pieces.specs.Reads.{read_piece};
 ghost use Rattle.vs_scopes.specs.Printed.{Path};
 ghost use Rattle.vs_scopes.specs.Scopes.{Scope};
 ghost use Rattle.vs_scopes.specs.passes.Answers.{Grows};
@@ -21,7 +21,7 @@ use std::alloc::Global;
 use vs_design::{Process, ProcessKind, Statement};
 use vs_elab_contents::Contents;
 use vs_elab_operands::StatementFault;
-use vs_elab_pieces::ScopePiece;
+use vs_elab_path_laws::vs_elab_pieces::ScopePiece;
 use vs_elab_statements::{repeat_body, run_body, set_body};
 use vs_scopes::{ElabFault, ModulePort, print_part};
 use vs_syntax::{Declarator, Expr, Item};

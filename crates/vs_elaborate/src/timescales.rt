@@ -6,8 +6,8 @@ ghost use Rattle.vs_elaborate.specs.passes.Scales.{listed, first_of};
 
 use vs_design::{DEFAULT_TIMESCALE, Magnitude, TimeSpan, TimeUnit, Timescale};
 use vs_elab_operands::Ratio;
-use vs_lexer::{Directive, TextMagnitude, TextUnit, Time};
 use vs_syntax::Source;
+use vs_syntax::vs_lexer::{Directive, TextMagnitude, TextUnit, Time};
 
 /// The number of a time of a text.
 fn magnitude_of(number: TextMagnitude) -> Magnitude

@@ -1,8 +1,8 @@
 -- Lemmas on the places of a target's digits.
 use Rattle.std.proofs.Common.{◌≡◌, ℕ, ◌+◌, ◌≤◌, pos, if◌then◌else◌, List, [], ◌∷◌, ◌++◌, append_assoc, length, refl, sym, ◌∙◌, ap, ap₂, subst, ⊎_elim, arith}
 use Rattle.std.proofs.lemmas.Bool.{cases_lt, lt-ltb, le-ltb}
-use Rattle.vs_logic4.specs.declared.digit.Digit.{Digit}
-use Rattle.vs_logic4.specs.Parts.{selected}
+use Rattle.vs_design.specs.vs_logic4.specs.declared.digit.Digit.{Digit}
+use Rattle.vs_design.specs.vs_logic4.specs.Parts.{selected}
 use Rattle.vs_design.specs.declared.statement.Aim.{Aim}
 use Rattle.vs_design.specs.declared.write.Part.{Part}
 use Rattle.vs_design.specs.Writes.{Write}

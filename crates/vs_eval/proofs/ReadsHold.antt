@@ -2,11 +2,11 @@
 use Rattle.std.proofs.Common.{◌≡◌, ℕ, ℤ, ◌||◌, ◌&&◌, not, Bool, true, false, Option, Some, None, List, [], ◌∷◌, ◌++◌, map, take, slice_get, refl, sym, ◌∙◌, ap, ap₂, subst}
 use Rattle.std.specs.List.{list_any}
 use Rattle.std.proofs.lemmas.List.Folds.{list_any-append}
-use Rattle.vs_logic4.specs.declared.digit.Digit.{Digit}
-use Rattle.vs_logic4.specs.Operators.{unary}
-use Rattle.vs_logic4.specs.Sameness.{same_digits-true}
-use Rattle.vs_logic4.specs.Parts.{replication}
-use Rattle.vs_logic4.specs.Vectors.{same_digits, resized}
+use Rattle.vs_design.specs.vs_logic4.specs.declared.digit.Digit.{Digit}
+use Rattle.vs_design.specs.vs_logic4.specs.Operators.{unary}
+use Rattle.vs_design.specs.vs_logic4.specs.Sameness.{same_digits-true}
+use Rattle.vs_design.specs.vs_logic4.specs.Parts.{replication}
+use Rattle.vs_design.specs.vs_logic4.specs.Vectors.{same_digits, resized}
 use Rattle.vs_design.specs.declared.expression.Link.{Link}
 use Rattle.vs_design.specs.declared.expression.Typed.{Typed, Typed-F, fold-roll-Typed, map-Typed, ind-Typed, roll-Typed}
 use Rattle.vs_design.specs.declared.expression.Typed.TheOpen as t
@@ -18,7 +18,7 @@ use Rattle.vs_design.specs.Uses.{reads, reads_step, joined, whole, all_words, sl
 use Rattle.vs_eval.specs.Values.{value_of, value_step, operand_value, bits_value, selection_value, excerpt_value, chained, chosen, concatenated}
 use Rattle.vs_eval.proofs.Digits.{selected_kept}
 use Rattle.vs_design.proofs.Stores.{map_none, same_words-true, word_in-words}
-use Rattle.vs_logic4.proofs.Basics.{and_left, and_right, map_twice as map_map, not_false}
+use Rattle.vs_design.specs.vs_logic4.proofs.Basics.{and_left, and_right, map_twice as map_map, not_false}
 
 pub or_false_left : (a b : Bool) → a || b ≡ false → a ≡ false
 or_false_left true b h = cc

@@ -3,19 +3,19 @@ use Rattle.std.proofs.Common.{◌≡◌, ℕ, ℤ, ◌+◌, ◌*◌, ◌≤◌, 
 use Rattle.std.proofs.lemmas.Bool.{eqb-true}
 use Rattle.std.proofs.lemmas.List.{length-take}
 use borrow.Author.Tests.{leb-true}
-use Rattle.vs_logic4.specs.declared.digit.Digit.{Digit}
-use Rattle.vs_logic4.specs.declared.digit.Digit.TheVariants.{Zero, One, X, Z}
-use Rattle.vs_logic4.specs.declared.operators.Unary.{Unary}
-use Rattle.vs_logic4.specs.declared.operators.Sizing.{Sizing}
-use Rattle.vs_logic4.specs.declared.operators.Sizing.TheVariants.{Alike, Shift, Comparison, Logical}
-use Rattle.vs_logic4.specs.Bitwise.{merged}
-use Rattle.vs_logic4.specs.Comparisons.{truth}
-use Rattle.vs_logic4.specs.Extensions.{length-resized}
-use Rattle.vs_logic4.specs.Lengths.{length-all_unknown, length-digitwise, length-concatenation, length-replication, length-unary, length-binary, length-selected}
-use Rattle.vs_logic4.specs.Operators.{unary, gives_bit, sizing_of, is_even, is_one_bit}
-use Rattle.vs_logic4.specs.Parts.{concatenation, replication}
-use Rattle.vs_logic4.specs.Tables.{merged_digit}
-use Rattle.vs_logic4.specs.Vectors.{resized}
+use Rattle.vs_design.specs.vs_logic4.specs.declared.digit.Digit.{Digit}
+use Rattle.vs_design.specs.vs_logic4.specs.declared.digit.Digit.TheVariants.{Zero, One, X, Z}
+use Rattle.vs_design.specs.vs_logic4.specs.declared.operators.Unary.{Unary}
+use Rattle.vs_design.specs.vs_logic4.specs.declared.operators.Sizing.{Sizing}
+use Rattle.vs_design.specs.vs_logic4.specs.declared.operators.Sizing.TheVariants.{Alike, Shift, Comparison, Logical}
+use Rattle.vs_design.specs.vs_logic4.specs.Bitwise.{merged}
+use Rattle.vs_design.specs.vs_logic4.specs.Comparisons.{truth}
+use Rattle.vs_design.specs.vs_logic4.specs.Extensions.{length-resized}
+use Rattle.vs_design.specs.vs_logic4.specs.Lengths.{length-all_unknown, length-digitwise, length-concatenation, length-replication, length-unary, length-binary, length-selected}
+use Rattle.vs_design.specs.vs_logic4.specs.Operators.{unary, gives_bit, sizing_of, is_even, is_one_bit}
+use Rattle.vs_design.specs.vs_logic4.specs.Parts.{concatenation, replication}
+use Rattle.vs_design.specs.vs_logic4.specs.Tables.{merged_digit}
+use Rattle.vs_design.specs.vs_logic4.specs.Vectors.{resized}
 use Rattle.vs_design.specs.declared.expression.Link.{Link}
 use Rattle.vs_design.specs.declared.expression.Typed.{Typed, Typed-F, fold-roll-Typed, map-Typed, ind-Typed, roll-Typed}
 use Rattle.vs_design.specs.declared.expression.Typed.TheOpen as t

@@ -1,8 +1,8 @@
 -- Lemmas on the values of expressions, for the code that makes them.
 use Rattle.std.proofs.Common.{◌≡◌, ℕ, ◌+◌, ◌-◌, ◌<◌, ◌≤◌, List, [], ◌∷◌, length, get_or, drop, map, sym, ◌∙◌, ap, arith}
 use Rattle.std.proofs.lemmas.List.{drop_more}
-use Rattle.vs_logic4.specs.declared.digit.Digit.{Digit}
-use Rattle.vs_logic4.specs.Comparisons.{truth}
+use Rattle.vs_design.specs.vs_logic4.specs.declared.digit.Digit.{Digit}
+use Rattle.vs_design.specs.vs_logic4.specs.Comparisons.{truth}
 use Rattle.vs_design.specs.declared.expression.Typed.{Typed, Typed-F}
 use Rattle.vs_design.specs.declared.expression.Typed.TheViews.{roll-Typed}
 use Rattle.vs_design.specs.declared.expression.Typed.TheFolds.{fold-roll-Typed, map-Typed}

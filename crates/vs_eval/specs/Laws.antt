@@ -1,7 +1,7 @@
 -- What the ranges that an expression reads and its size mean.
 use Rattle.std.specs.Prelude.{ℕ, ◌≡◌, false, Option, Some, None, List, length, slice_get}
 use Rattle.std.specs.List.{list_any}
-use Rattle.vs_logic4.specs.declared.digit.Digit.{Digit}
+use Rattle.vs_design.specs.vs_logic4.specs.declared.digit.Digit.{Digit}
 use Rattle.vs_design.specs.declared.expression.Typed.{Typed}
 use Rattle.vs_design.specs.declared.statement.Target.{Target}
 use Rattle.vs_design.specs.Stores.{Store, is_changed, word_of, put}

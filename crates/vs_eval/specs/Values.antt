@@ -1,14 +1,14 @@
 -- The values of expressions.
 use Rattle.std.specs.Prelude.{ℕ, ℤ, Bool, true, false, Option, Some, None, List, [], ◌∷◌, length, take}
-use Rattle.vs_logic4.specs.declared.digit.Digit.{Digit}
-use Rattle.vs_logic4.specs.declared.digit.Digit.TheVariants.{Zero, One, X, Z}
-use Rattle.vs_logic4.specs.declared.operators.Sizing.{Sizing}
-use Rattle.vs_logic4.specs.declared.operators.Sizing.TheVariants.{Alike, Shift, Comparison, Logical}
-use Rattle.vs_logic4.specs.Bitwise.{merged}
-use Rattle.vs_logic4.specs.Comparisons.{truth}
-use Rattle.vs_logic4.specs.Operators.{unary, binary, sizing_of}
-use Rattle.vs_logic4.specs.Parts.{concatenation, replication, selected}
-use Rattle.vs_logic4.specs.Vectors.{all_unknown, resized}
+use Rattle.vs_design.specs.vs_logic4.specs.declared.digit.Digit.{Digit}
+use Rattle.vs_design.specs.vs_logic4.specs.declared.digit.Digit.TheVariants.{Zero, One, X, Z}
+use Rattle.vs_design.specs.vs_logic4.specs.declared.operators.Sizing.{Sizing}
+use Rattle.vs_design.specs.vs_logic4.specs.declared.operators.Sizing.TheVariants.{Alike, Shift, Comparison, Logical}
+use Rattle.vs_design.specs.vs_logic4.specs.Bitwise.{merged}
+use Rattle.vs_design.specs.vs_logic4.specs.Comparisons.{truth}
+use Rattle.vs_design.specs.vs_logic4.specs.Operators.{unary, binary, sizing_of}
+use Rattle.vs_design.specs.vs_logic4.specs.Parts.{concatenation, replication, selected}
+use Rattle.vs_design.specs.vs_logic4.specs.Vectors.{all_unknown, resized}
 use Rattle.vs_design.specs.declared.expression.Excerpt.{Excerpt}
 use Rattle.vs_design.specs.declared.expression.Link.{Link}
 use Rattle.vs_design.specs.declared.expression.Selection.{Selection}

@@ -3,7 +3,7 @@ ghost use Rattle.std.specs.Prelude.{◌≡◌, ◌<◌, ◌≤◌, ◌≤ℤ◌,
 ghost use Rattle.vs_design.specs.Selects.{index_number, lowest, in_reach, place_of, word_place};
 
 use vs_design::Axis;
-use vs_logic4::Vec4;
+use vs_design::vs_logic4::Vec4;
 
 /// The number of an index by its own size and sign, where no digit is x or z.
 pub fn index_number(signed: bool, index: Vec4) -> Option<i128>

@@ -3,9 +3,9 @@
 
 ghost use Rattle.std.specs.Prelude.{◌≡◌, ◌<◌, ◌≤◌, map, true};
 ghost use Rattle.vs_design.specs.declared.expression.Typed.TheViews.{out-Typed};
-ghost use Rattle.vs_logic4.specs.Comparisons.{truth};
-ghost use Rattle.vs_logic4.specs.Operators.{sizing_of};
-ghost use Rattle.vs_logic4.specs.Vectors.{resized};
+ghost use Rattle.vs_design.specs.vs_logic4.specs.Comparisons.{truth};
+ghost use Rattle.vs_design.specs.vs_logic4.specs.Operators.{sizing_of};
+ghost use Rattle.vs_design.specs.vs_logic4.specs.Vectors.{resized};
 ghost use Rattle.vs_eval.specs.Laws.{ReadsHold, IndicesHold, WritesHold, SizesHold};
 ghost use Rattle.vs_eval.specs.Values.{is_other, value_of, operand_value, bits_value, selection_value, excerpt_value, left_side, right_side, linked, chained, picked, chosen, concatenated};
 ghost use Rattle.vs_design.specs.Stores.{word_of};
@@ -15,8 +15,8 @@ mod targets;
 
 pub use indices::{index_number, place_of, word_place};
 pub use targets::{cut_value, write_of};
+use vs_design::vs_logic4::{Digit, Sizing, Vec4};
 use vs_design::{Excerpt, Link, Operand, Selection, Slice, Store, Typed};
-use vs_logic4::{Digit, Sizing, Vec4};
 
 /// The value of an expression in a store at a time in ticks, at the size and with the sign of its context.
 #[cycle(value)]

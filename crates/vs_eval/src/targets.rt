@@ -8,8 +8,8 @@ ghost use Rattle.vs_eval.specs.Values.{target_value};
 use crate::indices::{place_of, word_place};
 use crate::{fitted, quick_value, value};
 use std::alloc::{AllocError, Global};
+use vs_design::vs_logic4::Vec4;
 use vs_design::{Aim, Part, Store, Target, Typed, Write};
-use vs_logic4::Vec4;
 
 /// What a target gets of an expression in a store at a time in ticks: the value, cut to the target's size (IEEE 1364-2005, clause 5.4.1).
 #[inline(always)]

@@ -2,11 +2,11 @@
 use Rattle.std.proofs.Common.{◌≡◌, ℕ, zero, suc, ◌+◌, ◌*◌, ◌<◌, ◌==◌, ◌&&◌, Bool, true, false, pos, ◌-ℤ◌, Some, None, option_map, nat_lt, if◌then◌else◌, List, [], ◌∷◌, refl, sym, ◌∙◌, ap, ap₂, arith}
 use Rattle.std.proofs.lemmas.Bool.{ne_eqb}
 use Rattle.std.proofs.lemmas.Int.{ints}
-use Rattle.vs_logic4.specs.declared.digit.Digit.{Digit}
-use Rattle.vs_logic4.specs.declared.digit.Digit.TheVariants.{Zero, One, X, Z}
-use Rattle.vs_logic4.specs.Arithmetic.{number}
-use Rattle.vs_logic4.specs.Comparisons.{is_known}
-use Rattle.vs_logic4.specs.Planes.{value_plane, unknown_plane}
+use Rattle.vs_design.specs.vs_logic4.specs.declared.digit.Digit.{Digit}
+use Rattle.vs_design.specs.vs_logic4.specs.declared.digit.Digit.TheVariants.{Zero, One, X, Z}
+use Rattle.vs_design.specs.vs_logic4.specs.Arithmetic.{number}
+use Rattle.vs_design.specs.vs_logic4.specs.Comparisons.{is_known}
+use Rattle.vs_design.specs.vs_logic4.specs.Planes.{value_plane, unknown_plane}
 use Rattle.vs_design.specs.declared.expression.Axis.{Axis}
 use Rattle.vs_design.specs.Selects.{lowest, in_reach, reached, index_number, place_of}
 use Rattle.vs_eval_resolved.specs.Meant.{IsPlain}

@@ -4,12 +4,12 @@ use Rattle.std.proofs.lemmas.List.{length-take}
 use Rattle.std.specs.declared.alloc.Global.{Global}
 use Rattle.std.specs.declared.boxed.Box.{Box}
 use Rattle.std.specs.declared.vec.Vec.{Vec}
-use Rattle.vs_logic4.specs.declared.digit.Digit.{Digit}
-use Rattle.vs_logic4.specs.declared.operators.Unary.{Unary}
-use Rattle.vs_logic4.specs.Extensions.{length-resized}
-use Rattle.vs_logic4.specs.Lengths.{length-replication}
-use Rattle.vs_logic4.specs.Operators.{unary}
-use Rattle.vs_logic4.specs.Parts.{replication}
+use Rattle.vs_design.specs.vs_logic4.specs.declared.digit.Digit.{Digit}
+use Rattle.vs_design.specs.vs_logic4.specs.declared.operators.Unary.{Unary}
+use Rattle.vs_design.specs.vs_logic4.specs.Extensions.{length-resized}
+use Rattle.vs_design.specs.vs_logic4.specs.Lengths.{length-replication}
+use Rattle.vs_design.specs.vs_logic4.specs.Operators.{unary}
+use Rattle.vs_design.specs.vs_logic4.specs.Parts.{replication}
 use Rattle.vs_design.specs.declared.expression.Count.{Count}
 use Rattle.vs_design.specs.declared.expression.Excerpt.{Excerpt}
 use Rattle.vs_design.specs.declared.expression.Extension.{Extension}
@@ -26,8 +26,9 @@ use Rattle.vs_design.specs.Stores.{Store, word_of}
 use Rattle.vs_eval.specs.Values.{value_of, operand_value, bits_value, selection_value, chained, chosen, concatenated}
 use Rattle.vs_eval.proofs.ValueLemmas.{value_layer}
 use Rattle.vs_eval_resolved.specs.declared.node.Node.{Node}
+use Rattle.vs_eval_resolved.specs.Copies.{links_of, pairs_of, parts_of}
 use Rattle.vs_eval_resolved.specs.Meant.{AreSized, IsMeant, Means}
-use Rattle.vs_eval_resolved.proofs.OperandLemmas.{means_as, links_of, pairs_of, parts_of}
+use Rattle.vs_eval_resolved.proofs.OperandLemmas.{means_as}
 use Rattle.vs_eval_resolved.proofs.WordLemmas.{bits_long}
 
 module _ (e : Typed) where

@@ -1,3 +1,4 @@
+pub mod CopyLemmas
 pub mod DepthLemmas
 pub mod IndexLemmas
 pub mod LayerLemmas

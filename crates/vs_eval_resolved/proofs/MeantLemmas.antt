@@ -1,18 +1,18 @@
 -- Lemmas on what resolved expressions stand for.
 use Rattle.std.proofs.Common.{◌≡◌, ℕ, ◌≤◌, ◌⊎◌, inl, inr, if◌then◌else◌, Some, List, length, refl, sym, ◌∙◌, ap, ap₂}
 use Rattle.std.specs.Prelude.{Bool, false}
-use Rattle.vs_logic4.specs.Bitwise.{merged}
-use Rattle.vs_logic4.specs.declared.digit.Digit.{Digit}
-use Rattle.vs_logic4.specs.declared.digit.Digit.TheVariants.{Zero, One, X, Z}
-use Rattle.vs_logic4.specs.declared.operators.Sizing.{Sizing}
-use Rattle.vs_logic4.specs.declared.operators.Sizing.TheVariants.{Alike, Shift, Comparison, Logical}
-use Rattle.vs_logic4.specs.declared.operators.Unary.{Unary}
-use Rattle.vs_logic4.specs.Extensions.{length-resized}
-use Rattle.vs_logic4.specs.Lengths.{length-binary, length-digitwise, length-unary}
-use Rattle.vs_logic4.specs.Operators.{unary, binary, gives_bit, is_one_bit, sizing_of}
-use Rattle.vs_logic4.specs.Tables.{merged_digit}
-use Rattle.vs_logic4.specs.Vectors.{resized}
-use Rattle.vs_logic4.proofs.Properties.{resized-own_width}
+use Rattle.vs_design.specs.vs_logic4.specs.Bitwise.{merged}
+use Rattle.vs_design.specs.vs_logic4.specs.declared.digit.Digit.{Digit}
+use Rattle.vs_design.specs.vs_logic4.specs.declared.digit.Digit.TheVariants.{Zero, One, X, Z}
+use Rattle.vs_design.specs.vs_logic4.specs.declared.operators.Sizing.{Sizing}
+use Rattle.vs_design.specs.vs_logic4.specs.declared.operators.Sizing.TheVariants.{Alike, Shift, Comparison, Logical}
+use Rattle.vs_design.specs.vs_logic4.specs.declared.operators.Unary.{Unary}
+use Rattle.vs_design.specs.vs_logic4.specs.Extensions.{length-resized}
+use Rattle.vs_design.specs.vs_logic4.specs.Lengths.{length-binary, length-digitwise, length-unary}
+use Rattle.vs_design.specs.vs_logic4.specs.Operators.{unary, binary, gives_bit, is_one_bit, sizing_of}
+use Rattle.vs_design.specs.vs_logic4.specs.Tables.{merged_digit}
+use Rattle.vs_design.specs.vs_logic4.specs.Vectors.{resized}
+use Rattle.vs_design.specs.vs_logic4.proofs.Properties.{resized-own_width}
 use Rattle.vs_design.proofs.InOrderLemmas.{word_numbered}
 use Rattle.vs_design.specs.declared.expression.Link.{Link}
 use Rattle.vs_design.specs.declared.signal.Signal.{Signal}

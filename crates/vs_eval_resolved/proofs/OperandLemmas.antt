@@ -5,12 +5,12 @@ use Rattle.std.proofs.lemmas.List.{drop_all, length-take, map-append, take_all, 
 use Rattle.std.specs.declared.alloc.Global.{Global}
 use Rattle.std.specs.declared.boxed.Box.{Box}
 use Rattle.std.specs.declared.vec.Vec.{Vec}
-use Rattle.vs_logic4.specs.declared.digit.Digit.{Digit}
-use Rattle.vs_logic4.specs.Comparisons.{truth}
-use Rattle.vs_logic4.specs.Lengths.{length-concatenation}
-use Rattle.vs_logic4.specs.Operators.{is_one_bit, sizing_of}
-use Rattle.vs_logic4.specs.Parts.{concatenation}
-use Rattle.vs_logic4.specs.Vectors.{resized}
+use Rattle.vs_design.specs.vs_logic4.specs.declared.digit.Digit.{Digit}
+use Rattle.vs_design.specs.vs_logic4.specs.Comparisons.{truth}
+use Rattle.vs_design.specs.vs_logic4.specs.Lengths.{length-concatenation}
+use Rattle.vs_design.specs.vs_logic4.specs.Operators.{is_one_bit, sizing_of}
+use Rattle.vs_design.specs.vs_logic4.specs.Parts.{concatenation}
+use Rattle.vs_design.specs.vs_logic4.specs.Vectors.{resized}
 use Rattle.vs_design.specs.declared.expression.Link.{Link}
 use Rattle.vs_design.specs.declared.expression.Typed.{Typed}
 use Rattle.vs_design.specs.declared.signal.Signal.{Signal}
@@ -23,6 +23,7 @@ use Rattle.vs_eval_resolved.specs.declared.node.Node.TheVariants as v
 use Rattle.vs_eval_resolved.specs.declared.node.Planes.{Planes}
 use Rattle.vs_eval_resolved.specs.declared.node.Sides.{Sides}
 use Rattle.vs_eval_resolved.specs.declared.node.Size.{Size}
+use Rattle.vs_eval_resolved.specs.Copies.{links_of, pairs_of, parts_of}
 use Rattle.vs_eval_resolved.specs.Meant.{AreSides, AreSized, IsMeant, Means, Values}
 use Rattle.vs_eval_resolved.specs.Nodes as nodes
 use Rattle.vs_eval_resolved.specs.Nodes.{combined, planes_in}
@@ -75,10 +76,6 @@ chained_more first (k ∷ ls) l = chained_more (linked first k) ls l
 combined_more : (first : Planes) (ls : List (Sides × Planes)) (l : Sides × Planes) → nodes.chained first (ls ++ l ∷ []) ≡ combined (nodes.chained first ls) l
 combined_more first [] l = refl
 combined_more first (k ∷ ls) l = combined_more (combined first k) ls l
-
--- the values after operators
-abbrev pub links_of : List (Link × Typed) → Store → ℕ → List (Link × List Digit)
-links_of links store time = map (λ l. (l.0, value_of l.1 store time)) links
 
 -- the planes after operators
 abbrev pub sides_of : List (Sides × Node) → Store → ℕ → List (Sides × Planes)
@@ -147,10 +144,6 @@ module _ (signals : List Signal) (values : Values) (first : Node) where
 
 -- ---- choices
 
--- the values of conditions and of the operands after them
-abbrev pub pairs_of : List (Typed × Typed) → Store → ℕ → List (List Digit × List Digit)
-pairs_of pairs store time = map (λ p. (value_of p.0 store time, value_of p.1 store time)) pairs
-
 module _ (signals : List Signal) (others : Values) (condition e : Typed) (size width : Size) (c x y : Box Node Global) (cn xn yn : Node) (c_is : c.value ≡ cn) (x_is : x.value ≡ xn) (y_is : y.value ≡ yn) where
   pub if_means : IsMeant signals condition cn size.width → IsMeant signals e xn width.width → Means signals others yn width.width →
       Means signals (λ store time. picked (truth (value_of condition store time)) (value_of e store time) (others store time)) (v.If size width c x y) width.width
@@ -185,10 +178,6 @@ module _ (signals : List Signal) (values : Values) (pairs : List (Typed × Typed
       (λ store time. chosen_before (λ (q : Typed × Typed). (value_of q.0 store time, value_of q.1 store time)) pairs i p (values store time) (chosen (pairs_of (drop i pairs) store time) (values store time)) _ some most is refl refl) m
 
 -- ---- concatenations
-
--- the values of parts
-abbrev pub parts_of : List Typed → Store → ℕ → List (List Digit)
-parts_of parts store time = map (λ e. value_of e store time) parts
 
 concatenated_more : (high : List Digit) (ls : List (List Digit)) (l : List Digit) → concatenated high (ls ++ l ∷ []) ≡ take 64 (concatenation (concatenated high ls) l)
 concatenated_more high [] l = refl

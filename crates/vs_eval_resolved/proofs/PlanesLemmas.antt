@@ -3,15 +3,15 @@ use Rattle.std.proofs.Common.{◌≡◌, ℕ, zero, suc, ◌+◌, ◌-◌, ◌*�
 use Rattle.std.specs.Prelude.{false}
 use Rattle.std.proofs.lemmas.Int.{ints}
 use Rattle.std.proofs.lemmas.List.{take_all}
-use Rattle.vs_logic4.specs.declared.digit.Digit.{Digit}
-use Rattle.vs_logic4.specs.declared.digit.Digit.TheVariants.{Zero, X}
-use Rattle.vs_logic4.specs.Lengths.{length-selected}
-use Rattle.vs_logic4.specs.Parts.{digit_at, selected}
-use Rattle.vs_logic4.specs.PlaneLaws.{digits_of_planes-of, digit_of_bits-of, value_bit-lt, unknown_bit-lt, planes_are, get_or-digits_of_planes}
-use Rattle.vs_logic4.specs.Planes.{digit_of_bits, digits_of_planes, value_plane, unknown_plane, value_bit, unknown_bit}
-use Rattle.vs_logic4.specs.Vectors.{resized}
-use Rattle.vs_logic4.proofs.Basics.{bit_at-shr}
-use Rattle.vs_logic4.proofs.Parts.{get_or-selected}
+use Rattle.vs_design.specs.vs_logic4.specs.declared.digit.Digit.{Digit}
+use Rattle.vs_design.specs.vs_logic4.specs.declared.digit.Digit.TheVariants.{Zero, X}
+use Rattle.vs_design.specs.vs_logic4.specs.Lengths.{length-selected}
+use Rattle.vs_design.specs.vs_logic4.specs.Parts.{digit_at, selected}
+use Rattle.vs_design.specs.vs_logic4.specs.PlaneLaws.{digits_of_planes-of, digit_of_bits-of, value_bit-lt, unknown_bit-lt, planes_are, get_or-digits_of_planes}
+use Rattle.vs_design.specs.vs_logic4.specs.Planes.{digit_of_bits, digits_of_planes, value_plane, unknown_plane, value_bit, unknown_bit}
+use Rattle.vs_design.specs.vs_logic4.specs.Vectors.{resized}
+use Rattle.vs_design.specs.vs_logic4.proofs.Basics.{bit_at-shr}
+use Rattle.vs_design.specs.vs_logic4.proofs.Parts.{get_or-selected}
 use Rattle.vs_eval_resolved.specs.Nodes.{planes_from}
 use Rattle.vs_eval_resolved.specs.PlanesOf.{planes_of, digits_of}
 

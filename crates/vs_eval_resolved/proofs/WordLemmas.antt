@@ -6,14 +6,14 @@ use Rattle.std.proofs.lemmas.List.{ext_get_or, get_or_past, length-map, length-r
 use Rattle.std.proofs.lemmas.Option.{none-some, same_Some, slice_get_past}
 use Rattle.std.specs.declared.alloc.Global.{Global}
 use Rattle.std.specs.declared.boxed.Box.{Box}
-use Rattle.vs_logic4.specs.declared.digit.Digit.{Digit}
-use Rattle.vs_logic4.specs.declared.digit.Digit.TheVariants.{X}
-use Rattle.vs_logic4.specs.Extensions.{length-resized}
-use Rattle.vs_logic4.specs.Lengths.{length-all_unknown, length-selected}
-use Rattle.vs_logic4.specs.Parts.{digit_at, selected}
-use Rattle.vs_logic4.specs.Planes.{value_plane, unknown_plane}
-use Rattle.vs_logic4.specs.Vectors.{all_unknown}
-use Rattle.vs_logic4.proofs.Parts.{get_or-selected}
+use Rattle.vs_design.specs.vs_logic4.specs.declared.digit.Digit.{Digit}
+use Rattle.vs_design.specs.vs_logic4.specs.declared.digit.Digit.TheVariants.{X}
+use Rattle.vs_design.specs.vs_logic4.specs.Extensions.{length-resized}
+use Rattle.vs_design.specs.vs_logic4.specs.Lengths.{length-all_unknown, length-selected}
+use Rattle.vs_design.specs.vs_logic4.specs.Parts.{digit_at, selected}
+use Rattle.vs_design.specs.vs_logic4.specs.Planes.{value_plane, unknown_plane}
+use Rattle.vs_design.specs.vs_logic4.specs.Vectors.{all_unknown}
+use Rattle.vs_design.specs.vs_logic4.proofs.Parts.{get_or-selected}
 use Rattle.vs_design.specs.declared.expression.Operand.{Operand}
 use Rattle.vs_design.specs.declared.expression.Selection.{Selection}
 use Rattle.vs_design.specs.declared.expression.Slice.{Slice}

@@ -1,13 +1,13 @@
 -- The values of resolved expressions.
 use Rattle.std.specs.Prelude.{ℕ, ◌+◌, ◌/◌, ◌^◌, ◌&&◌, ◌==◌, nat_lt, if◌then◌else◌, List, [], ◌∷◌}
-use Rattle.vs_logic4.specs.declared.digit.Digit.{Digit}
-use Rattle.vs_logic4.specs.declared.digit.Digit.TheVariants.{Zero, One, X, Z}
-use Rattle.vs_logic4.specs.declared.operators.Unary.{Unary}
-use Rattle.vs_logic4.specs.Bitwise.{merged}
-use Rattle.vs_logic4.specs.Comparisons.{truth}
-use Rattle.vs_logic4.specs.Operators.{unary, binary}
-use Rattle.vs_logic4.specs.Planes.{digits_of_planes}
-use Rattle.vs_logic4.specs.Vectors.{all_unknown, resized}
+use Rattle.vs_design.specs.vs_logic4.specs.declared.digit.Digit.{Digit}
+use Rattle.vs_design.specs.vs_logic4.specs.declared.digit.Digit.TheVariants.{Zero, One, X, Z}
+use Rattle.vs_design.specs.vs_logic4.specs.declared.operators.Unary.{Unary}
+use Rattle.vs_design.specs.vs_logic4.specs.Bitwise.{merged}
+use Rattle.vs_design.specs.vs_logic4.specs.Comparisons.{truth}
+use Rattle.vs_design.specs.vs_logic4.specs.Operators.{unary, binary}
+use Rattle.vs_design.specs.vs_logic4.specs.Planes.{digits_of_planes}
+use Rattle.vs_design.specs.vs_logic4.specs.Vectors.{all_unknown, resized}
 use Rattle.vs_design.specs.InOrder.{numbered_word}
 use Rattle.vs_design.specs.Stores.{Store}
 use Rattle.vs_eval.specs.Values.{value_of}
@@ -81,7 +81,7 @@ planes_step store time (n.Two sides x y) = combined x.value (sides, y.value)
 planes_step store time (n.Chain x links) = chained x.value links.items
 planes_step store time (n.If size width c x y) = chosen (truth (digits_of size.width c.value)) width x.value y.value
 planes_step store time (n.Resized change x) = changed_planes change x.value
-planes_step store time (n.Other e) = planes_of (value_of e.now store time)
+planes_step store time (n.Other e) = planes_of (value_of e.value store time)
 
 -- the planes of a resolved expression in a store at a time in ticks
 abbrev pub planes_in : Node → Store → ℕ → Planes

@@ -1,7 +1,7 @@
 -- Values in two planes.
 use Rattle.std.specs.Prelude.{ℕ, List}
-use Rattle.vs_logic4.specs.declared.digit.Digit.{Digit}
-use Rattle.vs_logic4.specs.Planes.{digits_of_planes, value_plane, unknown_plane}
+use Rattle.vs_design.specs.vs_logic4.specs.declared.digit.Digit.{Digit}
+use Rattle.vs_design.specs.vs_logic4.specs.Planes.{digits_of_planes, value_plane, unknown_plane}
 use Rattle.vs_eval_resolved.specs.declared.node.Planes.{Planes}
 
 -- the planes of a vector

@@ -1,15 +1,15 @@
 //! The values of resolved expressions.
 ghost use Rattle.std.specs.Prelude.{◌≡◌, ◌<◌, ◌≤◌, map};
-ghost use Rattle.vs_logic4.specs.Bitwise.{merged};
-ghost use Rattle.vs_logic4.specs.Comparisons.{truth};
+ghost use Rattle.vs_design.specs.vs_logic4.specs.Bitwise.{merged};
+ghost use Rattle.vs_design.specs.vs_logic4.specs.Comparisons.{truth};
 ghost use Rattle.vs_eval.specs.Values.{value_of};
 ghost use Rattle.vs_eval_resolved.specs.PlanesOf.{planes_of, digits_of};
 ghost use Rattle.vs_eval_resolved.specs.Nodes.{planes_in, word_planes, field_planes, element_planes, bit_planes, combined, chained, chosen, unary_planes, changed_planes};
 
 use crate::node::{Array, Change, Field, Node, Planes, Sides, Size};
+use vs_design::vs_logic4::{Binary, Digit, Unary, Vec4};
 use vs_design::{Store, Typed};
 use vs_eval::value;
-use vs_logic4::{Binary, Digit, Unary, Vec4};
 
 /// The planes of a vector.
 #[inline(always)]

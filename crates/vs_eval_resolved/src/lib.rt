@@ -2,6 +2,7 @@
 //! evaluated in two planes, without a look-up by signal (IEEE 1364-2005, clause 5).
 #![tactic(auto)]
 
+mod copy;
 mod evaluate;
 mod node;
 mod resolve;
@@ -9,3 +10,4 @@ mod resolved;
 
 pub use node::Planes;
 pub use resolved::Resolved;
+pub use vs_eval;

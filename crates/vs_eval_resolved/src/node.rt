@@ -1,9 +1,9 @@
 //! Resolved expressions.
 ghost use Rattle.std.specs.Prelude.{◌≡◌, ◌<◌, ◌≤◌, ◌+◌, ◌^◌, true};
-ghost use Rattle.vs_logic4.specs.Operators.{is_even, sizing_of};
+ghost use Rattle.vs_design.specs.vs_logic4.specs.Operators.{is_even, sizing_of};
 
 use vs_design::Typed;
-use vs_logic4::{Binary, Unary};
+use vs_design::vs_logic4::{Binary, Unary};
 
 /// A value in two planes: a digit is 0, 1, z or x where their bits are 00, 10, 01 or 11.
 #[derive(Clone, Copy)]
@@ -72,7 +72,7 @@ pub(crate) struct Change {
 }
 
 /// A resolved expression.
-pub(crate) enum Node<'a> {
+pub(crate) enum Node {
     /// A literal.
     Number(Planes),
     /// The word of a number; at a larger size without a sign it has the same planes. A number counts the words of all signals in design order.
@@ -80,24 +80,24 @@ pub(crate) enum Node<'a> {
     /// Bits of a word.
     Bits(Field),
     /// A word of an array.
-    Element(Array, Box<Node<'a>>),
+    Element(Array, Box<Node>),
     /// A bit of the first word of an array, by an index of its own value.
-    Bit(Array, Box<Node<'a>>),
+    Bit(Array, Box<Node>),
     /// An operator and its operand, which has this size.
-    Unary(Unary, Size, Box<Node<'a>>),
+    Unary(Unary, Size, Box<Node>),
     /// An operator and its operands.
-    Two(Sides, Box<Node<'a>>, Box<Node<'a>>),
+    Two(Sides, Box<Node>, Box<Node>),
     /// Operands with operators between them, from left to right.
-    Chain(Box<Node<'a>>, Vec<(Sides, Node<'a>)>),
+    Chain(Box<Node>, Vec<(Sides, Node)>),
     /// `c ? v : e`: the size of the condition, that of both operands, and the three.
-    If(Size, Size, Box<Node<'a>>, Box<Node<'a>>, Box<Node<'a>>),
+    If(Size, Size, Box<Node>, Box<Node>, Box<Node>),
     /// An operand brought to another size.
-    Resized(Change, Box<Node<'a>>),
-    /// Any other expression.
-    Other(&'a Typed),
+    Resized(Change, Box<Node>),
+    /// Any other expression: a copy, so that a node holds no reference.
+    Other(Box<Typed>),
 }
 
-impl<'a> Drop for Node<'a> {
+impl Drop for Node {
     fn drop(self) {
         match self {
             Self::Number(_)

@@ -1,9 +1,9 @@
 //! Expressions made into resolved ones.
 ghost use Rattle.std.specs.Prelude.{◌≡◌, ℕ, ◌+◌, ◌*◌, ◌<◌, ◌≤◌, pos, true, false, if◌then◌else◌, min, map, length, List, Some, IfOk, IfSome};
-ghost use Rattle.vs_logic4.specs.declared.digit.Digit.{Digit};
-ghost use Rattle.vs_logic4.specs.Comparisons.{truth};
-ghost use Rattle.vs_logic4.specs.Operators.{unary, gives_bit, is_even, is_one_bit, sizing_of};
-ghost use Rattle.vs_logic4.specs.Vectors.{resized};
+ghost use Rattle.vs_design.specs.vs_logic4.specs.declared.digit.Digit.{Digit};
+ghost use Rattle.vs_design.specs.vs_logic4.specs.Comparisons.{truth};
+ghost use Rattle.vs_design.specs.vs_logic4.specs.Operators.{unary, gives_bit, is_even, is_one_bit, sizing_of};
+ghost use Rattle.vs_design.specs.vs_logic4.specs.Vectors.{resized};
 ghost use Rattle.vs_design.specs.declared.signal.Signal.{Signal};
 ghost use Rattle.vs_design.specs.Selects.{place_of};
 ghost use Rattle.vs_design.specs.Stores.{Store, word_of};
@@ -11,28 +11,29 @@ ghost use Rattle.vs_eval.specs.Values.{value_of, operand_value, bits_value, sele
 ghost use Rattle.vs_eval_resolved.specs.Meant.{IsMeant, Means, Values, AreSides, AreSized, IsWordOf, IsArrayOf, IsElementOf, IsBitOf, IsPlain};
 ghost use Rattle.vs_eval_resolved.specs.PlanesOf.{planes_of};
 
+use crate::copy::boxed;
 use crate::evaluate::planes;
 use crate::node::{Array, Field, Node, Sides, Size};
 use std::alloc::{AllocError, Global};
+use vs_design::vs_logic4::{Sizing, Unary, Vec4};
 use vs_design::{Axis, Count, Design, Link, Operand, Selection, Slice, Typed};
 use vs_eval::place_of;
-use vs_logic4::{Sizing, Unary, Vec4};
 
 /// The expression resolved, where its operands have the sizes that those of every design have.
 #[cycle(resolve)]
-pub(crate) fn resolve<'a>(
+pub(crate) fn resolve(
     alloc: Global,
     design: &Design,
-    e: &'a Typed,
-) -> Result<Option<(Node<'a>, Size)>, AllocError>
+    e: &Typed,
+) -> Result<Option<(Node, Size)>, AllocError>
     ensures { IfOk result (λ o. IfSome o (λ s. IsMeant design.now.signals e.now s.0 s.1.width)) }
 {
     match e {
         Typed::Number(digits) => Ok(Some(literal(*digits))),
-        Typed::Signal(o) => Ok(Some(whole(design, *o, e))),
-        Typed::Slice(s) => Ok(Some(slice(design, *s, e))),
+        Typed::Signal(o) => Ok(Some(whole(alloc, design, *o, e)?)),
+        Typed::Slice(s) => Ok(Some(slice(alloc, design, *s, e)?)),
         Typed::Select(s, word, low) => Ok(Some(select(alloc, design, *s, word, low, e)?)),
-        Typed::Excerpt(s, _) => Ok(Some(other(e, s.width))),
+        Typed::Excerpt(s, _) => Ok(Some(other(alloc, e, s.width)?)),
         Typed::Unary(operator, x) => match resolve(alloc, design, x)? {
             Some(x) => Ok(Some(unary(alloc, *operator, x)?)),
             None => Ok(None),
@@ -46,20 +47,23 @@ pub(crate) fn resolve<'a>(
             None => Ok(None),
         },
         Typed::Concat(x, others) => match concatenated_size(alloc, design, x, others)? {
-            Some(size) => Ok(Some(other(e, size.width))),
+            Some(size) => Ok(Some(other(alloc, e, size.width)?)),
             None => Ok(None),
         },
         Typed::Repeat(count, x) => match resolve(alloc, design, x)? {
-            Some(x) => Ok(Some(other(e, repeated_size(*count, size_of(x)).width))),
+            Some(x) => {
+                let size = repeated_size(*count, size_of(x));
+                Ok(Some(other(alloc, e, size.width)?))
+            },
             None => Ok(None),
         },
-        Typed::Resized(size, _) => Ok(Some(other(e, size.width))),
+        Typed::Resized(size, _) => Ok(Some(other(alloc, e, size.width)?)),
     }
 }
 
 /// A literal of these digits.
 #[inline(always)]
-fn literal<'a>(digits: Vec4) -> (Node<'a>, Size)
+fn literal(digits: Vec4) -> (Node, Size)
     ensures { (signals : List Signal) (values : Values) → ((store : Store) (time : ℕ) → values store time ≡ digits)
         → Means signals values result.0 result.1.width }
 {
@@ -67,27 +71,28 @@ fn literal<'a>(digits: Vec4) -> (Node<'a>, Size)
     (Node::Number(planes(digits)), Size { width })
 }
 
-/// An expression that isn't resolved, of this size.
-#[inline(always)]
-fn other<'a>(e: &'a Typed, width: u32) -> (Node<'a>, Size)
+/// A copy of an expression that isn't resolved, of this size.
+fn other(alloc: Global, e: &Typed, width: u32) -> Result<(Node, Size), AllocError>
     requires some { 0 < width }
     requires most { width ≤ 64 }
-    ensures { (signals : List Signal) → AreSized signals (λ store time. value_of e.now store time) width
-        → IsMeant signals e.now result.0 result.1.width }
+    ensures { IfOk result (λ r. (signals : List Signal) → AreSized signals (λ store time. value_of e.now store time) width
+        → IsMeant signals e.now r.0 r.1.width) }
 {
-    (Node::Other(e), Size { width })
+    let copy = boxed(alloc, e)?;
+    Ok((Node::Other(copy), Size { width }))
 }
 
 /// A whole signal at the size of its context.
-fn whole<'a>(design: &Design, o: Operand, e: &'a Typed) -> (Node<'a>, Size)
-    ensures { ((store : Store) (time : ℕ) → value_of e.now store time ≡ operand_value o.signed o.width (word_of store o.signal 0))
-        → IsMeant design.now.signals e.now result.0 result.1.width }
+fn whole(alloc: Global, design: &Design, o: Operand, e: &Typed) -> Result<(Node, Size), AllocError>
+    ensures { IfOk result (λ r. ((store : Store) (time : ℕ) → value_of e.now store time
+        ≡ operand_value o.signed o.width (word_of store o.signal 0))
+        → IsMeant design.now.signals e.now r.0 r.1.width) }
 {
     match word_of(design, o.signal, 0) {
         Some((number, size)) if has_planes(o, size.width) => {
-            (Node::Word(number), Size { width: o.width })
+            Ok((Node::Word(number), Size { width: o.width }))
         }
-        _ => other(e, o.width),
+        _ => other(alloc, e, o.width),
     }
 }
 
@@ -132,26 +137,27 @@ fn place_in(low: i32, width: u32, size: Size) -> Option<u32>
 }
 
 /// The bits that constant indices choose.
-fn slice<'a>(design: &Design, s: Slice, e: &'a Typed) -> (Node<'a>, Size)
-    ensures { ((store : Store) (time : ℕ) → value_of e.now store time ≡ bits_value s.low s.width (word_of store s.signal s.word))
-        → IsMeant design.now.signals e.now result.0 result.1.width }
+fn slice(alloc: Global, design: &Design, s: Slice, e: &Typed) -> Result<(Node, Size), AllocError>
+    ensures { IfOk result (λ r. ((store : Store) (time : ℕ) → value_of e.now store time
+        ≡ bits_value s.low s.width (word_of store s.signal s.word))
+        → IsMeant design.now.signals e.now r.0 r.1.width) }
 {
     let Some((number, size)) = word_of(design, s.signal, s.word) else {
-        return other(e, s.width);
+        return other(alloc, e, s.width);
     };
     let Some(low) = place_in(s.low, s.width, size) else {
-        return other(e, s.width);
+        return other(alloc, e, s.width);
     };
     let own = Size { width: s.width };
     if s.width == size.width {
-        return (Node::Word(number), own);
+        return Ok((Node::Word(number), own));
     }
     let field = Field {
         number,
         low,
         width: s.width,
     };
-    (Node::Bits(field), own)
+    Ok((Node::Bits(field), own))
 }
 
 /// The words of a signal, where there is one.
@@ -219,14 +225,14 @@ fn bit_of(design: &Design, s: Selection, word: &Typed) -> Option<Array>
 
 /// The bits that two indices choose: a word of an array or a bit of a word, else any bits.
 #[cycle(resolve)]
-fn select<'a>(
+fn select(
     alloc: Global,
     design: &Design,
     s: Selection,
-    word: &'a Typed,
-    low: &'a Typed,
-    e: &'a Typed,
-) -> Result<(Node<'a>, Size), AllocError>
+    word: &Typed,
+    low: &Typed,
+    e: &Typed,
+) -> Result<(Node, Size), AllocError>
     ensures { IfOk result (λ r. ((store : Store) (time : ℕ) → value_of e.now store time
         ≡ selection_value s store (value_of word.now store time) (value_of low.now store time))
         → IsMeant design.now.signals e.now r.0 r.1.width) }
@@ -243,16 +249,12 @@ fn select<'a>(
             return Ok((node, Size { width: s.width }));
         }
     }
-    Ok(other(e, s.width))
+    other(alloc, e, s.width)
 }
 
 /// An operator and its operand.
-fn unary<'a>(
-    alloc: Global,
-    operator: Unary,
-    x: (Node<'a>, Size),
-) -> Result<(Node<'a>, Size), AllocError>
-    ensures { IfOk result (λ r. (signals : List Signal) (values : Values) → Means signals values x.entry.0 x.entry.1.width
+fn unary(alloc: Global, operator: Unary, x: (Node, Size)) -> Result<(Node, Size), AllocError>
+    ensures { IfOk result (λ r. (signals : List Signal) (values : Values) → Means signals values x.0 x.1.width
         → Means signals (λ store time. unary operator (values store time)) r.0 r.1.width) }
 {
     let (node, size) = x;
@@ -321,14 +323,14 @@ fn linked_size(link: Link) -> Size
 
 /// An operand, an operator and another operand.
 #[cycle(resolve)]
-fn pair<'a>(
+fn pair(
     alloc: Global,
     design: &Design,
-    first: (Node<'a>, Size),
+    first: (Node, Size),
     link: Link,
-    e: &'a Typed,
-) -> Result<Option<(Node<'a>, Size)>, AllocError>
-    ensures { IfOk result (λ o. IfSome o (λ r. (values : Values) → Means design.now.signals values first.entry.0 first.entry.1.width
+    e: &Typed,
+) -> Result<Option<(Node, Size)>, AllocError>
+    ensures { IfOk result (λ o. IfSome o (λ r. (values : Values) → Means design.now.signals values first.0 first.1.width
         → Means design.now.signals (λ store time. linked (values store time) (link, value_of e.now store time)) r.0 r.1.width)) }
 {
     let (x, left) = first;
@@ -342,13 +344,13 @@ fn pair<'a>(
 
 /// Operands with operators between them.
 #[cycle(resolve)]
-fn chain<'a>(
+fn chain(
     alloc: Global,
     design: &Design,
-    first: (Node<'a>, Size),
-    links: &'a [(Link, Typed)],
-) -> Result<Option<(Node<'a>, Size)>, AllocError>
-    ensures { IfOk result (λ o. IfSome o (λ r. (values : Values) → Means design.now.signals values first.entry.0 first.entry.1.width
+    first: (Node, Size),
+    links: &[(Link, Typed)],
+) -> Result<Option<(Node, Size)>, AllocError>
+    ensures { IfOk result (λ o. IfSome o (λ r. (values : Values) → Means design.now.signals values first.0 first.1.width
         → Means design.now.signals (λ store time. chained (values store time) (map (λ l. (l.0, value_of l.1 store time)) links.now))
         r.0 r.1.width)) }
 {
@@ -371,17 +373,17 @@ fn chain<'a>(
 
 /// An operand behind a condition, and what stands behind its `:`, where both have one size.
 #[cycle(resolve)]
-fn alternative<'a>(
+fn alternative(
     alloc: Global,
     design: &Design,
-    condition: &'a Typed,
-    e: &'a Typed,
-    last: (Node<'a>, Size),
-) -> Result<Option<Node<'a>>, AllocError>
-    ensures { IfOk result (λ o. IfSome o (λ node. (values : Values) → Means design.now.signals values last.entry.0 last.entry.1.width
+    condition: &Typed,
+    e: &Typed,
+    last: (Node, Size),
+) -> Result<Option<Node>, AllocError>
+    ensures { IfOk result (λ o. IfSome o (λ node. (values : Values) → Means design.now.signals values last.0 last.1.width
         → Means design.now.signals
         (λ store time. picked (truth (value_of condition.now store time)) (value_of e.now store time) (values store time))
-        node last.entry.1.width)) }
+        node last.1.width)) }
 {
     let (y, size) = last;
     let Some((c, truth)) = resolve(alloc, design, condition)? else {
@@ -400,13 +402,13 @@ fn alternative<'a>(
 
 /// Operands, each behind a condition, and a last one, where all operands have one size and there are few of them.
 #[cycle(resolve)]
-fn choice<'a>(
+fn choice(
     alloc: Global,
     design: &Design,
-    pairs: &'a [(Typed, Typed)],
-    last: (Node<'a>, Size),
-) -> Result<Option<(Node<'a>, Size)>, AllocError>
-    ensures { IfOk result (λ o. IfSome o (λ r. (values : Values) → Means design.now.signals values last.entry.0 last.entry.1.width
+    pairs: &[(Typed, Typed)],
+    last: (Node, Size),
+) -> Result<Option<(Node, Size)>, AllocError>
+    ensures { IfOk result (λ o. IfSome o (λ r. (values : Values) → Means design.now.signals values last.0 last.1.width
         → Means design.now.signals
         (λ store time. chosen (map (λ p. (value_of p.0 store time, value_of p.1 store time)) pairs.now) (values store time))
         r.0 r.1.width)) }
@@ -427,11 +429,11 @@ fn choice<'a>(
 
 /// The size of parts, a first one and others, cut to 64 bits.
 #[cycle(resolve)]
-fn concatenated_size<'a>(
+fn concatenated_size(
     alloc: Global,
     design: &Design,
-    first: &'a Typed,
-    others: &'a [Typed],
+    first: &Typed,
+    others: &[Typed],
 ) -> Result<Option<Size>, AllocError>
     ensures { IfOk result (λ o. IfSome o (λ size. AreSized design.now.signals
         (λ store time. concatenated (value_of first.now store time) (map (λ e. value_of e store time) others.now)) size.width)) }
@@ -450,8 +452,8 @@ fn concatenated_size<'a>(
 }
 
 /// The size of a node that isn't kept.
-fn size_of<'a>(made: (Node<'a>, Size)) -> Size
-    ensures { result.width ≡ made.entry.1.width }
+fn size_of(made: (Node, Size)) -> Size
+    ensures { result.width ≡ made.1.width }
 {
     let (_node, size) = made;
     size

@@ -1,6 +1,6 @@
 //! Expressions of a design, resolved once.
 ghost use Rattle.std.specs.Prelude.{◌≡◌, ◌<◌, ◌≤◌, IfOk, false};
-ghost use Rattle.vs_logic4.specs.Vectors.{resized};
+ghost use Rattle.vs_design.specs.vs_logic4.specs.Vectors.{resized};
 ghost use Rattle.vs_eval.specs.Values.{value_of};
 ghost use Rattle.vs_design.specs.InOrder.{IsStoreOf};
 
@@ -9,16 +9,16 @@ use crate::node::{Node, Size};
 use crate::resolve::resolve;
 use std::alloc::{AllocError, Global};
 use std::marker::Model;
+use vs_design::vs_logic4::Vec4;
 use vs_design::{Design, Store, Typed};
 use vs_eval::value;
-use vs_logic4::Vec4;
 
 /// An expression of a design, resolved. A contract sees it as the expression with the design's signals.
 pub struct Resolved<'a> {
     design: &'a Design,
     expression: &'a Typed,
     // The expression resolved; `None` where the expression itself is evaluated.
-    made: Option<(Node<'a>, Size)>,
+    made: Option<(Node, Size)>,
 }
 
 impl<'a> Drop for Resolved<'a> {

@@ -2,15 +2,17 @@
 
 use crate::scopes::put_scope;
 use std::alloc::{AllocError, Global};
-use vs_certificate::{CertFault, Certificate, ClaimedGrain, Version, from_json};
 use vs_design::Design;
-use vs_elaborate::{ElabFault, elaborate};
 use vs_explain_certificate::put_name_in;
-use vs_explain_outline::{Page, SourceText};
+use vs_explain_certificate::vs_certificate::{
+    CertFault, Certificate, ClaimedGrain, Version, from_json,
+};
 use vs_explain_rules::{Taken, explain_broken, explain_steps};
 use vs_explain_steps::last_steps;
-use vs_lexer::{LexFault, lex};
-use vs_parser::{ParseFault, parse};
+use vs_explain_text::vs_explain_outline::{Page, SourceText};
+use vs_explain_text::vs_parser::{ParseFault, parse};
+use vs_simulate::vs_elaborate::{ElabFault, elaborate};
+use vs_syntax::vs_lexer::{LexFault, lex};
 
 /// The design that a source and a top define, where they define one.
 fn design_of(alloc: Global, source: &[u8], top: &[u8]) -> Result<Option<Design>, AllocError> {

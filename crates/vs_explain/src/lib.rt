@@ -12,3 +12,4 @@ mod sources;
 pub use certificates::explain_certificate;
 pub use judged::{explain_limit, explain_rule};
 pub use sources::explain;
+pub use vs_simulate;

@@ -3,12 +3,12 @@
 use crate::scopes::put_scope;
 use std::alloc::{AllocError, Global};
 use vs_explain_elaboration::explain_design;
-use vs_explain_outline::{Page, SourceText};
+use vs_explain_elaboration::vs_scopes::ElabFault;
+use vs_explain_text::vs_explain_outline::{Page, SourceText};
+use vs_explain_text::vs_parser::ParseFault;
 use vs_explain_text::{explain_grammar, explain_tokens};
-use vs_lexer::LexFault;
-use vs_parser::ParseFault;
-use vs_scopes::ElabFault;
 use vs_simulate::SimFault;
+use vs_syntax::vs_lexer::LexFault;
 
 /// What is said of a fault of the grammar.
 fn put_grammar(page: &mut Page, source: &[u8], fault: &ParseFault) {

@@ -9,3 +9,4 @@ mod walk;
 
 pub use malformed::explain_malformed;
 pub use names::put_name_in;
+pub use vs_certificate;

@@ -5,7 +5,7 @@ use crate::names::{instance_of, put_nearest, put_region};
 use crate::nearest::Nearest;
 use std::alloc::{AllocError, Global};
 use vs_explain_outline::{DeclaredKind, Landmark, LandmarkKind, Page, SourceText};
-use vs_lexer::{Kind, Mark, Word};
+use vs_syntax::vs_lexer::{Kind, Mark, Word};
 
 /// What stands in the parentheses of an instance.
 #[derive(Drop)]

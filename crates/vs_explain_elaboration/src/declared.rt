@@ -2,7 +2,7 @@
 
 use std::alloc::{AllocError, Global};
 use vs_explain_outline::{DeclaredKind, Landmark, LandmarkKind, Page, SourceText, UseRole};
-use vs_lexer::{Directive, ImplicitNet, Kind, Mark, Word};
+use vs_syntax::vs_lexer::{Directive, ImplicitNet, Kind, Mark, Word};
 
 /// How many tokens are looked back for the word of a declaration.
 const LOOKED_BACK: usize = 4096;

@@ -2,8 +2,8 @@
 
 use crate::names::regions_of;
 use vs_explain_outline::{LandmarkKind, Page, SourceText, is_marked};
-use vs_lexer::{Kind, Mark, Token};
 use vs_strobe::FormatReason;
+use vs_syntax::vs_lexer::{Kind, Mark, Token};
 
 /// What a text asks for.
 #[derive(Clone, Copy)]

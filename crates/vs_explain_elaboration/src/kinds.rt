@@ -6,8 +6,8 @@ use crate::names::{put_region, regions_of, unknown_name};
 use vs_explain_outline::{
     DeclaredKind, Landmark, LandmarkKind, Page, SourceText, UseRole, is_marked,
 };
-use vs_lexer::Mark;
-use vs_width_selects::WidthReason;
+use vs_scopes::vs_width_selects::WidthReason;
+use vs_syntax::vs_lexer::Mark;
 
 /// The most bits of a value.
 const WIDTH_LIMIT: u64 = 64;

@@ -12,6 +12,7 @@ mod nearest;
 mod twice;
 
 use vs_explain_outline::{Page, SourceText};
+pub use vs_scopes;
 use vs_scopes::Reason;
 
 /// Says why a source and a top define no design: the reason, and the printed path that it names.

@@ -4,7 +4,7 @@ use crate::names::{put_instance, put_region, regions_of};
 use vs_explain_outline::{
     Landmark, LandmarkKind, Page, RegionKind, SourceText, first_part, is_marked,
 };
-use vs_lexer::{Directive, Kind, Mark, Word};
+use vs_syntax::vs_lexer::{Directive, Kind, Mark, Word};
 
 /// The most words of an array.
 const WORDS_LIMIT: u64 = 65536;

@@ -8,9 +8,9 @@ use crate::slots::{push_edge, put_residues};
 use crate::uses::{Doing, all_doing, driven_by, read_by};
 use std::alloc::{AllocError, Global};
 use vs_certificate::{Certificate, ClaimedGrain, ClaimedKind, SignalEntry};
+use vs_design::vs_logic4::Edge;
 use vs_design::{Assign, Design, EventTerm, Process, event_terms};
 use vs_explain_outline::{Page, SourceText, is_marked};
-use vs_logic4::Edge;
 
 /// How many writers are told.
 const TOLD: usize = 4;

@@ -3,9 +3,9 @@
 use crate::claims::{entry_of, process_of, root_of};
 use std::alloc::{AllocError, Global};
 use vs_certificate::{Certificate, ClaimedKind};
+use vs_design::vs_logic4::Edge;
 use vs_design::{Design, Process, event_terms};
 use vs_explain_outline::Page;
-use vs_logic4::Edge;
 
 /// How many residues are told.
 const TOLD: usize = 8;

@@ -1,17 +1,15 @@
 //! The steps of a run, taken again and counted.
-ghost use Rattle.std.specs.Prelude.{◌≡◌, true, map, IfOk};
-ghost use Rattle.vs_run_moves.specs.Scripts.{AreScripts};
+ghost use Rattle.std.specs.Prelude.{◌≡◌, true, map};
 ghost use Rattle.vs_run_moves.specs.Standing.{IsStanding};
 
 use std::alloc::{AllocError, Global};
 use vs_design::Design;
-use vs_flatcode::Script;
-use vs_process::Code;
+use vs_run_moves::vs_run_turns::Dropped;
 use vs_run_moves::{Event, Run, codes_of, scripts_of};
 use vs_run_policies::{Lifo, Listed, Pick};
-use vs_run_turns::Dropped;
 use vs_run_updates::Due;
-use vs_time_wheel::{EventQueue, Wheel};
+use vs_run_updates::vs_process::Code;
+use vs_run_updates::vs_time_wheel::{EventQueue, Wheel};
 use vs_vcd_writing::WriterFault;
 
 /// How many steps at the end of a run are counted.
@@ -99,39 +97,7 @@ fn count_steps<'a, Q: EventQueue<Due>, P: Pick>(
     Ok(last)
 }
 
-/// The scripts of a design's processes, which have these codes, one each in order. They are never freed.
-fn kept_scripts<'a>(
-    alloc: Global,
-    design: &'a Design,
-    codes: &'a [Code<'a>],
-) -> Result<&'a [Script<'a>], AllocError>
-    requires { codes.now ≡ map (λ p. p.body) design.now.processes }
-    ensures { IfOk result (λ scripts. AreScripts design.entry.now scripts.now) }
-{
-    let scripts = scripts_of(alloc, design, codes)?;
-    Ok(scripts.leak())
-}
-
 /// Takes the steps of a run under a policy again, and counts the last of them; these are the codes of its processes, one each in order.
-fn count_lent<'a, P: Pick>(
-    alloc: Global,
-    design: &'a Design,
-    codes: &'a [Code<'a>],
-    policy: &mut P,
-    steps: u64,
-) -> Result<LastSteps, WriterFault>
-    requires { codes.now ≡ map (λ p. p.body) design.now.processes }
-{
-    let Ok(queue) = Wheel::<Due>::new(alloc) else {
-        return Err(WriterFault::Memory);
-    };
-    let scripts = kept_scripts(alloc, design, codes)?;
-    let mut vcd = Dropped;
-    let mut run = Run::start(alloc, design, scripts, queue, true, &mut vcd)?;
-    count_steps(alloc, design, &mut run, policy, steps)
-}
-
-/// The same, for codes that are lent for the call alone.
 fn count_codes<P: Pick>(
     alloc: Global,
     design: &Design,
@@ -141,7 +107,13 @@ fn count_codes<P: Pick>(
 ) -> Result<LastSteps, WriterFault>
     requires { codes.now ≡ map (λ p. p.body) design.now.processes }
 {
-    count_lent(alloc, design, codes, policy, steps)
+    let Ok(queue) = Wheel::<Due>::new(alloc) else {
+        return Err(WriterFault::Memory);
+    };
+    let scripts = scripts_of(alloc, design, codes)?;
+    let mut vcd = Dropped;
+    let mut run = Run::start(alloc, &*design, &scripts, queue, true, &mut vcd)?;
+    count_steps(alloc, design, &mut run, policy, steps)
 }
 
 /// Takes the steps of a run under a policy again, and counts the last of them.

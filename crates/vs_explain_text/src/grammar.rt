@@ -4,8 +4,8 @@ use crate::left_out::instead_of;
 use crate::open::last_open;
 use std::alloc::{AllocError, Global};
 use vs_explain_outline::{Page, SourceText, spot_of};
-use vs_lexer::{Kind, Mark, Token, Word, lex};
 use vs_parser::{ParseFault, parse};
+use vs_syntax::vs_lexer::{Kind, Mark, Token, Word, lex};
 
 /// Tokens that are tried where a token can't stand, in the order in which they are told.
 const TRIED: &[u8] =

@@ -8,3 +8,5 @@ mod tokens;
 
 pub use grammar::explain_grammar;
 pub use tokens::explain_tokens;
+pub use vs_explain_outline;
+pub use vs_parser;

@@ -1,7 +1,7 @@
 //! What is open at the end of some tokens.
 
 use std::alloc::{AllocError, Global};
-use vs_lexer::{Kind, Mark, Token, Word};
+use vs_syntax::vs_lexer::{Kind, Mark, Token, Word};
 
 /// Whether a token opens something.
 fn opens(token: &Token) -> bool {

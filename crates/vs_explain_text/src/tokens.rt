@@ -1,7 +1,7 @@
 //! What is wrong with the tokens of a source.
 
 use vs_explain_outline::Page;
-use vs_lexer::Refusal;
+use vs_syntax::vs_lexer::Refusal;
 
 /// The most bytes that a source has: 4 MiB.
 const SOURCE_LIMIT: usize = 4194304;

@@ -17,7 +17,7 @@ use Rattle.vs_flatcode.specs.Drafts.{Grows, Always, IsFree, AlwaysLeads, AlwaysF
 use Rattle.vs_flatcode.proofs.Links.{todo_here}
 use Rattle.vs_flatcode.proofs.Shapes.{flat-single}
 use Rattle.vs_flatcode.proofs.Lists.{at_front, of_pushed}
-use Rattle.vs_logic4.proofs.Basics.{at_end as at_seam}
+use Rattle.vs_design.specs.vs_logic4.proofs.Basics.{at_end as at_seam}
 
 -- ---- growth
 

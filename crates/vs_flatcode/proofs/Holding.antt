@@ -1,13 +1,13 @@
 -- Writes of one part that change nothing.
 use Rattle.std.proofs.Common.{◌≡◌, ◌&&◌, ◌||◌, not, ℕ, zero, suc, Bool, true, false, Option, Some, None, option_map, List, [], ◌∷◌, slice_get, refl, sym, ◌∙◌, ap, ap₂}
-use Rattle.vs_logic4.specs.declared.digit.Digit.{Digit}
-use Rattle.vs_logic4.specs.Sameness.{same_digits_self}
-use Rattle.vs_logic4.specs.Vectors.{same_digits}
+use Rattle.vs_design.specs.vs_logic4.specs.declared.digit.Digit.{Digit}
+use Rattle.vs_design.specs.vs_logic4.specs.Sameness.{same_digits_self}
+use Rattle.vs_design.specs.vs_logic4.specs.Vectors.{same_digits}
 use Rattle.vs_design.specs.declared.write.Part.{Part}
 use Rattle.vs_design.specs.Behind.{is_kept}
 use Rattle.vs_design.specs.Stores.{Store, changed_at, overlaid, put_part, same_words, words_in, word_in, word_of, changes_nothing}
 use Rattle.vs_design.proofs.Stores.{map_none as all_bits, same_words_self as all_same, slice_get-changed_at as changed_there}
-use Rattle.vs_logic4.proofs.Basics.{and_true}
+use Rattle.vs_design.specs.vs_logic4.proofs.Basics.{and_true}
 
 not_twice : (b : Bool) → not (not b || false) ≡ b
 not_twice true = refl

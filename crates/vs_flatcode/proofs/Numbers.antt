@@ -9,7 +9,7 @@ use Rattle.std.proofs.lemmas.List.{map-append, drop_more}
 use Rattle.std.proofs.lemmas.Option.{none-some, same_Some}
 use Rattle.vs_design.specs.Uses.{joined}
 use Rattle.vs_design.specs.WellFormed.{numbers, numbers_step, counts_from}
-use Rattle.vs_logic4.specs.declared.case.CaseKind.{CaseKind}
+use Rattle.vs_design.specs.vs_logic4.specs.declared.case.CaseKind.{CaseKind}
 use Rattle.vs_design.specs.declared.expression.Typed.{Typed}
 use Rattle.vs_design.specs.declared.statement.EventTerm.{EventTerm}
 use Rattle.vs_design.specs.declared.statement.Ticks.{Ticks}
@@ -27,7 +27,7 @@ use Rattle.vs_flatcode.specs.Ways.{point_at}
 use Rattle.vs_flatcode.specs.Numbers.{number_of, number_next, number_at, once_where, times_here, times_in, times_stands, AllStand}
 use Rattle.vs_flatcode.specs.Drafts.{numbers_all, numbers_in, numbers_inside, AddsOne, Adds}
 use Rattle.vs_flatcode.proofs.Drafts.{below_or}
-use Rattle.vs_logic4.proofs.Basics.{and_left as both_left, and_right as both_right}
+use Rattle.vs_design.specs.vs_logic4.proofs.Basics.{and_left as both_left, and_right as both_right}
 
 -- ---- the numbers of a statement by its outermost layer
 

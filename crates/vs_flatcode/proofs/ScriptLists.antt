@@ -2,7 +2,7 @@
 use Rattle.std.proofs.Common.{◌≡◌, ℕ, zero, suc, ◌≤◌, Option, Some, None, List, [], ◌∷◌, ◌++◌, map, length, refl, sym, ◌∙◌, ap, ap₂, subst, arith}
 use Rattle.std.specs.Prelude.{slice_get, Bool, Vec}
 use Rattle.std.specs.declared.alloc.Global.{Global}
-use Rattle.vs_logic4.specs.declared.case.CaseKind.{CaseKind}
+use Rattle.vs_design.specs.vs_logic4.specs.declared.case.CaseKind.{CaseKind}
 use Rattle.std.proofs.lemmas.List.{length-map}
 use Rattle.std.proofs.lemmas.Option.{none-some, same_Some}
 use Rattle.vs_design.specs.declared.expression.Typed.{Typed}

@@ -6,10 +6,10 @@ use Rattle.std.proofs.Math.Nat.{pow-le-pow_right}
 use Rattle.std.proofs.lemmas.List.{length-map, length-replicate}
 use Rattle.std.proofs.lemmas.Nat.{pow_pos}
 use Rattle.std.proofs.lemmas.Option.{none-some, same_Some, slice_get-get_or}
-use Rattle.vs_logic4.specs.declared.digit.Digit.{Digit}
-use Rattle.vs_logic4.specs.Extensions.{length-resized}
-use Rattle.vs_logic4.specs.Parts.{selected}
-use Rattle.vs_logic4.specs.Vectors.{resized}
+use Rattle.vs_design.specs.vs_logic4.specs.declared.digit.Digit.{Digit}
+use Rattle.vs_design.specs.vs_logic4.specs.Extensions.{length-resized}
+use Rattle.vs_design.specs.vs_logic4.specs.Parts.{selected}
+use Rattle.vs_design.specs.vs_logic4.specs.Vectors.{resized}
 use Rattle.vs_design.specs.declared.expression.Slice.{Slice}
 use Rattle.vs_design.specs.declared.signal.Signal.{Signal}
 use Rattle.vs_design.specs.declared.statement.Aim.{Aim}
@@ -18,7 +18,7 @@ use Rattle.vs_design.specs.declared.statement.Target.{Target}
 use Rattle.vs_design.specs.InOrder.{IsStoreOf, numbered_word, sizes_of_signals, word_sizes, words_before, words_in_order}
 use Rattle.vs_design.specs.Stores.{Store, changed_at, overlaid}
 use Rattle.vs_design.specs.Writes.{Write}
-use Rattle.vs_eval.specs.Targets.{parts_from}
+use Rattle.vs_strobe.specs.vs_eval.specs.Targets.{parts_from}
 use Rattle.vs_design.proofs.InOrderLemmas.{word_numbered}
 use Rattle.vs_flatcode.specs.declared.spot.Spot.{Spot}
 use Rattle.vs_flatcode.specs.Spots.{IsSpotIn, IsSpotOf, SpotHolds}

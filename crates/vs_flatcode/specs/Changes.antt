@@ -1,7 +1,7 @@
 -- The words that a write changes.
 use Rattle.std.specs.Prelude.{ℕ, Option, Some, None, List, [], ◌∷◌, ◌++◌, if◌then◌else◌}
-use Rattle.vs_logic4.specs.declared.digit.Digit.{Digit}
-use Rattle.vs_logic4.specs.Vectors.{same_digits}
+use Rattle.vs_design.specs.vs_logic4.specs.declared.digit.Digit.{Digit}
+use Rattle.vs_design.specs.vs_logic4.specs.Vectors.{same_digits}
 use Rattle.vs_design.specs.declared.write.Part.{Part}
 use Rattle.vs_design.specs.Stores.{Store, word_of, put}
 use Rattle.vs_design.specs.Writes.{Write}

@@ -1,7 +1,7 @@
 -- Where instructions lead that choose among several places.
 use Rattle.std.specs.Prelude.{ℕ, zero, suc, List, get_or}
 use Rattle.vs_design.specs.Stores.{Store}
-use Rattle.vs_eval.specs.Values.{value_of}
+use Rattle.vs_strobe.specs.vs_eval.specs.Values.{value_of}
 use Rattle.vs_flatcode.specs.declared.choice.Case.{Case}
 use Rattle.vs_flatcode.specs.declared.choice.Repeat.{Repeat}
 use Rattle.vs_flatcode.specs.declared.choice.Turns.{Turns}

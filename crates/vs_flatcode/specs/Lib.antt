@@ -17,3 +17,4 @@ pub mod Stops
 pub mod Texts
 pub mod Ways
 pub mod passes
+pub use Rattle.vs_strobe

@@ -1,11 +1,11 @@
 -- Scripts: flat codes as a run takes their steps.
 use Rattle.std.specs.Prelude.{ℕ, suc, ◌≡◌, true, false, Option, Some, None, List, [], length, map, slice_get}
-use Rattle.vs_logic4.specs.declared.digit.Digit.{Digit}
-use Rattle.vs_logic4.specs.Comparisons.{truth}
-use Rattle.vs_logic4.specs.Vectors.{resized}
+use Rattle.vs_design.specs.vs_logic4.specs.declared.digit.Digit.{Digit}
+use Rattle.vs_design.specs.vs_logic4.specs.Comparisons.{truth}
+use Rattle.vs_design.specs.vs_logic4.specs.Vectors.{resized}
 use Rattle.vs_design.specs.declared.statement.Statement.{Statement}
 use Rattle.vs_design.specs.Stores.{Store}
-use Rattle.vs_eval.specs.Values.{value_of}
+use Rattle.vs_strobe.specs.vs_eval.specs.Values.{value_of}
 use Rattle.vs_strobe.specs.Lines.{full_line}
 use Rattle.vs_flatcode.specs.declared.script.Action.{Action}
 use Rattle.vs_flatcode.specs.declared.script.Action.TheVariants as a

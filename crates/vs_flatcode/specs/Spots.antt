@@ -1,14 +1,14 @@
 -- Bits of one word, all in range, by the place of the word in a store.
 use Rattle.std.specs.Prelude.{ℕ, ◌≡◌, ◌<◌, ◌≤◌, ◌+◌, ◌-◌, ◌^◌, pos, false, Some, List, [], ◌∷◌, length, slice_get}
-use Rattle.vs_logic4.specs.declared.digit.Digit.{Digit}
-use Rattle.vs_logic4.specs.Vectors.{resized}
+use Rattle.vs_design.specs.vs_logic4.specs.declared.digit.Digit.{Digit}
+use Rattle.vs_design.specs.vs_logic4.specs.Vectors.{resized}
 use Rattle.vs_design.specs.declared.signal.Signal.{Signal}
 use Rattle.vs_design.specs.declared.statement.Target.{Target}
 use Rattle.vs_design.specs.declared.write.Part.{Part}
 use Rattle.vs_design.specs.InOrder.{IsStoreOf, numbered_word, words_before, words_in_order}
 use Rattle.vs_design.specs.Stores.{Store, changed_at, overlaid, put, word_of}
 use Rattle.vs_design.specs.Writes.{Write}
-use Rattle.vs_eval.specs.Targets.{assigned}
+use Rattle.vs_strobe.specs.vs_eval.specs.Targets.{assigned}
 use Rattle.vs_flatcode.specs.declared.spot.Spot.{Spot}
 
 -- the word is one of its signal, its index counts the words of all signals in design order, the bits are in it, and the mask has them

@@ -4,8 +4,8 @@ ghost use Rattle.vs_design.specs.Stores.{put, put_part};
 ghost use Rattle.vs_flatcode.specs.Changes.{changed_word, changed_part, changed_words};
 
 use std::alloc::AllocError;
+use vs_design::vs_logic4::Vec4;
 use vs_design::{Part, Store, Write};
-use vs_logic4::Vec4;
 
 /// A word of a signal that a write has changed.
 #[derive(Clone, Copy)]

@@ -4,8 +4,8 @@ ghost use Rattle.vs_flatcode.specs.Choices.{case_index, index_of, repeat_lands, 
 
 use crate::choices::{start_taken, starts_of, turn, turns_for};
 use crate::draft::Op;
+use vs_design::vs_logic4::CaseKind;
 use vs_design::{Statement, Store, Typed};
-use vs_logic4::CaseKind;
 
 /// A `case`.
 #[derive(Clone, Copy)]

@@ -1,15 +1,15 @@
 //! What conditions, `case` items and counts choose (IEEE 1364-2005, clauses 9.4 to 9.6).
 ghost use Rattle.std.specs.Prelude.{◌≡◌, slice_set};
-ghost use Rattle.vs_logic4.specs.Comparisons.{truth};
-ghost use Rattle.vs_eval.specs.Values.{value_of};
+ghost use Rattle.vs_design.specs.vs_logic4.specs.Comparisons.{truth};
+ghost use Rattle.vs_strobe.specs.vs_eval.specs.Values.{value_of};
 ghost use Rattle.vs_flatcode.specs.Steps.{branch, item_matches, is_default, turns_for};
 ghost use Rattle.vs_flatcode.specs.Extras.{starts_of};
 ghost use Rattle.vs_flatcode.specs.Landings.{landing, start_where, start_taken, turned};
 
 use crate::draft::{Extra, Op};
+use vs_design::vs_logic4::{CaseKind, Digit, Vec4};
 use vs_design::{Statement, Store, Typed};
-use vs_eval::{quick_value, value};
-use vs_logic4::{CaseKind, Digit, Vec4};
+use vs_strobe::vs_eval::{quick_value, value};
 
 /// The first of two places where a condition is true, else the second; x and z count as false.
 #[inline(always)]

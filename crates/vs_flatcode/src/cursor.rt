@@ -15,7 +15,7 @@ use crate::halt::Halt;
 use std::alloc::{AllocError, Global};
 use std::marker::Model;
 use vs_design::{Statement, Store, Target, Typed};
-use vs_eval::{cut_value, write_of};
+use vs_strobe::vs_eval::{cut_value, write_of};
 
 /// Where a process stands in its code, with the counters of its statements `repeat`. A contract sees it as what the process still
 /// has to do.

@@ -9,9 +9,9 @@ use Rattle.vs_law_threads.proofs.Texts.{Text}
 use Rattle.vs_design.specs.Writes.{Write, names}
 use Rattle.vs_law_threads.specs.Blocks.{puts_out, outputs, IsSource}
 use Rattle.vs_process.specs.States.{State, Update, Called, updates_behind, calls_behind, performed, place_behind}
-use Rattle.vs_strobe.specs.Lines.{Format}
+use Rattle.vs_flatcode.specs.vs_strobe.specs.Lines.{Format}
 use Rattle.vs_law_threads.specs.Threads.{Thread, store_behind}
-use Rattle.vs_law_writes.specs.Laws.{LiesIn}
+use Rattle.vs_law_threads.specs.vs_law_writes.specs.Laws.{LiesIn}
 use Rattle.vs_independence.proofs.Running.{Follow, AllStand, threads_of, Sources, Edges, Apart, BlockBare, IsAwake, IsRested, Rests, Running, Mades, Asks, Finishes}
 use Rattle.vs_flatcode.specs.declared.gait.Gait.{Gait}
 use Rattle.std.proofs.lemmas.Option.{get_or_from_slice_get}
@@ -29,11 +29,11 @@ use Rattle.vs_law_threads.proofs.BlockRuns.{BlockStep}
 use Rattle.vs_design.specs.Uses.{covers}
 use Rattle.vs_independence.proofs.Nets.{rests_written, nets_behind}
 use Rattle.vs_law_threads.proofs.Held.{changed_puts}
-use Rattle.vs_eval.specs.Laws.{digit_in}
+use Rattle.vs_process.specs.vs_eval.specs.Laws.{digit_in}
 use Rattle.std.proofs.lemmas.List.{get_or-set_other, length-set}
 use Rattle.vs_process.proofs.Assigns.{IsUndriven, sound_behind}
 use Rattle.vs_law_threads.proofs.Named.{named}
-use Rattle.vs_edges.specs.Waking.{wakes}
+use Rattle.vs_process.specs.vs_edges.specs.Waking.{wakes}
 use Rattle.vs_logic4.proofs.Basics.{or_false}
 
 pub updates_same : (i time : ℕ) (o : Option (ℕ × Write)) (us : List Update) → o ≡ None → updates_behind i time o us ≡ us

@@ -14,7 +14,7 @@ use Rattle.vs_law_threads.proofs.Fares.{Fares, OwnStep, fares_still, fares_writt
 use Rattle.vs_flatcode.specs.declared.gait.Gait.TheVariants.{Fresh, Inside, Woken}
 use Rattle.vs_flatcode.specs.declared.gait.Gait.{Gait}
 use Rattle.vs_law_threads.specs.Blocks.{IsBlock, Roles, outputs, puts_out, sizes}
-use Rattle.vs_law_writes.specs.Laws.{LiesIn}
+use Rattle.vs_law_threads.specs.vs_law_writes.specs.Laws.{LiesIn}
 use Rattle.vs_process.specs.declared.moves.Move.{Move}
 use Rattle.vs_independence.proofs.Moves.{OutputsUndriven, bare_behind, length_behind, performed_is}
 use Rattle.vs_design.specs.declared.design.Process.{Process}

@@ -19,12 +19,12 @@ use Rattle.std.proofs.lemmas.Bool.{cases_Bool, cases_eq, false_from_ne_true, tru
 use Rattle.vs_law_threads.proofs.Lists.{contains_at}
 use Rattle.vs_process.proofs.Ranges.{covered_fixes, fixed_write, same_content}
 use Rattle.vs_law_threads.proofs.Fares.{covered_puts}
-use Rattle.vs_eval.specs.Laws.{digit_of}
+use Rattle.vs_process.specs.vs_eval.specs.Laws.{digit_of}
 use Rattle.vs_law_threads.proofs.Feeds.{into_covered}
 use Rattle.vs_law_threads.proofs.Named.{named}
 use Rattle.vs_law_threads.proofs.Settle.{same_fixed}
 use Rattle.vs_process.proofs.Values.{same_unchanged, target_value_unchanged}
-use Rattle.vs_eval.specs.Values.{target_value}
+use Rattle.vs_process.specs.vs_eval.specs.Values.{target_value}
 use Rattle.vs_law_threads.specs.Feeds.{writes_into}
 use Rattle.vs_process.proofs.Assigns.{drives}
 use Rattle.vs_process.proofs.Stores.{shape}

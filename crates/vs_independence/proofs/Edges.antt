@@ -7,8 +7,8 @@ use Rattle.vs_design.specs.Parts.{Parts}
 use Rattle.vs_design.specs.Stores.{Store, put, is_changed, start_store}
 use Rattle.vs_design.specs.Uses.{reads, writes_signal}
 use Rattle.vs_design.specs.Writes.{Write, names}
-use Rattle.vs_eval.specs.Targets.{assigned}
-use Rattle.vs_eval.specs.Values.{target_value}
+use Rattle.vs_process.specs.vs_eval.specs.Targets.{assigned}
+use Rattle.vs_process.specs.vs_eval.specs.Values.{target_value}
 use Rattle.vs_process.specs.States.{State, AssignState, touched, evaluated, settled}
 use Rattle.vs_process.proofs.Lists.{map_cases, set_cases}
 use Rattle.vs_process.proofs.Stores.{put_other, shape, shape-put}

@@ -38,12 +38,12 @@ use Rattle.vs_flatcode.specs.Steps.{assignment}
 use Rattle.vs_independence.proofs.Compare.{Comparing, Hangs, compared}
 use Rattle.vs_law_threads.proofs.Held.{HasBlock, held}
 use Rattle.vs_design.specs.Uses.{all_words, covers}
-use Rattle.vs_eval.specs.Laws.{digit_in, digit_of}
+use Rattle.vs_process.specs.vs_eval.specs.Laws.{digit_in, digit_of}
 use Rattle.vs_process.proofs.Digits.{same_stores}
 use Rattle.vs_process.proofs.Stores.{shape}
 use Rattle.vs_design.specs.declared.design.Assign.{Assign}
 use Rattle.vs_process.proofs.Ranges.{assigned_fixed}
-use Rattle.vs_eval.specs.Values.{target_value}
+use Rattle.vs_process.specs.vs_eval.specs.Values.{target_value}
 use Rattle.vs_logic4.proofs.Basics.{same_tests as same_test}
 use Rattle.vs_independence.proofs.InnerMoves.{AtEnd, at_end, all_idle, sure, quiet_moment, stopped_still, stops_of, late_of}
 

@@ -11,7 +11,7 @@ use Rattle.vs_design.specs.Parts.{Parts}
 use Rattle.vs_design.specs.Stores.{Store, content, chosen_bits, chosen_words, words_in, same_words, start_store}
 use Rattle.vs_flatcode.specs.declared.gait.Gait.TheVariants.{Woken}
 use Rattle.vs_flatcode.specs.Places.{Todo, Place, going, waiting, sleeping, inactive, ended, active_at}
-use Rattle.vs_edges.specs.Waking.{lowest_digit, is_edge_of, wakes_by, wakes, wake_any}
+use Rattle.vs_process.specs.vs_edges.specs.Waking.{lowest_digit, is_edge_of, wakes_by, wakes, wake_any}
 use Rattle.vs_process.specs.States.{State, wakened, triggered}
 use Rattle.vs_process.proofs.Lists.{none_at}
 use Rattle.vs_logic4.proofs.Basics.{element_of as any_at}

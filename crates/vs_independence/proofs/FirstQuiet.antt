@@ -29,10 +29,10 @@ use Rattle.vs_logic4.proofs.Basics.{element_of as any_at}
 use Rattle.vs_process.proofs.Ranges.{assigned_fixed, covered_signal, covers_signal, fixed_write}
 use Rattle.vs_flatcode.specs.Steps.{assignment}
 use Rattle.vs_law_threads.proofs.Lists.{contains_at}
-use Rattle.vs_eval.specs.Laws.{digit_in, digit_of}
+use Rattle.vs_process.specs.vs_eval.specs.Laws.{digit_in, digit_of}
 use Rattle.vs_process.proofs.Digits.{same_stores}
 use Rattle.vs_process.proofs.Values.{same_unchanged, unchanged}
-use Rattle.vs_eval.specs.Values.{target_value}
+use Rattle.vs_process.specs.vs_eval.specs.Values.{target_value}
 use Rattle.vs_process.proofs.Stores.{shape}
 
 abbrev pub is_cold : Start → Bool

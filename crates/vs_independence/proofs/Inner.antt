@@ -36,7 +36,7 @@ use Rattle.vs_law_threads.proofs.Named.{named}
 use Rattle.vs_law_threads.proofs.Fares.{or_some, is_awake, Fares}
 use Rattle.vs_independence.proofs.Moves.{RunsOn, runs_as, performed_is, source_free, step_runs}
 use Rattle.vs_law_threads.proofs.Threads.{not_going}
-use Rattle.vs_eval.specs.Laws.{digit_of}
+use Rattle.vs_process.specs.vs_eval.specs.Laws.{digit_of}
 
 -- what the proof takes of drivers
 pub record Setting (d : Parts) (roles : Roles) : Type 0 where

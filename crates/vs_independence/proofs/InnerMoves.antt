@@ -35,7 +35,7 @@ use Rattle.vs_law_threads.specs.Blocks.{IsSource, Roles, Start, sources}
 use Rattle.vs_independence.proofs.Owed.{Owed, owed_begins, owed_like, owed_made, owed_still}
 use Rattle.vs_law_threads.proofs.Texts.{Text}
 use Rattle.vs_design.specs.Writes.{Write, shares, names}
-use Rattle.vs_eval.specs.Targets.{assigned}
+use Rattle.vs_process.specs.vs_eval.specs.Targets.{assigned}
 use Rattle.vs_independence.proofs.Moves.{runs_as, evaluate_runs, propagate_runs, propagated_named, propagated_undriven, rouse_runs, source_free}
 use Rattle.std.proofs.Math.ListN.{get_or-map}
 use Rattle.std.proofs.lemmas.Option.{get_or_from_slice_get}

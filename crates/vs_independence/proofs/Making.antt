@@ -10,7 +10,7 @@ use Rattle.vs_design.specs.Stores.{Store, put, is_changed}
 use Rattle.vs_design.specs.Uses.{reads, writes_signal}
 use Rattle.vs_design.specs.Writes.{Write, names, shares}
 use Rattle.vs_design.specs.declared.write.Part.{Part}
-use Rattle.vs_eval.specs.Targets.{assigned}
+use Rattle.vs_process.specs.vs_eval.specs.Targets.{assigned}
 use Rattle.vs_flatcode.specs.Places.{Place, ended, is_going, is_inactive}
 use Rattle.vs_process.specs.Idle.{IsIdle}
 use Rattle.vs_process.specs.States.{State, AssignState, Update, touched, evaluated, without, make, evaluate, propagate_value, settled, is_due, activated, place_behind, wakened, performed}
@@ -36,7 +36,7 @@ use Rattle.vs_independence.proofs.Running.{WithinSlot, Apart, AllThreads, thread
 use Rattle.vs_independence.proofs.Moves.{propagated_undriven, OutputsUndriven, behind_sound, length_behind, performed_is, performed_at}
 use Rattle.vs_law_threads.proofs.BlockRuns.{BlockStep}
 use Rattle.vs_law_threads.specs.Blocks.{IsSource, outputs, puts_out}
-use Rattle.vs_law_writes.specs.Laws.{LiesIn}
+use Rattle.vs_law_threads.specs.vs_law_writes.specs.Laws.{LiesIn}
 use Rattle.vs_flatcode.specs.Steps.{Out}
 use Rattle.vs_independence.proofs.BlockSteps.{calls_same, lies_edges, source_behind, updates_same}
 use Rattle.vs_logic4.proofs.Basics.{or_false}

@@ -10,7 +10,7 @@ use Rattle.vs_design.specs.Parts.{Parts}
 use Rattle.vs_design.specs.Stores.{Store, put, is_changed, is_driven, word_in}
 use Rattle.vs_design.specs.Uses.{writes_signal}
 use Rattle.vs_design.specs.Writes.{Write, names}
-use Rattle.vs_eval.specs.Targets.{assigned}
+use Rattle.vs_process.specs.vs_eval.specs.Targets.{assigned}
 use Rattle.vs_flatcode.specs.Places.{Todo, Place, going, sleeping, inactive, waiting, ended, is_going, todo_of}
 use Rattle.vs_flatcode.specs.declared.gait.Gait.{Gait}
 use Rattle.vs_flatcode.specs.Steps.{Out, step}
@@ -37,7 +37,7 @@ use Rattle.vs_process.proofs.Stores.{put_other}
 use Rattle.vs_law_threads.specs.Blocks.{IsSource, puts_out}
 use Rattle.vs_law_threads.proofs.Texts.{Text}
 use Rattle.vs_design.specs.declared.range.BitRange.{BitRange}
-use Rattle.vs_eval.specs.Laws.{digit_in}
+use Rattle.vs_process.specs.vs_eval.specs.Laws.{digit_in}
 use Rattle.vs_law_threads.specs.Feeds.{writes_into}
 use Rattle.vs_law_threads.proofs.Feeds.{changed_into}
 

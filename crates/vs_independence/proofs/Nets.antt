@@ -11,8 +11,8 @@ use Rattle.vs_design.specs.Stores.{Store, put, is_changed}
 use Rattle.vs_design.specs.Writes.{Write, names}
 use Rattle.vs_design.specs.Uses.{covers, reads}
 use Rattle.vs_design.specs.Uses as uses
-use Rattle.vs_eval.specs.Laws.{digit_of}
-use Rattle.vs_eval.specs.Targets.{assigned}
+use Rattle.vs_process.specs.vs_eval.specs.Laws.{digit_of}
+use Rattle.vs_process.specs.vs_eval.specs.Targets.{assigned}
 use Rattle.vs_process.specs.States.{State, AssignState, touched, evaluated, settled, wakened}
 use Rattle.vs_process.proofs.Digits.{digit-put, kept_digit, laid, unnamed_keeps}
 use Rattle.vs_process.proofs.Lists.{map_cases, set_cases}

@@ -10,8 +10,8 @@ use Rattle.vs_design.specs.declared.range.BitRange.{BitRange}
 use Rattle.vs_design.specs.Stores.{Store, chosen_bits, chosen_words, is_changed, is_driven, words_in, start_store, word_in}
 use Rattle.vs_design.specs.Uses.{covers, writes_signal}
 use Rattle.vs_design.specs.Uses as uses
-use Rattle.vs_eval.specs.Laws.{digit_of, digit_in}
-use Rattle.vs_edges.specs.Waking.{wakes}
+use Rattle.vs_process.specs.vs_eval.specs.Laws.{digit_of, digit_in}
+use Rattle.vs_process.specs.vs_edges.specs.Waking.{wakes}
 use Rattle.vs_flatcode.specs.Places.{Todo, Place, waiting, ended, is_going}
 use Rattle.vs_process.specs.States.{State, AssignState, Update, Called}
 use Rattle.vs_process.proofs.Lists.{none_from}

@@ -13,7 +13,7 @@ use vs_design::Design;
 use vs_process::never_stuck;
 use vs_run_policies::Pick;
 use vs_run_updates::Due;
-use vs_time_wheel::EventQueue;
+use vs_run_updates::vs_time_wheel::EventQueue;
 use vs_vcd_writing::Sink;
 
 /// Whether a kernel may run.

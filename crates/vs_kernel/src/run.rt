@@ -2,20 +2,18 @@
 ghost use Rattle.std.specs.Prelude.{◌≡◌, [], ◌<◌, ◌^◌, map, IfOk, OnErr};
 ghost use Rattle.vs_kernel.specs.Ends.{end_in, outcome_in};
 ghost use Rattle.vs_kernel.specs.Runs.{RanTo, HasBegun};
-ghost use Rattle.vs_run_moves.specs.Scripts.{AreScripts};
-ghost use Rattle.vs_run_steps.specs.Runs.{state_of};
-ghost use Rattle.vs_run_turns.specs.Failures.{OneFailed};
+ghost use Rattle.vs_run_moves.specs.vs_run_steps.specs.Runs.{state_of};
+ghost use Rattle.vs_run_moves.specs.vs_run_turns.specs.Failures.{OneFailed};
 ghost use Rattle.vs_vcd_writing.specs.Progress.{is_write_fault};
 
 use crate::outcome::Outcome;
-use std::alloc::{AllocError, Global};
+use std::alloc::Global;
 use vs_design::Design;
-use vs_flatcode::Script;
 use vs_process::{Code, blocks_exclude, inside_follows, none_inside_first};
 use vs_run_moves::{Run, codes_of, scripts_of};
 use vs_run_policies::Pick;
 use vs_run_updates::Due;
-use vs_time_wheel::EventQueue;
+use vs_run_updates::vs_time_wheel::EventQueue;
 use vs_vcd_writing::{Sink, WriterFault};
 
 /// How a run ends in a state in which its execution is complete.
@@ -43,62 +41,8 @@ fn end_of<Q: EventQueue<Due>>(run: &Run<Q>, until: u64) -> u64
     }
 }
 
-/// The scripts of a design's processes, which have these codes, one each in order. They are never freed.
-fn kept_scripts<'a>(
-    alloc: Global,
-    design: &'a Design,
-    codes: &'a [Code<'a>],
-) -> Result<&'a [Script<'a>], AllocError>
-    requires { codes.now ≡ map (λ p. p.body) design.now.processes }
-    ensures { IfOk result (λ scripts. AreScripts design.entry.now scripts.now) }
-{
-    let scripts = scripts_of(alloc, design, codes)?;
-    Ok(scripts.leak())
-}
-
 /// Runs a design from its start; these are the codes of its processes, one each in order.
-fn execute<'a, Q: EventQueue<Due> + Drop, P: Pick, V: Sink, L: Sink>(
-    alloc: Global,
-    design: &'a Design,
-    codes: &'a [Code<'a>],
-    queue: Q,
-    policy: &mut P,
-    until: u64,
-    steps: u64,
-    vcd: &mut V,
-    lines: &mut L,
-) -> Result<Outcome, WriterFault>
-    requires empty { Q.bag queue ≡ [] }
-    requires at_zero { Q.clock queue ≡ 0 }
-    requires codes { codes.now ≡ map (λ p. p.body) design.now.processes }
-    requires early { until < 2 ^ 62 }
-    ensures ran { IfOk result (λ outcome. RanTo design.now until steps outcome
-        (V.bytes vcd.old) (V.bytes vcd.new) (L.bytes lines.old) (L.bytes lines.new)) }
-    ensures begun { OnErr result (HasBegun design.now until steps
-        (V.bytes vcd.old) (V.bytes vcd.new) (L.bytes lines.old) (L.bytes lines.new)) }
-    ensures failures { OneFailed (is_write_fault result) (V.failed vcd.old) (V.failed vcd.new) (L.failed lines.old) (L.failed lines.new) }
-{
-    blocks_exclude();
-    inside_follows();
-    none_inside_first();
-    let scripts = kept_scripts(alloc, design, codes)?;
-    let mut run = Run::start(alloc, design, scripts, queue, !P::FIRST, vcd)?;
-    let mut left = steps;
-    while !run.is_over() && run.time() <= until {
-        if left == 0 {
-            return Ok(Outcome::StepLimit(run.time()));
-        }
-        let rest = run.take_steps(policy, left, vcd, lines)?;
-        left = rest;
-    }
-    let outcome = outcome_of(&run);
-    let end = end_of(&run, until);
-    run.finish(vcd, end)?;
-    Ok(outcome)
-}
-
-/// The same, for codes that are lent for the call alone.
-fn execute_codes<Q: EventQueue<Due> + Drop, P: Pick, V: Sink, L: Sink>(
+fn execute<Q: EventQueue<Due> + Drop, P: Pick, V: Sink, L: Sink>(
     alloc: Global,
     design: &Design,
     codes: &[Code],
@@ -119,9 +63,23 @@ fn execute_codes<Q: EventQueue<Due> + Drop, P: Pick, V: Sink, L: Sink>(
         (V.bytes vcd.old) (V.bytes vcd.new) (L.bytes lines.old) (L.bytes lines.new)) }
     ensures failures { OneFailed (is_write_fault result) (V.failed vcd.old) (V.failed vcd.new) (L.failed lines.old) (L.failed lines.new) }
 {
-    execute(
-        alloc, design, codes, queue, policy, until, steps, vcd, lines,
-    )
+    blocks_exclude();
+    inside_follows();
+    none_inside_first();
+    let scripts = scripts_of(alloc, design, codes)?;
+    let mut run = Run::start(alloc, &*design, &scripts, queue, !P::FIRST, vcd)?;
+    let mut left = steps;
+    while !run.is_over() && run.time() <= until {
+        if left == 0 {
+            return Ok(Outcome::StepLimit(run.time()));
+        }
+        let rest = run.take_steps(policy, left, vcd, lines)?;
+        left = rest;
+    }
+    let outcome = outcome_of(&run);
+    let end = end_of(&run, until);
+    run.finish(vcd, end)?;
+    Ok(outcome)
 }
 
 /// Compiles the processes of a design, and runs it from its start.
@@ -145,7 +103,7 @@ pub(crate) fn launch<Q: EventQueue<Due> + Drop, P: Pick, V: Sink, L: Sink>(
     ensures failures { OneFailed (is_write_fault result) (V.failed vcd.old) (V.failed vcd.new) (L.failed lines.old) (L.failed lines.new) }
 {
     let codes = codes_of(alloc, design.processes())?;
-    execute_codes(
+    execute(
         alloc, design, &codes, queue, policy, until, steps, vcd, lines,
     )
 }

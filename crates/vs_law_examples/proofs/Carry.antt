@@ -16,7 +16,7 @@ use Rattle.vs_design.specs.WellFormed.{WellFormed, size_step, size_of, is_sound_
 use Rattle.vs_process.specs.declared.moves.Grain.{Grain}
 use Rattle.vs_process.specs.declared.moves.Move.{Move}
 use Rattle.vs_process.specs.declared.moves.Move.TheVariants.{Step, Evaluate, Propagate, Make, Rouse, Activate, EndSlot}
-use Rattle.vs_flatcode.specs.Places.{Place, ended, waiting}
+use Rattle.vs_process.specs.vs_flatcode.specs.Places.{Place, ended, waiting}
 use Rattle.vs_process.specs.States.{AssignState, State, Update, evaluate, make, propagate, propagate_value, roused, stepped, triggered, wakened}
 use Rattle.vs_design.specs.Stores.{put}
 use Rattle.vs_design.specs.Writes.{names}

@@ -13,7 +13,7 @@ use Rattle.vs_design.specs.declared.design.Process.{Process}
 use Rattle.vs_design.specs.declared.design.ProcessKind.TheVariants.{Always}
 use Rattle.vs_process.specs.declared.moves.Move.TheVariants.{Step, Evaluate, Propagate, Make, Rouse, Activate, EndSlot}
 use Rattle.vs_process.specs.States.{start, evaluate, propagate, make, stepped, AssignState, Update, place_behind, propagate_value, roused, woken_at, triggered}
-use Rattle.vs_flatcode.specs.Steps.{step}
+use Rattle.vs_process.specs.vs_flatcode.specs.Steps.{step}
 use Rattle.vs_design.specs.declared.range.BitRange.{BitRange}
 use Rattle.vs_design.specs.declared.signal.Signal.{Signal}
 use Rattle.vs_design.specs.declared.statement.EventTerm.{EventTerm}
@@ -27,12 +27,12 @@ use Rattle.vs_design.specs.Uses.{covers, reads, whole, is_of}
 use Rattle.vs_law_threads.specs.Bits.{meet_in}
 use Rattle.vs_design.specs.Uses as uses
 use Rattle.vs_design.specs.WellFormed.{WellFormed, are_sound_terms, is_sound_process, is_sound_statement, numbers, numbers_step, sound_step, counts_from, is_forever}
-use Rattle.vs_flatcode.specs.Places.{ended, Place, todo_of, waiting}
-use Rattle.vs_flatcode.specs.Steps.{assignment}
+use Rattle.vs_process.specs.vs_flatcode.specs.Places.{ended, Place, todo_of, waiting}
+use Rattle.vs_process.specs.vs_flatcode.specs.Steps.{assignment}
 use Rattle.vs_process.specs.declared.moves.Grain.TheVariants.{Block}
 use Rattle.vs_process.specs.Executions.{after, ends, is_combinational, next_time, places_at}
 use Rattle.vs_process.specs.States.{State}
-use Rattle.vs_law_writes.specs.Writes.{statement_writes, statement_writes_step}
+use Rattle.vs_law_threads.specs.vs_law_writes.specs.Writes.{statement_writes, statement_writes_step}
 use Rattle.vs_law_threads.specs.Blocks.{Start, cold, starter, Roles, sources, control, home, outputs, puts_out, puts_into, woken_on, sizes, AgreeOn, Arrives, IsBlock, SameOutputs, IsSource}
 use Rattle.vs_law_examples.specs.Mirror.{ABlockIsDisciplined, change, copied, mirroring, one_of, watching}
 use Rattle.vs_law_examples.specs.Race.{name, operand, target}

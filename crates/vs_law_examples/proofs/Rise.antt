@@ -28,7 +28,7 @@ use Rattle.vs_process.specs.declared.moves.Move.{Move}
 use Rattle.vs_process.specs.declared.moves.Move.TheVariants.{Step, EndSlot}
 use Rattle.vs_process.specs.Executions.{after as state_after, Legal}
 use Rattle.vs_process.specs.States.{State}
-use Rattle.vs_flatcode.specs.Places.{ended}
+use Rattle.vs_process.specs.vs_flatcode.specs.Places.{ended}
 use Rattle.vs_independence.specs.Discipline.{BeginsSlot, IsOrdered, KeepsApart, Reaches, here, through as reaches_through, past}
 use Rattle.vs_law_threads.specs.Threads.{any_names, is_timed, Awaits, Fired, IsFiredBy, IsThread, IsTimed, MayOpen, Thread, opening}
 use Rattle.vs_law_threads.specs.Edges.{one_bit, Copies, itself, through, IsHeard, IsRoot}

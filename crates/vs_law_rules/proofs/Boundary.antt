@@ -8,7 +8,7 @@ use Rattle.vs_logic4.specs.declared.digit.Digit.{Digit}
 use Rattle.vs_design.specs.Parts.{Parts}
 use Rattle.vs_design.specs.Stores.{Store, put}
 use Rattle.vs_design.specs.Writes.{Write}
-use Rattle.vs_eval.specs.Targets.{assigned}
+use Rattle.vs_process.specs.vs_eval.specs.Targets.{assigned}
 use Rattle.vs_flatcode.specs.declared.gait.Gait.{Gait}
 use Rattle.vs_process.specs.declared.moves.Grain.{Grain}
 use Rattle.vs_process.specs.declared.moves.Move.{Move}

@@ -6,7 +6,7 @@ use Rattle.vs_design.specs.declared.statement.EventTerm.{EventTerm}
 use Rattle.vs_design.specs.Parts.{Parts}
 use Rattle.vs_design.specs.Stores.{Store, word_in}
 use Rattle.vs_design.specs.Uses.{covers}
-use Rattle.vs_eval.specs.Laws.{digit_in}
+use Rattle.vs_process.specs.vs_eval.specs.Laws.{digit_in}
 use Rattle.vs_flatcode.specs.declared.gait.Gait.{Gait}
 use Rattle.vs_flatcode.specs.declared.gait.Gait.TheVariants.{Woken, Inside}
 use Rattle.vs_flatcode.specs.Places.{todo_of, flat, Todo, Place, going, waiting, stepped_gait, perform}

@@ -32,8 +32,8 @@ use Rattle.vs_design.specs.declared.signal.SignalKind.{SignalKind}
 use Rattle.vs_design.specs.declared.statement.Aim.{Aim}
 use Rattle.vs_design.specs.declared.statement.Aim.TheVariants.{Fixed}
 use Rattle.vs_design.specs.declared.write.Part.{Part}
-use Rattle.vs_eval.specs.Targets.{part_at, parts_from}
-use Rattle.vs_eval.specs.Values.{bits_value, operand_value, target_value, value_of, value_step}
+use Rattle.vs_process.specs.vs_eval.specs.Targets.{part_at, parts_from}
+use Rattle.vs_process.specs.vs_eval.specs.Values.{bits_value, operand_value, target_value, value_of, value_step}
 use Rattle.vs_flatcode.specs.Steps.{assignment}
 use Rattle.vs_law_threads.proofs.Lists.{contains_at}
 use Rattle.vs_law_threads.specs.Blocks.{Shows, copied, sizes}

@@ -16,8 +16,8 @@ use Rattle.vs_design.specs.declared.statement.EventTerm.{EventTerm}
 use Rattle.vs_design.specs.Parts.{Parts}
 use Rattle.vs_design.specs.Stores.{Store, changed_at, chosen_bits, chosen_words, content, start_store, words_in}
 use Rattle.vs_design.specs.WellFormed.{WellFormed}
-use Rattle.vs_edges.specs.Waking.{lowest_digit, is_edge_of, wakes, wakes_by}
-use Rattle.vs_eval.specs.Laws.{digit_of, digit_in}
+use Rattle.vs_process.specs.vs_edges.specs.Waking.{lowest_digit, is_edge_of, wakes, wakes_by}
+use Rattle.vs_process.specs.vs_eval.specs.Laws.{digit_of, digit_in}
 use Rattle.vs_flatcode.specs.Places.{Place, going, sleeping, inactive, waiting, ended, is_going}
 use Rattle.vs_process.specs.Executions.{is_level}
 use Rattle.vs_process.specs.States.{State, start}

@@ -14,7 +14,7 @@ use Rattle.vs_design.specs.declared.statement.EventTerm.{EventTerm}
 use Rattle.vs_design.specs.Parts.{Parts}
 use Rattle.vs_design.specs.Stores.{Store, start_store}
 use Rattle.vs_design.specs.WellFormed.{WellFormed}
-use Rattle.vs_eval.specs.Laws.{digit_of}
+use Rattle.vs_process.specs.vs_eval.specs.Laws.{digit_of}
 use Rattle.vs_flatcode.specs.Places.{Todo, Place, going, sleeping, inactive, waiting, ended}
 use Rattle.vs_flatcode.specs.Steps.{step}
 use Rattle.vs_design.specs.Writes.{Write}

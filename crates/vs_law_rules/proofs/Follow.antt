@@ -18,8 +18,8 @@ use Rattle.vs_design.specs.Parts.{Parts}
 use Rattle.vs_design.specs.Stores.{Store, chosen_bits, chosen_words, put, is_changed, start_store, words_in}
 use Rattle.vs_design.specs.Uses.{covers, is_of}
 use Rattle.vs_design.specs.Writes.{Write, names}
-use Rattle.vs_eval.specs.Laws.{digit_of}
-use Rattle.vs_eval.specs.Targets.{part_at, parts_from}
+use Rattle.vs_process.specs.vs_eval.specs.Laws.{digit_of}
+use Rattle.vs_process.specs.vs_eval.specs.Targets.{part_at, parts_from}
 use Rattle.vs_flatcode.specs.declared.gait.Gait.{Gait}
 use Rattle.vs_flatcode.specs.Nexts.{erased, erased_item, erased_next}
 use Rattle.vs_flatcode.specs.Places.{Todo, Place, going, sleeping, inactive, waiting, ended, active_at, perform, turns, stepped_gait, flat, todo_of}
@@ -27,7 +27,7 @@ use Rattle.vs_flatcode.specs.Steps.{Next, on, after, wait, Out, assignment, call
 use Rattle.vs_process.specs.States.{place_behind, terms_of, updates_behind, calls_behind}
 use Rattle.vs_design.specs.Statements.{event_terms_step}
 use Rattle.vs_law_threads.proofs.Threads.{is_stopped}
-use Rattle.vs_strobe.specs.Lines.{Format, format_of_call}
+use Rattle.vs_flatcode.specs.vs_strobe.specs.Lines.{Format, format_of_call}
 use Rattle.vs_design.specs.declared.statement.CallKind.{CallKind}
 use Rattle.vs_design.specs.declared.statement.CallKind.TheVariants.{Display, Strobe}
 use Rattle.vs_process.proofs.Digits.{laid, digit-put, Fixes}

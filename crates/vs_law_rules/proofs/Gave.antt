@@ -18,9 +18,9 @@ use Rattle.vs_design.specs.declared.range.BitRange.{BitRange}
 use Rattle.vs_design.specs.Uses.{aim_range, is_of, reads}
 use Rattle.vs_design.specs.WellFormed.{aim_width}
 use Rattle.vs_design.specs.Writes.{Write, names}
-use Rattle.vs_eval.specs.Laws.{digit_of}
-use Rattle.vs_eval.specs.Targets.{part_at, parts_from}
-use Rattle.vs_eval.specs.Values.{target_value}
+use Rattle.vs_process.specs.vs_eval.specs.Laws.{digit_of}
+use Rattle.vs_process.specs.vs_eval.specs.Targets.{part_at, parts_from}
+use Rattle.vs_process.specs.vs_eval.specs.Values.{target_value}
 use Rattle.vs_flatcode.specs.Nexts.{erased}
 use Rattle.vs_flatcode.specs.Places.{perform, turns, Todo}
 use Rattle.vs_flatcode.specs.Steps.{assignment, step, statement_step}

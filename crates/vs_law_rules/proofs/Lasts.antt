@@ -6,7 +6,7 @@ use Rattle.vs_logic4.specs.declared.digit.Digit.{Digit}
 use Rattle.vs_design.specs.Parts.{Parts}
 use Rattle.vs_design.specs.Stores.{Store, put, word_in}
 use Rattle.vs_design.specs.Writes.{Write, names}
-use Rattle.vs_eval.specs.Laws.{digit_of, digit_in}
+use Rattle.vs_process.specs.vs_eval.specs.Laws.{digit_of, digit_in}
 use Rattle.vs_flatcode.specs.Nexts.{erased}
 use Rattle.vs_flatcode.specs.Places.{Todo, Place, going, sleeping, inactive, waiting, ended}
 use Rattle.vs_flatcode.specs.Steps.{step}

@@ -26,8 +26,8 @@ use Rattle.vs_design.specs.Parts.{Parts}
 use Rattle.vs_design.specs.Stores.{Store, changed_at, drives_bit, is_driven, overlaid, put, start_digit, start_digits, start_store, start_word, start_words, word_in, word_of}
 use Rattle.vs_design.specs.Uses.{aim_range, bits_from, covers, has_bit, is_of, slice_range, writes, writes_signal}
 use Rattle.vs_design.specs.WellFormed.{WellFormed, aim_width, is_net_aim, is_sound_assign, is_sound_target, is_source}
-use Rattle.vs_eval.specs.Targets.{part_at, parts_from}
-use Rattle.vs_eval.specs.Values.{bits_value, operand_value, target_value, value_of, value_step}
+use Rattle.vs_process.specs.vs_eval.specs.Targets.{part_at, parts_from}
+use Rattle.vs_process.specs.vs_eval.specs.Values.{bits_value, operand_value, target_value, value_of, value_step}
 use Rattle.vs_flatcode.specs.Steps.{assignment}
 use Rattle.vs_process.proofs.Lists.{all_slice}
 use Rattle.std.proofs.lemmas.Map.Keys.{any_passes_from_place as at_any}

@@ -61,7 +61,7 @@ use Rattle.vs_rules.specs.Verdict.{Keeping}
 use Rattle.vs_law_rules.proofs.Links.{copies_root}
 use Rattle.vs_law_rules.proofs.Roots.{whole_writes}
 use Rattle.vs_law_rules.proofs.Texts.{writes_now}
-use Rattle.vs_law_writes.proofs.Filled.{body_sound as process_sound}
+use Rattle.vs_law_threads.specs.vs_law_writes.proofs.Filled.{body_sound as process_sound}
 
 -- ---- texts
 

@@ -19,7 +19,7 @@ use Rattle.vs_design.specs.Parts.{Parts}
 use Rattle.vs_design.specs.Stores.{Store, start_words, word_of}
 use Rattle.vs_design.specs.Uses.{aim_range, reads, reads_step, is_of, whole, slice_range, writes, writes_signal}
 use Rattle.vs_design.specs.WellFormed.{WellFormed}
-use Rattle.vs_eval.specs.Values.{bits_value, value_of, value_step}
+use Rattle.vs_process.specs.vs_eval.specs.Values.{bits_value, value_of, value_step}
 use Rattle.vs_logic4.specs.declared.digit.Digit.{Digit}
 use Rattle.vs_process.proofs.Assigns.{driven}
 use Rattle.vs_process.proofs.WellFormed.{net_of}

@@ -33,7 +33,7 @@ use Rattle.vs_design.specs.declared.statement.Statement.{Statement}
 use Rattle.vs_design.specs.declared.statement.Statement.TheOpen.{Statement-F}
 use Rattle.vs_design.specs.declared.statement.Statement.TheViews.{out-Statement}
 use Rattle.vs_design.specs.declared.statement.Target.{Target}
-use Rattle.vs_eval.specs.Laws.{digit_in, digit_of}
+use Rattle.vs_process.specs.vs_eval.specs.Laws.{digit_in, digit_of}
 use Rattle.vs_flatcode.specs.Nexts.{erased, erased_next}
 use Rattle.vs_flatcode.specs.Places.{Place, Todo, active_at, ended, going, inactive, is_going, is_inactive, perform, sleeping, stepped_gait, todo_of, turns, waiting}
 use Rattle.vs_flatcode.specs.Steps.{Next, after, assignment, statement_step, step, wait, on}

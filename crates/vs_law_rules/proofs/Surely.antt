@@ -16,8 +16,8 @@ use Rattle.vs_design.specs.Stores.{Store}
 use Rattle.vs_design.specs.Uses.{bits_from, has_bit}
 use Rattle.vs_design.specs.WellFormed.{aim_width}
 use Rattle.vs_design.specs.Writes.{Write}
-use Rattle.vs_eval.specs.Targets.{part_at, parts_from}
-use Rattle.vs_eval.specs.Values.{target_value}
+use Rattle.vs_process.specs.vs_eval.specs.Targets.{part_at, parts_from}
+use Rattle.vs_process.specs.vs_eval.specs.Values.{target_value}
 use Rattle.vs_flatcode.specs.Nexts.{erased}
 use Rattle.vs_flatcode.specs.Places.{perform, turns, Todo}
 use Rattle.vs_flatcode.specs.Steps.{assignment, step, statement_step}

@@ -18,7 +18,7 @@ use Rattle.vs_flatcode.specs.Steps.{goes, on, after, assignment, Out, step}
 use Rattle.vs_process.specs.States.{place_behind, paused, roused, woken_at, wakened}
 use Rattle.vs_process.proofs.Digits.{digit-put}
 use Rattle.vs_process.proofs.Stores.{shape-put}
-use Rattle.vs_eval.specs.Laws.{digit_of}
+use Rattle.vs_process.specs.vs_eval.specs.Laws.{digit_of}
 use Rattle.std.specs.Prelude.{option_map}
 use Rattle.vs_process.proofs.Digits.{laid}
 use Rattle.vs_law_threads.specs.Edges.{one_bit}

@@ -24,7 +24,7 @@ use Rattle.vs_design.specs.WellFormed.{WellFormed, aim_width, is_of_variable, is
 use Rattle.vs_process.proofs.Lists.{map_cases, all_slice}
 use Rattle.vs_logic4.proofs.Basics.{all_at}
 use Rattle.vs_process.proofs.WellFormed.{IsVariable}
-use Rattle.vs_law_writes.specs.Writes.{statement_writes, statement_writes_step}
+use Rattle.vs_law_threads.specs.vs_law_writes.specs.Writes.{statement_writes, statement_writes_step}
 use Rattle.vs_law_threads.proofs.Lists.{place_of}
 use Rattle.vs_rules.specs.Claims.{HasKind}
 use Rattle.vs_rules.specs.Paths.{Writes}

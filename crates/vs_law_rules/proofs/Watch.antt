@@ -10,7 +10,7 @@ use Rattle.vs_design.specs.Stores.{Store, put, is_driven}
 use Rattle.vs_design.specs.Uses.{writes_signal}
 use Rattle.vs_design.specs.WellFormed.{WellFormed}
 use Rattle.vs_design.specs.Writes.{Write, names}
-use Rattle.vs_eval.specs.Targets.{assigned}
+use Rattle.vs_process.specs.vs_eval.specs.Targets.{assigned}
 use Rattle.vs_flatcode.specs.declared.gait.Gait.{Gait}
 use Rattle.vs_process.specs.declared.moves.Grain.{Grain}
 use Rattle.vs_process.specs.declared.moves.Move.{Move}

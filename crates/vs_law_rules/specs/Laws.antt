@@ -6,7 +6,7 @@ use Rattle.vs_logic4.specs.Tables.{not_digit}
 use Rattle.vs_design.specs.declared.range.BitRange.{BitRange}
 use Rattle.vs_design.specs.Parts.{Parts}
 use Rattle.vs_design.specs.WellFormed.{WellFormed}
-use Rattle.vs_eval.specs.Laws.{digit_of}
+use Rattle.vs_process.specs.vs_eval.specs.Laws.{digit_of}
 use Rattle.vs_process.specs.declared.moves.Grain.{Grain}
 use Rattle.vs_process.specs.declared.moves.Grain.TheVariants.{Block}
 use Rattle.vs_process.specs.declared.moves.Move.{Move}

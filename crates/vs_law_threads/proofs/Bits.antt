@@ -2,7 +2,7 @@
 use Rattle.std.proofs.Common.{◌≡◌, ℕ, zero, suc, ◌+◌, ◌<◌, ◌≤◌, ◌==◌, ◌&&◌, max, min, nat_le, nat_lt, true, Option, Some, None, option_map, List, [], ◌∷◌, map, length, replicate, slice_get, refl, sym, ◌∙◌, ap, subst, arith, eq-eqb, eqb-true, leb-true}
 use Rattle.std.proofs.lemmas.Bool.{and_from, and_parts, lt-ltb, ltb-true}
 use Rattle.std.proofs.lemmas.Option.{none-some, same_Some}
-use Rattle.vs_logic4.specs.declared.digit.Digit.{Digit}
+use Rattle.vs_design.specs.vs_logic4.specs.declared.digit.Digit.{Digit}
 use Rattle.vs_design.specs.declared.design.Assign.{Assign}
 use Rattle.vs_design.specs.declared.range.Bits.{Bits}
 use Rattle.vs_design.specs.declared.range.BitRange.{BitRange}
@@ -11,7 +11,7 @@ use Rattle.vs_design.specs.Parts.{Parts}
 use Rattle.vs_design.specs.Stores.{Store, start_store, start_words, start_word, word_of}
 use Rattle.vs_design.specs.Uses.{covers, has_bit, has_word, is_of}
 use Rattle.vs_design.specs.WellFormed.{bits_or_all, width_at}
-use Rattle.vs_eval.specs.Laws.{digit_of, digit_in}
+use Rattle.vs_process.specs.vs_eval.specs.Laws.{digit_of, digit_in}
 use Rattle.vs_process.proofs.Digits.{lengths, length_in}
 use Rattle.vs_process.proofs.Ranges.{present}
 use Rattle.vs_process.proofs.Stores.{shape}

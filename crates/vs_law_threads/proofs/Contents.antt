@@ -3,15 +3,15 @@ use Rattle.std.proofs.Common.{◌≡◌, ℕ, zero, suc, ◌+◌, ◌-◌, ◌<�
 use Rattle.std.specs.Prelude.{nat_le, nat_lt}
 use Rattle.std.proofs.lemmas.Bool.{and_parts}
 use Rattle.std.proofs.lemmas.Option.{slice_get-map, same_Some}
-use Rattle.vs_logic4.specs.declared.digit.Digit.{Digit}
+use Rattle.vs_design.specs.vs_logic4.specs.declared.digit.Digit.{Digit}
 use Rattle.vs_design.specs.declared.range.Bits.{Bits}
 use Rattle.vs_design.specs.declared.range.BitRange.{BitRange}
 use Rattle.vs_design.specs.Stores.{Store, chosen_bits, chosen_words, is_changed, one_word, word_in, words_in}
 use Rattle.vs_design.specs.Uses.{covers, has_bit, has_word, is_of}
-use Rattle.vs_eval.specs.Laws.{digit_in, digit_of}
+use Rattle.vs_process.specs.vs_eval.specs.Laws.{digit_in, digit_of}
 use Rattle.vs_process.proofs.Values.{unchanged}
 use Rattle.vs_design.proofs.Stores.{word_in-words}
-use Rattle.vs_logic4.proofs.Basics.{get-drop, get-take}
+use Rattle.vs_design.specs.vs_logic4.proofs.Basics.{get-drop, get-take}
 
 bit_at : (bits : Option Bits) (x y : List Digit) (k : ℕ) → has_bit bits k ≡ true → chosen_bits bits x ≡ chosen_bits bits y → slice_get x k ≡ slice_get y k
 bit_at None x y k h same = ap (λ l. slice_get l k) same

@@ -2,10 +2,10 @@
 use Rattle.std.proofs.Common.{◌≡◌, ℕ, ℤ, pos, zero, suc, ◌+◌, Bool, true, false, Some, option_map, List, [], ◌∷◌, map, replicate, slice_get, refl, sym, ◌∙◌, ap, eqb-true, eq-eqb, inl, inr, arith, ◌&&◌}
 use Rattle.std.specs.List.{list_any}
 use Rattle.std.proofs.lemmas.Bool.{or_cases, false≢true}
-use Rattle.vs_logic4.specs.declared.digit.Digit.{Digit}
-use Rattle.vs_logic4.specs.declared.digit.Digit.TheVariants.{X}
-use Rattle.vs_logic4.specs.Parts.{selected}
-use Rattle.vs_logic4.specs.Vectors.{resized}
+use Rattle.vs_design.specs.vs_logic4.specs.declared.digit.Digit.{Digit}
+use Rattle.vs_design.specs.vs_logic4.specs.declared.digit.Digit.TheVariants.{X}
+use Rattle.vs_design.specs.vs_logic4.specs.Parts.{selected}
+use Rattle.vs_design.specs.vs_logic4.specs.Vectors.{resized}
 use Rattle.vs_design.specs.declared.design.Assign.{Assign}
 use Rattle.vs_design.specs.declared.expression.Slice.{Slice}
 use Rattle.vs_design.specs.declared.expression.Typed.{Typed, Typed-F}
@@ -24,8 +24,8 @@ use Rattle.vs_design.specs.Kinds.{is_variable}
 use Rattle.vs_design.specs.Parts.{Parts}
 use Rattle.vs_design.specs.Stores.{Store, changed_at, overlaid, put, word_of, word_in, drives_bit, start_digit, start_digits, start_word, start_words}
 use Rattle.vs_design.specs.Uses.{aim_range, bits_from, covers, is_of, reads, reads_step, slice_range, whole, writes, writes_signal}
-use Rattle.vs_eval.specs.Targets.{part_at, parts_from}
-use Rattle.vs_eval.specs.Values.{value_of, value_step, operand_value, bits_value, target_value}
+use Rattle.vs_process.specs.vs_eval.specs.Targets.{part_at, parts_from}
+use Rattle.vs_process.specs.vs_eval.specs.Values.{value_of, value_step, operand_value, bits_value, target_value}
 use Rattle.std.proofs.lemmas.Map.Keys.{any_passes_from_place as at_any}
 use Rattle.vs_design.proofs.Stores.{slice_get-changed_at as changed_same}
 use Rattle.vs_law_threads.specs.Copying.{IsBitPlace, IsBitLayer, CopiesByName, HasOneBit, IsBitVariable}

@@ -5,8 +5,8 @@ use Rattle.std.specs.declared.vec.Vec.{Vec}
 use Rattle.std.specs.declared.alloc.Global.{Global}
 use Rattle.std.proofs.lemmas.Bool.{and_parts, and_from, cases_Bool, cond_both}
 use Rattle.std.proofs.lemmas.List.Folds.{list_all-append}
-use Rattle.vs_logic4.specs.declared.digit.Digit.{Digit}
-use Rattle.vs_logic4.specs.Comparisons.{truth}
+use Rattle.vs_design.specs.vs_logic4.specs.declared.digit.Digit.{Digit}
+use Rattle.vs_design.specs.vs_logic4.specs.Comparisons.{truth}
 use Rattle.vs_design.specs.declared.design.Process.{Process}
 use Rattle.vs_design.specs.declared.expression.Typed.{Typed}
 use Rattle.vs_design.specs.declared.statement.EventTerm.{EventTerm}
@@ -20,9 +20,9 @@ use Rattle.vs_design.specs.Statements.{event_terms, event_terms_step, listens}
 use Rattle.vs_design.specs.Stores.{Store, put}
 use Rattle.vs_design.specs.Uses.{is_of, joined}
 use Rattle.vs_design.specs.Writes.{Write}
-use Rattle.vs_eval.specs.Targets.{assigned}
-use Rattle.vs_eval.specs.Values.{value_of}
-use Rattle.vs_edges.specs.Waking.{wake_any}
+use Rattle.vs_process.specs.vs_eval.specs.Targets.{assigned}
+use Rattle.vs_process.specs.vs_eval.specs.Values.{value_of}
+use Rattle.vs_process.specs.vs_edges.specs.Waking.{wake_any}
 use Rattle.vs_flatcode.specs.declared.gait.Gait.{Gait}
 use Rattle.vs_flatcode.specs.declared.gait.Gait.TheVariants.{Fresh, Woken}
 use Rattle.vs_flatcode.specs.Places.{Item, perform, turns, Todo, Place, going, sleeping, inactive, waiting, ended, active_at, stepped_gait, start_place, todo_of, flat}

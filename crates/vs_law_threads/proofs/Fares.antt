@@ -7,7 +7,7 @@ use Rattle.vs_design.specs.Parts.{Parts}
 use Rattle.vs_design.specs.Stores.{Store, put, is_changed, start_store, word_in}
 use Rattle.vs_design.specs.Uses.{covers, is_of}
 use Rattle.vs_design.specs.Writes.{Write, names}
-use Rattle.vs_eval.specs.Laws.{digit_in}
+use Rattle.vs_process.specs.vs_eval.specs.Laws.{digit_in}
 use Rattle.vs_flatcode.specs.declared.gait.Gait.{Gait}
 use Rattle.vs_flatcode.specs.declared.gait.Gait.TheVariants.{Fresh, Woken, Inside}
 use Rattle.vs_flatcode.specs.Places.{Todo, Place, perform, going, waiting, flat, stepped_gait, todo_of, is_inside, is_going}
@@ -23,7 +23,7 @@ use Rattle.vs_law_threads.proofs.Texts.{Text, OnWay, Stands, goes_on, arrives, s
 use Rattle.vs_law_threads.proofs.BlockRuns.{BlockStep, RunFacts, on_way, run_facts, run_step, run_begins, run_turns, still_step}
 use Rattle.vs_process.proofs.Lists.{none_at}
 use Rattle.std.proofs.lemmas.Map.Keys.{any_passes_from_place as at_any}
-use Rattle.vs_logic4.proofs.Basics.{element_of as any_at}
+use Rattle.vs_design.specs.vs_logic4.proofs.Basics.{element_of as any_at}
 use Rattle.vs_process.proofs.Stores.{put_other, shape-put}
 
 -- a block that has come to its control behind a run, since when nothing that it follows has changed

@@ -2,7 +2,7 @@
 use Rattle.std.proofs.Common.{◌≡◌, ℕ, true, false, List, sym, ◌∙◌}
 use Rattle.std.specs.List.{list_any}
 use Rattle.std.proofs.lemmas.Bool.{true≢false, false_from_ne_true, true_from_ne_false}
-use Rattle.vs_logic4.specs.declared.digit.Digit.{Digit}
+use Rattle.vs_design.specs.vs_logic4.specs.declared.digit.Digit.{Digit}
 use Rattle.vs_design.specs.declared.range.BitRange.{BitRange}
 use Rattle.vs_design.specs.declared.statement.Target.{Target}
 use Rattle.vs_design.specs.Parts.{Parts}
@@ -10,7 +10,7 @@ use Rattle.vs_design.specs.Stores.{Store, put, is_changed, start_store}
 use Rattle.vs_design.specs.Uses.{covers, is_of, writes, writes_signal}
 use Rattle.vs_process.proofs.Digits.{kept_digit}
 use Rattle.std.proofs.lemmas.Map.Keys.{any_passes_from_place as at_any}
-use Rattle.vs_logic4.proofs.Basics.{element_of as any_at}
+use Rattle.vs_design.specs.vs_logic4.proofs.Basics.{element_of as any_at}
 use Rattle.vs_process.proofs.Ranges.{IsFixed, fixed_write, same_content, uncovered_keeps}
 use Rattle.vs_process.proofs.Stores.{shape, shape-put}
 use Rattle.vs_process.proofs.Values.{same_unchanged}

@@ -5,7 +5,7 @@ use Rattle.std.specs.declared.vec.Vec.{Vec}
 use Rattle.std.specs.declared.alloc.Global.{Global}
 use Rattle.std.proofs.lemmas.Bool.{or_from, or_parts, true≢false}
 use Rattle.std.proofs.lemmas.List.Folds.{list_any-append}
-use Rattle.vs_logic4.specs.Comparisons.{truth}
+use Rattle.vs_design.specs.vs_logic4.specs.Comparisons.{truth}
 use Rattle.vs_design.specs.declared.expression.Typed.{Typed}
 use Rattle.vs_design.specs.declared.statement.Statement.{Statement}
 use Rattle.vs_design.specs.declared.statement.Statement.TheViews.{out-Statement}
@@ -14,7 +14,7 @@ use Rattle.vs_design.specs.declared.statement.Statement.TheFolds.{fold_out-State
 use Rattle.vs_design.specs.Statements.{has_control, has_control_step}
 use Rattle.vs_design.specs.Stores.{Store}
 use Rattle.vs_design.proofs.StatementLemmas.{control_Block}
-use Rattle.vs_eval.specs.Values.{value_of}
+use Rattle.vs_process.specs.vs_eval.specs.Values.{value_of}
 use Rattle.vs_flatcode.specs.Places.{Item, perform, turns, Todo, flat}
 use Rattle.vs_flatcode.specs.Steps.{Next, on, step, statement_step, flat_item, turns_for, repeated}
 use Rattle.vs_flatcode.specs.Drafts.{flat_all}

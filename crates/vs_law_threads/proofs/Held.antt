@@ -12,7 +12,7 @@ use Rattle.vs_process.proofs.Values.{same_unchanged}
 use Rattle.vs_design.specs.declared.range.BitRange.{BitRange}
 use Rattle.vs_design.specs.Uses.{covers, is_of}
 use Rattle.std.proofs.lemmas.Map.Keys.{any_passes_from_place as at_any}
-use Rattle.vs_logic4.proofs.Basics.{element_of as any_at}
+use Rattle.vs_design.specs.vs_logic4.proofs.Basics.{element_of as any_at}
 use Rattle.vs_process.proofs.Ranges.{same_content}
 use Rattle.vs_law_threads.specs.Bits.{HasBit, meet_in}
 use Rattle.vs_law_threads.proofs.Bits.{by_bit, meets_bit, meets_of}

@@ -2,7 +2,7 @@
 use Rattle.std.proofs.Common.{◌≡◌, ℕ, Bool, true, false, Option, Some, None, option_map, List, [], ◌∷◌, length, map, slice_get, refl, sym, ◌∙◌, ap, subst, inl, inr}
 use Rattle.std.specs.List.{list_any}
 use Rattle.std.proofs.lemmas.Bool.{cases_Bool, true≢false}
-use Rattle.vs_logic4.specs.declared.digit.Digit.{Digit}
+use Rattle.vs_design.specs.vs_logic4.specs.declared.digit.Digit.{Digit}
 use Rattle.vs_design.specs.declared.design.Assign.{Assign}
 use Rattle.vs_design.specs.declared.expression.Typed.{Typed}
 use Rattle.vs_design.specs.declared.range.BitRange.{BitRange}
@@ -10,11 +10,11 @@ use Rattle.vs_design.specs.declared.statement.Target.{Target}
 use Rattle.vs_design.specs.Parts.{Parts}
 use Rattle.vs_design.specs.Stores.{Store, put, is_changed, is_driven, changes_nothing, start_store}
 use Rattle.vs_design.specs.Uses.{reads, writes_signal}
-use Rattle.vs_eval.specs.Targets.{assigned}
-use Rattle.vs_eval.specs.Values.{target_value}
+use Rattle.vs_process.specs.vs_eval.specs.Targets.{assigned}
+use Rattle.vs_process.specs.vs_eval.specs.Values.{target_value}
 use Rattle.vs_flatcode.specs.Steps.{assignment}
 use Rattle.vs_process.specs.States.{AssignState}
-use Rattle.vs_logic4.proofs.Basics.{same_lists as same_gets}
+use Rattle.vs_design.specs.vs_logic4.proofs.Basics.{same_lists as same_gets}
 use Rattle.vs_process.proofs.Ranges.{assigned_fixed, assigned_names, same_sizes}
 use Rattle.vs_process.proofs.Stores.{put_other, shape}
 use Rattle.vs_process.proofs.Values.{not_changed}
@@ -22,7 +22,7 @@ use Rattle.vs_process.proofs.Assigns.{AssignsSound, Consistent, wanted, link_of,
 use Rattle.vs_law_threads.specs.Edges.{one_bit, IsBit, IsLink, Copies, itself, through, IsRoot}
 use Rattle.vs_law_threads.proofs.Assigns.{DrivesWell}
 use Rattle.vs_law_threads.proofs.Settle.{AllIdle}
-use Rattle.vs_logic4.proofs.Basics.{same_first}
+use Rattle.vs_design.specs.vs_logic4.proofs.Basics.{same_first}
 
 -- ---- chains
 

@@ -3,7 +3,7 @@ use Rattle.std.proofs.Common.{◌≡◌, ℕ, Bool, true, false, ◌||◌, cond,
 use Rattle.std.specs.List.{list_any, Contains}
 use Rattle.std.proofs.lemmas.Option.{slice_get_within, get_or_from_slice_get, slice_get-get_or}
 use Rattle.std.proofs.lemmas.Bool.{cond-true, cond_both, eqb-false, cases_Bool, or_parts}
-use Rattle.vs_logic4.proofs.Basics.{filter_some}
+use Rattle.vs_design.specs.vs_logic4.proofs.Basics.{filter_some}
 
 -- an element by its place
 pub contains_at : {A : Type 0} (xs : List A) (i : ℕ) (x : A) → slice_get xs i ≡ Some x → Contains xs x

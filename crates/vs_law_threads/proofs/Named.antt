@@ -7,7 +7,7 @@ use Rattle.std.proofs.lemmas.Bool.{or_parts}
 use Rattle.std.proofs.lemmas.List.{append-nil}
 use Rattle.std.proofs.lemmas.List.Elements.{All-contains_itself}
 use Rattle.std.proofs.lemmas.List.Folds.{list_any-append}
-use Rattle.vs_logic4.specs.Comparisons.{truth}
+use Rattle.vs_design.specs.vs_logic4.specs.Comparisons.{truth}
 use Rattle.vs_design.specs.declared.expression.Typed.{Typed}
 use Rattle.vs_design.specs.declared.range.BitRange.{BitRange}
 use Rattle.vs_design.specs.declared.statement.Call.{Call}
@@ -23,11 +23,11 @@ use Rattle.vs_design.specs.declared.statement.Statement.TheFolds.{fold-roll-Stat
 use Rattle.vs_design.specs.Statements.{all_reads, arg_reads, statement_reads, statement_reads_step}
 use Rattle.vs_design.specs.Stores.{Store, is_changed}
 use Rattle.vs_design.specs.Uses.{joined, reads}
-use Rattle.vs_eval.specs.Values.{value_of}
-use Rattle.vs_strobe.specs.declared.piece.FormatPiece.{FormatPiece}
-use Rattle.vs_strobe.specs.declared.piece.FormatPiece.TheVariants.{Byte, Path, Shown}
-use Rattle.vs_strobe.specs.Lines.{Format, arg_value, format_of_call, full_line, is_signed, pieces_text}
-use Rattle.vs_strobe.specs.Values.{shown_text}
+use Rattle.vs_process.specs.vs_eval.specs.Values.{value_of}
+use Rattle.vs_flatcode.specs.vs_strobe.specs.declared.piece.FormatPiece.{FormatPiece}
+use Rattle.vs_flatcode.specs.vs_strobe.specs.declared.piece.FormatPiece.TheVariants.{Byte, Path, Shown}
+use Rattle.vs_flatcode.specs.vs_strobe.specs.Lines.{Format, arg_value, format_of_call, full_line, is_signed, pieces_text}
+use Rattle.vs_flatcode.specs.vs_strobe.specs.Values.{shown_text}
 use Rattle.vs_flatcode.specs.Drafts.{flat_all}
 use Rattle.vs_flatcode.specs.Landings.{todo_behind}
 use Rattle.vs_flatcode.specs.Places.{Item, perform, turns, Todo, flat}

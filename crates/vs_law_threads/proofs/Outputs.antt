@@ -21,7 +21,7 @@ use Rattle.vs_design.specs.Uses.{aim_range, is_of, joined, writes}
 use Rattle.vs_design.specs.WellFormed.{WellFormed, aim_width, are_sound_labels, are_sound_terms, counts_from, is_body_of, is_sound_assignment, is_sound_operand, is_sound_process, is_sound_statement, is_sound_target, is_source, is_variable_aim, numbers, sound_step, size_of, is_of_variable, is_within}
 use Rattle.std.specs.Prelude.{◌==◌, sum}
 use Rattle.vs_process.proofs.Lists.{all_slice, map_cases}
-use Rattle.vs_logic4.proofs.Basics.{all_at, element_of as any_at}
+use Rattle.vs_design.specs.vs_logic4.proofs.Basics.{all_at, element_of as any_at}
 use Rattle.vs_process.proofs.WellFormed.{IsVariable, variable_undriven}
 use Rattle.vs_law_writes.specs.Writes.{statement_writes, statement_writes_step}
 use Rattle.vs_law_threads.specs.Blocks.{outputs_for, puts_out}

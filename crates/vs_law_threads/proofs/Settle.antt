@@ -2,15 +2,15 @@
 use Rattle.std.proofs.Common.{◌≡◌, ℕ, zero, suc, Bool, Option, Some, None, List, [], ◌∷◌, option_map, length, slice_get, refl, sym, ◌∙◌, ap, ap₂, subst, arith}
 use Rattle.std.specs.Prelude.{is_some}
 use Rattle.std.proofs.lemmas.Option.{same_Some}
-use Rattle.vs_logic4.specs.declared.digit.Digit.{Digit}
+use Rattle.vs_design.specs.vs_logic4.specs.declared.digit.Digit.{Digit}
 use Rattle.vs_design.specs.declared.design.Assign.{Assign}
 use Rattle.vs_design.specs.declared.expression.Typed.{Typed}
 use Rattle.vs_design.specs.declared.statement.Target.{Target}
 use Rattle.vs_design.specs.Parts.{Parts}
 use Rattle.vs_design.specs.Stores.{Store, put, word_of}
 use Rattle.vs_design.specs.Writes.{Write}
-use Rattle.vs_eval.specs.Laws.{digit_in, digit_of}
-use Rattle.vs_eval.specs.Values.{target_value}
+use Rattle.vs_process.specs.vs_eval.specs.Laws.{digit_in, digit_of}
+use Rattle.vs_process.specs.vs_eval.specs.Values.{target_value}
 use Rattle.vs_process.specs.States.{AssignState}
 use Rattle.vs_process.specs.Idle.{IsIdle}
 use Rattle.vs_process.proofs.Digits.{Fixes, digit-put, laid, length_in, lengths}

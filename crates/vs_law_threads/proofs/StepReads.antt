@@ -6,10 +6,10 @@ use Rattle.std.specs.declared.alloc.Global.{Global}
 use Rattle.std.specs.List.{list_any}
 use Rattle.std.proofs.lemmas.Bool.{or_parts}
 use Rattle.std.proofs.lemmas.List.Folds.{list_any-append}
-use Rattle.vs_logic4.specs.declared.digit.Digit.{Digit}
-use Rattle.vs_logic4.specs.declared.case.CaseKind.{CaseKind}
-use Rattle.vs_logic4.specs.Cases.{matches}
-use Rattle.vs_logic4.specs.Comparisons.{truth}
+use Rattle.vs_design.specs.vs_logic4.specs.declared.digit.Digit.{Digit}
+use Rattle.vs_design.specs.vs_logic4.specs.declared.case.CaseKind.{CaseKind}
+use Rattle.vs_design.specs.vs_logic4.specs.Cases.{matches}
+use Rattle.vs_design.specs.vs_logic4.specs.Comparisons.{truth}
 use Rattle.vs_design.specs.declared.expression.Typed.{Typed}
 use Rattle.vs_design.specs.declared.signal.Signal.{Signal}
 use Rattle.vs_design.specs.declared.statement.Statement.{Statement}
@@ -20,9 +20,9 @@ use Rattle.vs_design.specs.Stores.{Store, is_changed}
 use Rattle.vs_design.specs.Statements.{all_reads, assignment_reads}
 use Rattle.vs_design.specs.Uses.{joined, reads, target_reads}
 use Rattle.vs_design.specs.Writes.{Write}
-use Rattle.vs_eval.specs.Targets.{assigned}
-use Rattle.vs_eval.specs.Values.{target_value, value_of}
-use Rattle.vs_eval.proofs.WritesHold.{parts_same}
+use Rattle.vs_process.specs.vs_eval.specs.Targets.{assigned}
+use Rattle.vs_process.specs.vs_eval.specs.Values.{target_value, value_of}
+use Rattle.vs_process.specs.vs_eval.proofs.WritesHold.{parts_same}
 use Rattle.vs_flatcode.specs.Places.{perform, turns, Todo, flat}
 use Rattle.vs_flatcode.specs.Steps.{Out, assignment, step, statement_step, goes, on, branch, item_matches, is_default, first_of, flat_item, taken, turns_for, repeated}
 use Rattle.vs_process.proofs.Values.{target_value_unchanged, value_unchanged}

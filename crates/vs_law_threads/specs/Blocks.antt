@@ -12,7 +12,7 @@ use Rattle.vs_design.specs.declared.statement.Statement.TheViews.{out-Statement}
 use Rattle.vs_design.specs.Parts.{Parts}
 use Rattle.vs_design.specs.Stores.{Store, put, changes_nothing, is_changed, is_driven, start_store}
 use Rattle.vs_design.specs.Uses.{covers, is_of, writes, writes_signal}
-use Rattle.vs_eval.specs.Laws.{digit_of}
+use Rattle.vs_process.specs.vs_eval.specs.Laws.{digit_of}
 use Rattle.vs_flatcode.specs.declared.gait.Gait.TheVariants.{Woken}
 use Rattle.vs_flatcode.specs.Places.{is_going, is_inactive, Place, perform, going, waiting, ended, flat, todo_of}
 use Rattle.vs_flatcode.specs.Steps.{assignment}

@@ -3,7 +3,7 @@ use Rattle.std.specs.Prelude.{◌||◌, ◌++◌, ℕ, zero, suc, ◌≡◌, Boo
 use Rattle.std.specs.List.{list_any, Contains}
 use Rattle.std.specs.declared.vec.Vec.{Vec}
 use Rattle.std.specs.declared.alloc.Global.{Global}
-use Rattle.vs_logic4.specs.declared.digit.Digit.{Digit}
+use Rattle.vs_design.specs.vs_logic4.specs.declared.digit.Digit.{Digit}
 use Rattle.vs_design.specs.declared.expression.Typed.{Typed}
 use Rattle.vs_design.specs.declared.statement.Call.{Call}
 use Rattle.vs_design.specs.declared.statement.CallKind.{CallKind}
@@ -20,7 +20,7 @@ use Rattle.vs_design.specs.Uses.{joined, reads}
 use Rattle.vs_design.specs.Writes.{Write, names}
 use Rattle.vs_flatcode.specs.Places.{perform, turns, Todo, Place, going, sleeping, inactive, waiting, ended}
 use Rattle.vs_flatcode.specs.Steps.{Out, step}
-use Rattle.vs_edges.specs.Waking.{wakes}
+use Rattle.vs_process.specs.vs_edges.specs.Waking.{wakes}
 use Rattle.vs_process.specs.States.{State, Update, Called, place_behind, updates_behind, calls_behind, roused, triggered}
 use Rattle.vs_law_threads.specs.Edges.{Copies}
 

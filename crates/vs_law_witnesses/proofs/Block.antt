@@ -17,7 +17,7 @@ use Rattle.vs_design.specs.declared.expression.Typed.TheVariants as e
 use Rattle.vs_design.specs.Stores.{Store, changes_nothing, put, start_store}
 use Rattle.vs_design.specs.Uses.{covers, slice_range, whole, writes}
 use Rattle.vs_design.specs.WellFormed.{WellFormed, is_sound_assign, is_sound_process, is_sound_statement, numbers}
-use Rattle.vs_process.proofs.Ranges.{covers_signal}
+use Rattle.vs_law_rules.specs.vs_process.proofs.Ranges.{covers_signal}
 use Rattle.vs_flatcode.specs.Places.{Todo}
 use Rattle.vs_flatcode.specs.Steps.{after, assignment}
 use Rattle.vs_law_examples.specs.Race.{bit, initially, name, operand, target, the_bit}

@@ -17,11 +17,11 @@ use Rattle.vs_design.specs.declared.statement.Statement.TheFolds.{fold-roll-Stat
 use Rattle.vs_design.specs.declared.expression.Typed.TheVariants as e
 use Rattle.vs_design.specs.Statements.{has_control, has_control_step}
 use Rattle.vs_design.specs.Uses.{covers, slice_range, whole}
-use Rattle.vs_process.specs.Executions.{is_combinational, is_level}
+use Rattle.vs_law_rules.specs.vs_process.specs.Executions.{is_combinational, is_level}
 use Rattle.vs_flatcode.specs.Landings.{todo_behind}
 use Rattle.vs_flatcode.specs.Places.{perform, Todo}
 use Rattle.vs_flatcode.specs.Steps.{Next, on, after, wait}
-use Rattle.vs_law_threads.specs.Blocks.{outputs}
+use Rattle.vs_rules.specs.vs_law_threads.specs.Blocks.{outputs}
 use Rattle.vs_law_examples.specs.Race.{bit, operand, target, the_bit}
 use Rattle.vs_law_examples.specs.Mirror.{one_of}
 use Rattle.vs_law_examples.proofs.Race.{reads_number, reads_operand}

@@ -15,7 +15,7 @@ use Rattle.vs_design.specs.declared.statement.Statement.{out-Statement}
 use Rattle.vs_design.specs.Stores.{Store, put, start_store}
 use Rattle.vs_design.specs.Uses.{slice_range, whole}
 use Rattle.vs_design.specs.WellFormed.{WellFormed, is_sound_process}
-use Rattle.vs_process.specs.Examples.{mixer, target, term}
+use Rattle.vs_law_rules.specs.vs_process.specs.Examples.{mixer, target, term}
 use Rattle.vs_flatcode.specs.Places.{Todo}
 use Rattle.vs_flatcode.specs.Steps.{assignment, Next}
 use Rattle.vs_law_examples.specs.Race.{the_bit}
@@ -25,7 +25,7 @@ use Rattle.vs_rules.specs.Controls.{controls_of}
 use Rattle.vs_rules.specs.Drivers.{Driver, assign, block as block_driver, IsDriver, IsSource, WritesBit}
 use Rattle.vs_rules.specs.Paths.{Bit, Has, HasTerm, IsBit, IsSlot0, Lists, ReadsNow, Writes, is_plain, reads_of}
 use Rattle.vs_rules.specs.Points.{Goes}
-use Rattle.vs_process.proofs.Ranges.{covers_signal}
+use Rattle.vs_law_rules.specs.vs_process.proofs.Ranges.{covers_signal}
 use Rattle.vs_rules.specs.Rules.{K1_Signal, K1_Assign, K1_Process, K1_Name, K2, K3, K4, K6, K7, K8, K9, K10_Signal, K10_Process, IsAsModeSays, IsCovered, IsListed, IsSelf, Reads}
 use Rattle.vs_rules.specs.Blocks.{K5, K11, IsCold, StaysCold, Starts, Unwritten, run_alone}
 use Rattle.vs_rules.specs.Limits.{IsCertificate}

@@ -24,14 +24,14 @@ use Rattle.vs_design.specs.declared.design.ProcessKind.TheVariants.{Always}
 use Rattle.vs_design.specs.declared.expression.Typed.{Typed}
 use Rattle.vs_design.specs.declared.expression.Typed.TheVariants as e
 use Rattle.vs_design.specs.Uses.{covers, slice_range, whole}
-use Rattle.vs_process.specs.Examples.{between, boxed, four_of, mixer, target, term, two_of}
-use Rattle.vs_process.specs.Executions.{is_combinational, is_level}
+use Rattle.vs_law_rules.specs.vs_process.specs.Examples.{between, boxed, four_of, mixer, target, term, two_of}
+use Rattle.vs_law_rules.specs.vs_process.specs.Executions.{is_combinational, is_level}
 use Rattle.vs_flatcode.specs.declared.gait.Gait.TheVariants.{Fresh}
 use Rattle.vs_flatcode.specs.Landings.{todo_behind}
 use Rattle.vs_flatcode.specs.Places.{active_at, flat, perform, todo_of, Todo}
 use Rattle.vs_flatcode.specs.Steps.{Next, on, after, wait}
 use Rattle.vs_flatcode.proofs.Shapes.{flat-Block}
-use Rattle.vs_law_threads.specs.Blocks.{outputs}
+use Rattle.vs_rules.specs.vs_law_threads.specs.Blocks.{outputs}
 use Rattle.vs_law_examples.specs.Race.{the_bit}
 use Rattle.vs_law_examples.proofs.Race.{reads_number}
 use Rattle.vs_rules.specs.Claims.{names_process, claim_of, second_in, Kind, Start, HasLists, HasStart, IsBlock, IsEdge, IsRootOf, IsSecond, IsSequential, IsWriter}

@@ -10,11 +10,11 @@ use Rattle.vs_design.specs.declared.statement.EventTerm.{EventTerm}
 use Rattle.vs_design.specs.declared.statement.Statement.{out-Statement}
 use Rattle.vs_design.specs.declared.expression.Typed.TheVariants as e
 use Rattle.vs_design.specs.Uses.{slice_range, whole}
-use Rattle.vs_process.specs.declared.moves.Grain.{Grain}
+use Rattle.vs_law_rules.specs.vs_process.specs.declared.moves.Grain.{Grain}
 use Rattle.vs_flatcode.specs.Landings.{todo_behind}
 use Rattle.vs_flatcode.specs.Places.{perform, Todo}
 use Rattle.vs_flatcode.specs.Steps.{Next, on, after, wait}
-use Rattle.vs_law_threads.specs.Blocks.{outputs}
+use Rattle.vs_rules.specs.vs_law_threads.specs.Blocks.{outputs}
 use Rattle.vs_design.specs.declared.signal.SignalKind.TheVariants.{Reg}
 use Rattle.vs_law_examples.specs.Race.{bit, operand, set_to, target, the_bit}
 use Rattle.vs_law_examples.specs.Rise.{copies_bit, copies_then, one_tick, rise, rising, sets_late, terms}

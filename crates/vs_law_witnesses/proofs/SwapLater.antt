@@ -13,7 +13,7 @@ use Rattle.vs_design.specs.declared.statement.EventTerm.{EventTerm}
 use Rattle.vs_design.specs.declared.statement.Statement.{out-Statement}
 use Rattle.vs_design.specs.declared.expression.Typed.TheVariants as e
 use Rattle.vs_design.specs.WellFormed.{WellFormed, is_sound_assignment}
-use Rattle.vs_process.specs.declared.moves.Grain.{Grain}
+use Rattle.vs_law_rules.specs.vs_process.specs.declared.moves.Grain.{Grain}
 use Rattle.vs_flatcode.specs.Landings.{todo_behind}
 use Rattle.vs_flatcode.specs.Places.{Todo}
 use Rattle.vs_flatcode.specs.Steps.{Next}

@@ -10,16 +10,16 @@ use Rattle.vs_design.specs.Parts.{Parts}
 use Rattle.vs_design.specs.WellFormed.{WellFormed, is_sound_assignment}
 use Rattle.vs_design.specs.Stores.{Store, word_of}
 use Rattle.vs_design.specs.Traces.{Slot, SameSlots}
-use Rattle.vs_process.specs.declared.moves.Grain.{Grain}
-use Rattle.vs_process.specs.declared.moves.Grain.TheVariants as grain
-use Rattle.vs_process.specs.declared.moves.Move.{Move}
-use Rattle.vs_process.specs.declared.moves.Move.TheVariants.{Step, EndSlot}
-use Rattle.vs_process.specs.Executions.{after, allowed, apply, ended_slot, is_by, is_complete, is_enabled, is_kept_out, Legal, slots, trace}
-use Rattle.vs_process.specs.States.{State, start}
+use Rattle.vs_law_rules.specs.vs_process.specs.declared.moves.Grain.{Grain}
+use Rattle.vs_law_rules.specs.vs_process.specs.declared.moves.Grain.TheVariants as grain
+use Rattle.vs_law_rules.specs.vs_process.specs.declared.moves.Move.{Move}
+use Rattle.vs_law_rules.specs.vs_process.specs.declared.moves.Move.TheVariants.{Step, EndSlot}
+use Rattle.vs_law_rules.specs.vs_process.specs.Executions.{after, allowed, apply, ended_slot, is_by, is_complete, is_enabled, is_kept_out, Legal, slots, trace}
+use Rattle.vs_law_rules.specs.vs_process.specs.States.{State, start}
 use Rattle.vs_flatcode.specs.declared.gait.Gait.TheVariants.{Fresh, Inside, Woken}
 use Rattle.vs_flatcode.specs.Places.{perform, Place, Todo, ended, going, sleeping, waiting}
-use Rattle.vs_independence.specs.Discipline.{Independent}
-use Rattle.vs_law_threads.specs.Edges.{one_bit}
+use Rattle.vs_law_rules.specs.vs_independence.specs.Discipline.{Independent}
+use Rattle.vs_rules.specs.vs_law_threads.specs.Edges.{one_bit}
 use Rattle.vs_law_examples.specs.Race.{operand, target}
 use Rattle.vs_law_examples.specs.Rise.{rise}
 use Rattle.vs_law_examples.proofs.Race.{numbers_assign, reads_operand, size_operand, sound_assign, value_number}

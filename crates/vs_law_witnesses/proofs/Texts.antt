@@ -27,7 +27,7 @@ use Rattle.vs_design.specs.Uses.{joined, reads, reads_step, whole, writes}
 use Rattle.vs_design.specs.WellFormed.{are_sound_terms, is_sound_assignment, is_sound_statement, numbers, numbers_step, size_of, size_step, sized_by, sound_step}
 use Rattle.vs_eval.specs.Values.{chained, operand_value, value_of, value_step}
 use Rattle.vs_design.specs.Parts.{Parts}
-use Rattle.vs_process.specs.Examples.{between}
+use Rattle.vs_law_rules.specs.vs_process.specs.Examples.{between}
 use Rattle.vs_flatcode.specs.Landings.{todo_behind}
 use Rattle.vs_flatcode.specs.Places.{Todo}
 use Rattle.vs_flatcode.specs.Steps.{Next, on, after, wait}

@@ -1,7 +1,7 @@
 -- What is shown of a design that keeps the rules of a certificate.
 use Rattle.vs_design.specs.Parts.{Parts}
 use Rattle.vs_design.specs.WellFormed.{WellFormed}
-use Rattle.vs_independence.specs.Discipline.{Independent}
+use Rattle.vs_law_rules.specs.vs_independence.specs.Discipline.{Independent}
 use Rattle.vs_rules.specs.Claims.{Claims}
 use Rattle.vs_rules.specs.Verdict.{IsAccepted}
 

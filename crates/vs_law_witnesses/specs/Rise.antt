@@ -1,7 +1,7 @@
 -- The certificate of a design in which a process waits for an edge.
 use Rattle.std.specs.Prelude.{true, Some, None, [], ◌∷◌}
 use Rattle.std.specs.declared.alloc.Global.{Global}
-use Rattle.vs_process.specs.declared.moves.Grain.{Grain}
+use Rattle.vs_law_rules.specs.vs_process.specs.declared.moves.Grain.{Grain}
 use Rattle.vs_law_examples.specs.Rise.{rising}
 use Rattle.vs_rules.specs.Claims.{Claims, Mode, edges, delays, blocking, nonblocking, private}
 use Rattle.vs_rules.specs.Verdict.{IsVerdict, k3, no_verdict}

@@ -17,8 +17,8 @@ use Rattle.vs_design.specs.declared.statement.Statement.TheVariants as y
 use Rattle.vs_design.specs.declared.statement.Ticks.{Ticks}
 use Rattle.vs_design.specs.Parts.{Parts}
 use Rattle.vs_design.specs.WellFormed.{WellFormed}
-use Rattle.vs_process.specs.declared.moves.Grain.{Grain}
-use Rattle.vs_independence.specs.Discipline.{Independent}
+use Rattle.vs_law_rules.specs.vs_process.specs.declared.moves.Grain.{Grain}
+use Rattle.vs_law_rules.specs.vs_independence.specs.Discipline.{Independent}
 use Rattle.vs_law_examples.specs.Mirror.{one_of}
 use Rattle.vs_law_examples.specs.Race.{bit, boxed, initially, letter, name, nanosecond, operand, target}
 use Rattle.vs_law_examples.specs.Rise.{rise}

@@ -2,7 +2,7 @@
 use Rattle.std.proofs.Common.{◌≡◌, ℕ, ◌+◌, ◌<◌, ◌==◌, ◌&&◌, Bool, true, false, if◌then◌else◌, Some, None, List, [], ◌∷◌, map, slice_get, sum, refl, sym, ◌∙◌, ap, subst, arith, eqb-true}
 use Rattle.std.specs.List.{list_all}
 use Rattle.std.proofs.lemmas.Bool.{and_parts}
-use Rattle.vs_logic4.specs.declared.digit.Digit.{Digit}
+use Rattle.vs_design.specs.vs_logic4.specs.declared.digit.Digit.{Digit}
 use Rattle.vs_design.specs.declared.design.Assign.{Assign}
 use Rattle.vs_design.specs.declared.design.Process.{Process}
 use Rattle.vs_design.specs.declared.signal.Signal.{Signal}
@@ -15,13 +15,13 @@ use Rattle.vs_design.specs.Parts.{Parts}
 use Rattle.vs_design.specs.Stores.{Store}
 use Rattle.vs_design.specs.WellFormed.{WellFormed, aim_width, counts_from, is_body_of, is_net_aim, is_sound_assign, is_sound_process, is_sound_statement, is_sound_target, is_source, is_variable_aim, numbers}
 use Rattle.vs_design.specs.Writes.{Write}
-use Rattle.vs_eval.specs.Targets.{assigned, parts_from}
-use Rattle.vs_eval.specs.Values.{target_value}
-use Rattle.vs_flatcode.specs.Landings.{todo_behind}
-use Rattle.vs_flatcode.specs.declared.gait.Gait.{Gait}
-use Rattle.vs_flatcode.specs.declared.gait.Gait.TheVariants.{Fresh}
-use Rattle.vs_flatcode.specs.Places.{perform, turns, Todo, active_at, going, inactive, sleeping, stepped_gait}
-use Rattle.vs_flatcode.specs.Steps.{Next, on, after, wait, Out, assignment, step, statement_step}
+use Rattle.vs_process.specs.vs_eval.specs.Targets.{assigned, parts_from}
+use Rattle.vs_process.specs.vs_eval.specs.Values.{target_value}
+use Rattle.vs_process.specs.vs_flatcode.specs.Landings.{todo_behind}
+use Rattle.vs_process.specs.vs_flatcode.specs.declared.gait.Gait.{Gait}
+use Rattle.vs_process.specs.vs_flatcode.specs.declared.gait.Gait.TheVariants.{Fresh}
+use Rattle.vs_process.specs.vs_flatcode.specs.Places.{perform, turns, Todo, active_at, going, inactive, sleeping, stepped_gait}
+use Rattle.vs_process.specs.vs_flatcode.specs.Steps.{Next, on, after, wait, Out, assignment, step, statement_step}
 use Rattle.vs_process.proofs.Lists.{all_slice}
 use Rattle.vs_process.specs.States.{place_behind}
 use Rattle.vs_process.proofs.WellFormed.{is_sound_place, is_sound_todo, opened, sound_flat, sound_next, sound_out, sound_place_behind}

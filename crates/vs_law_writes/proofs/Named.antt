@@ -12,11 +12,11 @@ use Rattle.vs_design.specs.declared.statement.Target.{Target}
 use Rattle.vs_design.specs.Stores.{Store}
 use Rattle.vs_design.specs.Uses.{covers, is_of, writes}
 use Rattle.vs_design.specs.Writes.{Write}
-use Rattle.vs_eval.specs.Values.{target_value}
-use Rattle.vs_eval.proofs.WritesHold.{parts_keep}
-use Rattle.vs_flatcode.specs.Places.{Item, perform, turns, Todo}
-use Rattle.vs_flatcode.specs.Landings.{todo_behind}
-use Rattle.vs_flatcode.specs.Steps.{Out, assignment, step, statement_step}
+use Rattle.vs_process.specs.vs_eval.specs.Values.{target_value}
+use Rattle.vs_process.specs.vs_eval.proofs.WritesHold.{parts_keep}
+use Rattle.vs_process.specs.vs_flatcode.specs.Places.{Item, perform, turns, Todo}
+use Rattle.vs_process.specs.vs_flatcode.specs.Landings.{todo_behind}
+use Rattle.vs_process.specs.vs_flatcode.specs.Steps.{Out, assignment, step, statement_step}
 use Rattle.vs_process.proofs.Ranges.{assigned_names}
 use Rattle.vs_law_writes.specs.Laws.{AllAreThere, IsLeft, start, behind, LiesIn, LiesInOne, NoneIsAdded, ProcessesWriteWhatIsNamed, UpdatesAreNamed, WritesAreNamed}
 use Rattle.vs_law_writes.specs.Writes.{item_writes, statement_writes, todo_writes}

@@ -5,7 +5,7 @@ use Rattle.std.specs.declared.vec.Vec.{Vec}
 use Rattle.std.specs.declared.alloc.Global.{Global}
 use Rattle.std.proofs.lemmas.Bool.{cond_both}
 use Rattle.std.proofs.lemmas.List.{append-nil}
-use Rattle.vs_logic4.specs.Comparisons.{truth}
+use Rattle.vs_design.specs.vs_logic4.specs.Comparisons.{truth}
 use Rattle.vs_design.specs.declared.expression.Typed.{Typed}
 use Rattle.vs_design.specs.declared.range.BitRange.{BitRange}
 use Rattle.vs_design.specs.declared.statement.Statement.{Statement}
@@ -15,12 +15,12 @@ use Rattle.vs_design.specs.declared.statement.Statement.TheOpen.{Statement-F}
 use Rattle.vs_design.specs.declared.statement.Statement.TheFolds.{fold-roll-Statement, fold_out-Statement, ind-Statement, map-Statement}
 use Rattle.vs_design.specs.Stores.{Store}
 use Rattle.vs_design.specs.Uses.{joined}
-use Rattle.vs_eval.specs.Values.{value_of}
-use Rattle.vs_flatcode.specs.Drafts.{flat_all, is_block}
-use Rattle.vs_flatcode.specs.Landings.{todo_behind}
-use Rattle.vs_flatcode.specs.Places.{perform, turns, Todo, flat}
-use Rattle.vs_flatcode.specs.Steps.{step, statement_step, first_of, flat_item, is_default, item_matches, repeated, turns_for}
-use Rattle.vs_flatcode.proofs.Shapes.{flat-Block, flat-rolled}
+use Rattle.vs_process.specs.vs_eval.specs.Values.{value_of}
+use Rattle.vs_process.specs.vs_flatcode.specs.Drafts.{flat_all, is_block}
+use Rattle.vs_process.specs.vs_flatcode.specs.Landings.{todo_behind}
+use Rattle.vs_process.specs.vs_flatcode.specs.Places.{perform, turns, Todo, flat}
+use Rattle.vs_process.specs.vs_flatcode.specs.Steps.{step, statement_step, first_of, flat_item, is_default, item_matches, repeated, turns_for}
+use Rattle.vs_process.specs.vs_flatcode.proofs.Shapes.{flat-Block, flat-rolled}
 use Rattle.vs_process.proofs.WellFormed.{branch_each}
 use Rattle.vs_law_writes.specs.Writes.{item_writes, statement_writes, statement_writes_step, todo_writes}
 use Rattle.vs_law_writes.proofs.Among.{Among, both_among, left_of, right_of, same_among}

@@ -1,7 +1,7 @@
 -- That a process writes what its statements name.
 use Rattle.std.specs.Prelude.{ℕ, ◌≡◌, false, Some, List, [], slice_get}
 use Rattle.std.specs.List.{All, Contains, list_any}
-use Rattle.vs_logic4.specs.declared.digit.Digit.{Digit}
+use Rattle.vs_design.specs.vs_logic4.specs.declared.digit.Digit.{Digit}
 use Rattle.vs_design.specs.declared.design.Assign.{Assign}
 use Rattle.vs_design.specs.declared.design.Process.{Process}
 use Rattle.vs_design.specs.declared.range.BitRange.{BitRange}
@@ -11,11 +11,11 @@ use Rattle.vs_design.specs.Stores.{Store, put}
 use Rattle.vs_design.specs.Uses.{covers, is_of}
 use Rattle.vs_design.specs.WellFormed.{WellFormed}
 use Rattle.vs_design.specs.Writes.{Write, names}
-use Rattle.vs_eval.specs.Laws.{digit_of}
-use Rattle.vs_eval.specs.Targets.{assigned}
-use Rattle.vs_flatcode.specs.Landings.{todo_behind}
-use Rattle.vs_flatcode.specs.Places.{Item, Todo, flat}
-use Rattle.vs_flatcode.specs.Steps.{step}
+use Rattle.vs_process.specs.vs_eval.specs.Laws.{digit_of}
+use Rattle.vs_process.specs.vs_eval.specs.Targets.{assigned}
+use Rattle.vs_process.specs.vs_flatcode.specs.Landings.{todo_behind}
+use Rattle.vs_process.specs.vs_flatcode.specs.Places.{Item, Todo, flat}
+use Rattle.vs_process.specs.vs_flatcode.specs.Steps.{step}
 use Rattle.vs_law_writes.specs.Writes.{item_writes, statement_writes, todo_writes}
 
 -- a write lies in ranges

@@ -9,7 +9,7 @@ use Rattle.vs_design.specs.declared.statement.Statement.TheOpen.{Statement-F}
 use Rattle.vs_design.specs.declared.statement.Statement.TheOpen as f
 use Rattle.vs_design.specs.declared.statement.Statement.TheFolds.{fold-Statement}
 use Rattle.vs_design.specs.Uses.{joined, writes}
-use Rattle.vs_flatcode.specs.Places.{Item, perform, turns, Todo}
+use Rattle.vs_process.specs.vs_flatcode.specs.Places.{Item, perform, turns, Todo}
 
 -- one layer of a statement: the ranges that it can write, with those of each inner statement in its place
 abbrev pub statement_writes_step : Statement-F (List BitRange) → List BitRange

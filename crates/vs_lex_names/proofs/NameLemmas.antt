@@ -2,13 +2,13 @@
 use Rattle.std.proofs.Common.{◌≡◌, ℕ, Bool, true, false, nat_eq, if◌then◌else◌, List, [], ◌∷◌, Option, Some, None, refl, subst, arith}
 use Rattle.std.proofs.lemmas.Bool.{and_parts, and_from, ne_eqb}
 use Rattle.std.specs.List.{list_all}
-use Rattle.vs_lex_tokens.specs.declared.piece.Piece.{Piece}
-use Rattle.vs_lex_tokens.specs.declared.piece.Piece.TheVariants.{Skipped, Token, Refused}
-use Rattle.vs_lex_tokens.specs.declared.token.Kind.{Kind}
-use Rattle.vs_lex_tokens.specs.declared.token.Kind.TheVariants as k
-use Rattle.vs_lex_tokens.specs.Bytes.{starts_name, in_name, in_escaped}
-use Rattle.vs_lex_tokens.specs.Forms.{run_of}
-use Rattle.vs_lex_tokens.specs.Tokens.{Lexeme, name_of}
+use Rattle.vs_lexer.specs.vs_lex_tokens.specs.declared.piece.Piece.{Piece}
+use Rattle.vs_lexer.specs.vs_lex_tokens.specs.declared.piece.Piece.TheVariants.{Skipped, Token, Refused}
+use Rattle.vs_lexer.specs.vs_lex_tokens.specs.declared.token.Kind.{Kind}
+use Rattle.vs_lexer.specs.vs_lex_tokens.specs.declared.token.Kind.TheVariants as k
+use Rattle.vs_lexer.specs.vs_lex_tokens.specs.Bytes.{starts_name, in_name, in_escaped}
+use Rattle.vs_lexer.specs.vs_lex_tokens.specs.Forms.{run_of}
+use Rattle.vs_lexer.specs.vs_lex_tokens.specs.Tokens.{Lexeme, name_of}
 use Rattle.vs_lexer.specs.Pieces.{name_piece, escaped_piece, piece_of}
 use Rattle.vs_lexer.specs.Spelling.{Spells, ends, skips, reads}
 use Rattle.vs_lexer.proofs.Forms.{by_form}

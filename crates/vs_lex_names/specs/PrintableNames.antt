@@ -1,10 +1,10 @@
 -- Names can be printed (IEEE 1364-2005, clauses 3.7 and 3.7.1).
 use Rattle.std.specs.Prelude.{ℕ, Bool, true, false, List, [], ◌∷◌}
 use Rattle.std.specs.List.{list_all}
-use Rattle.vs_lex_tokens.specs.declared.token.Kind.{Kind}
-use Rattle.vs_lex_tokens.specs.declared.token.Kind.TheVariants as k
-use Rattle.vs_lex_tokens.specs.Bytes.{in_escaped}
-use Rattle.vs_lex_tokens.specs.Tokens.{Lexeme, name_of}
+use Rattle.vs_lexer.specs.vs_lex_tokens.specs.declared.token.Kind.{Kind}
+use Rattle.vs_lexer.specs.vs_lex_tokens.specs.declared.token.Kind.TheVariants as k
+use Rattle.vs_lexer.specs.vs_lex_tokens.specs.Bytes.{in_escaped}
+use Rattle.vs_lexer.specs.vs_lex_tokens.specs.Tokens.{Lexeme, name_of}
 
 -- whether these bytes, where they are a name, stand for one that passes (clauses 3.7 and 3.7.1)
 abbrev pub name_passes : (List ℕ → Bool) → Kind → List ℕ → Bool

@@ -2,7 +2,7 @@
 ghost use Rattle.std.specs.Prelude.{ℕ, ◌≡◌, true, List};
 ghost use Rattle.std.specs.List.{list_all};
 ghost use Rattle.vs_lexer.specs.Spelling.{IsSpelled};
-ghost use Rattle.vs_lex_tokens.specs.Tokens.{Lexeme};
+ghost use Rattle.vs_lexer.specs.vs_lex_tokens.specs.Tokens.{Lexeme};
 ghost use Rattle.vs_lex_names.specs.PrintableNames.{is_printable_name, token_passes};
 
 /// Each name that a source spells has a byte, and its bytes are printable and no white space.

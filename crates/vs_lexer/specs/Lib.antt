@@ -13,3 +13,4 @@ pub mod Pieces
 pub mod Reserved
 pub mod Spelling
 pub mod Taking
+pub use Rattle.vs_lex_tokens

@@ -2,10 +2,10 @@
 use Rattle.std.specs.Prelude.{◌≡◌, ℕ, ◌==◌, Bool, true, false, ◌&&◌, ◌||◌, List, [], ◌∷◌, Option, None, Some, refl}
 use Rattle.std.proofs.Common.{sym, ◌∙◌, ap}
 use Rattle.std.proofs.lemmas.Bool.{eqb-true}
-use Rattle.vs_logic4.specs.declared.operators.Unary.{Unary}
-use Rattle.vs_logic4.specs.declared.operators.Binary.{Binary}
-use Rattle.vs_lex_tokens.specs.declared.token.Mark.{Mark}
-use Rattle.vs_lex_tokens.specs.declared.token.Mark.TheVariants as m
+use Rattle.vs_syntax.specs.vs_logic4.specs.declared.operators.Unary.{Unary}
+use Rattle.vs_syntax.specs.vs_logic4.specs.declared.operators.Binary.{Binary}
+use Rattle.vs_syntax.specs.vs_lex_tokens.specs.declared.token.Mark.{Mark}
+use Rattle.vs_syntax.specs.vs_lex_tokens.specs.declared.token.Mark.TheVariants as m
 use Rattle.vs_syntax.specs.Symbols.{Symbol, a_mark, the_mark, same_class, first}
 use Rattle.vs_syntax.specs.Grammar.{mark, levels, level_at}
 use Rattle.vs_syntax.specs.Tables.{mark_fronts, operand_fronts, among, goes}
@@ -13,7 +13,7 @@ use Rattle.vs_syntax.specs.Views.{unary_mark, binary_mark}
 use Rattle.vs_syntax.proofs.Fronts.{clash}
 use Rattle.std.proofs.lemmas.Bool.{or_parts as or_false}
 use Rattle.vs_syntax.proofs.Least.{row_passes}
-use Rattle.vs_logic4.proofs.Basics.{and_left, and_right}
+use Rattle.vs_syntax.specs.vs_logic4.proofs.Basics.{and_left, and_right}
 use Rattle.vs_syntax.proofs.Plainly.{same_class-true}
 use Rattle.vs_parse_expressions.specs.Operators.{unary_of, binary_of, NoOperator, BeginsLink}
 

@@ -2,13 +2,13 @@
 use Rattle.std.specs.Prelude.{◌≡◌, ℕ, Bool, true, false, not, ◌&&◌, ◌∷◌, if◌then◌else◌, List, [], refl}
 use Rattle.std.proofs.Common.{sym, ◌∙◌, ap}
 use Rattle.std.specs.Str.{bytes_eq}
-use Rattle.vs_lex_tokens.specs.declared.token.Kind.{Kind}
-use Rattle.vs_lex_tokens.specs.declared.token.Kind.TheVariants as k
-use Rattle.vs_lex_tokens.specs.declared.token.Literal.{Literal}
-use Rattle.vs_lex_tokens.specs.declared.token.Mark.{Mark}
-use Rattle.vs_lex_tokens.specs.declared.token.Token.{Token}
-use Rattle.vs_lex_tokens.specs.declared.token.Word.{Word}
-use Rattle.vs_lexer.specs.Tokens.{name_of}
+use Rattle.vs_syntax.specs.vs_lex_tokens.specs.declared.token.Kind.{Kind}
+use Rattle.vs_syntax.specs.vs_lex_tokens.specs.declared.token.Kind.TheVariants as k
+use Rattle.vs_syntax.specs.vs_lex_tokens.specs.declared.token.Literal.{Literal}
+use Rattle.vs_syntax.specs.vs_lex_tokens.specs.declared.token.Mark.{Mark}
+use Rattle.vs_syntax.specs.vs_lex_tokens.specs.declared.token.Token.{Token}
+use Rattle.vs_syntax.specs.vs_lex_tokens.specs.declared.token.Word.{Word}
+use Rattle.vs_syntax.specs.vs_lexer.specs.Tokens.{name_of}
 use Rattle.vs_syntax.specs.Symbols.{Symbol, a_name, a_number, Class, the_mark, the_word, any_name, any_number, any_other, class_of, system_names, symbol_named, system_symbol, symbol_of, same_class}
 use Rattle.vs_syntax.specs.Grammar.{token, name, number}
 use Rattle.vs_syntax.specs.Tables.{goes}
@@ -16,7 +16,7 @@ use Rattle.vs_syntax.specs.Derivation.{leaf}
 use Rattle.vs_syntax.specs.Reading.{Gets}
 use Rattle.vs_syntax.proofs.Gets.{gets_token}
 use Rattle.vs_syntax.proofs.Least.{not_true}
-use Rattle.vs_logic4.proofs.Basics.{and_left, and_right}
+use Rattle.vs_syntax.specs.vs_logic4.proofs.Basics.{and_left, and_right}
 use Rattle.vs_parse_expressions.specs.Answers.{seen}
 
 -- the first token's symbol is the first of the symbols

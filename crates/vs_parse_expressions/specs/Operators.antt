@@ -1,11 +1,11 @@
 -- The operators of expressions, by their marks (IEEE 1364-2005, clauses 5.1 and 5.1.2).
 use Rattle.std.specs.Prelude.{◌≡◌, ℕ, true, false, List, ◌∷◌, Option, None, Some}
-use Rattle.vs_logic4.specs.declared.operators.Unary.{Unary}
-use Rattle.vs_logic4.specs.declared.operators.Unary.TheVariants as u
-use Rattle.vs_logic4.specs.declared.operators.Binary.{Binary}
-use Rattle.vs_logic4.specs.declared.operators.Binary.TheVariants as b
-use Rattle.vs_lex_tokens.specs.declared.token.Mark.{Mark}
-use Rattle.vs_lex_tokens.specs.declared.token.Mark.TheVariants as m
+use Rattle.vs_syntax.specs.vs_logic4.specs.declared.operators.Unary.{Unary}
+use Rattle.vs_syntax.specs.vs_logic4.specs.declared.operators.Unary.TheVariants as u
+use Rattle.vs_syntax.specs.vs_logic4.specs.declared.operators.Binary.{Binary}
+use Rattle.vs_syntax.specs.vs_logic4.specs.declared.operators.Binary.TheVariants as b
+use Rattle.vs_syntax.specs.vs_lex_tokens.specs.declared.token.Mark.{Mark}
+use Rattle.vs_syntax.specs.vs_lex_tokens.specs.declared.token.Mark.TheVariants as m
 use Rattle.vs_syntax.specs.Symbols.{Symbol, a_mark, the_mark, first}
 use Rattle.vs_syntax.specs.Grammar.{levels, level_at}
 use Rattle.vs_syntax.specs.Tables.{mark_fronts, among}

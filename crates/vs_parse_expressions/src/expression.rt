@@ -1,6 +1,6 @@
 //! Reading expressions.
 ghost use Rattle.std.specs.Prelude.{◌≡◌, [], ℕ, suc, ◌∷◌, map, IfOk};
-ghost use Rattle.vs_lex_tokens.specs.declared.token.Mark.TheVariants as m;
+ghost use Rattle.vs_syntax.specs.vs_lex_tokens.specs.declared.token.Mark.TheVariants as m;
 ghost use Rattle.vs_syntax.specs.Symbols.{a_mark, a_cast, any_name, any_number, first};
 ghost use Rattle.vs_syntax.specs.Grammar.{◌·◌, part, many, mark, a_level, a_condition, an_expr, an_operand, other_parts, select};
 ghost use Rattle.vs_syntax.specs.Derivation.{leaf, both, height};
@@ -13,8 +13,8 @@ use crate::operator::{LEVELS, binary_at};
 use crate::reading::{Parsed, ReadFault};
 use crate::token::{expect_mark, expect_name, literal, mark_at, next, part_select_at};
 use std::alloc::{AllocError, Global};
-use vs_lexer::{Mark, Token};
-use vs_logic4::Unary;
+use vs_syntax::vs_lexer::{Mark, Token};
+use vs_syntax::vs_logic4::Unary;
 use vs_syntax::{Expr, PartSelect};
 
 /// An expression that was read: its syntax tree, its nesting (in nodes), and the tokens behind it.

@@ -8,8 +8,8 @@ ghost use Rattle.vs_parse_expressions.specs.Heads.{BeginsOperand, BeginsTarget};
 
 use crate::operator::unary;
 use crate::token::{SystemName, next, spelled, system_name};
-use vs_lexer::{Kind, Mark, Token};
-use vs_logic4::Unary;
+use vs_syntax::vs_lexer::{Kind, Mark, Token};
+use vs_syntax::vs_logic4::Unary;
 
 /// What an operand begins with, and mostly the tokens behind that.
 #[derive(Drop)]

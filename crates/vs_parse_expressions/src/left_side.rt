@@ -1,6 +1,6 @@
 //! Reading the left sides of assignments.
 ghost use Rattle.std.specs.Prelude.{◌≡◌, ◌∷◌, map};
-ghost use Rattle.vs_lex_tokens.specs.declared.token.Mark.TheVariants as m;
+ghost use Rattle.vs_syntax.specs.vs_lex_tokens.specs.declared.token.Mark.TheVariants as m;
 ghost use Rattle.vs_syntax.specs.Symbols.{a_mark, any_name, first};
 ghost use Rattle.vs_syntax.specs.Grammar.{part, many, select, a_target};
 ghost use Rattle.vs_syntax.specs.Views.{row_of, chosen_tree, left_tree};
@@ -11,7 +11,7 @@ use crate::head::{LeftHead, left_head};
 use crate::reading::{Parsed, ReadFault};
 use crate::token::{expect_mark, expect_name, mark_at};
 use std::alloc::Global;
-use vs_lexer::{Mark, Token};
+use vs_syntax::vs_lexer::{Mark, Token};
 use vs_syntax::{Expr, Left, PartSelect};
 
 /// Reads the left side of an assignment, in at most `depth` nodes below one another.

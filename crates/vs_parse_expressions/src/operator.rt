@@ -4,8 +4,8 @@ ghost use Rattle.vs_parse_expressions.specs.Answers.{seen};
 ghost use Rattle.vs_parse_expressions.specs.Operators.{unary_of, binary_of, NoOperator, BeginsLink};
 
 use crate::token::next_mark;
-use vs_lexer::{Mark, Token};
-use vs_logic4::{Binary, Unary};
+use vs_syntax::vs_lexer::{Mark, Token};
+use vs_syntax::vs_logic4::{Binary, Unary};
 
 /// How many levels operators between operands have (IEEE 1364-2005, clause 5.1.2).
 pub(crate) const LEVELS: usize = 10;

@@ -3,7 +3,7 @@ ghost use Rattle.std.specs.Prelude.{◌≡◌};
 ghost use Rattle.vs_parse_expressions.specs.declared.reading.ReadFault.TheVariants.{Memory};
 
 use std::alloc::{AllocError, AllocFailed};
-use vs_lexer::Token;
+use vs_syntax::vs_lexer::Token;
 
 /// A part that was read: its syntax tree, and the tokens behind it.
 #[derive(Drop)]

@@ -1,7 +1,7 @@
 //! Reading single tokens.
 ghost use Rattle.std.specs.Prelude.{◌≡◌, ℕ, List, [], ◌∷◌, false, MatchOption};
-ghost use Rattle.vs_lex_tokens.specs.declared.token.Kind.TheVariants as k;
-ghost use Rattle.vs_lex_tokens.specs.declared.token.Mark.{Mark};
+ghost use Rattle.vs_syntax.specs.vs_lex_tokens.specs.declared.token.Kind.TheVariants as k;
+ghost use Rattle.vs_syntax.specs.vs_lex_tokens.specs.declared.token.Mark.{Mark};
 ghost use Rattle.vs_syntax.specs.Symbols.{a_mark, a_word, spelled, system_symbol};
 ghost use Rattle.vs_syntax.specs.Grammar.{mark, word, name, part_marks};
 ghost use Rattle.vs_syntax.specs.Tables.{goes};
@@ -12,7 +12,7 @@ ghost use Rattle.vs_parse_expressions.specs.Heads.{NoNumber, system_spelled};
 
 use crate::reading::ReadFault;
 use std::alloc::Global;
-use vs_lexer::{Kind, Literal, Mark, Token, Word};
+use vs_syntax::vs_lexer::{Kind, Literal, Mark, Token, Word};
 use vs_syntax::{DumpTask, PartSelect, PrintTask};
 
 /// The name of the conversion to signed (IEEE 1364-2005, clause 5.5).

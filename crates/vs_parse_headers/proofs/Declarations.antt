@@ -1,9 +1,9 @@
 -- How the parts of declarations and net assignments make them, and where they stop.
 use Rattle.std.specs.Prelude.{◌≡◌, ℕ, ◌≤◌, Bool, false, List, ◌∷◌, Option, None, Some, Result, Ok, Err, refl}
 use Rattle.std.proofs.Common.{sym, subst, arith}
-use Rattle.vs_lex_tokens.specs.declared.token.Token.{Token}
-use Rattle.vs_lex_tokens.specs.declared.token.Mark.TheVariants as m
-use Rattle.vs_lex_tokens.specs.declared.token.Word.TheVariants as w
+use Rattle.vs_syntax.specs.vs_lex_tokens.specs.declared.token.Token.{Token}
+use Rattle.vs_syntax.specs.vs_lex_tokens.specs.declared.token.Mark.TheVariants as m
+use Rattle.vs_syntax.specs.vs_lex_tokens.specs.declared.token.Word.TheVariants as w
 use Rattle.vs_syntax.specs.Symbols.{Symbol, a_mark, a_word, class_of}
 use Rattle.vs_syntax.specs.Grammar.{Nonterminal, Grammar, nothing, token, ◌·◌, ◌or◌, part, mark, word, range, form, parameter_form, an_expr, rule}
 use Rattle.vs_syntax.specs.Tables.{low, goes}
@@ -12,10 +12,10 @@ use Rattle.vs_syntax.specs.Reading.{Gets, Stuck, stuck_second, stuck_left, stuck
 use Rattle.vs_syntax.specs.Views.{range_tree, told_tree}
 use Rattle.vs_syntax.specs.declared.tree.Range.{Range}
 use Rattle.vs_syntax.proofs.Gets.{gets_token, gets_seq, gets_left, gets_right, gets_part}
-use Rattle.vs_parse_expressions.specs.declared.reading.Parsed.{Parsed}
-use Rattle.vs_parse_expressions.specs.declared.reading.ReadFault.{ReadFault}
-use Rattle.vs_parse_expressions.specs.Answers.{seen, ReadsTree}
-use Rattle.vs_parse_expressions.proofs.Exits.{fails_by}
+use Rattle.vs_parse_lists.specs.vs_parse_expressions.specs.declared.reading.Parsed.{Parsed}
+use Rattle.vs_parse_lists.specs.vs_parse_expressions.specs.declared.reading.ReadFault.{ReadFault}
+use Rattle.vs_parse_lists.specs.vs_parse_expressions.specs.Answers.{seen, ReadsTree}
+use Rattle.vs_parse_lists.specs.vs_parse_expressions.proofs.Exits.{fails_by}
 use Rattle.vs_parse_lists.specs.Parts.{ReadsWithin, Beyond}
 use Rattle.vs_parse_lists.proofs.Forms.{present_stuck, present_read}
 use Rattle.vs_parse_lists.proofs.Parts.{beyond_fails}

@@ -1,8 +1,8 @@
 -- How the parts of instances make them, and where they stop.
 use Rattle.std.specs.Prelude.{◌≡◌, ℕ, ◌≤◌, Bool, true, false, List, ◌∷◌, Result, Ok, Err, refl}
 use Rattle.std.proofs.Common.{ap, arith}
-use Rattle.vs_lex_tokens.specs.declared.token.Mark.TheVariants as m
-use Rattle.vs_lex_tokens.specs.declared.token.Token.{Token}
+use Rattle.vs_syntax.specs.vs_lex_tokens.specs.declared.token.Mark.TheVariants as m
+use Rattle.vs_syntax.specs.vs_lex_tokens.specs.declared.token.Token.{Token}
 use Rattle.vs_syntax.specs.Symbols.{Symbol, a_mark, the_mark, first}
 use Rattle.vs_syntax.specs.Grammar.{Grammar, ◌·◌, part, mark, an_end, connections, a_connection, an_expr}
 use Rattle.vs_syntax.specs.Tables.{goes}
@@ -11,10 +11,10 @@ use Rattle.vs_syntax.specs.Reading.{Gets, Stuck, stuck_left, stuck_right}
 use Rattle.vs_syntax.specs.Views.{connections_tree}
 use Rattle.vs_syntax.specs.declared.tree.Connections.{Connections}
 use Rattle.vs_syntax.proofs.Gets.{gets_nothing, gets_left, gets_right}
-use Rattle.vs_parse_expressions.specs.declared.reading.Parsed.{Parsed}
-use Rattle.vs_parse_expressions.specs.declared.reading.ReadFault.{ReadFault}
-use Rattle.vs_parse_expressions.specs.Answers.{seen, ReadsTree}
-use Rattle.vs_parse_expressions.proofs.Exits.{fails_by, goes_at}
+use Rattle.vs_parse_lists.specs.vs_parse_expressions.specs.declared.reading.Parsed.{Parsed}
+use Rattle.vs_parse_lists.specs.vs_parse_expressions.specs.declared.reading.ReadFault.{ReadFault}
+use Rattle.vs_parse_lists.specs.vs_parse_expressions.specs.Answers.{seen, ReadsTree}
+use Rattle.vs_parse_lists.specs.vs_parse_expressions.proofs.Exits.{fails_by, goes_at}
 use Rattle.vs_parse_lists.specs.Lists.{behind_commas}
 
 -- connections in parentheses

@@ -4,9 +4,9 @@ use Rattle.std.proofs.Common.{sym, ◌∙◌, ap, subst, append_assoc, arith}
 use Rattle.std.proofs.lemmas.List.{append-nil, length-append}
 use Rattle.std.specs.declared.vec.Vec.{Vec}
 use Rattle.std.specs.declared.alloc.Global.{Global}
-use Rattle.vs_lex_tokens.specs.declared.token.Mark.TheVariants as m
-use Rattle.vs_lex_tokens.specs.declared.token.Word.TheVariants as w
-use Rattle.vs_lex_tokens.specs.declared.token.Token.{Token}
+use Rattle.vs_syntax.specs.vs_lex_tokens.specs.declared.token.Mark.TheVariants as m
+use Rattle.vs_syntax.specs.vs_lex_tokens.specs.declared.token.Word.TheVariants as w
+use Rattle.vs_syntax.specs.vs_lex_tokens.specs.declared.token.Token.{Token}
 use Rattle.vs_syntax.specs.Symbols.{Symbol, a_mark, a_word, the_mark, the_word, same_class, first}
 use Rattle.vs_syntax.specs.Grammar.{Grammar, nothing, either, ◌·◌, ◌or◌, part, mark, word, name, form, variable_kind, net_kind, direction, told_ports, net_ports, variable_ports, port_names, may_value, an_expr, rule}
 use Rattle.vs_syntax.specs.Tables.{among, fronts, low, goes}
@@ -24,10 +24,10 @@ use Rattle.vs_syntax.specs.declared.tree.Port.{Port}
 use Rattle.vs_syntax.proofs.Fronts.{goes-either}
 use Rattle.std.proofs.lemmas.Bool.{or_parts as or_false}
 use Rattle.vs_syntax.proofs.Gets.{gets_nothing, gets_token, gets_seq, gets_left, gets_right, gets_part}
-use Rattle.vs_parse_expressions.specs.declared.reading.Parsed.{Parsed}
-use Rattle.vs_parse_expressions.specs.declared.reading.ReadFault.{ReadFault}
-use Rattle.vs_parse_expressions.specs.Answers.{seen, FailsToRead, ReadsTree}
-use Rattle.vs_parse_expressions.proofs.Exits.{fails_by, goes_at}
+use Rattle.vs_parse_lists.specs.vs_parse_expressions.specs.declared.reading.Parsed.{Parsed}
+use Rattle.vs_parse_lists.specs.vs_parse_expressions.specs.declared.reading.ReadFault.{ReadFault}
+use Rattle.vs_parse_lists.specs.vs_parse_expressions.specs.Answers.{seen, FailsToRead, ReadsTree}
+use Rattle.vs_parse_lists.specs.vs_parse_expressions.proofs.Exits.{fails_by, goes_at}
 use Rattle.vs_parse_lists.specs.Parts.{Beyond, Leads}
 use Rattle.vs_parse_lists.proofs.Forms.{absent, present_stuck, present_read}
 use Rattle.vs_parse_lists.proofs.Parts.{beyond_part, beyond_behind, beyond_fails}

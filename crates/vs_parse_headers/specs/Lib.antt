@@ -1,1 +1,2 @@
 pub mod Ports
+pub use Rattle.vs_parse_lists.specs.vs_parse_expressions

@@ -1,16 +1,18 @@
 //! Reading declarations and net assignments.
-ghost use Rattle.vs_lex_tokens.specs.declared.token.Mark.TheVariants as m;
+ghost use Rattle.vs_syntax.specs.vs_lex_tokens.specs.declared.token.Mark.TheVariants as m;
 ghost use Rattle.vs_syntax.specs.Symbols.{a_mark};
 ghost use Rattle.vs_syntax.specs.Grammar.{part, a_net, a_variable, a_bare_name, an_assignment, an_expr};
 ghost use Rattle.vs_syntax.specs.Derivation.{leaf, both};
 ghost use Rattle.vs_syntax.specs.Views.{name_tree, declarator_tree, net_assignment_tree, bare_name_tree};
-ghost use Rattle.vs_parse_expressions.specs.Answers.{ReadsTree};
+ghost use Rattle.vs_parse_lists.specs.vs_parse_expressions.specs.Answers.{ReadsTree};
 ghost use Rattle.vs_parse_lists.specs.Parts.{ReadsWithin};
 
 use std::alloc::Global;
-use vs_lexer::{Mark, Token};
-use vs_parse_expressions::{Parsed, ReadFault, expect_mark, expect_name, expr, left, mark_at};
+use vs_parse_lists::vs_parse_expressions::{
+    Parsed, ReadFault, expect_mark, expect_name, expr, left, mark_at,
+};
 use vs_parse_lists::{Element, declared_range};
+use vs_syntax::vs_lexer::{Mark, Token};
 use vs_syntax::{Declarator, NetAssignment};
 
 /// A name of a declaration of nets.

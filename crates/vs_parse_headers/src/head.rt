@@ -1,15 +1,15 @@
 //! What is next in the header of a module.
 ghost use Rattle.std.specs.Prelude.{◌≡◌, ◌∷◌, false, MatchOption};
-ghost use Rattle.vs_lex_tokens.specs.declared.token.Word.TheVariants as w;
+ghost use Rattle.vs_syntax.specs.vs_lex_tokens.specs.declared.token.Word.TheVariants as w;
 ghost use Rattle.vs_syntax.specs.Symbols.{a_word};
 ghost use Rattle.vs_syntax.specs.Grammar.{◌or◌, word, name};
 ghost use Rattle.vs_syntax.specs.Tables.{goes};
 ghost use Rattle.vs_syntax.specs.Views.{direction_word};
-ghost use Rattle.vs_parse_expressions.specs.Answers.{seen};
+ghost use Rattle.vs_parse_lists.specs.vs_parse_expressions.specs.Answers.{seen};
 ghost use Rattle.vs_parse_headers.specs.Ports.{port_kind, kind_word};
 
-use vs_lexer::{Kind, Token, Word};
-use vs_parse_expressions::next;
+use vs_parse_lists::vs_parse_expressions::next;
+use vs_syntax::vs_lexer::{Kind, Token, Word};
 use vs_syntax::{Direction, PortKind};
 
 /// Whether a name is next.

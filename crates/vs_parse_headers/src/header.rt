@@ -2,23 +2,23 @@
 ghost use Rattle.std.specs.Prelude.{◌≡◌, ◌≤◌, [], ◌∷◌, map, MatchResult};
 ghost use Rattle.std.specs.declared.vec.Vec.{Vec};
 ghost use Rattle.std.specs.declared.alloc.Global.{Global};
-ghost use Rattle.vs_lex_tokens.specs.declared.token.Mark.TheVariants as m;
-ghost use Rattle.vs_lex_tokens.specs.declared.token.Word.TheVariants as w;
+ghost use Rattle.vs_syntax.specs.vs_lex_tokens.specs.declared.token.Mark.TheVariants as m;
+ghost use Rattle.vs_syntax.specs.vs_lex_tokens.specs.declared.token.Word.TheVariants as w;
 ghost use Rattle.vs_syntax.specs.Symbols.{a_mark, a_word};
 ghost use Rattle.vs_syntax.specs.Grammar.{◌·◌, ◌or◌, nothing, part, mark, word, parameter_form, a_constant, a_header_parameter};
 ghost use Rattle.vs_syntax.specs.Grammar as g;
 ghost use Rattle.vs_syntax.specs.Tables.{low};
 ghost use Rattle.vs_syntax.specs.Derivation.{leaf, both};
 ghost use Rattle.vs_syntax.specs.Views.{parameter_word_tree, header_parameter_tree, header_parameters_tree};
-ghost use Rattle.vs_parse_expressions.specs.Answers.{seen, FailsToRead, ReadsTree};
+ghost use Rattle.vs_parse_lists.specs.vs_parse_expressions.specs.Answers.{seen, FailsToRead, ReadsTree};
 ghost use Rattle.vs_parse_lists.specs.Lists.{behind_commas, Grown};
 ghost use Rattle.vs_parse_lists.specs.Parts.{ReadsWithin};
 
 use crate::parameter::{ParameterList, parameter_form};
 use std::alloc::Global;
-use vs_lexer::{Mark, Token, Word};
-use vs_parse_expressions::{Parsed, ReadFault, expect_mark, mark_at, word_at};
+use vs_parse_lists::vs_parse_expressions::{Parsed, ReadFault, expect_mark, mark_at, word_at};
 use vs_parse_lists::{Element, ended, others};
+use vs_syntax::vs_lexer::{Mark, Token, Word};
 use vs_syntax::{HeaderParameter, ParameterForm};
 
 /// A parameter in the header of a module behind the first one.

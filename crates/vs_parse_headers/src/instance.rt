@@ -1,21 +1,21 @@
 //! Reading instances of modules.
 ghost use Rattle.std.specs.Prelude.{◌≤◌, map};
-ghost use Rattle.vs_lex_tokens.specs.declared.token.Mark.TheVariants as m;
+ghost use Rattle.vs_syntax.specs.vs_lex_tokens.specs.declared.token.Mark.TheVariants as m;
 ghost use Rattle.vs_syntax.specs.Symbols.{a_mark};
 ghost use Rattle.vs_syntax.specs.Grammar.{◌·◌, ◌or◌, nothing, part, mark, an_end, connections, a_connection, an_instance};
 ghost use Rattle.vs_syntax.specs.Grammar as g;
 ghost use Rattle.vs_syntax.specs.Tables.{low};
 ghost use Rattle.vs_syntax.specs.Derivation.{leaf, both};
 ghost use Rattle.vs_syntax.specs.Views.{listed_tree, end_tree, connection_tree, connections_tree, overrides_tree, instance_tree};
-ghost use Rattle.vs_parse_expressions.specs.Answers.{ReadsTree};
+ghost use Rattle.vs_parse_lists.specs.vs_parse_expressions.specs.Answers.{ReadsTree};
 ghost use Rattle.vs_parse_lists.specs.Lists.{behind_commas};
 
 use std::alloc::Global;
-use vs_lexer::{Mark, Token};
-use vs_parse_expressions::{
+use vs_parse_lists::vs_parse_expressions::{
     Parsed, ReadFault, begins_expr, expect_mark, expect_name, expr, mark_at,
 };
 use vs_parse_lists::{Element, ended, listed, others};
+use vs_syntax::vs_lexer::{Mark, Token};
 use vs_syntax::{Connection, Connections, Expr, Instance};
 
 /// A connection by name.

@@ -13,3 +13,4 @@ pub use header::header_parameters;
 pub use instance::instances;
 pub use parameter::parameters;
 pub use port::{declared_ports, header_ports};
+pub use vs_parse_lists::vs_parse_expressions;

@@ -3,12 +3,14 @@ ghost use Rattle.std.specs.Prelude.{map};
 ghost use Rattle.vs_syntax.specs.Grammar.{◌·◌, part, a_constant};
 ghost use Rattle.vs_syntax.specs.Grammar as g;
 ghost use Rattle.vs_syntax.specs.Views.{constant_tree, constants_tree, parameter_form_tree};
-ghost use Rattle.vs_parse_expressions.specs.Answers.{ReadsTree};
+ghost use Rattle.vs_parse_lists.specs.vs_parse_expressions.specs.Answers.{ReadsTree};
 
 use std::alloc::Global;
-use vs_lexer::{Mark, Token, Word};
-use vs_parse_expressions::{Parsed, ReadFault, expect_mark, expect_name, expr, word_at};
+use vs_parse_lists::vs_parse_expressions::{
+    Parsed, ReadFault, expect_mark, expect_name, expr, word_at,
+};
 use vs_parse_lists::{Element, declared_form, listed};
+use vs_syntax::vs_lexer::{Mark, Token, Word};
 use vs_syntax::{Constant, ParameterForm};
 
 /// A name of a declaration of parameters.

@@ -9,16 +9,16 @@ ghost use Rattle.vs_syntax.specs.Grammar as g;
 ghost use Rattle.vs_syntax.specs.Derivation.{both};
 ghost use Rattle.vs_syntax.specs.declared.tree.Port.{Port};
 ghost use Rattle.vs_syntax.specs.Views.{form_tree, listed_tree, bare_name_tree, value_tree, direction_word, kind_tree, ports_tree, header_ports_tree};
-ghost use Rattle.vs_parse_expressions.specs.Answers.{seen, FailsToRead, ReadsTree};
+ghost use Rattle.vs_parse_lists.specs.vs_parse_expressions.specs.Answers.{seen, FailsToRead, ReadsTree};
 ghost use Rattle.vs_parse_lists.specs.Parts.{Leads};
 ghost use Rattle.vs_parse_headers.specs.Ports.{behind_direction, ports_within, said_of, said_after, named_by, value_by, others_by, other_by, named_port_tree, IsKind, LeadsOn, LeadsToName, Followed};
 
 use crate::declaration::BareName;
 use crate::head::{begins_name, direction_at, kind_at};
 use std::alloc::Global;
-use vs_lexer::{Mark, Token};
-use vs_parse_expressions::{Parsed, ReadFault, expect_name, expr, mark_at};
+use vs_parse_lists::vs_parse_expressions::{Parsed, ReadFault, expect_name, expr, mark_at};
 use vs_parse_lists::{declared, declared_form, ended};
+use vs_syntax::vs_lexer::{Mark, Token};
 use vs_syntax::{Direction, Expr, Port, PortForm, PortKind};
 
 /// What the header says of a port: a name alone takes it over from the port before it (IEEE 1364-2005, clause 12.3.4).

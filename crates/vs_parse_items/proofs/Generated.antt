@@ -1,9 +1,9 @@
 -- How the parts of generate constructs make them, and where they stop.
 use Rattle.std.specs.Prelude.{◌≡◌, ℕ, ◌≤◌, Bool, true, false, List, ◌∷◌, Result, Ok, Err, refl}
 use Rattle.std.proofs.Common.{subst, sym, ◌∙◌, arith}
-use Rattle.vs_lex_tokens.specs.declared.token.Mark.TheVariants as m
-use Rattle.vs_lex_tokens.specs.declared.token.Token.{Token}
-use Rattle.vs_lex_tokens.specs.declared.token.Word.TheVariants as w
+use Rattle.vs_syntax.specs.vs_lex_tokens.specs.declared.token.Mark.TheVariants as m
+use Rattle.vs_syntax.specs.vs_lex_tokens.specs.declared.token.Token.{Token}
+use Rattle.vs_syntax.specs.vs_lex_tokens.specs.declared.token.Word.TheVariants as w
 use Rattle.vs_syntax.specs.Symbols.{Symbol, a_mark, a_word, Class, the_mark, the_word, same_class, first}
 use Rattle.vs_syntax.specs.Grammar.{Grammar, ◌·◌, many, part, mark, word, optional, named_value, a_generate_block, an_item, an_expr}
 use Rattle.vs_syntax.specs.Tables.{among, need, fronts_of, goes}
@@ -14,11 +14,11 @@ use Rattle.vs_syntax.specs.declared.tree.ModuleItem.{ModuleItem}
 use Rattle.vs_syntax.proofs.Fronts.{clash}
 use Rattle.std.proofs.lemmas.Bool.{or_parts as or_false}
 use Rattle.vs_syntax.proofs.Gets.{gets_token, gets_seq, gets_left, gets_right, gets_part, gets_present}
-use Rattle.vs_parse_expressions.specs.declared.reading.Parsed.{Parsed}
-use Rattle.vs_parse_expressions.specs.declared.reading.ReadFault.{ReadFault}
-use Rattle.vs_parse_expressions.specs.Answers.{seen, ReadsTree}
-use Rattle.vs_parse_expressions.proofs.Exits.{fails_by}
-use Rattle.vs_parse_lists.specs.Parts.{ReadsWithin, headed}
+use Rattle.vs_parse_headers.specs.vs_parse_expressions.specs.declared.reading.Parsed.{Parsed}
+use Rattle.vs_parse_headers.specs.vs_parse_expressions.specs.declared.reading.ReadFault.{ReadFault}
+use Rattle.vs_parse_headers.specs.vs_parse_expressions.specs.Answers.{seen, ReadsTree}
+use Rattle.vs_parse_headers.specs.vs_parse_expressions.proofs.Exits.{fails_by}
+use Rattle.vs_parse_statements.specs.vs_parse_lists.specs.Parts.{ReadsWithin, headed}
 use Rattle.vs_parse_items.specs.declared.head.GenerateWord.{GenerateWord}
 use Rattle.vs_parse_items.specs.Heads.{generate_word, construct_of}
 use Rattle.vs_parse_items.specs.Generated.{begun, block_rest}

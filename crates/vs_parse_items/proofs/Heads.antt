@@ -1,9 +1,9 @@
 -- How items are made of what they begin with and what stands behind it, and where they stop.
 use Rattle.std.specs.Prelude.{◌≡◌, ℕ, suc, ◌-◌, ◌<◌, ◌≤◌, Bool, true, List, ◌∷◌, Some, Result, Ok, Err, refl}
 use Rattle.std.proofs.Common.{ap, sym, subst, ◌∙◌, arith}
-use Rattle.vs_lex_tokens.specs.declared.token.Word.{Word}
-use Rattle.vs_lex_tokens.specs.declared.token.Word.TheVariants as w
-use Rattle.vs_lex_tokens.specs.declared.token.Token.{Token}
+use Rattle.vs_syntax.specs.vs_lex_tokens.specs.declared.token.Word.{Word}
+use Rattle.vs_syntax.specs.vs_lex_tokens.specs.declared.token.Word.TheVariants as w
+use Rattle.vs_syntax.specs.vs_lex_tokens.specs.declared.token.Token.{Token}
 use Rattle.vs_syntax.specs.Symbols.{Symbol, a_word, class_of, the_word, first}
 use Rattle.vs_syntax.specs.Grammar.{Grammar, part, items, an_item}
 use Rattle.vs_syntax.specs.Tables.{low, among, need, fronts_of, goes}
@@ -23,13 +23,13 @@ use Rattle.vs_parse_items.specs.declared.head.GenerateWord.{GenerateWord}
 use Rattle.vs_parse_items.specs.declared.head.GenerateWord.TheVariants as g
 use Rattle.vs_parse_items.specs.declared.head.DeclarationWord.{DeclarationWord}
 use Rattle.vs_parse_items.specs.declared.head.DeclarationWord.TheVariants as d
-use Rattle.vs_parse_expressions.specs.declared.reading.Parsed.{Parsed}
-use Rattle.vs_parse_expressions.specs.declared.reading.ReadFault.{ReadFault}
-use Rattle.vs_parse_expressions.specs.Answers.{seen, FailsToRead, ReadsTree}
-use Rattle.vs_parse_lists.specs.Parts.{Within, ReadsWithin, headed}
+use Rattle.vs_parse_headers.specs.vs_parse_expressions.specs.declared.reading.Parsed.{Parsed}
+use Rattle.vs_parse_headers.specs.vs_parse_expressions.specs.declared.reading.ReadFault.{ReadFault}
+use Rattle.vs_parse_headers.specs.vs_parse_expressions.specs.Answers.{seen, FailsToRead, ReadsTree}
+use Rattle.vs_parse_statements.specs.vs_parse_lists.specs.Parts.{Within, ReadsWithin, headed}
 use Rattle.vs_parse_items.specs.Heads.{word_of, generate_word, plain_symbol, symbol_of, declaration_of, construct_of, plain_body, body_of}
-use Rattle.vs_parse_expressions.proofs.Exits.{deep_at, fails_by, goes_at}
-use Rattle.vs_parse_expressions.proofs.Choices.{branch, choice_read, choice_stuck}
+use Rattle.vs_parse_headers.specs.vs_parse_expressions.proofs.Exits.{deep_at, fails_by, goes_at}
+use Rattle.vs_parse_headers.specs.vs_parse_expressions.proofs.Choices.{branch, choice_read, choice_stuck}
 use Rattle.vs_parse_items.proofs.Trees.{tree_Plain}
 
 -- each declaration, by its word

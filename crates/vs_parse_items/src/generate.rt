@@ -1,26 +1,26 @@
 //! Reading generate constructs and the items in them. What one form of them needs is never inlined, so that a level of nesting takes little
 //! stack.
 ghost use Rattle.std.specs.Prelude.{ℕ, map};
-ghost use Rattle.vs_lex_tokens.specs.declared.token.Mark.TheVariants as m;
-ghost use Rattle.vs_lex_tokens.specs.declared.token.Word.TheVariants as w;
+ghost use Rattle.vs_syntax.specs.vs_lex_tokens.specs.declared.token.Mark.TheVariants as m;
+ghost use Rattle.vs_syntax.specs.vs_lex_tokens.specs.declared.token.Word.TheVariants as w;
 ghost use Rattle.vs_syntax.specs.Symbols.{a_word, the_word};
 ghost use Rattle.vs_syntax.specs.Grammar.{Grammar, ◌·◌, many, part, mark, word, optional, guarded, named_value, generate_loop, generate_branches, block_name, a_generate_block, an_item};
 ghost use Rattle.vs_syntax.specs.Derivation.{both};
 ghost use Rattle.vs_syntax.specs.Views.{row_of, constant_tree, loop_tree, block_name_tree, module_item_tree};
-ghost use Rattle.vs_parse_expressions.specs.Answers.{seen, ReadsTree};
-ghost use Rattle.vs_parse_lists.specs.Parts.{ReadsWithin, Leads, headed, marked};
+ghost use Rattle.vs_parse_headers.specs.vs_parse_expressions.specs.Answers.{seen, ReadsTree};
+ghost use Rattle.vs_parse_statements.specs.vs_parse_lists.specs.Parts.{ReadsWithin, Leads, headed, marked};
 ghost use Rattle.vs_parse_items.specs.Heads.{BeginsItem};
 ghost use Rattle.vs_parse_items.specs.Generated.{boxed_item_tree, other_item_tree, begun, block_rest};
 
 use crate::head::{GenerateWord, ItemHead, item_head, least_item};
 use crate::item::plain_item;
 use std::alloc::Global;
-use vs_lexer::{Mark, Token, Word};
-use vs_parse_expressions::{
+use vs_parse_headers::vs_parse_expressions::{
     Parsed, ReadFault, expect_mark, expect_name, expect_word, expr, mark_at, word_at,
 };
-use vs_parse_lists::ended;
+use vs_parse_statements::vs_parse_lists::ended;
 use vs_parse_statements::{expr_until, guard};
+use vs_syntax::vs_lexer::{Mark, Token, Word};
 use vs_syntax::{Constant, LoopHeader, ModuleItem};
 
 /// Reads an item, behind whose first token `after` stands, in at most `depth` nodes below one another.

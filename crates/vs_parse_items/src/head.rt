@@ -3,12 +3,12 @@ ghost use Rattle.std.specs.Prelude.{◌≡◌, false, MatchOption};
 ghost use Rattle.vs_syntax.specs.Symbols.{a_word, the_word, class_of};
 ghost use Rattle.vs_syntax.specs.Grammar.{part, an_item};
 ghost use Rattle.vs_syntax.specs.Tables.{need, among, fronts_of, goes};
-ghost use Rattle.vs_parse_expressions.specs.Answers.{seen};
+ghost use Rattle.vs_parse_headers.specs.vs_parse_expressions.specs.Answers.{seen};
 ghost use Rattle.vs_parse_items.specs.Heads.{BeginsItem, symbol_of, plain_symbol};
 
-use vs_lexer::{Kind, Token, Word};
-use vs_parse_expressions::next;
+use vs_parse_headers::vs_parse_expressions::next;
 use vs_syntax::Direction;
+use vs_syntax::vs_lexer::{Kind, Token, Word};
 
 /// What an item begins with.
 #[derive(Clone, Copy)]

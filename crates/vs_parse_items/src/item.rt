@@ -3,19 +3,19 @@ ghost use Rattle.std.specs.Prelude.{◌≡◌, ◌≤◌, IfOk};
 ghost use Rattle.vs_syntax.specs.Symbols.{a_word};
 ghost use Rattle.vs_syntax.specs.Tables.{low};
 ghost use Rattle.vs_syntax.specs.Views.{item_symbol, body_tree, module_item_tree};
-ghost use Rattle.vs_parse_expressions.specs.Answers.{ReadsTree};
-ghost use Rattle.vs_parse_lists.specs.Parts.{ReadsWithin, headed};
+ghost use Rattle.vs_parse_headers.specs.vs_parse_expressions.specs.Answers.{ReadsTree};
+ghost use Rattle.vs_parse_statements.specs.vs_parse_lists.specs.Parts.{ReadsWithin, headed};
 ghost use Rattle.vs_parse_items.specs.Heads.{word_of, plain_symbol, declaration_of, plain_body};
 
 use crate::head::{DeclarationWord, PlainHead};
 use std::alloc::Global;
-use vs_lexer::Token;
-use vs_parse_expressions::{Parsed, ReadFault};
+use vs_parse_headers::vs_parse_expressions::{Parsed, ReadFault};
 use vs_parse_headers::{
     Assignment, BareName, Net, Variable, declared_ports, instances, parameters,
 };
-use vs_parse_lists::{declared, listed};
 use vs_parse_statements::stmt;
+use vs_parse_statements::vs_parse_lists::{declared, listed};
+use vs_syntax::vs_lexer::Token;
 use vs_syntax::{Item, ModuleItem};
 
 /// Reads what stands behind the first token of an item that is no generate construct, into an item of a module.

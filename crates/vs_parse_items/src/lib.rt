@@ -6,3 +6,5 @@ mod head;
 mod item;
 
 pub use generate::items;
+pub use vs_parse_headers;
+pub use vs_parse_headers::vs_parse_expressions;

@@ -1,7 +1,7 @@
 //! Reading what declarations say of their names.
 ghost use Rattle.std.specs.Prelude.{ℕ, ◌≤◌, map};
-ghost use Rattle.vs_lex_tokens.specs.declared.token.Mark.TheVariants as m;
-ghost use Rattle.vs_lex_tokens.specs.declared.token.Word.TheVariants as w;
+ghost use Rattle.vs_syntax.specs.vs_lex_tokens.specs.declared.token.Mark.TheVariants as m;
+ghost use Rattle.vs_syntax.specs.vs_lex_tokens.specs.declared.token.Word.TheVariants as w;
 ghost use Rattle.vs_syntax.specs.Grammar.{nothing, mark, word, ◌·◌, ◌or◌, form, range};
 ghost use Rattle.vs_syntax.specs.Tables.{low};
 ghost use Rattle.vs_syntax.specs.Derivation.{both};
@@ -12,8 +12,8 @@ ghost use Rattle.vs_parse_lists.specs.Lists.{behind_commas};
 
 use crate::list::{Element, ended, listed};
 use std::alloc::Global;
-use vs_lexer::{Mark, Token, Word};
 use vs_parse_expressions::{Parsed, ReadFault, expect_mark, expr, mark_at, word_at};
+use vs_syntax::vs_lexer::{Mark, Token, Word};
 use vs_syntax::{Form, Range};
 
 /// Reads what a declaration says of its names, and they, and the semicolon behind them, in at most `depth`

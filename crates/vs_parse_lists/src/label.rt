@@ -1,6 +1,6 @@
 //! Reading what stands before the statements of `case` items.
 ghost use Rattle.std.specs.Prelude.{◌≡◌, ◌≤◌, ◌∷◌, ℕ, false};
-ghost use Rattle.vs_lex_tokens.specs.declared.token.Word.TheVariants as w;
+ghost use Rattle.vs_syntax.specs.vs_lex_tokens.specs.declared.token.Word.TheVariants as w;
 ghost use Rattle.vs_syntax.specs.Symbols.{a_word};
 ghost use Rattle.vs_syntax.specs.Grammar.{part, word, a_stmt, a_case_item, an_expr};
 ghost use Rattle.vs_syntax.specs.Tables.{goes};
@@ -10,8 +10,8 @@ ghost use Rattle.vs_parse_lists.specs.Parts.{Beyond, Leads};
 
 use crate::list::{Element, ended, others};
 use std::alloc::Global;
-use vs_lexer::{Mark, Token, Word};
 use vs_parse_expressions::{Parsed, ReadFault, expr, mark_at, word_at};
+use vs_syntax::vs_lexer::{Mark, Token, Word};
 use vs_syntax::{CaseLabel, Expr};
 
 /// An expression in a list of them.

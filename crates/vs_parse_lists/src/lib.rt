@@ -13,3 +13,4 @@ pub use label::case_label;
 pub use list::{Element, ended, listed, others};
 pub use local::{BlockName, naming};
 pub use task::{dump_stmt, finish_stmt, print_stmt};
+pub use vs_parse_expressions;

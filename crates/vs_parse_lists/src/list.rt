@@ -1,6 +1,6 @@
 //! Reading lists with commas.
 ghost use Rattle.std.specs.Prelude.{◌≡◌, ◌≤◌, ℕ, map, MatchResult, IfOk};
-ghost use Rattle.vs_lex_tokens.specs.declared.token.Mark.TheVariants as m;
+ghost use Rattle.vs_syntax.specs.vs_lex_tokens.specs.declared.token.Mark.TheVariants as m;
 ghost use Rattle.vs_syntax.specs.Grammar.{Grammar, ◌·◌, mark};
 ghost use Rattle.vs_syntax.specs.Tables.{low};
 ghost use Rattle.vs_syntax.specs.Symbols.{a_mark};
@@ -10,8 +10,8 @@ ghost use Rattle.vs_parse_expressions.specs.Answers.{seen, Answers, FailsToRead,
 ghost use Rattle.vs_parse_lists.specs.Lists.{behind_commas, Grown};
 
 use std::alloc::Global;
-use vs_lexer::{Mark, Token};
 use vs_parse_expressions::{Parsed, ReadFault, expect_mark, mark_at};
+use vs_syntax::vs_lexer::{Mark, Token};
 
 /// What stands in a list with commas.
 pub trait Element {

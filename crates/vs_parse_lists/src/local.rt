@@ -1,6 +1,6 @@
 //! Reading the names of blocks, and the declarations behind them.
 ghost use Rattle.std.specs.Prelude.{◌≡◌, ◌∷◌, ℕ, false, map, MatchOption};
-ghost use Rattle.vs_lex_tokens.specs.declared.token.Mark.TheVariants as m;
+ghost use Rattle.vs_syntax.specs.vs_lex_tokens.specs.declared.token.Mark.TheVariants as m;
 ghost use Rattle.vs_syntax.specs.Symbols.{a_mark, a_word};
 ghost use Rattle.vs_syntax.specs.Grammar.{◌·◌, many, part, name, local_declaration, block_head, a_local};
 ghost use Rattle.vs_syntax.specs.Tables.{goes};
@@ -12,8 +12,8 @@ ghost use Rattle.vs_parse_lists.specs.Parts.{ReadsWithin, marked};
 use crate::form::{declared, declared_range};
 use crate::list::{Element, listed};
 use std::alloc::Global;
-use vs_lexer::{Kind, Mark, Token, Word};
 use vs_parse_expressions::{Parsed, ReadFault, expect_name, mark_at, next};
+use vs_syntax::vs_lexer::{Kind, Mark, Token, Word};
 use vs_syntax::{Local, LocalDeclaration};
 
 /// The word that a declaration in a block begins with.

@@ -1,6 +1,6 @@
 //! Reading what stands behind system tasks (IEEE 1364-2005, clause A.6.9).
 ghost use Rattle.std.specs.Prelude.{◌≡◌, ◌∷◌, ℕ, false, MatchOption};
-ghost use Rattle.vs_lex_tokens.specs.declared.token.Mark.TheVariants as m;
+ghost use Rattle.vs_syntax.specs.vs_lex_tokens.specs.declared.token.Mark.TheVariants as m;
 ghost use Rattle.vs_syntax.specs.Symbols.{a_number, a_mark, a_text, a_print, a_finish, a_dump, a_time, any_text, the_time};
 ghost use Rattle.vs_syntax.specs.Grammar.{Grammar, ◌·◌, token, part, mark, number, print_arguments, finish_argument, dump_arguments, an_argument, a_dump_argument};
 ghost use Rattle.vs_syntax.specs.Tables.{goes};
@@ -12,10 +12,10 @@ ghost use Rattle.vs_parse_lists.specs.Tasks.{printed, dumped};
 
 use crate::list::{Element, ended, others};
 use std::alloc::Global;
-use vs_lexer::{Kind, Literal, Mark, Token};
 use vs_parse_expressions::{
     Parsed, ReadFault, SystemName, expect_mark, expr, literal, mark_at, next, system_name,
 };
+use vs_syntax::vs_lexer::{Kind, Literal, Mark, Token};
 use vs_syntax::{Argument, DumpArgument, DumpTask, PrintArguments, PrintTask, Stmt};
 
 /// An argument of `$display` or `$strobe` in a list of them.

@@ -1,9 +1,9 @@
 -- How the parts of delays and event controls make them, and where they stop.
 use Rattle.std.specs.Prelude.{◌≡◌, ℕ, ◌≤◌, Bool, true, false, List, ◌∷◌, Result, Ok, Err, refl}
 use Rattle.std.proofs.Common.{ap, subst, arith}
-use Rattle.vs_lex_tokens.specs.declared.token.Mark.TheVariants as m
-use Rattle.vs_lex_tokens.specs.declared.token.Token.{Token}
-use Rattle.vs_lex_tokens.specs.declared.token.Word.TheVariants as w
+use Rattle.vs_syntax.specs.vs_lex_tokens.specs.declared.token.Mark.TheVariants as m
+use Rattle.vs_syntax.specs.vs_lex_tokens.specs.declared.token.Token.{Token}
+use Rattle.vs_syntax.specs.vs_lex_tokens.specs.declared.token.Word.TheVariants as w
 use Rattle.vs_syntax.specs.Symbols.{Symbol, a_mark, a_word, any_name, any_number, first}
 use Rattle.vs_syntax.specs.Grammar.{Grammar, ◌·◌, ◌or◌, part, mark, word, name, number, delay, event, event_exprs, an_expr, an_event_expr}
 use Rattle.vs_syntax.specs.Tables.{goes}
@@ -18,10 +18,10 @@ use Rattle.vs_parse_statements.specs.declared.head.DelayHead.{DelayHead}
 use Rattle.vs_parse_statements.specs.declared.head.EventHead.{EventHead}
 use Rattle.vs_parse_statements.specs.Heads.{BeginsDelay, BeginsEvent, separator_symbol, edge_word}
 use Rattle.vs_parse_lists.specs.Parts.{ReadsWithin, marked}
-use Rattle.vs_parse_expressions.specs.declared.reading.Parsed.{Parsed}
-use Rattle.vs_parse_expressions.specs.declared.reading.ReadFault.{ReadFault}
-use Rattle.vs_parse_expressions.specs.Answers.{seen, ReadsTree}
-use Rattle.vs_parse_expressions.proofs.Exits.{fails_by, goes_at}
+use Rattle.vs_parse_lists.specs.vs_parse_expressions.specs.declared.reading.Parsed.{Parsed}
+use Rattle.vs_parse_lists.specs.vs_parse_expressions.specs.declared.reading.ReadFault.{ReadFault}
+use Rattle.vs_parse_lists.specs.vs_parse_expressions.specs.Answers.{seen, ReadsTree}
+use Rattle.vs_parse_lists.specs.vs_parse_expressions.proofs.Exits.{fails_by, goes_at}
 
 -- the words of edges
 pub posedge_read : (depth : ℕ) (ts after : List Symbol) → ts ≡ a_word w.Posedge ∷ after → Gets edge_word depth ts (leaf (a_word w.Posedge)) after

@@ -1,7 +1,7 @@
 -- How statements and their parts begin.
 use Rattle.std.specs.Prelude.{◌≡◌, ℕ, ◌<◌, suc, ◌||◌, Bool, true, false, List, ◌∷◌, Some, refl}
 use Rattle.std.proofs.Common.{ap, sym}
-use Rattle.vs_lex_tokens.specs.declared.token.Word.TheVariants as w
+use Rattle.vs_syntax.specs.vs_lex_tokens.specs.declared.token.Word.TheVariants as w
 use Rattle.vs_syntax.specs.Symbols.{Symbol, a_word, class_of, first}
 use Rattle.vs_syntax.specs.Grammar.{part, word, statements, a_stmt, a_case_item, an_expr}
 use Rattle.vs_syntax.specs.Tables.{low, among, need, fronts_of, operand_fronts, goes}
@@ -13,8 +13,8 @@ use Rattle.vs_parse_statements.specs.declared.head.StatementWord.TheVariants as 
 use Rattle.vs_parse_statements.specs.declared.head.StatementHead.{StatementHead}
 use Rattle.vs_parse_statements.specs.declared.head.StatementHead.TheVariants as h
 use Rattle.vs_parse_statements.specs.Heads.{symbol_of, behind_of, BeginsStatement, class_of_statement}
-use Rattle.vs_parse_expressions.proofs.Exits.{deep_at, goes_at}
-use Rattle.vs_parse_expressions.proofs.Choices.{branch}
+use Rattle.vs_parse_lists.specs.vs_parse_expressions.proofs.Exits.{deep_at, goes_at}
+use Rattle.vs_parse_lists.specs.vs_parse_expressions.proofs.Choices.{branch}
 
 -- each statement with a word or a mark of its own, by it
 pub word_branch : (k : StatementWord) → branch (class_of (symbol_of k)) statements ≡ Some (behind_of k)

@@ -1,9 +1,9 @@
 -- How the parts of a statement make it, and where it stops.
 use Rattle.std.specs.Prelude.{◌≡◌, ℕ, ◌-◌, ◌<◌, ◌≤◌, Bool, true, false, List, [], ◌∷◌, Result, Ok, Err, refl}
 use Rattle.std.proofs.Common.{◌∙◌, ap, sym, subst, arith}
-use Rattle.vs_lex_tokens.specs.declared.token.Mark.TheVariants as m
-use Rattle.vs_lex_tokens.specs.declared.token.Token.{Token}
-use Rattle.vs_lex_tokens.specs.declared.token.Word.TheVariants as w
+use Rattle.vs_syntax.specs.vs_lex_tokens.specs.declared.token.Mark.TheVariants as m
+use Rattle.vs_syntax.specs.vs_lex_tokens.specs.declared.token.Token.{Token}
+use Rattle.vs_syntax.specs.vs_lex_tokens.specs.declared.token.Word.TheVariants as w
 use Rattle.vs_syntax.specs.Symbols.{Symbol, a_word, the_word}
 use Rattle.vs_syntax.specs.Grammar.{Grammar, ◌·◌, ◌or◌, many, one_or_more, optional, part, mark, word, block_head, case_items, statements, a_stmt, a_case_item, a_target, an_expr}
 use Rattle.vs_syntax.specs.Tables.{low, need, fronts_of, goes}
@@ -24,12 +24,12 @@ use Rattle.vs_parse_statements.specs.Timings.{timing}
 use Rattle.vs_parse_lists.specs.Parts.{Within, ReadsWithin, headed}
 use Rattle.vs_parse_statements.proofs.Heads.{word_branch, word_need}
 use Rattle.vs_parse_lists.proofs.Trees.{tree_Null}
-use Rattle.vs_parse_expressions.specs.declared.reading.Parsed.{Parsed}
-use Rattle.vs_parse_expressions.specs.declared.reading.ReadFault.{ReadFault}
-use Rattle.vs_parse_expressions.specs.Answers.{seen, ReadsTree}
-use Rattle.vs_parse_expressions.proofs.Exits.{fails_by}
-use Rattle.vs_parse_expressions.proofs.Choices.{choice_read, choice_stuck}
-use Rattle.vs_parse_expressions.proofs.Rows.{Along, all_read, more_read, more_stuck, some_there}
+use Rattle.vs_parse_lists.specs.vs_parse_expressions.specs.declared.reading.Parsed.{Parsed}
+use Rattle.vs_parse_lists.specs.vs_parse_expressions.specs.declared.reading.ReadFault.{ReadFault}
+use Rattle.vs_parse_lists.specs.vs_parse_expressions.specs.Answers.{seen, ReadsTree}
+use Rattle.vs_parse_lists.specs.vs_parse_expressions.proofs.Exits.{fails_by}
+use Rattle.vs_parse_lists.specs.vs_parse_expressions.proofs.Choices.{choice_read, choice_stuck}
+use Rattle.vs_parse_lists.specs.vs_parse_expressions.proofs.Rows.{Along, all_read, more_read, more_stuck, some_there}
 
 -- what stands behind the left side of an assignment, and the whole
 abbrev pub assigned_value : Grammar

@@ -1,19 +1,19 @@
 //! Reading assignments, and expressions before a mark.
 ghost use Rattle.std.specs.Prelude.{◌≡◌, ◌≤◌, true, IfOk};
-ghost use Rattle.vs_lex_tokens.specs.declared.token.Mark.TheVariants as m;
+ghost use Rattle.vs_syntax.specs.vs_lex_tokens.specs.declared.token.Mark.TheVariants as m;
 ghost use Rattle.vs_syntax.specs.Grammar.{Grammar, ◌·◌, part, mark, assignment, guarded, for_parts, a_stmt, a_target, an_expr};
 ghost use Rattle.vs_syntax.specs.Tables.{goes};
 ghost use Rattle.vs_syntax.specs.Derivation.{both};
 ghost use Rattle.vs_syntax.specs.Views.{expr_tree, assigned_tree, guarded_tree, for_tree, stmt_tree};
-ghost use Rattle.vs_parse_expressions.specs.Answers.{seen, ReadsTree};
+ghost use Rattle.vs_parse_lists.specs.vs_parse_expressions.specs.Answers.{seen, ReadsTree};
 ghost use Rattle.vs_parse_lists.specs.Parts.{Leads, marked, sides_tree};
 ghost use Rattle.vs_parse_statements.specs.Timings.{timing, timing_tree};
 
 use crate::control::delay_value;
 use std::alloc::{AllocError, Global};
-use vs_lexer::{Mark, Token};
-use vs_parse_expressions::{Parsed, ReadFault, expect_mark, expr, left, mark_at};
 use vs_parse_lists::ended;
+use vs_parse_lists::vs_parse_expressions::{Parsed, ReadFault, expect_mark, expr, left, mark_at};
+use vs_syntax::vs_lexer::{Mark, Token};
 use vs_syntax::{DelayValue, Expr, ForHeader, Left, Stmt};
 
 /// When an assignment as a statement assigns.

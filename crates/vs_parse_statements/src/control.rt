@@ -1,20 +1,20 @@
 //! Reading delays, and what event controls wait for.
 ghost use Rattle.std.specs.Prelude.{◌≡◌, ℕ, map};
-ghost use Rattle.vs_lex_tokens.specs.declared.token.Mark.TheVariants as m;
-ghost use Rattle.vs_lex_tokens.specs.declared.token.Word.TheVariants as w;
+ghost use Rattle.vs_syntax.specs.vs_lex_tokens.specs.declared.token.Mark.TheVariants as m;
+ghost use Rattle.vs_syntax.specs.vs_lex_tokens.specs.declared.token.Word.TheVariants as w;
 ghost use Rattle.vs_syntax.specs.Symbols.{any_number, first};
 ghost use Rattle.vs_syntax.specs.Grammar.{◌·◌, ◌or◌, many, part, mark, word, delay, event, event_exprs, an_event_expr};
 ghost use Rattle.vs_syntax.specs.Views.{row_of, delay_tree, event_expr_tree, other_event_tree, event_tree};
-ghost use Rattle.vs_parse_expressions.specs.Answers.{seen, ReadsTree};
+ghost use Rattle.vs_parse_lists.specs.vs_parse_expressions.specs.Answers.{seen, ReadsTree};
 ghost use Rattle.vs_parse_lists.specs.Parts.{ReadsWithin, marked};
 
 use crate::head::{DelayHead, EventHead, delay_head, edge_at, event_head, separator_at};
 use std::alloc::Global;
-use vs_lexer::{Mark, Token};
-use vs_parse_expressions::{
+use vs_parse_lists::ended;
+use vs_parse_lists::vs_parse_expressions::{
     Parsed, ReadFault, expect_name, expr, literal, mark_at, name_selects, next,
 };
-use vs_parse_lists::ended;
+use vs_syntax::vs_lexer::{Mark, Token};
 use vs_syntax::{DelayValue, EventControl, EventExpr, Separator};
 
 /// Reads a delay.

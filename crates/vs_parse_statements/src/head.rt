@@ -1,18 +1,18 @@
 //! How statements and their parts begin.
 ghost use Rattle.std.specs.Prelude.{◌≡◌, ◌<◌, ◌∷◌, ℕ, false, MatchOption};
-ghost use Rattle.vs_lex_tokens.specs.declared.token.Mark.TheVariants as m;
-ghost use Rattle.vs_lex_tokens.specs.declared.token.Word.TheVariants as w;
+ghost use Rattle.vs_syntax.specs.vs_lex_tokens.specs.declared.token.Mark.TheVariants as m;
+ghost use Rattle.vs_syntax.specs.vs_lex_tokens.specs.declared.token.Word.TheVariants as w;
 ghost use Rattle.vs_syntax.specs.Symbols.{a_mark, class_of};
 ghost use Rattle.vs_syntax.specs.Grammar.{◌or◌, mark, word, part, delay, event, a_stmt, a_case_item};
 ghost use Rattle.vs_syntax.specs.Tables.{need, fronts_of, goes};
 ghost use Rattle.vs_syntax.specs.Reading.{Gets};
 ghost use Rattle.vs_syntax.specs.Views.{edge_tree};
-ghost use Rattle.vs_parse_expressions.specs.Answers.{seen};
+ghost use Rattle.vs_parse_lists.specs.vs_parse_expressions.specs.Answers.{seen};
 ghost use Rattle.vs_parse_statements.specs.Heads.{symbol_of, BeginsStatement, class_of_statement, BeginsDelay, BeginsEvent, separator_symbol, edge_word};
 
-use vs_lexer::{Kind, Mark, Token, Word};
-use vs_logic4::Edge;
-use vs_parse_expressions::{SystemName, begins_expr, next, system_name, word_at};
+use vs_parse_lists::vs_parse_expressions::{SystemName, begins_expr, next, system_name, word_at};
+use vs_syntax::vs_lexer::{Kind, Mark, Token, Word};
+use vs_syntax::vs_logic4::Edge;
 use vs_syntax::{DumpTask, PrintTask, Separator};
 
 /// The word, the mark or the system name that a statement of its own form begins with.

@@ -8,3 +8,4 @@ mod statement;
 
 pub use assignment::{expr_until, guard};
 pub use statement::stmt;
+pub use vs_parse_lists;

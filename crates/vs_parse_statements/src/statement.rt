@@ -1,13 +1,13 @@
 //! Reading statements. What one form of them needs is never inlined, so that a level of nesting takes little stack.
 ghost use Rattle.std.specs.Prelude.{◌≡◌, ◌≤◌, map};
-ghost use Rattle.vs_lex_tokens.specs.declared.token.Mark.TheVariants as m;
-ghost use Rattle.vs_lex_tokens.specs.declared.token.Word.TheVariants as w;
+ghost use Rattle.vs_syntax.specs.vs_lex_tokens.specs.declared.token.Mark.TheVariants as m;
+ghost use Rattle.vs_syntax.specs.vs_lex_tokens.specs.declared.token.Word.TheVariants as w;
 ghost use Rattle.vs_syntax.specs.Symbols.{a_mark, a_word};
 ghost use Rattle.vs_syntax.specs.Grammar.{◌·◌, part, many, word, block_head, guarded, branches, case_items, for_parts, delay, event, a_stmt};
 ghost use Rattle.vs_syntax.specs.Tables.{low};
 ghost use Rattle.vs_syntax.specs.Derivation.{leaf, both};
 ghost use Rattle.vs_syntax.specs.Views.{row_of, some_tree, case_word, expr_tree, guarded_tree, stmt_tree};
-ghost use Rattle.vs_parse_expressions.specs.Answers.{seen, ReadsTree};
+ghost use Rattle.vs_parse_lists.specs.vs_parse_expressions.specs.Answers.{seen, ReadsTree};
 ghost use Rattle.vs_parse_lists.specs.Blocks.{naming_tree};
 ghost use Rattle.vs_parse_statements.specs.Heads.{BeginsStatement, symbol_of, behind_of, loop_word};
 ghost use Rattle.vs_parse_lists.specs.Parts.{ReadsWithin, headed, boxed_tree, labelled_stmt_tree};
@@ -18,10 +18,10 @@ use crate::head::{
     StatementHead, StatementWord, begins_case_item, least_statement, statement_head,
 };
 use std::alloc::Global;
-use vs_lexer::{Token, Word};
-use vs_logic4::CaseKind;
-use vs_parse_expressions::{Parsed, ReadFault, expect_word, word_at};
+use vs_parse_lists::vs_parse_expressions::{Parsed, ReadFault, expect_word, word_at};
 use vs_parse_lists::{BlockName, case_label, dump_stmt, finish_stmt, naming, print_stmt};
+use vs_syntax::vs_lexer::{Token, Word};
+use vs_syntax::vs_logic4::CaseKind;
 use vs_syntax::{CaseLabel, Expr, Stmt};
 
 /// Reads a statement, in at most `depth` nodes below one another.

@@ -2,8 +2,8 @@
 use Rattle.std.specs.Prelude.{◌≡◌, ℕ, ◌+◌, ◌<◌, ◌≤◌, ◌^◌, Bool, true, false, List, [], ◌∷◌, ◌++◌, length, take, drop, refl}
 use Rattle.std.proofs.Common.{sym, ◌∙◌, ap, subst, inr, append_assoc, arith}
 use Rattle.std.proofs.lemmas.List.{append-nil, length-append, length-map, map-append, take-append-drop}
-use Rattle.vs_lex_tokens.specs.declared.token.Token.{Token}
-use Rattle.vs_lexer.specs.Tokens.{Lexeme, lexeme, lexemes}
+use Rattle.vs_syntax.specs.vs_lex_tokens.specs.declared.token.Token.{Token}
+use Rattle.vs_syntax.specs.vs_lexer.specs.Tokens.{Lexeme, lexeme, lexemes}
 use Rattle.vs_syntax.specs.Symbols.{Symbol, a_mark, a_word, a_name, a_number, a_cast, a_text, a_print, a_finish, a_dump, a_time, a_directive, another, no_token, class_of, first, symbol, symbols}
 use Rattle.vs_syntax.specs.Grammar.{part, a_source}
 use Rattle.vs_syntax.specs.Derivation.{Tree, empty, tokens, Is, is_part, is_stop}
@@ -18,9 +18,9 @@ use Rattle.vs_syntax.proofs.Refused.{front_of, front_text, refused}
 use Rattle.vs_syntax.proofs.Viable.{viable}
 use Rattle.vs_syntax.proofs.Beginnings.{stuck_there}
 use Rattle.vs_syntax.proofs.Deeper.{deeper}
-use Rattle.vs_parse_expressions.specs.declared.reading.ReadFault.{ReadFault}
-use Rattle.vs_parse_expressions.specs.declared.reading.ReadFault.TheVariants as stop
-use Rattle.vs_parse_expressions.specs.Answers.{seen, FailsToRead}
+use Rattle.vs_parse_items.specs.vs_parse_expressions.specs.declared.reading.ReadFault.{ReadFault}
+use Rattle.vs_parse_items.specs.vs_parse_expressions.specs.declared.reading.ReadFault.TheVariants as stop
+use Rattle.vs_parse_items.specs.vs_parse_expressions.specs.Answers.{seen, FailsToRead}
 use Rattle.vs_parser.specs.declared.fault.ParseFault.{ParseFault}
 use Rattle.vs_parser.specs.declared.fault.ParseFault.TheVariants as f
 use Rattle.vs_parser.specs.Faults.{Halts, StopsAt, IsWrong, IsTooDeep, IsUnfinished, IsRefused}

@@ -6,9 +6,9 @@ use Rattle.std.proofs.lemmas.Grind.{flat_map-append}
 use Rattle.std.proofs.lemmas.List.{append-nil, map-append}
 use Rattle.std.specs.declared.vec.Vec.{Vec}
 use Rattle.std.specs.declared.alloc.Global.{Global}
-use Rattle.vs_lex_tokens.specs.declared.token.Directive.{Directive}
-use Rattle.vs_lex_tokens.specs.declared.token.Token.{Token}
-use Rattle.vs_lex_tokens.specs.declared.token.Word.TheVariants as w
+use Rattle.vs_syntax.specs.vs_lex_tokens.specs.declared.token.Directive.{Directive}
+use Rattle.vs_syntax.specs.vs_lex_tokens.specs.declared.token.Token.{Token}
+use Rattle.vs_syntax.specs.vs_lex_tokens.specs.declared.token.Word.TheVariants as w
 use Rattle.vs_syntax.specs.Symbols.{Symbol, a_word, a_directive, the_word, first}
 use Rattle.vs_syntax.specs.Grammar.{many, part, a_module}
 use Rattle.vs_syntax.specs.Tables.{goes}
@@ -17,9 +17,9 @@ use Rattle.vs_syntax.specs.Reading.{Gets, Stuck, stuck_left, stuck_many}
 use Rattle.vs_syntax.specs.Views.{module_tree, directive_tree, directed_trees}
 use Rattle.vs_syntax.specs.declared.tree.Module.{Module}
 use Rattle.vs_syntax.proofs.Gets.{gets_token, gets_left, gets_right}
-use Rattle.vs_parse_expressions.specs.Answers.{seen}
-use Rattle.vs_parse_expressions.proofs.Exits.{goes_at}
-use Rattle.vs_parse_expressions.proofs.Rows.{Along, along_none, along_one}
+use Rattle.vs_parse_items.specs.vs_parse_expressions.specs.Answers.{seen}
+use Rattle.vs_parse_items.specs.vs_parse_expressions.proofs.Exits.{goes_at}
+use Rattle.vs_parse_items.specs.vs_parse_expressions.proofs.Rows.{Along, along_none, along_one}
 use Rattle.vs_parser.specs.declared.head.SourceHead.{SourceHead}
 use Rattle.vs_parser.specs.Heads.{source_symbol, module_or_directive}
 

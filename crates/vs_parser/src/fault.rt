@@ -5,8 +5,8 @@ ghost use Rattle.vs_parser.specs.LeftOut.{is_left_out};
 
 use std::alloc::{AllocError, Global};
 use thiserror::Error;
-use vs_lexer::{Kind, Token};
-use vs_parse_expressions::system_name;
+use vs_parse_items::vs_parse_expressions::system_name;
+use vs_syntax::vs_lexer::{Kind, Token};
 
 /// What is wrong with the tokens. The place of a token is that of its first byte in the source.
 #[derive(Clone, Copy, PartialEq, Eq, Debug, Error)]

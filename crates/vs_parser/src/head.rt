@@ -1,11 +1,11 @@
 //! How modules and directives begin.
 ghost use Rattle.std.specs.Prelude.{◌≡◌, ◌∷◌, false, MatchOption};
 ghost use Rattle.vs_syntax.specs.Tables.{goes};
-ghost use Rattle.vs_parse_expressions.specs.Answers.{seen};
+ghost use Rattle.vs_parse_items.specs.vs_parse_expressions.specs.Answers.{seen};
 ghost use Rattle.vs_parser.specs.Heads.{source_symbol, module_or_directive};
 
-use vs_lexer::{Directive, Kind, Token, Word};
-use vs_parse_expressions::next;
+use vs_parse_items::vs_parse_expressions::next;
+use vs_syntax::vs_lexer::{Directive, Kind, Token, Word};
 
 /// What stands between modules.
 #[derive(Clone, Copy)]

@@ -1,20 +1,20 @@
 //! The parser's call.
 ghost use Rattle.std.specs.Prelude.{◌≡◌, [], true, false, MatchResult};
-ghost use Rattle.vs_lexer.specs.Tokens.{lexemes};
+ghost use Rattle.vs_syntax.specs.vs_lexer.specs.Tokens.{lexemes};
 ghost use Rattle.vs_syntax.specs.Symbols.{symbols};
 ghost use Rattle.vs_syntax.specs.Derivation.{Tree};
 ghost use Rattle.vs_syntax.specs.Derives.{Derives};
 ghost use Rattle.vs_syntax.specs.Views.{source_tree};
 ghost use Rattle.vs_parser.specs.declared.fault.ParseFault.TheVariants.{Memory};
-ghost use Rattle.vs_parse_expressions.specs.Answers.{seen};
+ghost use Rattle.vs_parse_items.specs.vs_parse_expressions.specs.Answers.{seen};
 ghost use Rattle.vs_parser.specs.Faults.{IsRefused, IsTreeOf, Halts, StopsAt};
 
 use crate::fault::{ParseFault, left_out};
 use crate::source::source;
 use std::alloc::Global;
-use vs_lexer::Token;
-use vs_parse_expressions::{ReadFault, next};
+use vs_parse_items::vs_parse_expressions::{ReadFault, next};
 use vs_syntax::Source;
+use vs_syntax::vs_lexer::Token;
 
 /// The deepest nesting, in nodes below one another.
 const NESTING: u32 = 256;

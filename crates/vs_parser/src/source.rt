@@ -1,17 +1,19 @@
 //! Reading modules and sources.
 ghost use Rattle.std.specs.Prelude.{◌≡◌, ◌∷◌, IfOk};
-ghost use Rattle.vs_lex_tokens.specs.declared.token.Word.TheVariants as w;
+ghost use Rattle.vs_syntax.specs.vs_lex_tokens.specs.declared.token.Word.TheVariants as w;
 ghost use Rattle.vs_syntax.specs.Symbols.{a_word};
 ghost use Rattle.vs_syntax.specs.Grammar.{part, a_source, a_module};
 ghost use Rattle.vs_syntax.specs.Views.{module_tree, source_tree};
-ghost use Rattle.vs_parse_expressions.specs.Answers.{seen, ReadsTree};
+ghost use Rattle.vs_parse_items.specs.vs_parse_expressions.specs.Answers.{seen, ReadsTree};
 
 use crate::head::{SourceHead, source_head};
 use std::alloc::Global;
-use vs_lexer::{Directive, Mark, Token, Word};
-use vs_parse_expressions::{Parsed, ReadFault, expect_mark, expect_name, expect_word};
-use vs_parse_headers::{header_parameters, header_ports};
 use vs_parse_items::items;
+use vs_parse_items::vs_parse_expressions::{
+    Parsed, ReadFault, expect_mark, expect_name, expect_word,
+};
+use vs_parse_items::vs_parse_headers::{header_parameters, header_ports};
+use vs_syntax::vs_lexer::{Directive, Mark, Token, Word};
 use vs_syntax::{Module, Source};
 
 /// Reads a module, behind whose first word `after` stands, with the directives before it.

@@ -2,7 +2,7 @@
 use Rattle.std.proofs.Common.{◌≡◌, ℕ, zero, suc, ◌<◌, ◌==◌, ◌⊎◌, Bool, true, false, Option, Some, None, option_map, List, [], ◌∷◌, map, slice_get, slice_set, not, refl, sym, ◌∙◌, ap, ap₂, subst, inl, inr, eqb-true, if◌then◌else◌}
 use Rattle.std.specs.List.{list_any}
 use Rattle.std.proofs.lemmas.Bool.{cases_Bool, or_left, or_right, not-true, true≢false}
-use Rattle.vs_logic4.specs.declared.digit.Digit.{Digit}
+use Rattle.vs_design.specs.vs_logic4.specs.declared.digit.Digit.{Digit}
 use Rattle.vs_design.specs.declared.design.Assign.{Assign}
 use Rattle.vs_design.specs.declared.expression.Typed.{Typed}
 use Rattle.vs_design.specs.declared.statement.Target.{Target}
@@ -21,7 +21,7 @@ use Rattle.vs_process.specs.Idle.{IsIdle}
 use Rattle.vs_process.proofs.Digits.{Keeps, kept_digit, put_again, put_swapped, unnamed_keeps}
 use Rattle.vs_process.proofs.Lists.{map_at, map_cases, none_at, none_from, set_cases}
 use Rattle.std.proofs.lemmas.Map.Keys.{any_passes_from_place as at_any}
-use Rattle.vs_logic4.proofs.Basics.{element_of as any_at, same_lists as same_gets}
+use Rattle.vs_design.specs.vs_logic4.proofs.Basics.{element_of as any_at, same_lists as same_gets}
 use Rattle.vs_process.proofs.Ranges.{IsFixed, assigned_fixed, assigned_names, fixed_write, present, same_sizes, uncovered_keeps}
 use Rattle.vs_process.proofs.Stores.{put_other, shape, shape-put}
 use Rattle.vs_process.proofs.Values.{not_changed, target_value_unchanged, unchanged}

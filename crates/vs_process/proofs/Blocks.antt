@@ -2,7 +2,7 @@
 use Rattle.std.proofs.Common.{◌≡◌, ℕ, zero, suc, ◌+◌, ◌==◌, ◌||◌, ◌&&◌, not, Bool, true, false, Option, Some, None, List, [], ◌∷◌, map, slice_get, slice_set, if◌then◌else◌, refl, sym, ◌∙◌, ap, inl, inr, ◌⊎◌, ⊎_elim, arith, eq-eqb}
 use Rattle.std.proofs.lemmas.Bool.{cases_Bool, or_parts, not-true}
 use Rattle.std.proofs.lemmas.Bool.Decides.{eqb_tells}
-use Rattle.vs_logic4.specs.declared.digit.Digit.{Digit}
+use Rattle.vs_design.specs.vs_logic4.specs.declared.digit.Digit.{Digit}
 use Rattle.vs_design.specs.declared.design.Process.{Process}
 use Rattle.vs_design.specs.Parts.{Parts}
 use Rattle.vs_design.specs.Stores.{Store, put}
@@ -22,7 +22,7 @@ use Rattle.vs_process.specs.Executions.{after, allowed, apply, Legal, is_enabled
 use Rattle.vs_process.specs.Permitted.{CanGo}
 use Rattle.vs_process.proofs.Permitted.{AllFree, allow}
 use Rattle.std.proofs.lemmas.Bool.{false_from_ne_true as none_if}
-use Rattle.vs_logic4.proofs.Basics.{and_false as and_none, same_tests as bool_same}
+use Rattle.vs_design.specs.vs_logic4.proofs.Basics.{and_false as and_none, same_tests as bool_same}
 
 -- whether the process at an index passes a test and is inside
 abbrev inside_at : (Process → Bool) → List Process → List Place → ℕ → Bool

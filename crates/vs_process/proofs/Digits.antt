@@ -3,18 +3,18 @@ use Rattle.std.proofs.Common.{◌≡◌, ℕ, zero, suc, ◌==◌, ◌&&◌, ◌
 use Rattle.std.specs.Prelude.{slice_index_or}
 use Rattle.std.proofs.lemmas.Bool.{cases_Bool, eqb-false, or_parts}
 use Rattle.std.proofs.lemmas.Option.{slice_get-map}
-use Rattle.vs_logic4.specs.declared.digit.Digit.{Digit}
-use Rattle.vs_logic4.specs.Parts.{digit_at}
+use Rattle.vs_design.specs.vs_logic4.specs.declared.digit.Digit.{Digit}
+use Rattle.vs_design.specs.vs_logic4.specs.Parts.{digit_at}
 use Rattle.vs_design.specs.declared.write.Part.{Part}
 use Rattle.vs_design.specs.Stores.{Store, changed_at, overlaid, put_part, put, word_in, word_of}
 use Rattle.vs_design.specs.Writes.{Write, names}
 use Rattle.vs_eval.specs.Laws.{digit_in, digit_of}
-use Rattle.vs_logic4.proofs.Basics.{same_lists as same_gets}
+use Rattle.vs_design.specs.vs_logic4.proofs.Basics.{same_lists as same_gets}
 use Rattle.vs_process.proofs.Stores.{changed_other, shape, shape-put}
 use Rattle.vs_design.proofs.Stores.{slice_get-changed_at as changed_same}
 use Rattle.vs_design.proofs.Stores.{word_changes as word_same}
 use Rattle.vs_eval.proofs.Digits.{replaced_digit as get-replaced_from}
-use Rattle.vs_logic4.proofs.Basics.{same_first as head_is, tail_is}
+use Rattle.vs_design.specs.vs_logic4.proofs.Basics.{same_first as head_is, tail_is}
 
 -- ---- digits of a word behind a part
 

@@ -3,7 +3,7 @@ use Rattle.std.proofs.Common.{◌≡◌, ℕ, true, Option, Some, None, List, []
 use Rattle.std.specs.List.{list_any, list_all}
 use Rattle.std.proofs.lemmas.Bool.{false≢true}
 use Rattle.std.proofs.lemmas.List.Folds.{list_all-map}
-use Rattle.vs_logic4.specs.declared.digit.Digit.{Digit}
+use Rattle.vs_design.specs.vs_logic4.specs.declared.digit.Digit.{Digit}
 use Rattle.vs_design.specs.declared.design.Assign.{Assign}
 use Rattle.vs_design.specs.Parts.{Parts}
 use Rattle.vs_design.specs.Stores.{put, changes_nothing}
@@ -23,7 +23,7 @@ use Rattle.vs_process.proofs.WellFormed.{IsVariable, NamesVariables, any_activat
 use Rattle.vs_process.proofs.Assigns.{AssignsSound, assign_fixed, assign_of, idle_value, sound_behind, sound_evaluated, sound_propagated, sound_start, sound_written}
 use Rattle.vs_process.proofs.Lists.{all_set, any_without, list_all_like}
 use Rattle.std.proofs.lemmas.Map.Keys.{any_passes_from_place as at_any}
-use Rattle.vs_logic4.proofs.Basics.{all_at}
+use Rattle.vs_design.specs.vs_logic4.proofs.Basics.{all_at}
 
 -- the continuous assignments are sound, processes still do what is sound, and updates name variables alone
 pub record IsSound (d : Parts) (s : State) : Type 0 where

@@ -3,7 +3,7 @@ use Rattle.std.proofs.Common.{◌≡◌, ℕ, suc, Bool, true, false, ◌&&◌, 
 use Rattle.std.proofs.lemmas.Bool.{cases_Bool, or_cases, and_parts, not-true}
 use Rattle.std.specs.Prelude.{is_some}
 use Rattle.std.specs.List.{list_any}
-use Rattle.vs_logic4.specs.declared.digit.Digit.{Digit}
+use Rattle.vs_design.specs.vs_logic4.specs.declared.digit.Digit.{Digit}
 use Rattle.vs_design.specs.Parts.{Parts}
 use Rattle.vs_design.specs.Writes.{Write, shares}
 use Rattle.vs_process.specs.declared.moves.Grain.{Grain}
@@ -13,7 +13,7 @@ use Rattle.vs_flatcode.specs.Places.{Place, is_going}
 use Rattle.vs_process.specs.States.{State, AssignState, Update, stepped, evaluate, propagate, propagate_value, make}
 use Rattle.vs_process.specs.Executions.{is_first, is_busy, has_inactive, has_due, is_free, is_enabled, if_some, allowed, apply}
 use Rattle.vs_process.specs.Permitted.{Permitted, runs, evaluates, propagates, updates, rouses, activates, ends_slot, CanGo}
-use Rattle.vs_logic4.proofs.Basics.{pending_of}
+use Rattle.vs_design.specs.vs_logic4.proofs.Basics.{pending_of}
 
 -- the first element that passes a test
 pub record Found {A : Type 0} (f : A → Bool) (xs : List A) : Type 0 where

@@ -7,9 +7,9 @@ use Rattle.std.proofs.lemmas.Int.{ints}
 use Rattle.std.proofs.lemmas.List.Folds.{list_any-append}
 use Rattle.std.proofs.lemmas.Map.Keys.{IsDistinct-head, IsDistinct-tail}
 use Rattle.std.proofs.lemmas.Option.{slice_get_within, slice_get-map}
-use Rattle.vs_logic4.specs.declared.digit.Digit.{Digit}
-use Rattle.vs_logic4.specs.Lengths.{length-selected}
-use Rattle.vs_logic4.specs.Parts.{digit_at, selected}
+use Rattle.vs_design.specs.vs_logic4.specs.declared.digit.Digit.{Digit}
+use Rattle.vs_design.specs.vs_logic4.specs.Lengths.{length-selected}
+use Rattle.vs_design.specs.vs_logic4.specs.Parts.{digit_at, selected}
 use Rattle.vs_design.specs.declared.design.Assign.{Assign}
 use Rattle.vs_design.specs.declared.expression.Slice.{Slice}
 use Rattle.vs_design.specs.declared.range.Bits.{Bits}
@@ -28,12 +28,12 @@ use Rattle.vs_eval.specs.Laws.{digit_in, digit_of}
 use Rattle.vs_eval.specs.Targets.{part_at, parts_from, assigned}
 use Rattle.vs_process.proofs.Lists.{all_of}
 use Rattle.std.proofs.lemmas.Map.Keys.{any_passes_from_place as at_any}
-use Rattle.vs_logic4.proofs.Basics.{element_of as any_at, same_lists as same_gets}
+use Rattle.vs_design.specs.vs_logic4.proofs.Basics.{element_of as any_at, same_lists as same_gets}
 use Rattle.vs_process.proofs.Stores.{shape}
 use Rattle.vs_process.proofs.Digits.{Fixes, Keeps, laid_part, laid_there, laid_elsewhere, length_in, lengths}
 use Rattle.vs_design.proofs.Drivers.{length-start_digits}
 use Rattle.vs_design.proofs.Stores.{word_in-words}
-use Rattle.vs_logic4.proofs.Basics.{get-drop, get-take as get-take_low, tail_is}
+use Rattle.vs_design.specs.vs_logic4.proofs.Basics.{get-drop, get-take as get-take_low, tail_is}
 
 -- ---- what a range holds
 

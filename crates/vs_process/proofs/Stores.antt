@@ -1,8 +1,8 @@
 -- What a write leaves of a store, and what the store behind it depends on.
 use Rattle.std.proofs.Common.{◌≡◌, ℕ, zero, suc, ◌==◌, false, option_map, List, [], ◌∷◌, map, length, slice_get, refl, sym, ◌∙◌, ap, subst, inl, inr, pos, ◌+ℤ◌, neg_ℤ, ℤ}
 use Rattle.std.proofs.lemmas.Bool.{eqb-false, cases_eq, or_parts}
-use Rattle.vs_logic4.specs.declared.digit.Digit.{Digit}
-use Rattle.vs_logic4.specs.Parts.{replaced_from}
+use Rattle.vs_design.specs.vs_logic4.specs.declared.digit.Digit.{Digit}
+use Rattle.vs_design.specs.vs_logic4.specs.Parts.{replaced_from}
 use Rattle.vs_design.specs.declared.write.Part.{Part}
 use Rattle.vs_design.specs.Stores.{Store, changed_at, overlaid, put_part, put}
 use Rattle.vs_design.specs.Writes.{Write, names}

@@ -6,7 +6,7 @@ use Rattle.std.proofs.lemmas.Bool.{cond_both, leb-true, or_parts, and_parts, not
 use Rattle.std.proofs.lemmas.Bool.Decides.{eqb_tells}
 use Rattle.std.proofs.lemmas.List.{append-nil}
 use Rattle.std.proofs.lemmas.List.Elements.{filter-append}
-use Rattle.vs_logic4.specs.declared.digit.Digit.{Digit}
+use Rattle.vs_design.specs.vs_logic4.specs.declared.digit.Digit.{Digit}
 use Rattle.vs_design.specs.declared.design.Process.{Process}
 use Rattle.vs_design.specs.Parts.{Parts}
 use Rattle.vs_design.specs.Traces.{Slot, AreRising, AreRisingAfter}
@@ -25,7 +25,7 @@ use Rattle.vs_process.specs.States.{State, AssignState, Update, stepped, perform
 use Rattle.vs_flatcode.specs.Places.{todo_of}
 use Rattle.vs_flatcode.specs.Steps.{Next, on, Out, step}
 use Rattle.vs_flatcode.specs.Steps as steps
-use Rattle.vs_logic4.proofs.Basics.{past_due}
+use Rattle.vs_design.specs.vs_logic4.proofs.Basics.{past_due}
 
 -- ---- a fact of each element
 

@@ -6,10 +6,10 @@ use Rattle.std.specs.declared.alloc.Global.{Global}
 use Rattle.std.specs.List.{list_any, list_all}
 use Rattle.std.proofs.lemmas.Bool.{and_parts, and_from, cases_Bool, cond_both, or_cases, true≢false, false≢true, not-true}
 use Rattle.std.proofs.lemmas.List.Folds.{list_all-append, list_all-map, list_any-append}
-use Rattle.vs_logic4.specs.declared.digit.Digit.{Digit}
-use Rattle.vs_logic4.specs.declared.digit.Digit.TheVariants.{Zero, One, X, Z}
-use Rattle.vs_logic4.specs.declared.case.CaseKind.{CaseKind}
-use Rattle.vs_logic4.specs.Comparisons.{truth}
+use Rattle.vs_design.specs.vs_logic4.specs.declared.digit.Digit.{Digit}
+use Rattle.vs_design.specs.vs_logic4.specs.declared.digit.Digit.TheVariants.{Zero, One, X, Z}
+use Rattle.vs_design.specs.vs_logic4.specs.declared.case.CaseKind.{CaseKind}
+use Rattle.vs_design.specs.vs_logic4.specs.Comparisons.{truth}
 use Rattle.vs_design.specs.declared.signal.Signal.{Signal}
 use Rattle.vs_design.specs.declared.design.Assign.{Assign}
 use Rattle.vs_design.specs.declared.design.Process.{Process}
@@ -40,7 +40,7 @@ use Rattle.vs_process.specs.Executions.{places_at}
 use Rattle.vs_eval.specs.Values.{target_value, value_of}
 use Rattle.vs_process.proofs.Assigns.{DrivesApart}
 use Rattle.vs_process.proofs.Lists.{all_slice, list_all_like, map_cases}
-use Rattle.vs_logic4.proofs.Basics.{all_at, element_of as any_at}
+use Rattle.vs_design.specs.vs_logic4.proofs.Basics.{all_at, element_of as any_at}
 use Rattle.vs_process.proofs.Ranges.{assigned_names, distinct_flat, is_fixed, shares_covered}
 use Rattle.vs_flatcode.proofs.Shapes.{flat-Block}
 

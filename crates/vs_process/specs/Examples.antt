@@ -4,11 +4,11 @@ use Rattle.std.specs.declared.alloc.Global.{Global}
 use Rattle.std.specs.declared.boxed.Box.{Box}
 use Rattle.std.proofs.Common.{lit<, lit≤, refl}
 use denote.RawPtr.{null_ptr}
-use Rattle.vs_logic4.specs.declared.edge.Edge.{Edge}
-use Rattle.vs_logic4.specs.declared.edge.Edge.TheVariants.{Any, Posedge}
-use Rattle.vs_logic4.specs.declared.operators.Binary.{Binary}
-use Rattle.vs_logic4.specs.declared.operators.Binary.TheVariants.{And, Or}
-use Rattle.vs_logic4.specs.declared.operators.Unary.TheVariants.{Not}
+use Rattle.vs_design.specs.vs_logic4.specs.declared.edge.Edge.{Edge}
+use Rattle.vs_design.specs.vs_logic4.specs.declared.edge.Edge.TheVariants.{Any, Posedge}
+use Rattle.vs_design.specs.vs_logic4.specs.declared.operators.Binary.{Binary}
+use Rattle.vs_design.specs.vs_logic4.specs.declared.operators.Binary.TheVariants.{And, Or}
+use Rattle.vs_design.specs.vs_logic4.specs.declared.operators.Unary.TheVariants.{Not}
 use Rattle.vs_design.specs.declared.design.Process.{Process}
 use Rattle.vs_design.specs.declared.design.ProcessKind.TheVariants.{Always, Initial}
 use Rattle.vs_design.specs.declared.expression.Typed.{Typed}

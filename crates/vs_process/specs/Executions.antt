@@ -1,8 +1,8 @@
 -- What is permitted at each moment, and executions.
 use Rattle.std.specs.Prelude.{ℕ, suc, ◌==◌, ◌≡◌, ◌&&◌, ◌||◌, not, Bool, true, false, Option, Some, None, List, [], ◌∷◌, ◌++◌, map, filter, take, is_some, is_none, leb, slice_get, if◌then◌else◌, min, nat_lt}
 use Rattle.std.specs.List.{list_any, list_all}
-use Rattle.vs_logic4.specs.declared.edge.Edge.{Edge}
-use Rattle.vs_logic4.specs.declared.edge.Edge.TheVariants.{Any}
+use Rattle.vs_design.specs.vs_logic4.specs.declared.edge.Edge.{Edge}
+use Rattle.vs_design.specs.vs_logic4.specs.declared.edge.Edge.TheVariants.{Any}
 use Rattle.vs_design.specs.declared.design.Process.{Process}
 use Rattle.vs_design.specs.declared.design.ProcessKind.{ProcessKind}
 use Rattle.vs_design.specs.declared.design.ProcessKind.TheVariants.{Initial, Always}
@@ -20,7 +20,7 @@ use Rattle.vs_process.specs.declared.moves.Grain.{Grain}
 use Rattle.vs_process.specs.declared.moves.Grain.TheVariants as g
 use Rattle.vs_process.specs.declared.moves.Move.{Move}
 use Rattle.vs_process.specs.declared.moves.Move.TheVariants.{Step, Evaluate, Propagate, Make, Rouse, Activate, EndSlot}
-use Rattle.vs_strobe.specs.Lines.{full_line}
+use Rattle.vs_flatcode.specs.vs_strobe.specs.Lines.{full_line}
 use Rattle.vs_flatcode.specs.Places.{Place, todo_of, sleeping, is_going, is_inactive, is_inside}
 use Rattle.vs_flatcode.specs.Steps.{step}
 use Rattle.vs_process.specs.States.{AssignState, Update, Called, State, start, stepped, evaluate, propagate, make, roused, is_due, activated, woken_at}

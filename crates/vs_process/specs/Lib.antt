@@ -5,3 +5,6 @@ pub mod Idle
 pub mod Laws
 pub mod Permitted
 pub mod States
+pub use Rattle.vs_edges
+pub use Rattle.vs_eval
+pub use Rattle.vs_flatcode

@@ -1,6 +1,6 @@
 -- What is permitted, rule by rule, and that something always is.
 use Rattle.std.specs.Prelude.{ℕ, ◌≡◌, true, false, Some, List, map, slice_get}
-use Rattle.vs_logic4.specs.declared.digit.Digit.{Digit}
+use Rattle.vs_design.specs.vs_logic4.specs.declared.digit.Digit.{Digit}
 use Rattle.vs_design.specs.Parts.{Parts}
 use Rattle.vs_process.specs.declared.moves.Grain.{Grain}
 use Rattle.vs_process.specs.declared.moves.Move.{Move}

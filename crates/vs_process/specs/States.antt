@@ -1,7 +1,7 @@
 -- The state of an execution, and what changes it.
 use Rattle.std.specs.Prelude.{ℕ, zero, suc, ◌+◌, ◌==◌, ◌&&◌, ◌||◌, not, Bool, true, false, Option, Some, None, List, [], ◌∷◌, ◌++◌, map, slice_set, if◌then◌else◌}
 use Rattle.std.specs.List.{list_any}
-use Rattle.vs_logic4.specs.declared.digit.Digit.{Digit}
+use Rattle.vs_design.specs.vs_logic4.specs.declared.digit.Digit.{Digit}
 use Rattle.vs_design.specs.declared.design.Assign.{Assign}
 use Rattle.vs_design.specs.declared.design.Process.{Process}
 use Rattle.vs_design.specs.declared.expression.Typed.{Typed}
@@ -13,7 +13,7 @@ use Rattle.vs_design.specs.Uses.{reads}
 use Rattle.vs_design.specs.Writes.{Write}
 use Rattle.vs_eval.specs.Targets.{assigned}
 use Rattle.vs_eval.specs.Values.{target_value}
-use Rattle.vs_strobe.specs.Lines.{Format}
+use Rattle.vs_flatcode.specs.vs_strobe.specs.Lines.{Format}
 use Rattle.vs_flatcode.specs.declared.gait.Gait.TheVariants.{Woken}
 use Rattle.vs_edges.specs.Waking.{wake_any}
 use Rattle.vs_flatcode.specs.Places.{Todo, Place, going, sleeping, inactive, waiting, ended, active_at, stepped_gait, start_place, todo_of}

@@ -4,8 +4,8 @@ ghost use Rattle.std.specs.List.{list_all};
 ghost use Rattle.vs_design.specs.declared.statement.Statement.TheViews.{out-Statement};
 ghost use Rattle.vs_process.specs.Executions.{is_level, waits_for_levels, is_block_body, is_combinational};
 
+use vs_design::vs_logic4::Edge;
 use vs_design::{EventTerm, Process, ProcessKind, Statement, has_control};
-use vs_logic4::Edge;
 
 /// Whether a process is a combinational block: an `always` whose statement is one event control of level terms alone before a statement
 /// without timing control (IEEE 1364-2005, clauses 9.7 and 9.9.2).

@@ -11,4 +11,7 @@ pub use laws::{
     moves_are_permitted, never_stuck, none_inside_first, stores_are_sized, times_rise,
 };
 pub use moves::{Grain, Move};
+pub use vs_edges;
+pub use vs_eval;
+pub use vs_flatcode;
 pub use vs_flatcode::{Change, Code, Gait, compile};

@@ -5,12 +5,12 @@ use Rattle.std.specs.Io.KnownBytes.{Keeps, append_known}
 use Rattle.std.proofs.KnownBytes.{Appends-kept}
 use Rattle.vs_design.specs.Parts.{Parts}
 use Rattle.vs_process.specs.declared.moves.Move.{Move}
-use Rattle.vs_rules.specs.Claims.{Claims}
-use Rattle.vs_kernel.specs.Runs.{HasBegun, RanTo}
-use Rattle.vs_kernel.specs.declared.outcome.Outcome.{Outcome}
+use Rattle.vs_propose.specs.vs_rules.specs.Claims.{Claims}
+use Rattle.vs_certified.specs.vs_kernel.specs.Runs.{HasBegun, RanTo}
+use Rattle.vs_certified.specs.vs_kernel.specs.declared.outcome.Outcome.{Outcome}
 use Rattle.vs_certified.specs.Certified.{HasBegunCertifiedRun, IsCertifiedRun, StandsFor, is_before_run}
 use Rattle.vs_certified.specs.declared.fault.CertifiedFault.{CertifiedFault}
-use Rattle.vs_simulate.specs.Honesty.{IsRun, HasBegunRun}
+use Rattle.vs_explain.specs.vs_simulate.specs.Honesty.{IsRun, HasBegunRun}
 use Rattle.vs_program.specs.declared.doing.Done.{Done}
 use Rattle.vs_program.specs.declared.doing.Done.TheVariants.{Ran, Judged, Proposed, Listed}
 use Rattle.vs_program_words.specs.declared.words.Request.{Request}

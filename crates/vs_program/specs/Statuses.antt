@@ -4,22 +4,22 @@ use Rattle.std.specs.declared.io.ErrorKind as io
 use Rattle.std.specs.declared.io.ErrorKind.TheVariants as kind
 use Rattle.clap.specs.declared.error.kind.ErrorKind.{ErrorKind}
 use Rattle.clap.specs.declared.error.kind.ErrorKind.TheVariants as words
-use Rattle.vs_lexer.specs.declared.fault.LexFault.{LexFault}
-use Rattle.vs_lexer.specs.declared.fault.LexFault.TheVariants as lex
+use Rattle.vs_syntax.specs.vs_lexer.specs.declared.fault.LexFault.{LexFault}
+use Rattle.vs_syntax.specs.vs_lexer.specs.declared.fault.LexFault.TheVariants as lex
 use Rattle.vs_parser.specs.declared.fault.ParseFault.{ParseFault}
 use Rattle.vs_parser.specs.declared.fault.ParseFault.TheVariants as parse
-use Rattle.vs_scopes.specs.declared.faults.ElabFault.{ElabFault}
-use Rattle.vs_scopes.specs.declared.faults.ElabFault.TheVariants as elab
-use Rattle.vs_kernel.specs.declared.outcome.Outcome.{Outcome}
-use Rattle.vs_kernel.specs.declared.outcome.Outcome.TheVariants as o
-use Rattle.vs_simulate.specs.declared.fault.SimFault.{SimFault}
-use Rattle.vs_simulate.specs.declared.fault.SimFault.TheVariants.{Lex, Parse, Elab, Run, Memory}
+use Rattle.vs_elaborate.specs.vs_scopes.specs.declared.faults.ElabFault.{ElabFault}
+use Rattle.vs_elaborate.specs.vs_scopes.specs.declared.faults.ElabFault.TheVariants as elab
+use Rattle.vs_certified.specs.vs_kernel.specs.declared.outcome.Outcome.{Outcome}
+use Rattle.vs_certified.specs.vs_kernel.specs.declared.outcome.Outcome.TheVariants as o
+use Rattle.vs_explain.specs.vs_simulate.specs.declared.fault.SimFault.{SimFault}
+use Rattle.vs_explain.specs.vs_simulate.specs.declared.fault.SimFault.TheVariants.{Lex, Parse, Elab, Run, Memory}
 use Rattle.vs_certificate.specs.declared.fault.CertFault.{CertFault}
 use Rattle.vs_certificate.specs.declared.fault.CertFault.TheVariants as certificate
 use Rattle.vs_certified.specs.declared.fault.CertifiedFault.{CertifiedFault}
 use Rattle.vs_certified.specs.declared.fault.CertifiedFault.TheVariants.{Simulation, Certificate, Rejected}
-use Rattle.vs_cert_check.specs.declared.verdict.Verdict.{Verdict}
-use Rattle.vs_cert_check.specs.declared.verdict.Verdict.TheVariants.{Yes, No}
+use Rattle.vs_certified.specs.vs_cert_check.specs.declared.verdict.Verdict.{Verdict}
+use Rattle.vs_certified.specs.vs_cert_check.specs.declared.verdict.Verdict.TheVariants.{Yes, No}
 use Rattle.vs_propose.specs.declared.proposal.Proposal.{Proposal}
 use Rattle.vs_propose.specs.declared.proposal.Proposal.TheVariants.{Made, NotMade}
 

@@ -5,7 +5,7 @@ ghost use Rattle.std.specs.Io.KnownBytes.{Keeps, WriteAppends, append_known};
 ghost use Rattle.vs_program.specs.Buffers.{all_bytes};
 
 use std::io::{self, ErrorKind, Write};
-use vs_vcd_writing::Sink;
+use vs_certified::vs_vcd_writing::Sink;
 
 /// How many bytes are gathered at most.
 pub(crate) const ROOM: usize = 8192;

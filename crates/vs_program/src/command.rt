@@ -15,9 +15,9 @@ use crate::texts::FAILED;
 use std::alloc::Global;
 use std::io::{Read, Write};
 use vs_certified::CertifiedFault;
-use vs_kernel::RunFault;
+use vs_certified::vs_kernel::RunFault;
+use vs_explain::vs_simulate::SimFault;
 use vs_program_words::{Call, Subcommand, read_words};
-use vs_simulate::SimFault;
 
 /// Does what the words ask for; they begin with the program's own name. The source is read from `input`, in front of it the line of a certificate where
 /// the words ask for one, the text that was asked for goes to `out`, and a refusal to `err`. The answer is the exit status, and `out` with what it was

@@ -2,24 +2,24 @@
 ghost use Rattle.std.specs.Prelude.{◌≡◌, IfOk, IfErr, OnOk, true, false};
 ghost use Rattle.std.specs.Io.KnownBytes.{Appends};
 ghost use Rattle.vs_certified.specs.Certified.{CertifyingFails, is_before_run};
-ghost use Rattle.vs_simulate.specs.Honesty.{SimulationFails, is_refusal};
-ghost use Rattle.vs_simulate.specs.declared.fault.SimFault.TheVariants.{Run};
-ghost use Rattle.vs_kernel.specs.declared.outcome.RunFault.TheVariants.{Write};
-ghost use Rattle.vs_vcd_writing.specs.Sinks.{AppendsPart};
+ghost use Rattle.vs_explain.specs.vs_simulate.specs.Honesty.{SimulationFails, is_refusal};
+ghost use Rattle.vs_explain.specs.vs_simulate.specs.declared.fault.SimFault.TheVariants.{Run};
+ghost use Rattle.vs_certified.specs.vs_kernel.specs.declared.outcome.RunFault.TheVariants.{Write};
+ghost use Rattle.vs_certified.specs.vs_vcd_writing.specs.Sinks.{AppendsPart};
 ghost use Rattle.vs_program.specs.Ends.{CallFails, CheckingFails, HasWritten, Wrote, WroteCertified, WroteProposal, WroteVerdict};
 ghost use Rattle.vs_program.specs.Ends.{HasBegunCertifiedText, HasBegunProposal, HasBegunText, HasBegunVerdict, HasBegunWriting};
 
 use crate::texts::{proposal_line, verdict_line};
 use std::alloc::Global;
-use vs_cert_check::Verdict;
 use vs_certificate::ClaimedGrain;
+use vs_certified::vs_cert_check::Verdict;
+use vs_certified::vs_kernel::{Outcome, RunFault};
+use vs_certified::vs_vcd_writing::{Sink, WriteFault, write_all};
 use vs_certified::{CertifiedFault, certified, judge};
-use vs_kernel::{Outcome, RunFault};
+use vs_explain::vs_simulate::{Policy, SimFault, design_of, list_design, simulate};
 use vs_program_words::{Order, OutputText, Request, Subcommand};
 use vs_propose::{Proposal, propose};
 use vs_run_turns::Dropped;
-use vs_simulate::{Policy, SimFault, design_of, list_design, simulate};
-use vs_vcd_writing::{Sink, WriteFault, write_all};
 
 /// What a call did.
 #[derive(Drop)]

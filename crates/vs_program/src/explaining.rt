@@ -4,10 +4,10 @@ use crate::doing::Done;
 use crate::input::Kept;
 use std::alloc::{AllocError, Global};
 use std::io::Write;
-use vs_cert_check::Verdict;
 use vs_certified::CertifiedFault;
+use vs_certified::vs_cert_check::Verdict;
+use vs_certified::vs_kernel::Outcome;
 use vs_explain::{explain, explain_certificate, explain_limit, explain_rule};
-use vs_kernel::Outcome;
 use vs_program_words::{Order, Request, Subcommand};
 use vs_propose::Proposal;
 

@@ -7,16 +7,16 @@ ghost use Rattle.vs_program.specs.Texts.{fault_text, proposal_line, refusal_text
 use clap::Error;
 use clap::error::ErrorKind;
 use std::alloc::{AllocError, Global};
-use vs_cert_check::Verdict;
 use vs_certificate::{CertFault, to_json};
 use vs_certified::CertifiedFault;
+use vs_certified::vs_cert_check::Verdict;
+use vs_certified::vs_kernel::RunFault;
 use vs_elaborate::ElabFault;
-use vs_kernel::RunFault;
-use vs_lexer::LexFault;
+use vs_elaborate::vs_scopes::push_bytes;
+use vs_explain::vs_simulate::SimFault;
 use vs_parser::ParseFault;
 use vs_propose::Proposal;
-use vs_scopes::push_bytes;
-use vs_simulate::SimFault;
+use vs_syntax::vs_lexer::LexFault;
 
 /// Done, a yes, or help.
 pub(crate) const DONE: u8 = 0;

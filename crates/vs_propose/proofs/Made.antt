@@ -21,9 +21,9 @@ use Rattle.vs_cert_check.specs.Verdicts.{rule_of}
 use Rattle.vs_cert_check.specs.declared.verdict.Verdict.{Verdict}
 use Rattle.vs_cert_check.specs.declared.verdict.Verdict.TheVariants as verdicts
 use Rattle.vs_design.specs.Parts.{Parts}
-use Rattle.vs_rules.specs.Certificates.{claims_of}
-use Rattle.vs_rules.specs.Claims.{Claims}
-use Rattle.vs_rules.specs.Verdict.{Breaks, Disciplined, IsVerdict}
+use Rattle.vs_cert_check.specs.vs_rules.specs.Certificates.{claims_of}
+use Rattle.vs_cert_check.specs.vs_rules.specs.Claims.{Claims}
+use Rattle.vs_cert_check.specs.vs_rules.specs.Verdict.{Breaks, Disciplined, IsVerdict}
 use Rattle.vs_propose.specs.Proposals.{IsMade, IsRefused}
 
 pub made : (d : Parts) (grain : ClaimedGrain) (c : Certificate) (v : Verdict) → c.grain ≡ grain → IsSound (value_of c) → IsVerdict d (claims_of c) (verdict_view v) → v ≡ verdicts.Yes → IsMade d grain c

@@ -7,8 +7,8 @@ use Rattle.vs_certificate.specs.JsonValue.{value_of}
 use Rattle.vs_certificate.specs.Reading.{IsSound}
 use Rattle.vs_certificate.specs.Versions.{has_own_kinds}
 use Rattle.vs_design.specs.Parts.{Parts}
-use Rattle.vs_rules.specs.Certificates.{claims_of}
-use Rattle.vs_rules.specs.Verdict.{Disciplined, IsVerdict, no_verdict}
+use Rattle.vs_cert_check.specs.vs_rules.specs.Certificates.{claims_of}
+use Rattle.vs_cert_check.specs.vs_rules.specs.Verdict.{Disciplined, IsVerdict, no_verdict}
 use Rattle.vs_propose.specs.declared.proposal.Proposal.{Proposal}
 use Rattle.vs_propose.specs.declared.proposal.Proposal.TheVariants.{Made, NotMade}
 

@@ -15,8 +15,8 @@ use Rattle.vs_design.specs.declared.statement.EventTerm.{EventTerm}
 use Rattle.vs_design.specs.Kinds.{is_variable}
 use Rattle.vs_design.specs.Parts.{Parts}
 use Rattle.vs_design.specs.WellFormed.{WellFormed}
-use Rattle.vs_flatcode.specs.Steps.{wait}
-use Rattle.vs_law_threads.specs.Blocks.{outputs_for}
+use Rattle.vs_process.specs.vs_flatcode.specs.Steps.{wait}
+use Rattle.vs_rules.specs.vs_law_threads.specs.Blocks.{outputs_for}
 use Rattle.vs_rules.specs.Claims.{Name, Claims, Kind, Mode, SignalClaim, ProcessClaim, EdgeClaim, names_process, writer_in, second_in, mode_in, times_in, place_of, all_names, edge_names, names_of_edge, edge_signals, process_names, signal_names}
 use Rattle.vs_rules.specs.Claims.{assign_name, process_name, signal_name, claim_for, claim_of, kind_for, kind_of, IsSignalNamed, IsAssignNamed, IsProcessNamed, IsSecond, IsBlock, IsDelay, IsSequential, HasMode, HasKind, IsRootOf, IsRoot}
 use Rattle.vs_rules.specs.Claims as k

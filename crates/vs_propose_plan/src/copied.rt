@@ -2,8 +2,8 @@
 
 use crate::plans::EdgePlan;
 use std::alloc::{AllocError, Global};
+use vs_design::vs_logic4::Edge;
 use vs_design::{Assign, Design, EventTerm, event_terms, writes};
-use vs_logic4::Edge;
 use vs_slots_copies::Copies;
 
 // Whether a term waits for an edge.

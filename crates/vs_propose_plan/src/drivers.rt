@@ -3,10 +3,10 @@
 use std::alloc::{AllocError, Global};
 use vs_design::{Assign, BitRange, Design, SignalKind, Statement, reads, writes};
 use vs_law_writes::statement_writes;
-use vs_propose_order::sorted;
+use vs_propose_assigns::vs_propose_order::sorted;
+use vs_propose_assigns::vs_slots_ranges::share;
 use vs_propose_texts::{TextFacts, TextKind};
-use vs_slots_paths::text_reads;
-use vs_slots_ranges::share;
+use vs_slots_copies::vs_slots_paths::text_reads;
 
 // A range that a driver writes.
 #[derive(Clone, Copy)]

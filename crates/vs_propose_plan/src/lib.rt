@@ -14,3 +14,4 @@ mod writers;
 pub use certificates::certificate_of;
 pub use moduli::moduli_of;
 pub use plans::{EdgePlan, KindPlan, Plan, SignalPlan, plan_of};
+pub use vs_propose_assigns;

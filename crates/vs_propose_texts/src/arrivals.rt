@@ -2,7 +2,7 @@
 
 use std::alloc::{AllocError, Global};
 use vs_design::Statement;
-use vs_flatcode::{Stop, TextMap};
+use vs_process::vs_flatcode::{Stop, TextMap};
 
 /// How many ways to come to one place are told apart.
 const MAX_ARRIVALS: usize = 1_024;

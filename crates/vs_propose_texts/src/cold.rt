@@ -2,8 +2,8 @@
 
 use std::alloc::{AllocError, Global};
 use vs_design::{Assign, BitRange, Design, Part, Store};
-use vs_eval::{cut_value, write_of};
-use vs_flatcode::{Code, Cursor, Halt, compile};
+use vs_process::vs_eval::{cut_value, write_of};
+use vs_process::vs_flatcode::{Code, Cursor, Halt, compile};
 
 /// How many steps a run of a block may take.
 const MAX_STEPS: u64 = 10_000;

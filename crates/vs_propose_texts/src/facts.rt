@@ -9,7 +9,7 @@ use crate::periods::{Timing, timing_of};
 use crate::writing::{SignalWrite, signal_writes};
 use std::alloc::{AllocError, Global};
 use vs_design::Design;
-use vs_flatcode::{Code, TextMap, compile};
+use vs_process::vs_flatcode::{Code, TextMap, compile};
 
 /// What the text of a process does.
 #[derive(Drop)]

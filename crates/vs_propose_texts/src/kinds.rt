@@ -1,8 +1,8 @@
 //! What runs a process.
 
 use vs_design::{Process, Statement};
-use vs_flatcode::TextMap;
 use vs_process::is_combinational;
+use vs_process::vs_flatcode::TextMap;
 
 /// What runs a process, as its text has it.
 #[derive(Clone, Copy, PartialEq, Eq)]

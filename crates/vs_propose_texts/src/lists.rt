@@ -3,7 +3,7 @@
 use crate::arrivals::{Arrival, Arrivals, delayed, stop_at};
 use std::alloc::{AllocError, Global};
 use vs_design::Statement;
-use vs_flatcode::TextMap;
+use vs_process::vs_flatcode::TextMap;
 
 /// How many residues a list of a certificate may have.
 const MAX_RESIDUES: usize = 64;

@@ -2,9 +2,9 @@
 
 use crate::arrivals::stop_at;
 use std::alloc::{AllocError, Global};
+use vs_design::vs_logic4::Unary;
 use vs_design::{Statement, Typed};
-use vs_flatcode::{Stop, TextMap};
-use vs_logic4::Unary;
+use vs_process::vs_flatcode::{Stop, TextMap};
 
 /// How long a text takes, in ticks.
 #[derive(Clone, Copy)]

@@ -3,7 +3,7 @@
 use crate::arrivals::{Arrival, Arrivals, stop_at};
 use std::alloc::{AllocError, Global};
 use vs_design::{Statement, Target, writes};
-use vs_flatcode::TextMap;
+use vs_process::vs_flatcode::TextMap;
 
 /// What an assignment of a text does to a signal.
 #[derive(Clone, Copy)]

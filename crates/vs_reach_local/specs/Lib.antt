@@ -1,1 +1,2 @@
 pub mod Clear
+pub use Rattle.vs_reach

@@ -3,4 +3,5 @@
 
 mod walks;
 
+pub use vs_reach;
 pub use walks::{clear_marks, walk};

@@ -4,10 +4,10 @@ use std::alloc::Global;
 use std::io::{self, ErrorKind, Write};
 use std::test::Fail;
 use vs_design::Design;
-use vs_elaborate::elaborate;
 use vs_kernel::{Outcome, RunFault};
 use vs_lexer::lex;
-use vs_parser::parse;
+use vs_program::vs_elaborate::elaborate;
+use vs_program::vs_parser::parse;
 use vs_program::{Policy, SimFault, simulate};
 use vs_vcd_writing::Counted;
 

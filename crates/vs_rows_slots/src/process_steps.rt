@@ -7,9 +7,9 @@ use crate::small_design::target_a;
 use std::alloc::Global;
 use std::process::Abort;
 use vs_design::{CallKind, Design, Statement, Store, Ticks, Typed};
+use vs_flatcode::vs_strobe::full_line;
 use vs_flatcode::{Action, Code, Cursor, Script, compile};
 use vs_logic4::Vec4;
-use vs_strobe::full_line;
 
 /// `1'b1`.
 fn one() -> Typed {

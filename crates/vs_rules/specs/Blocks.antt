@@ -1,7 +1,7 @@
 -- The rules of combinational blocks alone.
 use Rattle.std.specs.Prelude.{ℕ, zero, suc, ◌≡◌, ◌⊎◌, Bool, true, false, Option, Some, None, List, [], ◌∷◌, slice_get}
 use Rattle.std.specs.List.{list_any}
-use Rattle.vs_logic4.specs.declared.digit.Digit.{Digit}
+use Rattle.vs_design.specs.vs_logic4.specs.declared.digit.Digit.{Digit}
 use Rattle.vs_design.specs.declared.design.Process.{Process}
 use Rattle.vs_design.specs.declared.range.BitRange.{BitRange}
 use Rattle.vs_design.specs.declared.statement.Aim.{Aim}
@@ -17,10 +17,10 @@ use Rattle.vs_design.specs.declared.expression.Typed.{Typed}
 use Rattle.vs_design.specs.Parts.{Parts}
 use Rattle.vs_design.specs.Stores.{Store, start_store}
 use Rattle.vs_design.specs.Uses.{covers, slice_range}
-use Rattle.vs_process.specs.declared.moves.Grain.TheVariants as g
-use Rattle.vs_process.specs.Executions.{is_combinational}
-use Rattle.vs_flatcode.specs.Places.{perform, Todo}
-use Rattle.vs_flatcode.specs.Steps.{Next, on, after, wait, step}
+use Rattle.vs_law_threads.specs.vs_process.specs.declared.moves.Grain.TheVariants as g
+use Rattle.vs_law_threads.specs.vs_process.specs.Executions.{is_combinational}
+use Rattle.vs_law_threads.specs.vs_flatcode.specs.Places.{perform, Todo}
+use Rattle.vs_law_threads.specs.vs_flatcode.specs.Steps.{Next, on, after, wait, step}
 use Rattle.vs_law_threads.specs.Blocks.{IsSettledStart}
 use Rattle.vs_law_threads.specs.Threads.{store_behind}
 use Rattle.vs_rules.specs.Claims.{nonblocking}

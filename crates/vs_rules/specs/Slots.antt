@@ -1,14 +1,14 @@
 -- Run slots, write slots and firing slots: residues of times above 0.
 use Rattle.std.specs.Prelude.{ℕ, ◌+◌, ◌*◌, ◌%◌, ◌≡◌, Bool, true, false, Option, Some, None, List}
 use Rattle.std.specs.List.{Contains}
-use Rattle.vs_logic4.specs.declared.digit.Digit.{Digit}
-use Rattle.vs_logic4.specs.declared.digit.Digit.TheVariants.{Zero, One}
-use Rattle.vs_logic4.specs.declared.edge.Edge.{Edge}
-use Rattle.vs_logic4.specs.declared.edge.Edge.TheVariants.{Posedge, Negedge}
+use Rattle.vs_design.specs.vs_logic4.specs.declared.digit.Digit.{Digit}
+use Rattle.vs_design.specs.vs_logic4.specs.declared.digit.Digit.TheVariants.{Zero, One}
+use Rattle.vs_design.specs.vs_logic4.specs.declared.edge.Edge.{Edge}
+use Rattle.vs_design.specs.vs_logic4.specs.declared.edge.Edge.TheVariants.{Posedge, Negedge}
 use Rattle.vs_design.specs.declared.statement.EventTerm.{EventTerm}
 use Rattle.vs_design.specs.Parts.{Parts}
-use Rattle.vs_flatcode.specs.Places.{Todo}
-use Rattle.vs_flatcode.specs.Steps.{Next, on, after, wait}
+use Rattle.vs_law_threads.specs.vs_flatcode.specs.Places.{Todo}
+use Rattle.vs_law_threads.specs.vs_flatcode.specs.Steps.{Next, on, after, wait}
 use Rattle.vs_rules.specs.Controls.{controls_of, list_of}
 use Rattle.vs_rules.specs.Claims.{Claims, Kind, block, edges, delays, kind_of, HasLists, IsWriter, IsRootOf}
 use Rattle.vs_rules.specs.Paths.{IsPoint, WritesNow, WritesAny, HasTerm, RunsBehind}

@@ -1,9 +1,12 @@
 -- Lemmas on how continuous assignments are evaluated and driven.
-use Rattle.std.proofs.Common.{◌≡◌, ℕ, zero, suc, ◌+◌, ◌≤◌, pos, Bool, false, Some, List, [], ◌∷◌, ◌++◌, length, slice_get, sym, ◌∙◌, ap, subst, arith}
+use Rattle.std.proofs.Common.{◌≡◌, ℕ, zero, suc, ◌+◌, ◌^◌, ◌<◌, ◌≤◌, ◌==◌, pos, Bool, false, not, Some, List, [], ◌∷◌, ◌++◌, length, slice_get, sym, ◌∙◌, ap, subst, arith}
 use Rattle.std.proofs.lemmas.Option.{none-some, same_Some}
 use Rattle.vs_logic4.specs.declared.digit.Digit.{Digit}
+use Rattle.vs_logic4.specs.declared.edge.Edge.TheVariants.{Any}
 use Rattle.vs_logic4.specs.Extensions.{length-resized}
 use Rattle.vs_logic4.specs.Parts.{selected}
+use Rattle.vs_logic4.specs.PlaneLaws.{unknown_plane-lt, value_plane-lt}
+use Rattle.vs_logic4.specs.Planes.{ArePlanes, digits_of_planes, unknown_plane, value_plane}
 use Rattle.vs_logic4.specs.Vectors.{resized, same_digits}
 use Rattle.vs_logic4.proofs.Properties.{resized-own_width}
 use Rattle.vs_design.specs.declared.design.Assign.{Assign}
@@ -14,19 +17,23 @@ use Rattle.vs_design.specs.InOrder.{IsStoreOf, numbered_word, words_before}
 use Rattle.vs_design.specs.Parts.{Parts}
 use Rattle.vs_design.specs.Stores.{Store, changes_nothing, word_of}
 use Rattle.vs_design.proofs.InOrderLemmas.{word_numbered}
-use Rattle.vs_eval.specs.Targets.{assigned}
-use Rattle.vs_eval.specs.Values.{operand_value, target_value, value_of}
+use Rattle.vs_process.specs.vs_edges.specs.declared.masks.WordChange.{WordChange}
+use Rattle.vs_process.specs.vs_edges.specs.Masks.{AreEdgesOf, IsChangeOf}
+use Rattle.vs_eval_resolved.specs.vs_eval.specs.Targets.{assigned}
+use Rattle.vs_eval_resolved.specs.vs_eval.specs.Values.{operand_value, target_value, value_of}
 use Rattle.vs_eval_resolved.specs.Meant.{IsWordOf, Meaning}
 use Rattle.vs_eval_resolved.proofs.MeantLemmas.{word_named}
 use Rattle.vs_eval_resolved.proofs.WordLemmas.{all_selected}
-use Rattle.vs_flatcode.specs.declared.spot.Spot.{Spot}
-use Rattle.vs_flatcode.specs.Spots.{IsSpotIn, SpotHolds, spot_part, spot_write}
-use Rattle.vs_flatcode.proofs.SpotLemmas.{spots_hold}
+use Rattle.vs_process.specs.vs_flatcode.specs.declared.spot.Spot.{Spot}
+use Rattle.vs_process.specs.vs_flatcode.specs.Spots.{IsSpotIn, SpotHolds, spot_part, spot_write}
+use Rattle.vs_process.specs.vs_flatcode.proofs.SpotLemmas.{spots_hold}
 use Rattle.vs_run_assigns.specs.declared.forms.Form.{Form}
 use Rattle.vs_process.specs.States.{State, written}
-use Rattle.vs_run_assigns.specs.Evaluations.{HasDigits, IsDriven}
+use Rattle.vs_run_steps.proofs.RunsLemmas.{planes_hold}
+use Rattle.vs_run_steps.specs.vs_run_writes.proofs.FastLemmas.{word_differs}
+use Rattle.vs_run_assigns.specs.Evaluations.{HasDigits, IsDriven, IsEvaluation}
 use Rattle.vs_run_assigns.specs.Forms.{IsCopy, IsFixed, IsForm, IsPlaceOf, IsSized}
-use Rattle.vs_run_assigns.proofs.DiffersLemmas.{bits_held, one_kept}
+use Rattle.vs_run_assigns.proofs.DiffersLemmas.{bits_held, one_kept, twice_not}
 
 -- ---- copies
 
@@ -107,6 +114,33 @@ copy_held signals a spot from store time b h is same =
     ∙ ap (λ (n : ℕ). same_digits (selected (pos 0) n word) v) (sym (h.whole store is))
     ∙ ap (λ (l : List Digit). same_digits l v) (sym (all_selected word))
     ∙ same
+
+-- its planes
+pub planes_of_word : (width value unknown : ℕ) (ds : List Digit) → 0 < width → width ≤ 64 → length ds ≡ width → value ≡ value_plane ds → unknown ≡ unknown_plane ds → ArePlanes width value unknown
+planes_of_word width value unknown ds some most long v u = record {
+  some = some;
+  most = most;
+  value_below = subst (λ (n : ℕ). value < 2 ^ n) long (subst (λ (n : ℕ). n < 2 ^ length ds) (sym v) (value_plane-lt ds));
+  unknown_below = subst (λ (n : ℕ). unknown < 2 ^ n) long (subst (λ (n : ℕ). n < 2 ^ length ds) (sym u) (unknown_plane-lt ds));
+}
+
+-- the places at which they differ tell whether it would change anything
+pub copy_evaluated : (d : Parts) (j : ℕ) (store : Store) (time : ℕ) (spot : Spot) (from : ℕ) (change : WordChange) → ((a : Assign) → slice_get d.assigns j ≡ Some a → IsCopy d.signals a spot from) →
+    IsStoreOf d.signals store → length (numbered_word store from) ≡ spot.width → IsChangeOf change (numbered_word store spot.index) (numbered_word store from) →
+    (differing : ℕ) → AreEdgesOf Any change differing → IsEvaluation d j store time (digits_of_planes spot.width change.new_value change.new_unknown) (not (differing == 0))
+copy_evaluated d j store time spot from change form is long of differing differ =
+    let old : List Digit = numbered_word store spot.index in
+    let word : List Digit = numbered_word store from in
+    let digits : digits_of_planes spot.width change.new_value change.new_unknown ≡ word =
+    planes_hold spot.width change.new_value change.new_unknown word long of.new_value of.new_unknown
+    in
+    let same : same_digits old word ≡ (differing == 0) = word_differs old word differing of.size (differ old word of) in
+    record {
+      value = λ a at. digits ∙ sym ((form a at).copied store time is);
+      held = λ a at.
+          ap (λ (v : List Digit). changes_nothing store (assigned a.target v store time)) digits
+          ∙ copy_held d.signals a spot from store time (not (not (differing == 0))) (form a at) is (same ∙ twice_not (differing == 0));
+    }
 
 -- that of a fixed place
 pub fixed_value : (signals : List Signal) (a : Assign) (spot : Spot) (source : Meaning) (store : Store) (time : ℕ) → IsFixed signals a spot source →

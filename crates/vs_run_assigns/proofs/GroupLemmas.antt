@@ -6,8 +6,8 @@ use Rattle.vs_process.specs.declared.moves.Move.{Move}
 use Rattle.vs_process.specs.declared.moves.Move.TheVariants.{Evaluate, Propagate}
 use Rattle.vs_process.specs.Executions.{apply, if_some, is_enabled}
 use Rattle.vs_process.specs.States.{AssignState, State}
-use Rattle.vs_run_turns.specs.Turns.{is_silent}
-use Rattle.vs_run_turns.proofs.MadeLemmas.{made_more}
+use Rattle.vs_run_steps.specs.vs_run_turns.specs.Turns.{is_silent}
+use Rattle.vs_run_steps.specs.vs_run_turns.proofs.MadeLemmas.{made_more}
 use Rattle.vs_run_wakes.specs.Changes.{MarkChanges}
 use Rattle.vs_run_steps.specs.declared.run.RunState.{RunState}
 use Rattle.vs_run_steps.specs.Runs.{IsRunOf, marks_of, state_of}

@@ -6,10 +6,10 @@ use Rattle.vs_logic4.specs.Extensions.{length-resized}
 use Rattle.vs_design.specs.Parts.{Parts}
 use Rattle.vs_design.specs.Stores.{Store, changes_nothing, put}
 use Rattle.vs_design.specs.Writes.{Write}
-use Rattle.vs_eval.specs.Targets.{assigned}
-use Rattle.vs_eval.specs.Values.{target_value, value_of}
-use Rattle.vs_flatcode.specs.Places.{Place, todo_of}
-use Rattle.vs_flatcode.specs.Steps.{step}
+use Rattle.vs_eval_resolved.specs.vs_eval.specs.Targets.{assigned}
+use Rattle.vs_eval_resolved.specs.vs_eval.specs.Values.{target_value, value_of}
+use Rattle.vs_process.specs.vs_flatcode.specs.Places.{Place, todo_of}
+use Rattle.vs_process.specs.vs_flatcode.specs.Steps.{step}
 use Rattle.vs_process.proofs.Lists.{map_cases, set_cases}
 use Rattle.vs_process.specs.declared.moves.Move.{Move}
 use Rattle.vs_process.specs.declared.moves.Move.TheVariants.{Step, Evaluate, Propagate, Make, Rouse, Activate, EndSlot}

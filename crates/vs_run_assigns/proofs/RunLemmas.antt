@@ -7,8 +7,8 @@ use Rattle.vs_design.specs.declared.design.Assign.{Assign}
 use Rattle.vs_design.specs.declared.statement.Target.{Target}
 use Rattle.vs_design.specs.Parts.{Parts}
 use Rattle.vs_design.specs.Stores.{Store, changed_at, changes_nothing}
-use Rattle.vs_eval.specs.Targets.{assigned}
-use Rattle.vs_eval.specs.Values.{target_value, value_of}
+use Rattle.vs_eval_resolved.specs.vs_eval.specs.Targets.{assigned}
+use Rattle.vs_eval_resolved.specs.vs_eval.specs.Values.{target_value, value_of}
 use Rattle.vs_process.specs.declared.moves.Move.{Move}
 use Rattle.vs_process.specs.declared.moves.Move.TheVariants.{Evaluate, Propagate}
 use Rattle.vs_process.specs.Executions.{apply, if_some, is_enabled}
@@ -18,9 +18,9 @@ use Rattle.vs_run_tables.specs.Left.{valued}
 use Rattle.vs_run_tables.specs.Wakes.{AreWatched}
 use Rattle.vs_run_tables.specs.declared.watchers.ListedTerm.{ListedTerm}
 use Rattle.vs_run_tables.proofs.WatchedLemmas.{watched_assigns}
-use Rattle.vs_run_turns.specs.Turns.{AreMade, IsReached}
-use Rattle.vs_run_turns.proofs.AssignLemmas.{driven, evaluated_none, evaluated_some, propagated}
-use Rattle.vs_run_turns.proofs.MadeLemmas.{made_reached}
+use Rattle.vs_run_steps.specs.vs_run_turns.specs.Turns.{AreMade, IsReached}
+use Rattle.vs_run_steps.specs.vs_run_turns.proofs.AssignLemmas.{driven, evaluated_none, evaluated_some, propagated}
+use Rattle.vs_run_steps.specs.vs_run_turns.proofs.MadeLemmas.{made_reached}
 use Rattle.vs_run_wakes.specs.Changes.{MarkChanges}
 use Rattle.vs_run_steps.specs.declared.run.RunState.{RunState}
 use Rattle.vs_run_steps.specs.Runs.{Agrees, IsRunOf, Plan, plan_of, state_of}

@@ -4,3 +4,4 @@ pub mod Known
 pub mod Members
 pub mod MembersMade
 pub mod Placed
+pub use Rattle.vs_run_tables

@@ -6,7 +6,7 @@ use Rattle.vs_process.specs.Executions.{is_enabled}
 use Rattle.vs_process.specs.States.{State}
 use Rattle.vs_run_steps.specs.declared.run.RunState.{RunState}
 use Rattle.vs_run_steps.specs.Runs.{IsRunOf, marks_of, state_of}
-use Rattle.vs_run_turns.specs.Turns.{AreMade}
+use Rattle.vs_run_steps.specs.vs_run_turns.specs.Turns.{AreMade}
 use Rattle.vs_run_wakes.specs.Changes.{MarkChanges}
 
 -- so many moves were made in a run, at most so many

@@ -2,16 +2,17 @@
 ghost use Rattle.std.specs.Prelude.{◌≡◌, ◌<◌, ◌≤◌, true, false, IfOk, OnOk};
 ghost use Rattle.vs_process.specs.Executions as executions;
 ghost use Rattle.vs_run_steps.specs.Runs.{IsRunOf, marks_of, state_of};
-ghost use Rattle.vs_run_turns.specs.Turns.{AreMade};
+ghost use Rattle.vs_run_steps.specs.vs_run_turns.specs.Turns.{AreMade};
 ghost use Rattle.vs_run_wakes.specs.Changes.{MarkChanges};
 
-use crate::evaluation::{drive, evaluation_any, spot_evaluation};
+use crate::evaluation::{copy_evaluation, drive, evaluation_any, spot_evaluation};
 use crate::forms::Forms;
 use std::alloc::AllocError;
+use vs_logic4::Vec4;
 use vs_process::Move;
 use vs_run_steps::RunState;
 use vs_run_updates::Due;
-use vs_time_wheel::EventQueue;
+use vs_run_updates::vs_time_wheel::EventQueue;
 
 /// The evaluation of a continuous assignment of any form, which isn't listed: whether a value waits to be written then.
 #[inline(never)]
@@ -55,9 +56,9 @@ fn evaluate_any<Q: EventQueue<Due>>(
     Ok(())
 }
 
-/// The evaluation of a continuous assignment, and its update, where that is the next event: how many moves, at most so many.
-#[inline(always)]
-pub fn evaluate<Q: EventQueue<Due>>(
+/// The evaluation of a continuous assignment that isn't a copy, and its update, where that is the next event: how many moves, at most so many.
+#[inline(never)]
+fn evaluate_placed<Q: EventQueue<Due>>(
     run: &mut RunState<Q>,
     forms: &Forms,
     assign: usize,
@@ -81,7 +82,7 @@ pub fn evaluate<Q: EventQueue<Due>>(
         run.watched.events.assigns.leave(assign, None);
         return Ok(1);
     }
-    if limit > 1 && run.watched.events.queue.is_empty() {
+    if run.watched.events.queue.is_empty() && limit > 1 {
         run.watched.events.assigns.leave(assign, None);
         run.write(placed.spot, placed.digits)?;
         return Ok(2);
@@ -94,9 +95,46 @@ pub fn evaluate<Q: EventQueue<Due>>(
     Ok(1)
 }
 
-/// The evaluation of a continuous assignment, which isn't listed: whether a value waits to be written then.
+/// The evaluation of a continuous assignment, and its update, where that is the next event: how many moves, at most so many.
 #[inline(always)]
-pub(crate) fn evaluate_member<Q: EventQueue<Due>>(
+pub fn evaluate<Q: EventQueue<Due>>(
+    run: &mut RunState<Q>,
+    forms: &Forms,
+    assign: usize,
+    limit: u64,
+) -> Result<u64, AllocError>
+    requires limit { 0 < limit }
+    requires run { IsRunOf forms.now run.old }
+    requires active { executions.is_enabled (state_of run.old) (Move.Evaluate assign) ≡ true }
+    ensures run { OnOk result (IsRunOf forms.now run.new) }
+    ensures some { IfOk result (λ made. 0 < made) }
+    ensures within { IfOk result (λ made. made ≤ limit) }
+    ensures made { IfOk result (λ made. AreMade made (state_of run.old) (state_of run.new)) }
+    ensures marked { OnOk result (MarkChanges (marks_of run.old) (marks_of run.new) (state_of run.old).store (state_of run.new).store) }
+{
+    let Some(copied) = copy_evaluation(run, forms, assign) else {
+        return evaluate_placed(run, forms, assign, limit);
+    };
+    let spot = copied.spot;
+    let change = copied.change;
+    if change.differing() == 0 {
+        run.watched.events.assigns.leave(assign, None);
+        return Ok(1);
+    }
+    if limit > 1 && run.watched.events.queue.is_empty() {
+        run.watched.events.assigns.leave(assign, None);
+        run.write_planes(spot, change.new_value, change.new_unknown)?;
+        return Ok(2);
+    }
+    let digits = Vec4::from_planes(spot.width, change.new_value, change.new_unknown);
+    run.watched.events.assigns.leave(assign, Some(digits));
+    run.watched.events.queue.push(assign)?;
+    Ok(1)
+}
+
+/// The evaluation of a continuous assignment that isn't a copy, which isn't listed: whether a value waits to be written then.
+#[inline(never)]
+fn evaluate_placed_member<Q: EventQueue<Due>>(
     run: &mut RunState<Q>,
     forms: &Forms,
     assign: usize,
@@ -119,6 +157,32 @@ pub(crate) fn evaluate_member<Q: EventQueue<Due>>(
         .events
         .assigns
         .leave(assign, Some(placed.digits));
+    Ok(true)
+}
+
+/// The evaluation of a continuous assignment, which isn't listed: whether a value waits to be written then.
+#[inline(always)]
+pub(crate) fn evaluate_member<Q: EventQueue<Due>>(
+    run: &mut RunState<Q>,
+    forms: &Forms,
+    assign: usize,
+) -> Result<bool, AllocError>
+    requires run { IsRunOf forms.now run.old }
+    requires active { executions.is_enabled (state_of run.old) (Move.Evaluate assign) ≡ true }
+    ensures run { OnOk result (IsRunOf forms.now run.new) }
+    ensures made { OnOk result (state_of run.new ≡ executions.apply (Move.Evaluate assign) (state_of run.old)) }
+    ensures marked { OnOk result (MarkChanges (marks_of run.old) (marks_of run.new) (state_of run.old).store (state_of run.new).store) }
+{
+    let Some(copied) = copy_evaluation(run, forms, assign) else {
+        return evaluate_placed_member(run, forms, assign);
+    };
+    let change = copied.change;
+    if change.differing() == 0 {
+        run.watched.events.assigns.leave(assign, None);
+        return Ok(false);
+    }
+    let digits = Vec4::from_planes(copied.spot.width, change.new_value, change.new_unknown);
+    run.watched.events.assigns.leave(assign, Some(digits));
     Ok(true)
 }
 

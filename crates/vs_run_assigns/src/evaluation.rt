@@ -1,22 +1,30 @@
 //! What the evaluations of continuous assignments give, and how they are driven.
-ghost use Rattle.std.specs.Prelude.{◌≡◌, ◌+◌, ◌≤◌, not, pos, Some, length, slice_get, IfOk, IfSome, OnOk};
+ghost use Rattle.std.specs.Prelude.{◌≡◌, ◌+◌, ◌≤◌, pos, Some, length, slice_get, IfOk, IfSome, OnOk};
 ghost use Rattle.vs_logic4.specs.Parts.{selected};
-ghost use Rattle.vs_logic4.specs.Vectors.{same_digits};
 ghost use Rattle.vs_design.specs.declared.design.Assign as design_assign;
 ghost use Rattle.vs_design.specs.InOrder.{IsStoreOf, numbered_word};
+ghost use Rattle.vs_process.specs.vs_edges.specs.Masks.{IsChangeOf};
 ghost use Rattle.vs_run_assigns.specs.Evaluations.{HasDigits, IsDriven, IsEvaluation};
-ghost use Rattle.vs_run_assigns.specs.Placed.{IsPlaced};
+ghost use Rattle.vs_run_assigns.specs.Placed.{IsCopied, IsPlaced};
 ghost use Rattle.vs_run_steps.specs.Runs.{Agrees, Keeps, Plan, state_of};
 
 use crate::forms::{Form, Forms};
 use std::alloc::AllocError;
 use vs_design::Store;
-use vs_eval::{cut_value, write_of};
-use vs_flatcode::Spot;
+use vs_eval_resolved::vs_eval::{cut_value, write_of};
 use vs_logic4::Vec4;
+use vs_process::vs_edges::WordChange;
+use vs_process::vs_flatcode::Spot;
 use vs_run_steps::RunState;
 use vs_run_updates::Due;
-use vs_time_wheel::EventQueue;
+use vs_run_updates::vs_time_wheel::EventQueue;
+
+/// The evaluation of a copy: the word that it gives a value, and what that makes of it.
+#[derive(Clone, Copy)]
+pub(crate) struct Copied<'f> {
+    pub spot: &'f Spot,
+    pub change: WordChange,
+}
 
 /// The evaluation of a continuous assignment that has a fixed place: the place, the value, and whether it would change anything.
 #[derive(Clone, Copy)]
@@ -37,19 +45,21 @@ fn bits_of(store: &Store, spot: &Spot) -> Vec4
     Vec4::from_planes(spot.width, value >> shift, unknown >> shift)
 }
 
-/// The value of a word, and whether that of a spot, which is a whole word of this size, differs.
+/// What a copy makes of the word of a spot, which is a whole word: the change to the value of another one of its size.
 #[inline(always)]
-fn copied(store: &Store, spot: &Spot, from: usize) -> (Vec4, bool)
+fn change_of_copy(store: &Store, spot: &Spot, from: usize) -> WordChange
     requires whole { length (numbered_word store.now spot.now.index) ≡ spot.now.width }
     requires sized { length (numbered_word store.now from) ≡ spot.now.width }
-    ensures value { result.0 ≡ numbered_word store.now from }
-    ensures held { same_digits (numbered_word store.now spot.now.index) (numbered_word store.now from) ≡ not result.1 }
+    ensures { IsChangeOf result (numbered_word store.now spot.now.index) (numbered_word store.now from) }
 {
-    let (value, unknown) = store.planes_of(from);
-    let (old_value, old_unknown) = store.planes_of(spot.index);
-    let digits = Vec4::from_planes(spot.width, value, unknown);
-    let held = Vec4::from_planes(spot.width, old_value, old_unknown) == digits;
-    (digits, !held)
+    let (new_value, new_unknown) = store.planes_of(from);
+    let (value, unknown) = store.planes_of(spot.index);
+    WordChange {
+        value,
+        unknown,
+        new_value,
+        new_unknown,
+    }
 }
 
 /// The value that a continuous assignment of any form has to be given, and whether it would change anything.
@@ -71,7 +81,29 @@ pub(crate) fn evaluation_any<Q: EventQueue<Due>>(
     Ok((digits, !held))
 }
 
-/// The evaluation of a continuous assignment that has a fixed place, where it has one.
+/// The evaluation of a continuous assignment that is a copy, where it is one.
+#[inline(always)]
+pub(crate) fn copy_evaluation<'f, Q: EventQueue<Due>>(
+    run: &RunState<Q>,
+    forms: &'f Forms,
+    assign: usize,
+) -> Option<Copied<'f>>
+    requires store { IsStoreOf forms.now.signals run.now.watched.store }
+    requires there { (a : design_assign.Assign) × (slice_get forms.now.assigns assign ≡ Some a) }
+    ensures { IfSome result (λ c. IsCopied forms.now assign run.now.watched.store run.now.regions.time c) }
+{
+    let form = forms.get(assign)?;
+    match form {
+        Form::Copy(spot, from) => {
+            let change = change_of_copy(&run.watched.store, spot, *from);
+            Some(Copied { spot, change })
+        }
+        Form::Fixed(_, _) => None,
+        Form::Other => None,
+    }
+}
+
+/// The evaluation of a continuous assignment that has a fixed place and isn't a copy.
 #[inline(always)]
 pub(crate) fn spot_evaluation<'f, Q: EventQueue<Due>>(
     run: &RunState<Q>,
@@ -84,14 +116,7 @@ pub(crate) fn spot_evaluation<'f, Q: EventQueue<Due>>(
 {
     let form = forms.get(assign)?;
     match form {
-        Form::Copy(spot, from) => {
-            let (digits, differs) = copied(&run.watched.store, spot, *from);
-            Some(Placed {
-                spot,
-                digits,
-                differs,
-            })
-        }
+        Form::Copy(_, _) => None,
         Form::Fixed(spot, source) => {
             let store = &run.watched.store;
             let digits = source.cut_value(spot.width, store, run.regions.time());

@@ -4,7 +4,7 @@ ghost use Rattle.vs_process.specs.Executions as executions;
 ghost use Rattle.vs_run_assigns.specs.Members.{group_move, members_in};
 ghost use Rattle.vs_run_assigns.specs.MembersMade.{HasBegun};
 ghost use Rattle.vs_run_steps.specs.Runs.{IsRunOf, marks_of, state_of};
-ghost use Rattle.vs_run_turns.specs.Turns.{AreMade};
+ghost use Rattle.vs_run_steps.specs.vs_run_turns.specs.Turns.{AreMade};
 ghost use Rattle.vs_run_wakes.specs.Changes.{MarkChanges};
 
 use crate::assigns::{evaluate_member, update_member};
@@ -13,7 +13,7 @@ use std::alloc::AllocError;
 use vs_process::Move;
 use vs_run_steps::RunState;
 use vs_run_updates::Due;
-use vs_time_wheel::EventQueue;
+use vs_run_updates::vs_time_wheel::EventQueue;
 
 /// A member of a group; past the end there is none.
 #[inline(always)]
@@ -71,7 +71,8 @@ fn update_group<Q: EventQueue<Due>>(
     requires limit { 0 < limit }
     requires run { IsRunOf forms.now run.old }
     ensures run { OnOk result (IsRunOf forms.now run.new) }
-    ensures some { IfOk result (λ taken. HasBegun (members_in run.old.watched.tables group) (λ j. Move.Propagate j) (state_of run.old) taken) }
+    ensures some { IfOk result (λ taken.
+        HasBegun (members_in run.old.watched.tables group) (λ j. Move.Propagate j) (state_of run.old) taken) }
     ensures within { IfOk result (λ taken. taken ≤ limit) }
     ensures made { IfOk result (λ taken. AreMade taken (state_of run.old) (state_of run.new)) }
     ensures marked { OnOk result (MarkChanges (marks_of run.old) (marks_of run.new) (state_of run.old).store (state_of run.new).store) }
@@ -103,7 +104,8 @@ fn evaluate_group<Q: EventQueue<Due>>(
     requires limit { 0 < limit }
     requires run { IsRunOf forms.now run.old }
     ensures run { OnOk result (IsRunOf forms.now run.new) }
-    ensures some { IfOk result (λ taken. HasBegun (members_in run.old.watched.tables group) (λ j. Move.Evaluate j) (state_of run.old) taken) }
+    ensures some { IfOk result (λ taken.
+        HasBegun (members_in run.old.watched.tables group) (λ j. Move.Evaluate j) (state_of run.old) taken) }
     ensures within { IfOk result (λ taken. taken ≤ limit) }
     ensures made { IfOk result (λ taken. AreMade taken (state_of run.old) (state_of run.new)) }
     ensures marked { OnOk result (MarkChanges (marks_of run.old) (marks_of run.new) (state_of run.old).store (state_of run.new).store) }

@@ -9,3 +9,4 @@ mod groups;
 pub use assigns::{evaluate, evaluate_chosen, propagate};
 pub use forms::Forms;
 pub use groups::{is_group_active, run_group};
+pub use vs_run_tables;

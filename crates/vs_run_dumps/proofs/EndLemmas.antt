@@ -3,12 +3,12 @@ use Rattle.std.proofs.Common.{◌≡◌, ℕ, ◌<◌, ◌||◌, Bool, true, fal
 use Rattle.std.proofs.lemmas.Bool.{ltb-true}
 use Rattle.std.proofs.lemmas.List.{append-nil}
 use Rattle.std.specs.Prelude.{nat_lt}
-use Rattle.vs_logic4.specs.declared.digit.Digit.{Digit}
+use Rattle.vs_design.specs.vs_logic4.specs.declared.digit.Digit.{Digit}
 use Rattle.vs_design.specs.Parts.{Parts}
 use Rattle.vs_design.specs.Traces.{Slot}
 use Rattle.vs_design.specs.Writes.{Write}
-use Rattle.vs_flatcode.specs.Places.{Place, todo_of}
-use Rattle.vs_flatcode.specs.Steps.{step}
+use Rattle.vs_process.specs.vs_flatcode.specs.Places.{Place, todo_of}
+use Rattle.vs_process.specs.vs_flatcode.specs.Steps.{step}
 use Rattle.vs_process.specs.declared.moves.Move.{Move}
 use Rattle.vs_process.specs.declared.moves.Move.TheVariants.{Step, Evaluate, Propagate, Make, Rouse, Activate, EndSlot}
 use Rattle.vs_process.specs.Executions.{after, apply, ended_slot, slots}

@@ -11,8 +11,8 @@ use Rattle.vs_process.specs.declared.moves.Move.{Move}
 use Rattle.vs_process.specs.Executions.{after, finish_time, Legal, slots}
 use Rattle.vs_process.specs.Laws.{IsStoreOf}
 use Rattle.vs_process.proofs.Times.{Each}
-use Rattle.vs_vcd_writing.specs.Codes.{shown}
-use Rattle.vs_vcd_writing.specs.Shown.{HasSize}
+use Rattle.vs_kernel.specs.vs_vcd_writing.specs.Codes.{shown}
+use Rattle.vs_kernel.specs.vs_vcd_writing.specs.Shown.{HasSize}
 use Rattle.vs_vcd_law.specs.Conditions.{AreSized, AreWhole, IsEnd}
 use Rattle.vs_kernel.specs.Runs.{StopsAt}
 use Rattle.vs_kernel.proofs.ShowsLemmas.{shown_sized}

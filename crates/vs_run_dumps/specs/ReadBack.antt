@@ -4,15 +4,15 @@ use Rattle.vs_design.specs.Parts.{Parts}
 use Rattle.vs_process.specs.declared.moves.Grain.{Grain}
 use Rattle.vs_process.specs.declared.moves.Move.{Move}
 use Rattle.vs_process.specs.Executions.{after, is_complete, Legal, slots, trace}
-use Rattle.vs_vcd_writing.specs.Codes.{shown}
-use Rattle.vs_vcd_writing.specs.Shown.{slot_at}
-use Rattle.vs_vcd_writing.specs.Values.{shown_value}
-use Rattle.vs_vcd_reading.specs.declared.dump.Dump.{Dump}
-use Rattle.vs_vcd_reading.specs.declared.fault.VcdFault.{VcdFault}
-use Rattle.vs_vcd_reading.specs.declared.fault.VcdFault.TheVariants.{Memory}
-use Rattle.vs_vcd_reading.specs.Faults.{IsFault}
-use Rattle.vs_vcd_reading.specs.Layout.{IsDump, IsLayout}
-use Rattle.vs_vcd_reading.specs.Plain.{PlainDump, plain_dump}
+use Rattle.vs_kernel.specs.vs_vcd_writing.specs.Codes.{shown}
+use Rattle.vs_kernel.specs.vs_vcd_writing.specs.Shown.{slot_at}
+use Rattle.vs_kernel.specs.vs_vcd_writing.specs.Values.{shown_value}
+use Rattle.vs_vcd_law.specs.vs_vcd_reading.specs.declared.dump.Dump.{Dump}
+use Rattle.vs_vcd_law.specs.vs_vcd_reading.specs.declared.fault.VcdFault.{VcdFault}
+use Rattle.vs_vcd_law.specs.vs_vcd_reading.specs.declared.fault.VcdFault.TheVariants.{Memory}
+use Rattle.vs_vcd_law.specs.vs_vcd_reading.specs.Faults.{IsFault}
+use Rattle.vs_vcd_law.specs.vs_vcd_reading.specs.Layout.{IsDump, IsLayout}
+use Rattle.vs_vcd_law.specs.vs_vcd_reading.specs.Plain.{PlainDump, plain_dump}
 use Rattle.vs_vcd_law.specs.Conditions.{IsOutlined}
 use Rattle.vs_vcd_law.specs.Said.{dump_begun, dump_of}
 use Rattle.vs_vcd_law.specs.Values.{values_at}

@@ -2,8 +2,8 @@
 ghost use Rattle.vs_run_dumps.specs.ReadBack.{CompleteRunsEndSlots, DumpsReadBack};
 
 use vs_process::{stores_are_sized, times_rise};
+use vs_vcd_law::vs_vcd_reading::{dumps_are_one, faults_are_of_none};
 use vs_vcd_law::{dumps_give_values, written_dumps_are_read};
-use vs_vcd_reading::{dumps_are_one, faults_are_of_none};
 
 /// The value change dump of an execution so far, of which a slot has ended, is of the layout. The values of the variables in it, in the order of
 /// their codes, are at each time those that the signals have in the store at the end of the last slot at or before that time. Whatever

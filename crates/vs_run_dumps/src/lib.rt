@@ -4,3 +4,4 @@
 mod laws;
 
 pub use laws::{complete_runs_end_slots, run_dumps_are_read};
+pub use vs_kernel;

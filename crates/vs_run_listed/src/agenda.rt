@@ -7,8 +7,8 @@ use crate::event::Event;
 use std::alloc::{AllocError, Global};
 use vs_run_policies::Pick;
 use vs_run_tables::Queue;
+use vs_run_updates::vs_time_wheel::EventQueue;
 use vs_run_updates::{Due, Regions};
-use vs_time_wheel::EventQueue;
 
 /// Where the signals that an activated update names begin and end.
 #[derive(Clone, Copy)]

@@ -1,9 +1,5 @@
-pub mod ActiveLemmas
-pub mod LeavingLemmas
 pub mod MarkingLemmas
 pub mod RegionLemmas
-pub mod RunLemmas
 pub mod ScriptLemmas
 pub mod StandingLemmas
 pub mod StartLemmas
-pub mod UpdateLemmas

@@ -3,27 +3,27 @@ use Rattle.std.proofs.Common.{◌≡◌, ℕ, suc, ◌*◌, ◌<◌, Bool, true,
 use Rattle.std.specs.Prelude.{unwrap_or}
 use Rattle.std.proofs.lemmas.List.{length-map}
 use Rattle.std.proofs.lemmas.Option.{slice_get_within}
-use Rattle.vs_logic4.specs.declared.digit.Digit.{Digit}
-use Rattle.vs_logic4.specs.declared.digit.Digit.TheVariants.{X}
+use Rattle.vs_design.specs.vs_logic4.specs.declared.digit.Digit.{Digit}
+use Rattle.vs_design.specs.vs_logic4.specs.declared.digit.Digit.TheVariants.{X}
 use Rattle.vs_design.specs.declared.signal.Signal.{Signal}
 use Rattle.vs_design.specs.Parts.{Parts}
 use Rattle.vs_design.specs.Stores.{Store, word_in}
 use Rattle.std.specs.Io.KnownBytes.{Appends}
 use Rattle.vs_design.specs.Traces.{Line, Slot}
-use Rattle.vs_process.specs.declared.moves.Move.TheVariants.{EndSlot}
-use Rattle.vs_process.specs.Executions.{ended_slot}
-use Rattle.vs_process.specs.States.{Called, State}
-use Rattle.vs_run_turns.specs.Prints.{lines_text}
-use Rattle.vs_run_turns.specs.Slots.{AppendsSlots}
-use Rattle.vs_run_turns.proofs.Appending.{append_none}
-use Rattle.vs_run_turns.proofs.WritingLemmas.{ended_here}
+use Rattle.vs_run_processes.specs.vs_process.specs.declared.moves.Move.TheVariants.{EndSlot}
+use Rattle.vs_run_processes.specs.vs_process.specs.Executions.{ended_slot}
+use Rattle.vs_run_processes.specs.vs_process.specs.States.{Called, State}
+use Rattle.vs_run_steps.specs.vs_run_turns.specs.Prints.{lines_text}
+use Rattle.vs_run_steps.specs.vs_run_turns.specs.Slots.{AppendsSlots}
+use Rattle.vs_run_steps.specs.vs_run_turns.proofs.Appending.{append_none}
+use Rattle.vs_run_steps.specs.vs_run_turns.proofs.WritingLemmas.{ended_here}
 use Rattle.vs_vcd_writing.proofs.ProgressLemmas.{vcd_slots-push}
-use Rattle.vs_run_wakes.specs.Changes.{MarkChanges}
+use Rattle.vs_run_events.specs.vs_run_wakes.specs.Changes.{MarkChanges}
 use Rattle.vs_vcd_writing.specs.Codes.{is_array}
 use Rattle.vs_vcd_writing.specs.CodeTables.{code_table}
-use Rattle.vs_run_wakes.proofs.MarkingLemmas.{unmarked}
+use Rattle.vs_run_events.specs.vs_run_wakes.proofs.MarkingLemmas.{unmarked}
 use Rattle.vs_vcd_writing.specs.Progress.{Covers, HasWritten, Progress, vcd_slot}
-use Rattle.vs_run_turns.specs.Recording.{CoversNoted, HasNoted, HasRoom}
+use Rattle.vs_run_steps.specs.vs_run_turns.specs.Recording.{CoversNoted, HasNoted, HasRoom}
 use Rattle.vs_run_steps.specs.Runs.{Running, marks_of, state_of}
 use Rattle.vs_run_moves.specs.Standing.{HasKept, IsKept}
 

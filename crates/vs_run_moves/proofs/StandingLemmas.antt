@@ -3,29 +3,29 @@ use Rattle.std.proofs.Common.{◌≡◌, ℕ, ◌+◌, ◌-◌, ◌<◌, Bool, t
 use Rattle.std.proofs.lemmas.Bool.{and_parts, false≢true, true≢false}
 use Rattle.vs_flatcode.specs.declared.gait.Gait.TheVariants as gaits
 use Rattle.vs_flatcode.specs.Places.{Place, going, sleeping, inactive, waiting, ended, is_going, is_inside}
-use Rattle.vs_process.specs.declared.moves.Move.{Move}
-use Rattle.vs_process.specs.declared.moves.Move.TheVariants.{Step, Evaluate, Propagate, Make, Rouse, Activate, EndSlot}
+use Rattle.vs_run_processes.specs.vs_process.specs.declared.moves.Move.{Move}
+use Rattle.vs_run_processes.specs.vs_process.specs.declared.moves.Move.TheVariants.{Step, Evaluate, Propagate, Make, Rouse, Activate, EndSlot}
 use Rattle.std.specs.Io.KnownBytes.{Appends}
-use Rattle.vs_process.specs.Blocks.{is_step_of_any}
-use Rattle.vs_process.specs.Executions.{apply, if_some, is_enabled, move_lines}
-use Rattle.vs_process.specs.States.{State}
+use Rattle.vs_run_processes.specs.vs_process.specs.Blocks.{is_step_of_any}
+use Rattle.vs_run_processes.specs.vs_process.specs.Executions.{apply, if_some, is_enabled, move_lines}
+use Rattle.vs_run_processes.specs.vs_process.specs.States.{State}
 use Rattle.vs_run_steps.specs.Runs.{IsRunOf, Running, marks_of, state_of}
 use Rattle.vs_run_moves.specs.Standing.{IsStanding, Standing, point_of}
-use Rattle.vs_run_turns.specs.Insides.{inside_told, is_told}
-use Rattle.vs_run_turns.specs.Points.{point}
-use Rattle.vs_run_turns.specs.Prints.{lines_text}
-use Rattle.vs_run_turns.specs.Turns.{AllTurnedPart, EventTurnedPart, GoesOn, LeftTurned, RunsTo, Turned, TurnedPart, TurnedTo, Turning}
-use Rattle.vs_run_turns.proofs.EventLemmas.{turning_left}
-use Rattle.vs_run_turns.proofs.TurnsLemmas.{one_part, one_turned, turned_last, turned_so_far, turning_first, turning_one, turning_part}
+use Rattle.vs_run_steps.specs.vs_run_turns.specs.Insides.{inside_told, is_told}
+use Rattle.vs_run_steps.specs.vs_run_turns.specs.Points.{point}
+use Rattle.vs_run_steps.specs.vs_run_turns.specs.Prints.{lines_text}
+use Rattle.vs_run_steps.specs.vs_run_turns.specs.Turns.{AllTurnedPart, EventTurnedPart, GoesOn, LeftTurned, RunsTo, Turned, TurnedPart, TurnedTo, Turning}
+use Rattle.vs_run_steps.specs.vs_run_turns.proofs.EventLemmas.{turning_left}
+use Rattle.vs_run_steps.specs.vs_run_turns.proofs.TurnsLemmas.{one_part, one_turned, turned_last, turned_so_far, turning_first, turning_one, turning_part}
 use Rattle.vs_vcd_writing.specs.Progress.{Progress}
 use Rattle.vs_vcd_writing.specs.Sinks.{AppendsPart}
 use Rattle.vs_run_steps.specs.declared.run.RunState.{RunState}
 use Rattle.vs_run_tables.specs.declared.queue.Queue.{Queue}
-use Rattle.vs_run_listed.specs.declared.event.Event.{Event}
-use Rattle.vs_run_listed.specs.declared.event.Event.TheVariants as e
-use Rattle.vs_run_moves.specs.Running.{IsSingle, move_of}
-use Rattle.vs_run_moves.proofs.RunLemmas.{event_inner, queue_run}
-use Rattle.vs_run_wakes.specs.Changes.{MarkChanges}
+use Rattle.vs_run_events.specs.vs_run_listed.specs.declared.event.Event.{Event}
+use Rattle.vs_run_events.specs.vs_run_listed.specs.declared.event.Event.TheVariants as e
+use Rattle.vs_run_events.specs.Running.{IsSingle, move_of}
+use Rattle.vs_run_events.proofs.RunLemmas.{event_inner, queue_run}
+use Rattle.vs_run_events.specs.vs_run_wakes.specs.Changes.{MarkChanges}
 use Rattle.vs_run_moves.proofs.MarkingLemmas.{kept_on}
 
 -- where no block has left its control, none goes on

@@ -3,7 +3,7 @@ use Rattle.std.proofs.Common.{◌≡◌, ℕ, zero, suc, ◌<◌, ◌+◌, Bool,
 use Rattle.std.specs.declared.alloc.Global.{Global}
 use Rattle.std.specs.declared.vec.Vec.{Vec}
 use Rattle.std.proofs.lemmas.Option.{none-some, same_Some}
-use Rattle.vs_logic4.specs.declared.digit.Digit.{Digit}
+use Rattle.vs_design.specs.vs_logic4.specs.declared.digit.Digit.{Digit}
 use Rattle.vs_design.specs.declared.design.Assign.{Assign}
 use Rattle.vs_design.specs.declared.design.Process as design
 use Rattle.vs_design.specs.declared.expression.Typed.{Typed}
@@ -17,7 +17,7 @@ use Rattle.vs_design.proofs.Drivers.{length-start_digits}
 use Rattle.vs_flatcode.specs.Places.{Place, start_place}
 use Rattle.vs_flatcode.specs.Scripts.{StartsWith}
 use Rattle.vs_flatcode.specs.Texts.{AreApart, HasControl, Text}
-use Rattle.vs_process.specs.States.{AssignState, Called, State, start, start_assign}
+use Rattle.vs_run_processes.specs.vs_process.specs.States.{AssignState, Called, State, start, start_assign}
 use Rattle.vs_run_processes.specs.declared.process.Process.{Process}
 use Rattle.vs_run_processes.specs.declared.process.Wait.{Wait}
 use Rattle.vs_run_processes.specs.declared.process.Wait.TheVariants.{Nothing, Until, Inactive, Terms}
@@ -32,7 +32,7 @@ use Rattle.vs_run_tables.specs.Terms.{TermsAreListed, terms_from}
 use Rattle.vs_run_tables.specs.Waiting.{IsWaiting, places_of}
 use Rattle.vs_run_tables.specs.Waking.{terms_at}
 use Rattle.vs_run_updates.specs.Regions.{Waiting}
-use Rattle.vs_run_wakes.specs.Touches.{AreOf}
+use Rattle.vs_run_events.specs.vs_run_wakes.specs.Touches.{AreOf}
 use Rattle.vs_run_moves.specs.Scripts.{AreScripts, IsScriptFor}
 use Rattle.vs_run_moves.specs.Starting.{AreCounted, AreStarted, IsStarted}
 

@@ -1,6 +1,8 @@
-pub mod Leaving
-pub mod Making
-pub mod Running
+pub use Rattle.vs_run_events.specs.Leaving
+pub use Rattle.vs_run_events.specs.Making
+pub use Rattle.vs_run_events.specs.Running
 pub mod Scripts
 pub mod Standing
 pub mod Starting
+pub use Rattle.vs_run_steps
+pub use Rattle.vs_run_steps.specs.vs_run_turns

@@ -4,9 +4,9 @@ use Rattle.vs_design.specs.Parts.{Parts}
 use Rattle.vs_design.specs.Traces.{Slot}
 use Rattle.vs_vcd_writing.specs.Progress.{HasWritten, Progress}
 use Rattle.vs_run_steps.specs.Runs.{IsRunOf, Running, marks_of, state_of}
-use Rattle.vs_run_turns.specs.Points.{Point, point}
-use Rattle.vs_run_turns.specs.Recording.{CoversNoted, HasRoom}
-use Rattle.vs_run_turns.specs.Turns.{GoesOn}
+use Rattle.vs_run_steps.specs.vs_run_turns.specs.Points.{Point, point}
+use Rattle.vs_run_steps.specs.vs_run_turns.specs.Recording.{CoversNoted, HasRoom}
+use Rattle.vs_run_steps.specs.vs_run_turns.specs.Turns.{GoesOn}
 
 -- where a run stands: its design, of each process whether it is a combinational block, its state, the block that has taken a step since its control,
 -- where there is one, whether a policy chooses, and the writer of its dump, where it has one

@@ -1,24 +1,23 @@
 //! The moves of a run under a policy that chooses.
 ghost use Rattle.std.specs.Prelude.{◌≡◌, ◌<◌, ◌^◌, false, true, None, IfNone, IfSome, OnOk, OnErr};
-ghost use Rattle.vs_process.specs.Blocks.{is_step_of_any};
-ghost use Rattle.vs_process.specs.Executions as executions;
-ghost use Rattle.vs_run_moves.specs.Running.{IsChoice, move_of};
+ghost use Rattle.vs_run_processes.specs.vs_process.specs.Blocks.{is_step_of_any};
+ghost use Rattle.vs_run_processes.specs.vs_process.specs.Executions as executions;
+ghost use Rattle.vs_run_events.specs.Running.{IsChoice, move_of};
 ghost use Rattle.vs_run_moves.specs.Standing.{IsStanding, point_of};
 ghost use Rattle.vs_run_steps.specs.Runs.{state_of};
-ghost use Rattle.vs_run_turns.specs.Failures.{OneFailed};
-ghost use Rattle.vs_run_turns.specs.Insides.{inside_told};
-ghost use Rattle.vs_run_turns.specs.Turns.{GoesOn, Turned, TurnedPart};
+ghost use Rattle.vs_run_steps.specs.vs_run_turns.specs.Failures.{OneFailed};
+ghost use Rattle.vs_run_steps.specs.vs_run_turns.specs.Insides.{inside_told};
+ghost use Rattle.vs_run_steps.specs.vs_run_turns.specs.Turns.{GoesOn, Turned, TurnedPart};
 ghost use Rattle.vs_vcd_writing.specs.Progress.{is_write_fault};
 
-use crate::moves::make_event;
 use crate::run::Run;
-use crate::state::{is_active, is_going, is_inside, is_pending, lost_event};
 use std::alloc::AllocError;
-use vs_run_listed::Event;
+use vs_run_events::vs_run_listed::Event;
+use vs_run_events::{is_active, is_going, is_inside, is_pending, lost_event, make_event};
 use vs_run_policies::Pick;
 use vs_run_steps::RunState;
 use vs_run_updates::Due;
-use vs_time_wheel::EventQueue;
+use vs_run_updates::vs_time_wheel::EventQueue;
 use vs_vcd_writing::{Sink, WriterFault};
 
 /// Whether the event of a process is still active after its move, or that of an evaluation has a value that waits to be written.

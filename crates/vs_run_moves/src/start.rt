@@ -4,15 +4,15 @@ ghost use Rattle.std.specs.Prelude.{ℕ, ◌≡◌, ◌≤◌, ◌<◌, ◌^◌,
 ghost use Rattle.std.specs.declared.alloc.Global.{Global};
 ghost use Rattle.std.specs.declared.vec.Vec.{Vec};
 ghost use Rattle.vs_design.specs.Stores.{start_store};
-ghost use Rattle.vs_process.specs.Executions as executions;
-ghost use Rattle.vs_process.specs.States as states;
+ghost use Rattle.vs_run_processes.specs.vs_process.specs.Executions as executions;
+ghost use Rattle.vs_run_processes.specs.vs_process.specs.States as states;
 ghost use Rattle.vs_run_moves.specs.Scripts.{AreScripts};
 ghost use Rattle.vs_run_moves.specs.Standing.{IsStanding};
 ghost use Rattle.vs_run_moves.specs.Starting.{AreCounted, AreStarted};
 ghost use Rattle.vs_run_steps.specs.Runs.{IsRunOf, marks_of, state_of};
 ghost use Rattle.vs_run_tables.specs.Rows.{AreRows};
 ghost use Rattle.vs_run_tables.specs.Terms.{terms_from};
-ghost use Rattle.vs_run_turns.specs.Recording.{HasNoted, HasRoom};
+ghost use Rattle.vs_run_steps.specs.vs_run_turns.specs.Recording.{HasNoted, HasRoom};
 ghost use Rattle.vs_vcd_writing.specs.Progress.{is_write_fault};
 ghost use Rattle.vs_vcd_writing.specs.Sinks.{AppendsPart, failed_after};
 ghost use Rattle.vs_vcd_writing.specs.Text.{vcd_header};
@@ -21,19 +21,19 @@ use crate::run::Run;
 use std::alloc::{AllocError, Global};
 use vs_design::{Design, Process, Store};
 use vs_flatcode::Script;
-use vs_process::is_combinational;
-use vs_run_assigns::Forms;
-use vs_run_listed::Agenda;
+use vs_run_events::vs_run_assigns::Forms;
+use vs_run_events::vs_run_listed::Agenda;
+use vs_run_events::vs_run_wakes::no_marks;
 use vs_run_processes::Process as Started;
+use vs_run_processes::vs_process::is_combinational;
 use vs_run_steps::RunState;
+use vs_run_steps::vs_run_turns::Recorder;
+use vs_run_steps::vs_run_writes::Watched;
 use vs_run_tables::{
     Assigns, Events, ListedTerm, Processes, Queue, Tables, terms_are_listed, terms_of,
 };
-use vs_run_turns::Recorder;
+use vs_run_updates::vs_time_wheel::EventQueue;
 use vs_run_updates::{Due, Regions};
-use vs_run_wakes::no_marks;
-use vs_run_writes::Watched;
-use vs_time_wheel::EventQueue;
 use vs_vcd_writing::{Sink, WriterFault};
 
 /// For each process whether it is a combinational block.

@@ -7,7 +7,7 @@ use Rattle.vs_process.specs.Executions.{if_some}
 use Rattle.vs_flatcode.specs.Places.{Place}
 use Rattle.vs_run_processes.specs.Triggers.{changed_all}
 use Rattle.vs_run_processes.specs.Listed.{is_number, names, Lists, count}
-use Rattle.vs_logic4.proofs.Basics.{and_false, and_true, or-true as or_true}
+use Rattle.vs_design.specs.vs_logic4.proofs.Basics.{and_false, and_true, or-true as or_true}
 
 -- an element that is set twice, and one that is set to what it is
 pub set_twice : {A : Type 0} (xs : List A) (i : ℕ) (x y : A) → slice_set (slice_set xs i x) i y ≡ slice_set xs i y

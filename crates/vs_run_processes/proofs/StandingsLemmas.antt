@@ -2,9 +2,9 @@
 use Rattle.std.proofs.Common.{◌≡◌, ℕ, zero, suc, ◌<◌, ◌≤◌, ◌==◌, not, Bool, true, false, Option, Some, None, List, [], ◌∷◌, length, slice_get, nat_lt, if◌then◌else◌, refl, sym, ◌∙◌, ap, subst, arith}
 use Rattle.std.proofs.lemmas.Bool.{eqb-true, eq-eqb, false≢true}
 use Rattle.std.proofs.lemmas.Option.{none-some, slice_get_past}
-use Rattle.vs_logic4.specs.declared.digit.Digit.{Digit}
+use Rattle.vs_design.specs.vs_logic4.specs.declared.digit.Digit.{Digit}
 use Rattle.vs_design.specs.declared.statement.EventTerm.{EventTerm}
-use Rattle.vs_edges.specs.Waking.{word_wakes}
+use Rattle.vs_process.specs.vs_edges.specs.Waking.{word_wakes}
 use Rattle.vs_flatcode.specs.declared.gait.Gait.{Gait}
 use Rattle.vs_flatcode.specs.declared.gait.Gait.TheVariants.{Fresh, Woken, Inside}
 use Rattle.vs_flatcode.specs.declared.script.Instruction.{Instruction}

@@ -3,7 +3,7 @@ use Rattle.std.proofs.Common.{◌≡◌, ℕ, zero, suc, ◌<◌, ◌||◌, Bool
 use Rattle.std.specs.Prelude.{slice_set}
 use Rattle.vs_design.specs.Stores.{put}
 use Rattle.vs_design.specs.Writes.{Write}
-use Rattle.vs_strobe.specs.Lines.{Format}
+use Rattle.vs_flatcode.specs.vs_strobe.specs.Lines.{Format}
 use Rattle.vs_flatcode.specs.declared.gait.Gait.{Gait}
 use Rattle.vs_flatcode.specs.declared.gait.Gait.TheVariants.{Fresh, Woken, Inside}
 use Rattle.vs_flatcode.specs.Places.{Place, Todo, active_at, going, is_going, stepped_gait}

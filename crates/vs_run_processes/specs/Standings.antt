@@ -1,8 +1,8 @@
 -- Where a process stands in its script, and what it waits for.
 use Rattle.std.specs.Prelude.{ℕ, ◌≡◌, ◌==◌, ◌⊎◌, Bool, true, false, Option, Some, List, [], length, slice_get, if◌then◌else◌}
-use Rattle.vs_logic4.specs.declared.digit.Digit.{Digit}
+use Rattle.vs_design.specs.vs_logic4.specs.declared.digit.Digit.{Digit}
 use Rattle.vs_design.specs.declared.statement.EventTerm.{EventTerm}
-use Rattle.vs_edges.specs.Waking.{word_wakes}
+use Rattle.vs_process.specs.vs_edges.specs.Waking.{word_wakes}
 use Rattle.vs_flatcode.specs.declared.gait.Gait.TheVariants.{Woken}
 use Rattle.vs_flatcode.specs.Places.{Todo, Place, sleeping, inactive, waiting, active_at, is_going}
 use Rattle.vs_flatcode.specs.Scripts.{todo_on}

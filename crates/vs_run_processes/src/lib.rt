@@ -8,3 +8,4 @@ mod process;
 pub use counts::recount;
 pub use laws::steps_are_taken;
 pub use process::{Process, Wait, gait_after, pause, wakes_are_told};
+pub use vs_process;

@@ -2,10 +2,10 @@
 use Rattle.std.proofs.Common.{◌≡◌, ◌≢◌, ℕ, zero, suc, ◌<◌, ◌≤◌, ◌+◌, ◌==◌, Bool, true, false, Option, Some, None, List, [], ◌∷◌, length, slice_get, get_or, if◌then◌else◌, refl, sym, ◌∙◌, ap, subst, arith}
 use Rattle.std.specs.Prelude.{option_map, slice_set}
 use Rattle.std.proofs.lemmas.List.{length-set}
-use Rattle.vs_logic4.specs.declared.digit.Digit.{Digit}
-use Rattle.vs_logic4.specs.declared.digit.Digit.TheVariants.{One, Zero, X, Z}
-use Rattle.vs_logic4.specs.Comparisons.{truth}
-use Rattle.vs_logic4.specs.Vectors.{resized}
+use Rattle.vs_design.specs.vs_logic4.specs.declared.digit.Digit.{Digit}
+use Rattle.vs_design.specs.vs_logic4.specs.declared.digit.Digit.TheVariants.{One, Zero, X, Z}
+use Rattle.vs_design.specs.vs_logic4.specs.Comparisons.{truth}
+use Rattle.vs_design.specs.vs_logic4.specs.Vectors.{resized}
 use Rattle.vs_design.specs.declared.signal.Signal.{Signal}
 use Rattle.vs_design.specs.declared.statement.EventTerm.{EventTerm}
 use Rattle.vs_design.specs.declared.statement.Target.{Target}
@@ -14,9 +14,9 @@ use Rattle.vs_design.specs.declared.expression.Typed.{Typed}
 use Rattle.vs_design.specs.Parts.{Parts}
 use Rattle.vs_design.specs.Stores.{Store}
 use Rattle.vs_design.specs.Writes.{Write}
-use Rattle.vs_eval.specs.Values.{value_of}
+use Rattle.vs_eval_resolved.specs.vs_eval.specs.Values.{value_of}
 use Rattle.vs_eval_resolved.specs.Meant.{Meaning}
-use Rattle.vs_strobe.specs.Lines.{full_line}
+use Rattle.vs_flatcode.specs.vs_strobe.specs.Lines.{full_line}
 use Rattle.vs_flatcode.specs.declared.choice.Case.{Case}
 use Rattle.vs_flatcode.specs.declared.choice.Repeat.{Repeat}
 use Rattle.vs_flatcode.specs.declared.choice.Turns.{Turns}
@@ -32,7 +32,7 @@ use Rattle.vs_flatcode.specs.Scripts.{Does, IsScriptOf, IsStep, Steps, instructi
 use Rattle.vs_flatcode.specs.Spots.{spot_write}
 use Rattle.vs_flatcode.specs.Steps.{Next, Out, after, assignment, branch, goes, on, step, turns_for, wait}
 use Rattle.vs_flatcode.specs.Texts.{Control, HasControl, Text, controls_of}
-use Rattle.vs_process.specs.States.{State, calls_behind, paused, place_behind, updates_behind, written}
+use Rattle.vs_run_processes.specs.vs_process.specs.States.{State, calls_behind, paused, place_behind, updates_behind, written}
 use Rattle.vs_run_processes.specs.declared.process.Process.{Process}
 use Rattle.vs_run_processes.specs.declared.process.Wait.{Wait}
 use Rattle.vs_run_processes.specs.declared.process.Wait.TheVariants as w
@@ -40,8 +40,8 @@ use Rattle.vs_run_processes.specs.Standings.{place_by}
 use Rattle.vs_run_processes.specs.Taken.{left_by, placed, text_of_line}
 use Rattle.vs_run_processes.proofs.TakenLemmas.{left_call, left_finish, left_line, left_nothing, left_update, left_write}
 use Rattle.std.proofs.lemmas.Option.{slice_get-map}
-use Rattle.vs_run_tables.specs.declared.watchers.ListedTerm.{ListedTerm}
-use Rattle.vs_run_tables.specs.Waiting.{places_of}
+use Rattle.vs_run_writes.specs.vs_run_tables.specs.declared.watchers.ListedTerm.{ListedTerm}
+use Rattle.vs_run_writes.specs.vs_run_tables.specs.Waiting.{places_of}
 use Rattle.vs_run_steps.specs.declared.run.RunState.{RunState}
 use Rattle.vs_run_steps.specs.declared.step.Went.{Went}
 use Rattle.vs_run_steps.specs.declared.step.Went.TheVariants.{On, Rests}

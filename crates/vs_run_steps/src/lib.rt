@@ -9,3 +9,5 @@ mod writes;
 
 pub use called::Called;
 pub use run::RunState;
+pub use vs_run_turns;
+pub use vs_run_writes;

@@ -4,10 +4,10 @@ use crate::called::Called;
 use std::alloc::Global;
 use vs_design::Design;
 use vs_flatcode::Change;
-use vs_run_tables::ListedTerm;
+use vs_run_updates::vs_time_wheel::EventQueue;
 use vs_run_updates::{Due, Regions};
 use vs_run_writes::Watched;
-use vs_time_wheel::EventQueue;
+use vs_run_writes::vs_run_tables::ListedTerm;
 
 /// What a run holds of the state of an execution (IEEE 1364-2005, clause 11).
 #[derive(Drop)]

@@ -1,13 +1,13 @@
 //! One step of a process in a run, but for the process's own place (IEEE 1364-2005, clause 9).
 ghost use Rattle.std.specs.Prelude.{ℕ, ◌≡◌, ◌<◌, ◌^◌, Some, List, length, slice_set, IfOk, OnOk, OnErr};
 ghost use Rattle.std.specs.Io.KnownBytes.{Appends};
-ghost use Rattle.vs_logic4.specs.Comparisons.{truth};
+ghost use Rattle.vs_design.specs.vs_logic4.specs.Comparisons.{truth};
 ghost use Rattle.vs_design.specs.InOrder.{IsStoreOf};
-ghost use Rattle.vs_eval.specs.Values.{value_of};
-ghost use Rattle.vs_strobe.specs.Lines.{full_line};
+ghost use Rattle.vs_eval_resolved.specs.vs_eval.specs.Values.{value_of};
+ghost use Rattle.vs_flatcode.specs.vs_strobe.specs.Lines.{full_line};
 ghost use Rattle.vs_flatcode.specs.Choices.{index_of, repeat_lands, turns_lands};
 ghost use Rattle.vs_flatcode.specs.Steps.{branch};
-ghost use Rattle.vs_process.specs.States.{calls_behind};
+ghost use Rattle.vs_run_processes.specs.vs_process.specs.States.{calls_behind};
 ghost use Rattle.vs_run_steps.specs.Runs.{Agrees, Keeps, Plan, counters_at, counters_of, state_of};
 ghost use Rattle.vs_run_steps.specs.Stepping.{Acts, IsKnown, action_text};
 ghost use Rattle.vs_vcd_writing.specs.Progress.{is_write_fault};
@@ -16,13 +16,13 @@ ghost use Rattle.vs_vcd_writing.specs.Sinks.{AppendsPart, failed_after};
 use crate::called::Called;
 use crate::run::RunState;
 use std::alloc::AllocError;
+use vs_design::vs_logic4::Digit;
 use vs_eval_resolved::Resolved;
+use vs_flatcode::vs_strobe::{Format, full_line};
 use vs_flatcode::{Action, Instruction, Repeat, Turns};
-use vs_logic4::Digit;
 use vs_run_processes::{Wait, pause};
 use vs_run_updates::Due;
-use vs_strobe::{Format, full_line};
-use vs_time_wheel::EventQueue;
+use vs_run_updates::vs_time_wheel::EventQueue;
 use vs_vcd_writing::{Sink, WriterFault, write_all};
 
 /// Where a step of a process leads: the index where it stands then, and what it waits for there.

@@ -1,19 +1,19 @@
 //! Writes in a run, and its nonblocking updates (IEEE 1364-2005, clauses 9.2 and 11.2).
 ghost use Rattle.std.specs.Prelude.{◌≡◌, ◌<◌, ◌^◌, [], Some, List, length, get_or, OnOk};
-ghost use Rattle.vs_logic4.specs.Planes.{ArePlanes, digits_of_planes};
+ghost use Rattle.vs_design.specs.vs_logic4.specs.Planes.{ArePlanes, digits_of_planes};
 ghost use Rattle.vs_flatcode.specs.Spots.{IsSpotIn, spot_write};
 ghost use Rattle.vs_flatcode.specs.Steps.{assignment};
-ghost use Rattle.vs_process.specs.States.{updates_behind, written};
+ghost use Rattle.vs_run_processes.specs.vs_process.specs.States.{updates_behind, written};
 ghost use Rattle.vs_run_steps.specs.Runs.{Agrees, Keeps, Plan, state_of};
 
 use crate::run::RunState;
 use std::alloc::AllocError;
+use vs_design::vs_logic4::Vec4;
 use vs_design::{Target, Ticks, Typed, Write};
-use vs_eval::{cut_value, write_of};
+use vs_eval_resolved::vs_eval::{cut_value, write_of};
 use vs_flatcode::Spot;
-use vs_logic4::Vec4;
+use vs_run_updates::vs_time_wheel::EventQueue;
 use vs_run_updates::{Bits, Due};
-use vs_time_wheel::EventQueue;
 
 impl<'a, Q: EventQueue<Due>> RunState<'a, Q> {
     /// Writes digits to bits of one word, and what that wakes goes on.

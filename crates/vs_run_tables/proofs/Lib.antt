@@ -10,3 +10,4 @@ mod WakesLemmas
 mod WakingLemmas
 mod WalksLemmas
 pub mod WatchedLemmas
+mod WordsLemmas

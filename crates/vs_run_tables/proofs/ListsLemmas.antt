@@ -33,12 +33,12 @@ row-pushed table more row n made empty so_far =
 
 -- ---- what each list has
 
-get_same : {A : Type 0} (f : List A → List A) (i : ℕ) (lists : List (List A)) → i < length lists → get_or (changed_at f i lists) i [] ≡ f (get_or lists i [])
+pub get_same : {A : Type 0} (f : List A → List A) (i : ℕ) (lists : List (List A)) → i < length lists → get_or (changed_at f i lists) i [] ≡ f (get_or lists i [])
 get_same f i [] h = absurd (omega arith)
 get_same f zero (x ∷ lists) h = refl
 get_same f (suc i) (x ∷ lists) h = get_same f i lists (omega arith)
 
-get_other : {A : Type 0} (f : List A → List A) (i j : ℕ) (lists : List (List A)) → i ≢ j → get_or (changed_at f i lists) j [] ≡ get_or lists j []
+pub get_other : {A : Type 0} (f : List A → List A) (i j : ℕ) (lists : List (List A)) → i ≢ j → get_or (changed_at f i lists) j [] ≡ get_or lists j []
 get_other f i j [] h = refl
 get_other f zero zero (x ∷ lists) h = absurd (h refl)
 get_other f zero (suc j) (x ∷ lists) h = refl
@@ -78,7 +78,7 @@ length_empty : (n : ℕ) → length (empty_rows {A = ListedTerm} n) ≡ n
 length_empty zero = refl
 length_empty (suc n) = ap suc (length_empty n)
 
-none_in_empty : (n signal : ℕ) → get_or (empty_rows {A = ListedTerm} n) signal [] ≡ []
+pub none_in_empty : {A : Type 0} (n signal : ℕ) → get_or (empty_rows {A = A} n) signal [] ≡ []
 none_in_empty zero signal = refl
 none_in_empty (suc n) zero = refl
 none_in_empty (suc n) (suc signal) = none_in_empty n signal

@@ -1,7 +1,7 @@
 -- Where the watchers of a signal stand.
 use Rattle.std.proofs.Common.{◌≡◌, ℕ, ◌≤◌, ◌+◌, ◌-◌, List, [], ◌∷◌, ◌++◌, length, take, drop, refl, sym, ◌∙◌, ap, append_assoc, arith}
 use Rattle.std.proofs.lemmas.List.{length-append}
-use Rattle.vs_logic4.specs.declared.edge.Edge.TheVariants.{Any, Posedge, Negedge}
+use Rattle.vs_design.specs.vs_logic4.specs.declared.edge.Edge.TheVariants.{Any, Posedge, Negedge}
 use Rattle.vs_run_tables.specs.declared.groups.Groups.{Groups}
 use Rattle.vs_run_tables.specs.declared.rows.Row.{Row}
 use Rattle.vs_run_tables.specs.Groups.{Adds}

@@ -23,7 +23,7 @@ use Rattle.vs_run_tables.proofs.GroupsLemmas.{spells_later}
 use Rattle.vs_run_tables.proofs.RowsLemmas.{row_tells}
 
 -- an element of a list with one more at its end
-old_or_new : {A : Type 0} (xs : List A) (y z : A) (i : ℕ) → slice_get (xs ++ y ∷ []) i ≡ Some z → (slice_get xs i ≡ Some z) ⊎ ((i ≡ length xs) × (z ≡ y))
+pub old_or_new : {A : Type 0} (xs : List A) (y z : A) (i : ℕ) → slice_get (xs ++ y ∷ []) i ≡ Some z → (slice_get xs i ≡ Some z) ⊎ ((i ≡ length xs) × (z ≡ y))
 old_or_new [] y z zero h = inr (refl, sym (same_Some y z h))
 old_or_new [] y z (suc i) h = absurd (none-some z h)
 old_or_new (x ∷ xs) y z zero h = inl h

@@ -4,8 +4,8 @@ use Rattle.std.proofs.lemmas.Bool.{and_right, cases_Bool, eq-eqb, eqb-true, fals
 use Rattle.std.proofs.lemmas.List.{drop_more, length-map}
 use Rattle.std.proofs.lemmas.Nat.{and_le_r}
 use Rattle.std.proofs.lemmas.Option.{none-some, same_Some}
-use Rattle.vs_logic4.specs.declared.digit.Digit.{Digit}
-use Rattle.vs_logic4.specs.declared.edge.Edge.TheVariants.{Any, Posedge, Negedge}
+use Rattle.vs_design.specs.vs_logic4.specs.declared.digit.Digit.{Digit}
+use Rattle.vs_design.specs.vs_logic4.specs.declared.edge.Edge.TheVariants.{Any, Posedge, Negedge}
 use Rattle.vs_design.specs.declared.readers.Reader.{Reader}
 use Rattle.vs_design.specs.declared.statement.EventTerm.{EventTerm}
 use Rattle.vs_design.specs.Parts.{Parts}
@@ -18,7 +18,7 @@ use Rattle.vs_run_tables.proofs.MasksTell.{range_mask-has}
 use Rattle.vs_flatcode.specs.declared.gait.Gait.{Gait}
 use Rattle.vs_flatcode.specs.declared.gait.Gait.TheVariants.{Woken}
 use Rattle.vs_flatcode.specs.Places.{Place, Todo, active_at, waiting}
-use Rattle.vs_process.specs.States.{AssignState, triggered}
+use Rattle.vs_run_processes.specs.vs_process.specs.States.{AssignState, triggered}
 use Rattle.vs_run_processes.specs.Triggers.{triggered_by}
 use Rattle.vs_run_tables.specs.declared.rows.Row.{Row}
 use Rattle.vs_run_tables.specs.declared.tables.Tables.{Tables}
@@ -56,7 +56,7 @@ readers_watched word bits h k (r ∷ rs) xs =
 
 -- ---- groups
 
-woken_watched-append : (test : Watcher → Bool) (us ws : List Watcher) (xs : List AssignState) →
+pub woken_watched-append : (test : Watcher → Bool) (us ws : List Watcher) (xs : List AssignState) →
     woken_watched test (us ++ ws) xs ≡ woken_watched test ws (woken_watched test us xs)
 woken_watched-append test [] ws xs = refl
 woken_watched-append test (u ∷ us) ws xs = woken_watched-append test us ws (if test u then woken_in u.number xs else xs)

@@ -8,3 +8,5 @@ pub mod Wakes
 pub mod Waking
 pub mod Walks
 pub mod Watchers
+pub mod Words
+pub use Rattle.vs_run_processes.specs.vs_process

@@ -1,7 +1,7 @@
 -- Who is woken by which bits of a signal.
 use Rattle.std.specs.Prelude.{ℕ, ◌-◌, ◌==◌, Bool, true, false, List, [], ◌∷◌, map, take, drop, if◌then◌else◌}
-use Rattle.vs_logic4.specs.declared.edge.Edge.{Edge}
-use Rattle.vs_logic4.specs.declared.edge.Edge.TheVariants.{Any, Posedge, Negedge}
+use Rattle.vs_design.specs.vs_logic4.specs.declared.edge.Edge.{Edge}
+use Rattle.vs_design.specs.vs_logic4.specs.declared.edge.Edge.TheVariants.{Any, Posedge, Negedge}
 use Rattle.vs_design.specs.declared.readers.Reader.{Reader}
 use Rattle.vs_design.specs.Uses.{joined}
 use Rattle.vs_edges.specs.Masks.{range_mask, term_mask}

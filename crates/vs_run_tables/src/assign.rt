@@ -2,11 +2,11 @@
 ghost use Rattle.std.specs.Prelude.{◌≡◌, not};
 ghost use Rattle.vs_run_tables.specs.Left.{valued};
 ghost use Rattle.vs_run_wakes.specs.Touches.{is_left, woken};
-ghost use Rattle.vs_process.specs.States as states;
+ghost use Rattle.vs_run_processes.specs.vs_process.specs.States as states;
 
 use std::marker::Model;
+use vs_design::vs_logic4::Vec4;
 use vs_design::{Assign, Target, Typed};
-use vs_logic4::Vec4;
 
 /// A continuous assignment: what it drives and evaluates, whether it has to be evaluated, and the value that waits to be
 /// written (IEEE 1364-2005, clause 6.1).
@@ -21,7 +21,7 @@ pub struct AssignState<'a> {
 impl<'a> Model for AssignState<'a> {
     ghost use Rattle.std.specs.Coded.{codes};
     ghost use Rattle.vs_design.specs.contracts.expression.Typed as expression;
-    ghost use Rattle.vs_process.specs.States as states;
+    ghost use Rattle.vs_run_processes.specs.vs_process.specs.States as states;
 
     ghost Value = { states.AssignState };
 

@@ -7,7 +7,7 @@ ghost use Rattle.vs_run_tables.specs.Rows.{Fits};
 ghost use Rattle.vs_run_wakes.specs.Touches.{woken_in};
 ghost use Rattle.vs_run_processes.specs.Standings as standings;
 ghost use Rattle.vs_run_processes.specs.Standings.{roused_in, triggered_at};
-ghost use Rattle.vs_logic4.specs.declared.edge.Edge.TheVariants.{Any, Negedge, Posedge};
+ghost use Rattle.vs_design.specs.vs_logic4.specs.declared.edge.Edge.TheVariants.{Any, Negedge, Posedge};
 ghost use Rattle.vs_run_tables.specs.Watchers.{between};
 ghost use Rattle.vs_run_tables.specs.Wakes.{KindsWalked, RowWalked, Wakes, has_one, walked_by, woken_all, woken_watched};
 
@@ -18,6 +18,7 @@ use crate::queue::Queue;
 use crate::rows::Row;
 use crate::tables::Tables;
 use crate::watchers::Watcher;
+use crate::words::FEW;
 use std::alloc::AllocError;
 use vs_edges::WordChange;
 
@@ -345,6 +346,15 @@ impl<'a> Events<'a> {
             self.old.assigns self.old.processes self.new.assigns self.new.processes) }
     {
         let row = tables.row(signal);
+        if row.readers.wrapping_add(FEW) < row.any {
+            let same = WordChange {
+                value: change.value,
+                unknown: change.unknown,
+                new_value: change.new_value,
+                new_unknown: change.new_unknown,
+            };
+            return self.wake_many(tables, signal, word, same);
+        }
         let differing = change.differing();
         self.wake_readers(&tables.groups, tables.readers(row), word, differing)?;
         if row.rising <= row.any && row.end <= row.falling {
@@ -357,6 +367,27 @@ impl<'a> Events<'a> {
             new_unknown: change.new_unknown,
         };
         self.wake_controls(tables, signal, word, same)
+    }
+
+    /// The same of a signal that many continuous assignments read: of an array those that see the word.
+    #[inline(never)]
+    fn wake_many(
+        &mut self,
+        tables: &Tables,
+        signal: usize,
+        word: usize,
+        change: WordChange,
+    ) -> Result<(), AllocError>
+        requires signal { signal < length tables.now.rows.items }
+        requires word { word < every_word }
+        ensures { OnOk result (Wakes tables.now signal word change
+            self.old.assigns self.old.processes self.new.assigns self.new.processes) }
+    {
+        let row = tables.row(signal);
+        let differing = change.differing();
+        let readers = tables.readers_of_word(signal, row, word);
+        self.wake_readers(&tables.groups, readers, word, differing)?;
+        self.wake_controls(tables, signal, word, change)
     }
 
     /// The same, where several words change at once: the members of groups enter one by one, and the caller puts all that has entered into order.
@@ -375,7 +406,8 @@ impl<'a> Events<'a> {
     {
         let row = tables.row(signal);
         let differing = change.differing();
-        self.wake_each_of(&tables.groups, tables.readers(row), word, differing)?;
+        let readers = tables.readers_of_word(signal, row, word);
+        self.wake_each_of(&tables.groups, readers, word, differing)?;
         self.wake_controls(tables, signal, word, change)
     }
 }

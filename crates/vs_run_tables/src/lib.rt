@@ -14,6 +14,7 @@ mod rows;
 mod tables;
 mod terms;
 mod watchers;
+mod words;
 
 pub use assign::AssignState;
 pub use assigns::Assigns;

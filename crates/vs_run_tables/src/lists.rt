@@ -1,37 +1,32 @@
 //! Terms of event controls by the signals that they name: a list for each signal, made once.
-ghost use Rattle.std.specs.Prelude.{◌≡◌, IfOk, OnOk, length};
+ghost use Rattle.std.specs.Prelude.{◌≡◌, ◌++◌, ◌∷◌, [], IfOk, OnOk};
+ghost use Rattle.vs_design.specs.Stores.{changed_at};
 ghost use Rattle.vs_design.specs.Tables.{empty_rows, rows};
-ghost use Rattle.vs_run_tables.specs.Lists.{AreBySignal, all_noted, noted};
+ghost use Rattle.vs_run_tables.specs.Lists.{AreBySignal};
 
 use crate::watchers::ListedTerm;
 use std::alloc::{AllocError, Global};
 
-/// Notes a term of a signal; a signal past the end has no list.
-fn note(lists: &mut Vec<Vec<ListedTerm>>, term: ListedTerm) -> Result<(), AllocError>
-    ensures { OnOk result (rows lists.new.items ≡ noted term (rows lists.old.items)) }
+/// Puts an item at the end of one of some lists; past the end there is none.
+pub(crate) fn push_at<T: Drop>(
+    lists: &mut Vec<Vec<T>>,
+    place: usize,
+    item: T,
+) -> Result<(), AllocError>
+    ensures { OnOk result (rows lists.new.items ≡ changed_at (λ list. list ++ item ∷ []) place (rows lists.old.items)) }
 {
-    if let Some(list) = lists.get_mut(term.term.range.signal) {
-        list.push(term)?;
-    }
-    Ok(())
-}
-
-/// Notes all of them.
-fn note_all(lists: &mut Vec<Vec<ListedTerm>>, terms: &[ListedTerm]) -> Result<(), AllocError>
-    ensures { OnOk result (rows lists.new.items ≡ all_noted terms.now (rows lists.old.items)) }
-{
-    for term in terms {
-        note(lists, *term)?;
+    if let Some(list) = lists.get_mut(place) {
+        list.push(item)?;
     }
     Ok(())
 }
 
 /// So many empty lists.
-fn empty_lists(alloc: Global, signals: usize) -> Result<Vec<Vec<ListedTerm>>, AllocError>
-    ensures { IfOk result (λ lists. rows lists.items ≡ empty_rows signals) }
+pub(crate) fn empty_lists<T: Drop>(alloc: Global, count: usize) -> Result<Vec<Vec<T>>, AllocError>
+    ensures { IfOk result (λ lists. rows lists.items ≡ empty_rows count) }
 {
     let mut lists = Vec::new(alloc);
-    for _ in 0..signals {
+    for _ in 0..count {
         lists.push(Vec::new(alloc))?;
     }
     Ok(lists)
@@ -46,6 +41,8 @@ pub(crate) fn by_signal(
     ensures { IfOk result (λ lists. AreBySignal terms.now signals (rows lists.items)) }
 {
     let mut lists = empty_lists(alloc, signals)?;
-    note_all(&mut lists, terms)?;
+    for term in terms {
+        push_at(&mut lists, term.term.range.signal, *term)?;
+    }
     Ok(lists)
 }

@@ -43,15 +43,10 @@ impl Queue {
     /// Makes room for one more: where more than half of the room is that of numbers which have left, by moving the others to the front.
     #[inline(never)]
     fn make_room(&mut self) -> Result<(), AllocError> {
-        if self.head > self.items.len() / 2 {
-            self.move_up();
+        if self.head <= self.items.len() / 2 {
+            self.items.reserve(1)?;
+            return Ok(());
         }
-        self.items.reserve(1)?;
-        Ok(())
-    }
-
-    /// Moves the numbers that are left to the front.
-    fn move_up(&mut self) {
         let left = self.len();
         for i in 0..left {
             let from = self.head.saturating_add(i);
@@ -64,6 +59,7 @@ impl Queue {
         }
         self.items.truncate(left);
         self.head = 0;
+        Ok(())
     }
 
     /// Takes the first one.
@@ -83,14 +79,6 @@ impl Queue {
     pub fn sort_from(&mut self, from: usize) {
         let at = self.head.saturating_add(from);
         if at.saturating_add(1) < self.items.len() {
-            self.sort_at(at);
-        }
-    }
-
-    /// The same from a place of the memory on.
-    #[inline(never)]
-    fn sort_at(&mut self, at: usize) {
-        if at < self.items.len() {
             self.items[at..].sort_unstable();
         }
     }

@@ -6,7 +6,7 @@ ghost use Rattle.vs_run_tables.specs.Rows.{RowAdded};
 use crate::groups::Groups;
 use crate::watchers::{ListedTerm, Watcher, add_kind};
 use std::alloc::AllocError;
-use vs_logic4::Edge;
+use vs_design::vs_logic4::Edge;
 
 /// Where the watchers of a signal stand: the readers, then the controls that wait for any change, for a rise, for a fall.
 #[derive(Clone, Copy)]

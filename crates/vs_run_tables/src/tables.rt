@@ -1,14 +1,16 @@
 //! The tables of a design: made once, at the start of a run.
-ghost use Rattle.std.specs.Prelude.{◌≡◌, ◌<◌, ◌^◌, Some, length, map, slice_get, IfOk};
+ghost use Rattle.std.specs.Prelude.{◌≡◌, ◌<◌, ◌^◌, Some, length, slice_get, IfOk};
 ghost use Rattle.vs_run_tables.specs.Rows.{AreRows, Fits, RowsFit};
-ghost use Rattle.vs_run_tables.specs.Watchers.{between, reader_watcher};
+ghost use Rattle.vs_run_tables.specs.Watchers.{between};
+ghost use Rattle.vs_run_tables.specs.Words.{AreByWord, seeing};
 
 use crate::groups::Groups;
 use crate::lists::by_signal;
 use crate::rows::{Row, add_row};
-use crate::watchers::{ListedTerm, Watcher, add_readers};
+use crate::watchers::{ListedTerm, Watcher, readers_of};
+use crate::words::lists_of;
 use std::alloc::{AllocError, Global};
-use vs_design::{Design, Reader};
+use vs_design::Design;
 
 /// For each signal who is woken by its changes, and the groups of copies.
 #[derive(Drop)]
@@ -17,15 +19,9 @@ pub struct Tables {
     pub watchers: Vec<Watcher>,
     pub ghost fit: { RowsFit rows.items watchers.items },
     pub groups: Groups,
-}
-
-/// The watchers of readers.
-fn readers_of(alloc: Global, readers: &[Reader]) -> Result<Vec<Watcher>, AllocError>
-    ensures { IfOk result (λ plain. plain.items ≡ map reader_watcher readers.now) }
-{
-    let mut plain = Vec::new(alloc);
-    add_readers(&mut plain, readers)?;
-    Ok(plain)
+    /// For each array of which many continuous assignments read single words the watchers of those that read each word; else no list.
+    pub words: Vec<Vec<Vec<Watcher>>>,
+    pub ghost by_word: { AreByWord rows.items watchers.items words.items },
 }
 
 impl Tables {
@@ -46,15 +42,23 @@ impl Tables {
         let mut groups = Groups::none(alloc, design.assigns().len());
         let mut rows = Vec::new(alloc);
         let mut watchers = Vec::new(alloc);
+        let mut words = Vec::new(alloc);
         for signal in 0..signals {
             let plain = readers_of(alloc, design.readers(signal))?;
             let row = add_row(&mut groups, &mut watchers, &plain, copies, &lists[signal])?;
             rows.push(row)?;
+            let count = match design.signals().get(signal) {
+                Some(found) => found.count as usize,
+                None => 0,
+            };
+            let seen = lists_of(alloc, &watchers[row.readers..row.any], count)?;
+            words.push(seen)?;
         }
         Ok(Tables {
             rows,
             watchers,
             groups,
+            words,
         })
     }
 
@@ -75,6 +79,21 @@ impl Tables {
         ensures { result.now ≡ between row.readers row.any self.now.watchers.items }
     {
         &self.watchers[row.readers..row.any]
+    }
+
+    /// Those of them that see a word, and maybe others: by the lists of its words, where the signal has them.
+    pub fn readers_of_word(&self, signal: usize, row: Row, word: usize) -> &[Watcher]
+        requires there { slice_get self.now.rows.items signal ≡ Some row }
+        requires fits { Fits row (length self.now.watchers.items) }
+        ensures { seeing word result.now ≡ seeing word (between row.readers row.any self.now.watchers.items) }
+    {
+        let Some(lists) = self.words.get(signal) else {
+            return self.readers(row);
+        };
+        match lists.get(word) {
+            Some(list) => list,
+            None => self.readers(row),
+        }
     }
 
     /// The watchers of the terms that wait for any change of it.

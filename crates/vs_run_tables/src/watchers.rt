@@ -1,11 +1,11 @@
 //! Who is woken by which bits of a signal.
-ghost use Rattle.std.specs.Prelude.{◌≡◌, ◌++◌, OnOk, map};
+ghost use Rattle.std.specs.Prelude.{◌≡◌, ◌++◌, IfOk, OnOk, map};
 ghost use Rattle.vs_run_tables.specs.Watchers.{is_kind, kind_watchers, reader_watcher};
 
-use std::alloc::AllocError;
+use std::alloc::{AllocError, Global};
+use vs_design::vs_logic4::Edge;
 use vs_design::{EventTerm, Reader};
 use vs_edges::WordMask;
-use vs_logic4::Edge;
 
 /// Who is woken by which bits of a signal.
 #[derive(Clone, Copy)]
@@ -39,17 +39,18 @@ fn is_kind(term: ListedTerm, edge: Edge) -> bool
 }
 
 /// The watchers of continuous assignments.
-pub(crate) fn add_readers(watchers: &mut Vec<Watcher>, readers: &[Reader]) -> Result<(), AllocError>
-    ensures { OnOk result (watchers.new.items ≡ watchers.old.items ++ map reader_watcher readers.now) }
+pub(crate) fn readers_of(alloc: Global, readers: &[Reader]) -> Result<Vec<Watcher>, AllocError>
+    ensures { IfOk result (λ plain. plain.items ≡ map reader_watcher readers.now) }
 {
+    let mut plain = Vec::new(alloc);
     for reader in readers {
-        watchers.push(Watcher {
+        plain.push(Watcher {
             mask: WordMask::of_range(reader.range),
             number: reader.assign,
             control: 0,
         })?;
     }
-    Ok(())
+    Ok(plain)
 }
 
 /// The watchers of those terms that wait for such an edge.

@@ -1,10 +1,10 @@
 -- Moves of a continuous assignment, by what is left of it.
 use Rattle.std.proofs.Common.{◌≡◌, ℕ, zero, suc, Bool, true, false, Option, Some, None, List, [], ◌∷◌, slice_get, slice_set, is_some, if◌then◌else◌, refl, sym, ◌∙◌, ap, subst}
-use Rattle.vs_logic4.specs.declared.digit.Digit.{Digit}
+use Rattle.vs_design.specs.vs_logic4.specs.declared.digit.Digit.{Digit}
 use Rattle.vs_design.specs.Stores.{changed_at, changes_nothing}
 use Rattle.vs_design.specs.Writes.{Write}
-use Rattle.vs_eval.specs.Targets.{assigned}
-use Rattle.vs_eval.specs.Values.{target_value}
+use Rattle.vs_process.specs.vs_eval.specs.Targets.{assigned}
+use Rattle.vs_process.specs.vs_eval.specs.Values.{target_value}
 use Rattle.vs_process.proofs.Lists.{set_same}
 use Rattle.vs_process.specs.declared.moves.Move.TheVariants.{Evaluate, Propagate, Make}
 use Rattle.vs_process.specs.Executions.{apply, if_some, is_enabled}

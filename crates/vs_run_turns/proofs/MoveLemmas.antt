@@ -1,10 +1,10 @@
 -- Moves that end no slot, and moves that end no execution.
 use Rattle.std.proofs.Common.{◌≡◌, ℕ, Bool, true, Option, Some, None, List, [], slice_get, refl, sym, ◌∙◌, ap}
 use Rattle.std.proofs.lemmas.Bool.{false≢true}
-use Rattle.vs_logic4.specs.declared.digit.Digit.{Digit}
+use Rattle.vs_design.specs.vs_logic4.specs.declared.digit.Digit.{Digit}
 use Rattle.vs_design.specs.Writes.{Write}
-use Rattle.vs_flatcode.specs.Places.{Place, todo_of}
-use Rattle.vs_flatcode.specs.Steps.{step}
+use Rattle.vs_process.specs.vs_flatcode.specs.Places.{Place, todo_of}
+use Rattle.vs_process.specs.vs_flatcode.specs.Steps.{step}
 use Rattle.vs_process.specs.declared.moves.Move.{Move}
 use Rattle.vs_process.specs.declared.moves.Move.TheVariants.{Step, Evaluate, Propagate, Make, Rouse, Activate, EndSlot}
 use Rattle.vs_process.specs.Executions.{apply, ended_slot, move_lines}

@@ -11,9 +11,9 @@ use Rattle.vs_design.specs.Writes.{shares}
 use Rattle.vs_process.specs.Executions.{if_some, is_first}
 use Rattle.vs_process.specs.States.{Update, without, is_due, activated}
 use Rattle.vs_run_updates.specs.Active.{is_active, place_of_active}
-use Rattle.vs_logic4.proofs.Basics.{filter_some as any_none}
+use Rattle.vs_design.specs.vs_logic4.proofs.Basics.{filter_some as any_none}
 use Rattle.std.proofs.lemmas.Bool.{and_right as away}
-use Rattle.vs_logic4.proofs.Basics.{and_right, left_false as left_any, or_false as kept_flag, past_end as past, right_false as right_any}
+use Rattle.vs_design.specs.vs_logic4.proofs.Basics.{and_right, left_false as left_any, or_false as kept_flag, past_end as past, right_false as right_any}
 
 -- ---- the update at the place
 get_here : (c : Bool) (u : Update) (us fs : List Update) (n : ℕ) → slice_get us n ≡ slice_get fs 0 → slice_get (u ∷ us) (cond c 0 (suc n)) ≡ slice_get (cond c (u ∷ fs) fs) 0

@@ -18,7 +18,7 @@ use Rattle.vs_run_updates.proofs.ItemsLemmas.{lates-append, sleepers_same, sleep
 use Rattle.vs_run_updates.proofs.FilterLemmas.{none_any, filter_within, filter_out}
 use Rattle.vs_run_updates.proofs.ActiveLemmas.{place-left, place-others, active_not_due, without-remove, activated_ones, activated_due, activated_later}
 use Rattle.std.proofs.lemmas.Bool.{and_right as away, not_from_false as not_other}
-use Rattle.vs_logic4.proofs.Basics.{and_right}
+use Rattle.vs_design.specs.vs_logic4.proofs.Basics.{and_right}
 
 pub kept_none : (bag : List (Timed Due)) (time : ℕ) → bag ≡ [] → AreKept [] [] [] bag time
 kept_none bag time none = record {

@@ -5,3 +5,5 @@ pub mod Updates
 pub mod Entries
 pub mod Regions
 pub mod Claims
+pub use Rattle.vs_process
+pub use Rattle.vs_time_wheel

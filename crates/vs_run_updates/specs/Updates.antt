@@ -1,13 +1,13 @@
 -- Nonblocking updates of a slot, in memory: what they write.
 use Rattle.std.specs.Prelude.{ℕ, ◌≡◌, ◌<◌, not, Bool, true, false, Option, Some, None, List, [], ◌∷◌, map, length, drop, take, slice_get, get_or}
 use Rattle.std.specs.List.{list_any}
-use Rattle.vs_logic4.specs.Planes.{digits_of_planes}
+use Rattle.vs_design.specs.vs_logic4.specs.Planes.{digits_of_planes}
 use Rattle.vs_design.specs.declared.signal.Signal.{Signal}
 use Rattle.vs_design.specs.Writes.{Write, shares}
 use Rattle.vs_run_updates.specs.declared.update.Bits.{Bits}
 use Rattle.vs_run_updates.specs.declared.update.Update.{Update}
 use Rattle.vs_run_updates.specs.declared.update.Update.TheVariants as u
-use Rattle.vs_flatcode.specs.Spots.{IsSpotIn, spot_write}
+use Rattle.vs_process.specs.vs_flatcode.specs.Spots.{IsSpotIn, spot_write}
 
 -- what is written to bits of one word
 abbrev pub bits_write : Bits → Write

@@ -18,3 +18,5 @@ pub use late::{Held, LateUpdate};
 pub use listing::SlotUpdates;
 pub use regions::Regions;
 pub use update::{Bits, Update};
+pub use vs_process;
+pub use vs_time_wheel;

@@ -3,7 +3,7 @@ ghost use Rattle.std.specs.Prelude.{◌≡◌, ◌<◌, ◌++◌, ◌∷◌, [],
 ghost use Rattle.std.specs.List.{list_any};
 ghost use Rattle.vs_design.specs.Writes as specs;
 ghost use Rattle.vs_run_updates.specs.FilterLaws.{is_filled};
-ghost use Rattle.vs_flatcode.specs.Spots.{IsSpotIn};
+ghost use Rattle.vs_process.specs.vs_flatcode.specs.Spots.{IsSpotIn};
 ghost use Rattle.vs_run_updates.specs.Updates.{IsIn, bits_write, is_first_left, is_shared, is_there, left_of, somes, what_of};
 
 use crate::claims::{Claim, claim_all, is_alone, make_room};

@@ -7,7 +7,7 @@ ghost use Rattle.vs_process.specs.Executions as executions;
 ghost use Rattle.vs_process.specs.States as states;
 ghost use Rattle.vs_run_updates.specs.Active.{is_active, not_due, place_of_active};
 ghost use Rattle.vs_run_updates.specs.Regions.{place_of_number, without_oldest};
-ghost use Rattle.vs_flatcode.specs.Spots.{IsSpotIn};
+ghost use Rattle.vs_process.specs.vs_flatcode.specs.Spots.{IsSpotIn};
 ghost use Rattle.vs_run_updates.specs.Updates.{IsIn, bits_write, is_there, left_of, what_of};
 
 use crate::entry::{enter_queue, take_due};

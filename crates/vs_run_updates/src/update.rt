@@ -1,7 +1,7 @@
 //! Nonblocking updates of a slot.
-ghost use Rattle.vs_logic4.specs.Planes.{ArePlanes};
+ghost use Rattle.vs_design.specs.vs_logic4.specs.Planes.{ArePlanes};
 
-use vs_flatcode::Spot;
+use vs_process::vs_flatcode::Spot;
 
 /// What is written to bits of one word: both planes of the digits.
 #[derive(Clone, Copy)]

@@ -5,9 +5,9 @@ use Rattle.std.proofs.lemmas.Bool.{cond-true, ne_eqb, eqb-false, or_parts, or_fr
 use Rattle.std.proofs.lemmas.List.{drop_more}
 use Rattle.std.proofs.lemmas.List.Folds.{list_any-append}
 use Rattle.std.proofs.lemmas.Option.{same_Some}
-use Rattle.vs_logic4.specs.declared.digit.Digit.{Digit}
-use Rattle.vs_logic4.specs.Sameness.{same_digits-true, same_digits_self}
-use Rattle.vs_logic4.specs.Vectors.{same_digits}
+use Rattle.vs_design.specs.vs_logic4.specs.declared.digit.Digit.{Digit}
+use Rattle.vs_design.specs.vs_logic4.specs.Sameness.{same_digits-true, same_digits_self}
+use Rattle.vs_design.specs.vs_logic4.specs.Vectors.{same_digits}
 use Rattle.vs_design.specs.declared.write.Part.{Part}
 use Rattle.vs_design.specs.Stores.{Store, word_of, put, put_part}
 use Rattle.vs_design.specs.Uses.{all_words, has_word}
@@ -16,7 +16,7 @@ use Rattle.vs_edges.specs.Differences.{HaveOneSize, bits_differ, word_changes, p
 use Rattle.vs_edges.proofs.StoresLemmas.{changed_by_parts, put_size}
 use Rattle.vs_flatcode.specs.declared.changes.Change.{Change}
 use Rattle.vs_flatcode.specs.Changes.{changed_word, changed_part, changed_words}
-use Rattle.vs_process.proofs.Assigns.{signal_kept}
+use Rattle.vs_run_processes.specs.vs_process.proofs.Assigns.{signal_kept}
 use Rattle.vs_run_wakes.specs.Changes.{MarkChanges, MarkWords}
 use Rattle.vs_run_wakes.proofs.TouchesLemmas.{same_bits}
 

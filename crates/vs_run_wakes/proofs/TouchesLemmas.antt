@@ -3,9 +3,9 @@ use Rattle.std.proofs.Common.{◌≡◌, ℕ, suc, ◌+◌, ◌<◌, ◌||◌, �
 use Rattle.std.specs.List.{list_any}
 use Rattle.std.proofs.Math.Bool.{or-false}
 use Rattle.std.proofs.lemmas.List.{length-append, map-append, take_more}
-use Rattle.vs_logic4.specs.declared.digit.Digit.{Digit}
-use Rattle.vs_logic4.specs.Sameness.{same_digits-true}
-use Rattle.vs_logic4.specs.Vectors.{same_digits}
+use Rattle.vs_design.specs.vs_logic4.specs.declared.digit.Digit.{Digit}
+use Rattle.vs_design.specs.vs_logic4.specs.Sameness.{same_digits-true}
+use Rattle.vs_design.specs.vs_logic4.specs.Vectors.{same_digits}
 use Rattle.vs_design.specs.declared.design.Assign.{Assign}
 use Rattle.vs_design.specs.declared.expression.Typed.{Typed}
 use Rattle.vs_design.specs.declared.range.BitRange.{BitRange}
@@ -17,7 +17,7 @@ use Rattle.vs_design.specs.Uses.{reads, is_of, has_word}
 use Rattle.vs_design.specs.Writes.{Write}
 use Rattle.vs_flatcode.specs.declared.changes.Change.{Change}
 use Rattle.vs_flatcode.specs.Changes.{changed_word, changed_words}
-use Rattle.vs_process.specs.States.{AssignState, start_assign, touched}
+use Rattle.vs_run_processes.specs.vs_process.specs.States.{AssignState, start_assign, touched}
 use Rattle.vs_edges.specs.Differences.{bits_differ, HaveOneSize, difference, word_difference, sees, word_changes, part_changes}
 use Rattle.vs_run_processes.proofs.ChangedLemmas.{changed_behind}
 use Rattle.vs_run_wakes.specs.Touches.{AreOf, woken, woken_in, all_woken, woken_by, woken_changes}

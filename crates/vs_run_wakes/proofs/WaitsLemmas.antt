@@ -1,9 +1,9 @@
 -- Which processes the words wake that a write changes.
 use Rattle.std.proofs.Common.{◌≡◌, ℕ, ◌||◌, Bool, true, false, Option, Some, None, List, [], ◌∷◌, ◌++◌, map, if◌then◌else◌, refl, sym, ◌∙◌, ap, ap₂}
 use Rattle.std.specs.List.{list_any}
-use Rattle.vs_logic4.specs.declared.digit.Digit.{Digit}
-use Rattle.vs_logic4.specs.Sameness.{same_digits-true}
-use Rattle.vs_logic4.specs.Vectors.{same_digits}
+use Rattle.vs_design.specs.vs_logic4.specs.declared.digit.Digit.{Digit}
+use Rattle.vs_design.specs.vs_logic4.specs.Sameness.{same_digits-true}
+use Rattle.vs_design.specs.vs_logic4.specs.Vectors.{same_digits}
 use Rattle.vs_design.specs.declared.statement.EventTerm.{EventTerm}
 use Rattle.vs_design.specs.declared.write.Part.{Part}
 use Rattle.vs_design.specs.Stores.{Store, word_of, put}
@@ -17,8 +17,8 @@ use Rattle.vs_flatcode.specs.declared.changes.Change.{Change}
 use Rattle.vs_flatcode.specs.Changes.{changed_word, changed_words}
 use Rattle.vs_flatcode.specs.declared.gait.Gait.{Gait}
 use Rattle.vs_flatcode.specs.declared.gait.Gait.TheVariants.{Woken}
-use Rattle.vs_process.specs.States.{terms_of, triggered, wakened}
-use Rattle.vs_process.proofs.Waking.{wakened-triggered}
+use Rattle.vs_run_processes.specs.vs_process.specs.States.{terms_of, triggered, wakened}
+use Rattle.vs_run_processes.specs.vs_process.proofs.Waking.{wakened-triggered}
 use Rattle.vs_run_processes.specs.Triggers.{triggered_by}
 use Rattle.vs_run_wakes.specs.Waits.{triggered_changes}
 

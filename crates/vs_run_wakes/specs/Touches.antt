@@ -9,7 +9,7 @@ use Rattle.vs_design.specs.Stores.{changed_at}
 use Rattle.vs_design.specs.Uses.{reads}
 use Rattle.vs_edges.specs.Differences.{word_changes}
 use Rattle.vs_flatcode.specs.declared.changes.Change.{Change}
-use Rattle.vs_process.specs.States.{AssignState}
+use Rattle.vs_run_processes.specs.vs_process.specs.States.{AssignState}
 
 -- ---- what is woken
 

@@ -4,15 +4,15 @@ use Rattle.std.specs.Int.RustNames.{bit_xor}
 use Rattle.std.proofs.Math.Nat.{mod-eq_of_lt, pow-le-pow_right}
 use Rattle.std.proofs.lemmas.Nat.{and_mask, pow-add, pow_pos, shl_whole}
 use Rattle.std.proofs.lemmas.Option.{same_Some}
-use Rattle.vs_logic4.specs.declared.digit.Digit.{Digit}
-use Rattle.vs_logic4.specs.declared.edge.Edge.TheVariants.{Any}
-use Rattle.vs_logic4.specs.Moves.{lowered}
-use Rattle.vs_logic4.specs.PlaneLaws.{digits_of_planes-of, length-digits_of_planes, unknown_plane-digits_of_planes, unknown_plane-lt, value_plane-digits_of_planes, value_plane-lt}
-use Rattle.vs_logic4.specs.Planes.{ArePlanes, digits_of_planes, unknown_plane, value_plane}
-use Rattle.vs_logic4.specs.Sameness.{same_digits-true}
-use Rattle.vs_logic4.specs.Vectors.{same_digits}
-use Rattle.vs_logic4.proofs.Bits.{below_64, ones_below}
-use Rattle.vs_logic4.proofs.Parts.{with_part_is, written}
+use Rattle.vs_design.specs.vs_logic4.specs.declared.digit.Digit.{Digit}
+use Rattle.vs_design.specs.vs_logic4.specs.declared.edge.Edge.TheVariants.{Any}
+use Rattle.vs_design.specs.vs_logic4.specs.Moves.{lowered}
+use Rattle.vs_design.specs.vs_logic4.specs.PlaneLaws.{digits_of_planes-of, length-digits_of_planes, unknown_plane-digits_of_planes, unknown_plane-lt, value_plane-digits_of_planes, value_plane-lt}
+use Rattle.vs_design.specs.vs_logic4.specs.Planes.{ArePlanes, digits_of_planes, unknown_plane, value_plane}
+use Rattle.vs_design.specs.vs_logic4.specs.Sameness.{same_digits-true}
+use Rattle.vs_design.specs.vs_logic4.specs.Vectors.{same_digits}
+use Rattle.vs_design.specs.vs_logic4.proofs.Bits.{below_64, ones_below}
+use Rattle.vs_design.specs.vs_logic4.proofs.Parts.{with_part_is, written}
 use Rattle.vs_design.specs.declared.signal.Signal.{Signal}
 use Rattle.vs_design.specs.InOrder.{IsStoreOf, numbered_word, with_word}
 use Rattle.vs_design.specs.Stores.{Store, changed_at, overlaid, put, word_in, word_of}

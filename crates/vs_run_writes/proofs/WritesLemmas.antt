@@ -2,8 +2,8 @@
 use Rattle.std.proofs.Common.{◌≡◌, ℕ, zero, suc, ◌<◌, if◌then◌else◌, replicate, Bool, true, false, Option, Some, None, List, [], ◌∷◌, ◌++◌, map, length, slice_get, refl, sym, ◌∙◌, ap, ap₂, subst, append-nil, arith}
 use Rattle.std.proofs.lemmas.List.{length-map, length-replicate}
 use Rattle.std.proofs.lemmas.Option.{none-some, same_Some}
-use Rattle.vs_logic4.specs.declared.digit.Digit.{Digit}
-use Rattle.vs_logic4.specs.Vectors.{same_digits}
+use Rattle.vs_design.specs.vs_logic4.specs.declared.digit.Digit.{Digit}
+use Rattle.vs_design.specs.vs_logic4.specs.Vectors.{same_digits}
 use Rattle.vs_design.specs.declared.signal.Signal.{Signal}
 use Rattle.vs_design.specs.declared.write.Part.{Part}
 use Rattle.vs_design.specs.InOrder.{IsStoreOf, sizes_of_signals, word_sizes}
@@ -17,13 +17,13 @@ use Rattle.vs_edges.proofs.StoresLemmas.{put_size}
 use Rattle.vs_flatcode.specs.declared.changes.Change.{Change}
 use Rattle.vs_flatcode.specs.Changes.{changed_part, changed_word, changed_words}
 use Rattle.vs_flatcode.specs.Places.{Place}
-use Rattle.vs_process.specs.States.{AssignState, State, wakened, written}
-use Rattle.vs_run_processes.specs.declared.process.Process.{Process}
+use Rattle.vs_run_tables.specs.vs_process.specs.States.{AssignState, State, wakened, written}
+use Rattle.vs_run_wakes.specs.vs_run_processes.specs.declared.process.Process.{Process}
 use Rattle.vs_run_tables.specs.declared.tables.Tables.{Tables}
 use Rattle.vs_run_tables.specs.declared.watchers.ListedTerm.{ListedTerm}
-use Rattle.vs_run_processes.specs.Standings.{GoneOn}
+use Rattle.vs_run_wakes.specs.vs_run_processes.specs.Standings.{GoneOn}
 use Rattle.vs_run_tables.specs.Waiting.{places_of}
-use Rattle.vs_run_processes.proofs.GoneLemmas.{gone_more, gone_none}
+use Rattle.vs_run_wakes.specs.vs_run_processes.proofs.GoneLemmas.{gone_more, gone_none}
 use Rattle.vs_run_tables.specs.Wakes.{AreWatched, Wakes}
 use Rattle.vs_run_wakes.specs.Changes.{MarkChanges}
 use Rattle.vs_run_wakes.specs.Touches.{woken_changes}

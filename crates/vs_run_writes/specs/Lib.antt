@@ -1,1 +1,3 @@
 pub mod Writes
+pub use Rattle.vs_run_tables
+pub use Rattle.vs_run_wakes

@@ -5,4 +5,5 @@
 mod marks;
 mod writes;
 
+pub use vs_run_tables;
 pub use writes::Watched;

@@ -1,7 +1,7 @@
 //! The store of a run, and what its changes wake.
 ghost use Rattle.std.specs.Prelude.{◌≡◌, ◌*◌, ◌%◌, ◌^◌, List, length, bit_and, OnOk};
 ghost use Rattle.std.specs.Int.RustNames.{bit_xor};
-ghost use Rattle.vs_logic4.specs.Planes.{ArePlanes, digits_of_planes};
+ghost use Rattle.vs_design.specs.vs_logic4.specs.Planes.{ArePlanes, digits_of_planes};
 ghost use Rattle.vs_design.specs.declared.signal.Signal.{Signal};
 ghost use Rattle.vs_design.specs.InOrder.{IsStoreOf};
 ghost use Rattle.vs_design.specs.Stores.{put};
@@ -12,10 +12,10 @@ ghost use Rattle.vs_run_writes.specs.Writes.{AreNamed, Follows, Makes, MakesWrit
 
 use crate::marks::{mark, mark_signals};
 use std::alloc::AllocError;
+use vs_design::vs_logic4::Vec4;
 use vs_design::{Store, Write};
 use vs_edges::WordChange;
 use vs_flatcode::{Change, Spot, make};
-use vs_logic4::Vec4;
 use vs_run_tables::{Events, Tables};
 
 /// The store, the tables of who watches its signals, what is active, and the marks of the signals that were written.
@@ -61,7 +61,8 @@ impl<'a> Watched<'a> {
         requires rows { length signals ≡ length self.old.tables.rows.items }
         ensures store { self.new.store ≡ put self.old.store (spot_write spot.now (digits_of_planes spot.now.width value unknown)) }
         ensures tables { self.new.tables ≡ self.old.tables }
-        ensures made { OnOk result (Makes self.old.tables self.old.store (spot_write spot.now (digits_of_planes spot.now.width value unknown))
+        ensures made { OnOk result (Makes self.old.tables self.old.store
+            (spot_write spot.now (digits_of_planes spot.now.width value unknown))
             self.old.events.assigns self.old.events.processes self.new.events.assigns self.new.events.processes) }
         ensures marked { MarkChanges self.old.marks.items self.new.marks.items self.old.store self.new.store }
     {

@@ -3,7 +3,7 @@ use Rattle.std.proofs.Common.{◌≡◌, ℕ, ◌+◌, ◌<◌, List, ◌∷◌,
 use Rattle.vs_syntax.specs.declared.tree.Port.{Port}
 use Rattle.vs_syntax.specs.declared.tree.PortForm.{PortForm}
 use Rattle.vs_elab_connections.specs.Overrides.{said}
-use Rattle.vs_logic4.proofs.Basics.{front_of as drop_at}
+use Rattle.vs_design.specs.vs_logic4.proofs.Basics.{front_of as drop_at}
 use Rattle.vs_scopes.specs.Ports.{port_as, ports_from}
 
 pub port_at : (before : Option PortForm) (ps : List Port) (i : ℕ) (p : Port) (now : Option PortForm) → i < length ps → p ≡ get_or ps i p → now ≡ said before p.form → ports_from before (drop i ps) ≡ port_as now p.name.items p.value ∷ ports_from now (drop (i + 1) ps)

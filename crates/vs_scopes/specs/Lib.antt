@@ -10,3 +10,4 @@ pub mod Generate
 pub mod Scopes
 pub mod Texts
 pub mod passes
+pub use Rattle.vs_width_selects

@@ -1,6 +1,6 @@
 //! Sizes, signs, ranges and words of declarations.
 ghost use Rattle.std.specs.Prelude.{◌≡◌, ◌<◌, Some};
-ghost use Rattle.vs_widths.specs.Names.{meaning_of};
+ghost use Rattle.vs_elab_connections.specs.vs_widths.specs.Names.{meaning_of};
 ghost use Rattle.vs_scopes.specs.declared.faults.BodyFault.TheVariants as fault;
 ghost use Rattle.vs_scopes.specs.declared.faults.Reason.TheVariants as reasons;
 ghost use Rattle.vs_scopes.specs.Ranges.{bound_of, bound_fault, range_bounds, bounds_fault, range_fault, sized_as, words_as};
@@ -14,9 +14,9 @@ use crate::ports::ModulePort;
 use crate::words::WordCount;
 use std::alloc::Global;
 use vs_design::{Bounds, SignalKind};
+use vs_elab_connections::vs_widths::{Levels, constant};
 use vs_syntax::{Expr, Form, Range};
 use vs_width_selects::{Shape, WidthReason};
-use vs_widths::{Levels, constant};
 
 /// The size and sign of a signal, and its range.
 #[derive(Clone, Copy)]

@@ -2,11 +2,11 @@
 use Rattle.std.proofs.Common.{◌≡◌, ℕ, true}
 use Rattle.std.proofs.lemmas.Bool.{or_left}
 use Rattle.std.specs.Prelude.{nat_lt}
-use Rattle.vs_process.specs.Executions.{is_complete}
-use Rattle.vs_process.specs.States.{State}
-use Rattle.vs_kernel.specs.Runs.{EndsAs}
-use Rattle.vs_kernel.specs.declared.outcome.Outcome.{Outcome}
-use Rattle.vs_kernel.specs.declared.outcome.Outcome.TheVariants.{Reached, Quiet, Finished, StepLimit}
+use Rattle.vs_run_updates.specs.vs_process.specs.Executions.{is_complete}
+use Rattle.vs_run_updates.specs.vs_process.specs.States.{State}
+use Rattle.vs_run_dumps.specs.vs_kernel.specs.Runs.{EndsAs}
+use Rattle.vs_run_dumps.specs.vs_kernel.specs.declared.outcome.Outcome.{Outcome}
+use Rattle.vs_run_dumps.specs.vs_kernel.specs.declared.outcome.Outcome.TheVariants.{Reached, Quiet, Finished, StepLimit}
 use Rattle.vs_simulate.specs.ReadBack.{is_whole}
 
 pub whole_complete : (outcome : Outcome) (until steps taken : ℕ) (s : State) → EndsAs outcome until steps taken s → is_whole outcome ≡ true →

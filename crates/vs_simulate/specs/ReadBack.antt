@@ -1,8 +1,8 @@
 -- What a simulation wrote reads back.
 use Rattle.std.specs.Prelude.{ℕ, ◌≡◌, Bool, true, false, Option, List, []}
-use Rattle.vs_process.specs.Executions.{slots}
-use Rattle.vs_kernel.specs.declared.outcome.Outcome.{Outcome}
-use Rattle.vs_kernel.specs.declared.outcome.Outcome.TheVariants.{StepLimit}
+use Rattle.vs_run_updates.specs.vs_process.specs.Executions.{slots}
+use Rattle.vs_run_dumps.specs.vs_kernel.specs.declared.outcome.Outcome.{Outcome}
+use Rattle.vs_run_dumps.specs.vs_kernel.specs.declared.outcome.Outcome.TheVariants.{StepLimit}
 use Rattle.vs_run_dumps.specs.ReadBack.{ReadsBack}
 use Rattle.vs_simulate.specs.Honesty.{IsRun}
 

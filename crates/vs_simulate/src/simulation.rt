@@ -1,9 +1,9 @@
 //! One simulation.
 ghost use Rattle.std.specs.Prelude.{◌≡◌, ◌<◌, ◌^◌, true, false, IfOk, IfErr, OnErr, MatchResult};
-ghost use Rattle.vs_kernel.specs.Faults.{FaultAt, OneFailed, is_write as is_run_write};
-ghost use Rattle.vs_kernel.specs.Runs.{RanTo, HasBegun};
-ghost use Rattle.vs_kernel.specs.declared.kernel.Status.TheVariants.{Ready};
-ghost use Rattle.vs_process.specs.Permitted.{NeverStuck};
+ghost use Rattle.vs_run_dumps.specs.vs_kernel.specs.Faults.{FaultAt, OneFailed, is_write as is_run_write};
+ghost use Rattle.vs_run_dumps.specs.vs_kernel.specs.Runs.{RanTo, HasBegun};
+ghost use Rattle.vs_run_dumps.specs.vs_kernel.specs.declared.kernel.Status.TheVariants.{Ready};
+ghost use Rattle.vs_run_updates.specs.vs_process.specs.Permitted.{NeverStuck};
 ghost use Rattle.vs_simulate.specs.Honesty.{Defines, DefinesNone, IsRun, HasBegunRun, SimulationFails, is_refusal, is_write};
 ghost use Rattle.vs_simulate.specs.ReadBack.{IsReadBack};
 
@@ -14,14 +14,16 @@ use std::alloc::Global;
 use vs_design::Design;
 use vs_elab_outlines::outlines_of_texts_are_in_order;
 use vs_elaborate::elaborate;
-use vs_kernel::{Fifo, Kernel, Lifo, Listed, Outcome, Pick, RunFault, dumps_show_slot_ends};
 use vs_lexer::lex;
 use vs_parser::parse;
-use vs_process::never_stuck;
+use vs_run_dumps::vs_kernel::{
+    Fifo, Kernel, Lifo, Listed, Outcome, Pick, RunFault, dumps_show_slot_ends,
+};
 use vs_run_dumps::{complete_runs_end_slots, run_dumps_are_read};
 use vs_run_updates::Due;
-use vs_time_wheel::Wheel;
-use vs_vcd_writing::Sink;
+use vs_run_updates::vs_process::never_stuck;
+use vs_run_updates::vs_time_wheel::Wheel;
+use vs_vcd_lines::vs_vcd_writing::Sink;
 
 /// Which enabled item is next.
 #[derive(Clone, Copy)]

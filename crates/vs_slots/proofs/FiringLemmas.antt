@@ -3,8 +3,8 @@ use Rattle.std.proofs.Common.{◌≡◌, ℕ, ◌↔◌, inl, inr, true, Option,
 use Rattle.std.specs.List.{Contains}
 use Rattle.std.specs.declared.vec.Vec.{Vec}
 use Rattle.std.specs.declared.alloc.Global.{Global}
-use Rattle.vs_logic4.specs.declared.digit.Digit.{Digit}
-use Rattle.vs_logic4.specs.declared.edge.Edge.{Edge}
+use Rattle.vs_design.specs.vs_logic4.specs.declared.digit.Digit.{Digit}
+use Rattle.vs_design.specs.vs_logic4.specs.declared.edge.Edge.{Edge}
 use Rattle.vs_design.specs.declared.design.Process.{Process}
 use Rattle.vs_design.specs.declared.range.BitRange.{BitRange}
 use Rattle.vs_design.specs.declared.statement.EventTerm.{EventTerm}
@@ -19,10 +19,10 @@ use Rattle.vs_rules.specs.Claims.{Claims, Kind, HasLists, IsDelay, IsWriter}
 use Rattle.vs_rules.specs.Constants.{bit_of, given_by, todo_assigns, Gives}
 use Rattle.vs_rules.specs.Paths.{PathFrom, ListsSignal, WritesNow, WritesAny, todo_now, todo_later, statement_now, statement_later, is_plain}
 use Rattle.vs_rules.specs.Slots.{counts, Ends, Fires, HasSlot, RunsByDelays}
-use Rattle.vs_slots_paths.proofs.EachPoint.{now_here, later_here}
-use Rattle.vs_slots_paths.proofs.Texts.{place_of, place_back}
+use Rattle.vs_cert_facts.specs.vs_slots_paths.proofs.EachPoint.{now_here, later_here}
+use Rattle.vs_cert_facts.specs.vs_slots_paths.proofs.Texts.{place_of, place_back}
 use Rattle.vs_slots_constants.specs.Givings.{given_here}
-use Rattle.vs_slots_paths.specs.Ranges.{HasSignal, now_at, later_at, statement_at}
+use Rattle.vs_cert_facts.specs.vs_slots_paths.specs.Ranges.{HasSignal, now_at, later_at, statement_at}
 use Rattle.vs_slots.specs.Firing.{RootFiresBy, TermFires, WritesAt, CountsAt, FiresAt, FiringIsExact}
 use Rattle.vs_slots.proofs.RunLemmas.{runs_are_exact}
 

@@ -5,9 +5,9 @@ use Rattle.std.specs.declared.vec.Vec.{Vec}
 use Rattle.std.specs.declared.alloc.Global.{Global}
 use Rattle.std.proofs.lemmas.Bool.{false≢true}
 use Rattle.std.proofs.lemmas.Option.{none-some, same_Some, slice_get_within, slice_get-get_or}
-use Rattle.vs_logic4.specs.declared.digit.Digit.{Digit}
-use Rattle.vs_logic4.specs.declared.edge.Edge.{Edge}
-use Rattle.vs_logic4.specs.declared.edge.Edge.TheVariants.{Any, Posedge, Negedge}
+use Rattle.vs_design.specs.vs_logic4.specs.declared.digit.Digit.{Digit}
+use Rattle.vs_design.specs.vs_logic4.specs.declared.edge.Edge.{Edge}
+use Rattle.vs_design.specs.vs_logic4.specs.declared.edge.Edge.TheVariants.{Any, Posedge, Negedge}
 use Rattle.vs_design.specs.declared.design.Process.{Process}
 use Rattle.vs_design.specs.declared.signal.Signal.{Signal}
 use Rattle.vs_design.specs.declared.statement.EventTerm.{EventTerm}
@@ -24,10 +24,10 @@ use Rattle.vs_rules.specs.Controls.{controls_at, controls_in, controls_of, list_
 use Rattle.vs_rules.specs.Paths.{WritesNow}
 use Rattle.vs_rules.specs.Slots.{EdgeEnds, Ends, HasSlot, HasWriteSlot}
 use Rattle.vs_slots_constants.specs.declared.clocks.Clock.{Clock}
-use Rattle.vs_slots_paths.specs.Ranges.{pause_terms}
-use Rattle.vs_slots_paths.specs.Reaches.{Chart, IsPlace, pause_at, places}
-use Rattle.vs_slots_paths.proofs.Texts.{place_of, place_back}
-use Rattle.vs_slots_paths.proofs.WalkLemmas.{place_below}
+use Rattle.vs_cert_facts.specs.vs_slots_paths.specs.Ranges.{pause_terms}
+use Rattle.vs_cert_facts.specs.vs_slots_paths.specs.Reaches.{Chart, IsPlace, pause_at, places}
+use Rattle.vs_cert_facts.specs.vs_slots_paths.proofs.Texts.{place_of, place_back}
+use Rattle.vs_cert_facts.specs.vs_slots_paths.proofs.WalkLemmas.{place_below}
 use Rattle.vs_cert_facts.specs.Facts.{Case, AreCharts}
 use Rattle.vs_slots.specs.declared.roots.Firing.{Firing}
 use Rattle.vs_slots.specs.declared.runs.Runs.{Runs}

@@ -11,11 +11,11 @@ use Rattle.vs_rules.specs.Claims.{Claims, Kind, block, edges, delays, kind_of, H
 use Rattle.vs_rules.specs.Controls.{controls_of, list_of}
 use Rattle.vs_rules.specs.Paths.{Path, is_plain}
 use Rattle.vs_rules.specs.Slots.{DelayEnds, Ends, HasSlot}
-use Rattle.vs_slots_paths.specs.declared.along.Along.TheVariants.{Plain}
-use Rattle.vs_slots_paths.specs.Reaches.{Chart, IsPlace, pause_at, pause_of, places}
-use Rattle.vs_slots_paths.proofs.Join.{same_place}
-use Rattle.vs_slots_paths.proofs.Texts.{place_of, place_back, walk_on, walk_back, step_on, step_back, behind_step}
-use Rattle.vs_slots_paths.specs.Walks.{IsControlBefore, is_control}
+use Rattle.vs_cert_facts.specs.vs_slots_paths.specs.declared.along.Along.TheVariants.{Plain}
+use Rattle.vs_cert_facts.specs.vs_slots_paths.specs.Reaches.{Chart, IsPlace, pause_at, pause_of, places}
+use Rattle.vs_cert_facts.specs.vs_slots_paths.proofs.Join.{same_place}
+use Rattle.vs_cert_facts.specs.vs_slots_paths.proofs.Texts.{place_of, place_back, walk_on, walk_back, step_on, step_back, behind_step}
+use Rattle.vs_cert_facts.specs.vs_slots_paths.specs.Walks.{IsControlBefore, is_control}
 use Rattle.vs_slots.specs.Lists.{row, IsOneOf}
 use Rattle.vs_slots.specs.Runs.{HasRun, RunsAreExact, PauseEnds, AreRuns, DelayEndsBy}
 

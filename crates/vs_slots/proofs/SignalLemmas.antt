@@ -5,7 +5,7 @@ use Rattle.std.proofs.lemmas.Option.{none-some, slice_get_past}
 use Rattle.vs_design.specs.declared.design.Process.{Process}
 use Rattle.vs_design.specs.declared.range.BitRange.{BitRange}
 use Rattle.vs_design.specs.Parts.{Parts}
-use Rattle.vs_law_threads.specs.Blocks.{outputs_for}
+use Rattle.vs_rules.specs.vs_law_threads.specs.Blocks.{outputs_for}
 use Rattle.vs_rules.specs.Paths.{Writes}
 use Rattle.vs_slots.specs.Lists.{signals_of}
 

@@ -1,7 +1,7 @@
 -- When event terms can fire, by the roots of their signals.
 use Rattle.std.specs.Prelude.{ℕ, ◌≡◌, ◌↔◌, ◌⊎◌, ◌*◌, ◌%◌, true, Option, Some, List, slice_get}
-use Rattle.vs_logic4.specs.declared.digit.Digit.{Digit}
-use Rattle.vs_logic4.specs.declared.edge.Edge.{Edge}
+use Rattle.vs_design.specs.vs_logic4.specs.declared.digit.Digit.{Digit}
+use Rattle.vs_design.specs.vs_logic4.specs.declared.edge.Edge.{Edge}
 use Rattle.vs_design.specs.declared.design.Process.{Process}
 use Rattle.vs_design.specs.declared.statement.EventTerm.{EventTerm}
 use Rattle.vs_design.specs.Parts.{Parts}
@@ -13,8 +13,8 @@ use Rattle.vs_rules.specs.Paths.{IsPoint, WritesAny}
 use Rattle.vs_rules.specs.Slots.{counts, phase, Fires, HasSlot, InPhase}
 use Rattle.vs_slots_constants.specs.declared.clocks.Clock.{Clock}
 use Rattle.vs_slots_constants.specs.Givings.{given_here}
-use Rattle.vs_slots_paths.specs.Reaches.{Chart, IsPlace}
-use Rattle.vs_slots_paths.specs.Ranges.{HasSignal, now_at, later_at, statement_at}
+use Rattle.vs_cert_facts.specs.vs_slots_paths.specs.Reaches.{Chart, IsPlace}
+use Rattle.vs_cert_facts.specs.vs_slots_paths.specs.Ranges.{HasSignal, now_at, later_at, statement_at}
 use Rattle.vs_slots.specs.Runs.{HasRun}
 
 -- by a process, of kind delay, an edge of a root can fire at a residue: the process, the root's writer, writes it there, by no constant that doesn't

@@ -3,9 +3,9 @@ use Rattle.std.specs.Prelude.{ℕ, ◌≡◌, ◌<◌, ◌⊎◌, ◌↔◌, Opt
 use Rattle.std.specs.List.{Contains}
 use Rattle.std.specs.declared.vec.Vec.{Vec}
 use Rattle.std.specs.declared.alloc.Global.{Global}
-use Rattle.vs_logic4.specs.declared.digit.Digit.{Digit}
-use Rattle.vs_logic4.specs.declared.edge.Edge.{Edge}
-use Rattle.vs_logic4.specs.declared.edge.Edge.TheVariants.{Any, Posedge, Negedge}
+use Rattle.vs_design.specs.vs_logic4.specs.declared.digit.Digit.{Digit}
+use Rattle.vs_design.specs.vs_logic4.specs.declared.edge.Edge.{Edge}
+use Rattle.vs_design.specs.vs_logic4.specs.declared.edge.Edge.TheVariants.{Any, Posedge, Negedge}
 use Rattle.vs_design.specs.declared.statement.EventTerm.{EventTerm}
 use Rattle.vs_design.specs.Parts.{Parts}
 use Rattle.vs_design.specs.Tables.{rows}
@@ -14,8 +14,8 @@ use Rattle.vs_rules.specs.Constants.{IsClock}
 use Rattle.vs_rules.specs.Paths.{Writes}
 use Rattle.vs_rules.specs.Slots.{HasWriteSlot}
 use Rattle.vs_slots_constants.specs.declared.clocks.Clock.{Clock}
-use Rattle.vs_slots_paths.specs.Ranges.{HasSignal, now_at}
-use Rattle.vs_slots_paths.specs.Reaches.{Chart, IsPlace, places}
+use Rattle.vs_cert_facts.specs.vs_slots_paths.specs.Ranges.{HasSignal, now_at}
+use Rattle.vs_cert_facts.specs.vs_slots_paths.specs.Reaches.{Chart, IsPlace, places}
 use Rattle.vs_slots_uses.specs.Written.{IsWrittenAt, StandsIn}
 use Rattle.vs_cert_facts.specs.Facts.{Case, AreCharts}
 use Rattle.vs_slots.specs.declared.roots.Firing.{Firing}

@@ -5,3 +5,4 @@ pub mod Controls
 pub mod Firing
 pub mod Kept
 pub mod Places
+pub use Rattle.vs_cert_facts

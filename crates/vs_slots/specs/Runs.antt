@@ -8,10 +8,10 @@ use Rattle.vs_flatcode.specs.Stops.{Stop, IsText}
 use Rattle.vs_flatcode.specs.Ways.{Pause, none, delay, event, next_by}
 use Rattle.vs_rules.specs.Claims.{Claims, kind_of}
 use Rattle.vs_rules.specs.Slots.{Ends, HasSlot}
-use Rattle.vs_slots_paths.specs.declared.along.Along.TheVariants.{Plain}
-use Rattle.vs_slots_paths.specs.Reaches.{Chart, IsPlace, pause_at, places}
-use Rattle.vs_slots_paths.specs.Ranges.{pause_terms}
-use Rattle.vs_slots_paths.specs.Walks.{WalkFrom, IsControlBefore}
+use Rattle.vs_cert_facts.specs.vs_slots_paths.specs.declared.along.Along.TheVariants.{Plain}
+use Rattle.vs_cert_facts.specs.vs_slots_paths.specs.Reaches.{Chart, IsPlace, pause_at, places}
+use Rattle.vs_cert_facts.specs.vs_slots_paths.specs.Ranges.{pause_terms}
+use Rattle.vs_cert_facts.specs.vs_slots_paths.specs.Walks.{WalkFrom, IsControlBefore}
 use Rattle.vs_slots.specs.Terms.{TermsFire}
 use Rattle.vs_slots.specs.Lists.{row}
 

@@ -7,11 +7,11 @@ ghost use Rattle.vs_slots.specs.Lists.{signals_of};
 
 use std::alloc::{AllocError, Global};
 use vs_cert_facts::Facts;
+use vs_cert_facts::vs_slots_paths::index_of;
 use vs_design::{BitRange, Design};
-use vs_law_writes::statement_writes;
-use vs_reach::Family;
 use vs_slots_constants::{Clock, clock_of};
-use vs_slots_paths::index_of;
+use vs_slots_residues::vs_reach::Family;
+use vs_slots_uses::vs_law_writes::statement_writes;
 
 // Puts the signals of ranges at a list's end.
 fn put_signals(out: &mut Vec<usize>, ranges: &[BitRange]) -> Result<(), AllocError>

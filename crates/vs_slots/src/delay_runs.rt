@@ -11,8 +11,8 @@ use crate::controls::{ControlLists, delay_ends};
 use crate::runs::Runs;
 use std::alloc::{AllocError, Global};
 use vs_cert_facts::Facts;
+use vs_cert_facts::vs_slots_paths::{Tables, controls, controls_before};
 use vs_design::Statement;
-use vs_slots_paths::{Tables, controls, controls_before};
 
 // The runs of a process of kind delay, by its text, its tables and its lists.
 fn listed_runs<'a>(

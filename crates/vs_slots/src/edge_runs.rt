@@ -3,8 +3,8 @@ ghost use Rattle.std.specs.Prelude.{ℕ, ◌<◌, ◌↔◌, IfOk};
 ghost use Rattle.std.specs.List.{Contains};
 ghost use Rattle.vs_design.specs.Tables.{rows};
 ghost use Rattle.vs_rules.specs.Claims.{IsEdge};
-ghost use Rattle.vs_slots_paths.specs.Ranges.{pause_terms};
-ghost use Rattle.vs_slots_paths.specs.Reaches.{places, pause_at, pause_view, IsPlace};
+ghost use Rattle.vs_cert_facts.specs.vs_slots_paths.specs.Ranges.{pause_terms};
+ghost use Rattle.vs_cert_facts.specs.vs_slots_paths.specs.Reaches.{places, pause_at, pause_view, IsPlace};
 ghost use Rattle.vs_slots.specs.Kept.{AreAllRuns, AreFirings, AreTermsIn, RunsWhere};
 ghost use Rattle.vs_slots.specs.Runs.{AreFiredRuns};
 
@@ -13,7 +13,7 @@ use crate::roots::Firing;
 use crate::runs::Runs;
 use std::alloc::{AllocError, Global};
 use vs_cert_facts::Facts;
-use vs_slots_paths::{Pause, Tables, controls_before};
+use vs_cert_facts::vs_slots_paths::{Pause, Tables, controls_before};
 
 // The places of a process of kind edge, and when terms can fire.
 #[derive(Drop)]

@@ -4,7 +4,7 @@ ghost use Rattle.std.specs.List.{Contains};
 ghost use Rattle.vs_flatcode.specs.Stops.{statement_view};
 ghost use Rattle.vs_rules.specs.Constants.{bit_of};
 ghost use Rattle.vs_slots_constants.specs.Givings.{given_here};
-ghost use Rattle.vs_slots_paths.specs.Ranges.{statement_at};
+ghost use Rattle.vs_cert_facts.specs.vs_slots_paths.specs.Ranges.{statement_at};
 ghost use Rattle.vs_slots.specs.Firing.{CountsAt, InPhaseOf, WritesAt};
 ghost use Rattle.vs_slots.specs.Kept.{AreWrittenPlaces, IsFiringBy, IsFiringOf, IsPlaceFiring, IsTurned};
 
@@ -13,10 +13,10 @@ use crate::phases::{is_in_phase, write_counts};
 use crate::runs::{Runs, numbers_of, runs_at};
 use std::alloc::{AllocError, Global};
 use vs_cert_facts::Facts;
+use vs_cert_facts::vs_slots_paths::Tables;
 use vs_design::Statement;
-use vs_logic4::{Digit, Edge};
+use vs_design::vs_logic4::{Digit, Edge};
 use vs_slots_constants::{Bit, Clock, given_by};
-use vs_slots_paths::Tables;
 
 // The constant that a statement, where there is one, gives the lowest bit of a signal.
 fn given_of(

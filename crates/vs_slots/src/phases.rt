@@ -1,9 +1,9 @@
 //! Which writes of a clock an edge fires at.
 ghost use Rattle.std.specs.Prelude.{◌≡◌, ◌+◌, ◌*◌, ◌%◌, ◌<◌, ◌↔◌, true, Some, IsTrue};
-ghost use Rattle.vs_logic4.specs.declared.digit.Digit.{Digit};
+ghost use Rattle.vs_design.specs.vs_logic4.specs.declared.digit.Digit.{Digit};
 ghost use Rattle.vs_rules.specs.Slots.{counts, phase};
 
-use vs_logic4::{Digit, Edge};
+use vs_design::vs_logic4::{Digit, Edge};
 
 // Whether the write of a constant counts for an edge.
 fn counts(edge: Edge, digit: Digit) -> bool

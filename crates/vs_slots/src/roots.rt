@@ -14,7 +14,7 @@ use crate::runs::Runs;
 use std::alloc::{AllocError, Global};
 use vs_cert_facts::Facts;
 use vs_design::EventTerm;
-use vs_logic4::Edge;
+use vs_design::vs_logic4::Edge;
 use vs_slots_constants::Clock;
 use vs_slots_residues::Gathered;
 

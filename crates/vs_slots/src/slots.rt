@@ -16,8 +16,8 @@ use crate::written::written_places;
 use std::alloc::{AllocError, Global};
 use std::marker::Model;
 use vs_cert_facts::Facts;
+use vs_cert_facts::vs_slots_paths::Tables;
 use vs_design::EventTerm;
-use vs_slots_paths::Tables;
 
 // The run slots of a place of a process of kind edge or delay; of another one there are none.
 fn run_slots<'a>(

@@ -3,24 +3,24 @@ use Rattle.std.proofs.Common.{◌≡◌, ℕ, suc, ◌+◌, ◌<◌, ◌⊎◌, 
 use Rattle.std.specs.List.{Contains, list_any}
 use Rattle.std.proofs.lemmas.Bool.{cases_Bool, cases_lt, true≢false}
 use Rattle.std.proofs.lemmas.Option.{none-some, same_Some, slice_get_within}
-use Rattle.vs_logic4.proofs.Basics.{element_of as any_at}
-use Rattle.vs_logic4.specs.declared.digit.Digit.{Digit}
+use Rattle.vs_design.specs.vs_logic4.proofs.Basics.{element_of as any_at}
+use Rattle.vs_design.specs.vs_logic4.specs.declared.digit.Digit.{Digit}
 use Rattle.vs_design.specs.declared.design.Assign.{Assign}
 use Rattle.vs_design.specs.declared.range.BitRange.{BitRange}
 use Rattle.vs_design.specs.Parts.{Parts}
 use Rattle.vs_design.specs.Stores.{Store, put, is_changed, start_store}
 use Rattle.vs_design.specs.Uses.{covers, reads, writes}
 use Rattle.vs_design.specs.WellFormed.{WellFormed}
-use Rattle.vs_eval.specs.Laws.{digit_of}
-use Rattle.vs_eval.specs.Values.{target_value}
-use Rattle.vs_flatcode.specs.Steps.{assignment}
-use Rattle.vs_process.proofs.Assigns.{DrivesApart, drives, nothing_changed}
-use Rattle.vs_process.proofs.Digits.{kept_digit, put_again, same_stores}
-use Rattle.vs_process.proofs.Lists.{none_from}
-use Rattle.vs_process.proofs.Ranges.{assigned_fixed, covered_fixes, fixed_write, same_content, uncovered_keeps}
-use Rattle.vs_process.proofs.Stores.{shape, shape-put}
-use Rattle.vs_process.proofs.Values.{same_unchanged, target_value_unchanged}
-use Rattle.vs_process.proofs.WellFormed.{drives_apart}
+use Rattle.vs_law_threads.specs.vs_eval.specs.Laws.{digit_of}
+use Rattle.vs_law_threads.specs.vs_eval.specs.Values.{target_value}
+use Rattle.vs_law_threads.specs.vs_flatcode.specs.Steps.{assignment}
+use Rattle.vs_law_threads.specs.vs_process.proofs.Assigns.{DrivesApart, drives, nothing_changed}
+use Rattle.vs_law_threads.specs.vs_process.proofs.Digits.{kept_digit, put_again, same_stores}
+use Rattle.vs_law_threads.specs.vs_process.proofs.Lists.{none_from}
+use Rattle.vs_law_threads.specs.vs_process.proofs.Ranges.{assigned_fixed, covered_fixes, fixed_write, same_content, uncovered_keeps}
+use Rattle.vs_law_threads.specs.vs_process.proofs.Stores.{shape, shape-put}
+use Rattle.vs_law_threads.specs.vs_process.proofs.Values.{same_unchanged, target_value_unchanged}
+use Rattle.vs_law_threads.specs.vs_process.proofs.WellFormed.{drives_apart}
 use Rattle.vs_law_threads.specs.Bits.{HasBit}
 use Rattle.vs_law_threads.specs.Blocks.{IsSettledStart}
 use Rattle.vs_law_threads.proofs.Bits.{by_bit}
@@ -195,7 +195,7 @@ made_settled d formed order idle =
     record {
       sized = from.sized;
       undriven = from.undriven;
-      settled = λ j a is. Rattle.vs_logic4.proofs.Basics.all_at (is_idle (put_all d.assigns order (start_store d))) d.assigns j a is idle;
+      settled = λ j a is. Rattle.vs_design.specs.vs_logic4.proofs.Basics.all_at (is_idle (put_all d.assigns order (start_store d))) d.assigns j a is idle;
     }
 
 -- and where one is settled, none would

@@ -8,7 +8,7 @@ ghost use Rattle.vs_slots_cold.specs.Cold.{SameWritten};
 
 use std::alloc::{AllocError, Global};
 use vs_design::{Design, Store};
-use vs_law_writes::statement_writes;
+use vs_law_threads::vs_law_writes::statement_writes;
 
 // Whether a word of a signal is the same in two stores.
 fn is_same_word(a: &Store, b: &Store, signal: usize, word: usize) -> bool

@@ -12,7 +12,7 @@ use Rattle.vs_design.specs.declared.range.BitRange.{BitRange}
 use Rattle.vs_design.specs.declared.signal.Signal.{Signal}
 use Rattle.vs_design.specs.Kinds.{is_variable}
 use Rattle.vs_design.specs.Tables.{rows}
-use Rattle.vs_reach.specs.Reached.{AreReached}
+use Rattle.vs_slots_paths.specs.vs_reach.specs.Reached.{AreReached}
 use Rattle.vs_rules.specs.Drivers.{Driver, DriverWrites}
 use Rattle.vs_slots_cones.specs.declared.writers.Written.{Written}
 use Rattle.vs_slots_cones.specs.Walks.{Passed, Named, AreWriters, AreNeeds, all_met, linked, AreFreed}

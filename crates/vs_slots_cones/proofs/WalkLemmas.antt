@@ -10,8 +10,8 @@ use Rattle.vs_design.specs.declared.signal.Signal.{Signal}
 use Rattle.vs_design.specs.Parts.{Parts}
 use Rattle.vs_design.specs.Tables.{rows}
 use Rattle.vs_design.specs.WellFormed.{width_at}
-use Rattle.vs_law_threads.specs.Bits.{meet_in, common_word, common_place}
-use Rattle.vs_reach.specs.Reached.{Reached, begins, goes_on}
+use Rattle.vs_rules.specs.vs_law_threads.specs.Bits.{meet_in, common_word, common_place}
+use Rattle.vs_slots_paths.specs.vs_reach.specs.Reached.{Reached, begins, goes_on}
 use Rattle.vs_rules.specs.Claims.{Claims}
 use Rattle.vs_rules.specs.Drivers.{Driver, IsDriver, DriverWrites, DriverNeeds, InCone, Passes}
 use Rattle.vs_rules.specs.Drivers as r

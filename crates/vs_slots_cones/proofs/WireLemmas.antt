@@ -8,7 +8,7 @@ use Rattle.vs_design.specs.declared.range.BitRange.{BitRange}
 use Rattle.vs_design.specs.Parts.{Parts}
 use Rattle.vs_design.specs.Uses.{reads, writes}
 use Rattle.vs_flatcode.specs.Stops.{IsText}
-use Rattle.vs_law_threads.specs.Blocks.{outputs_for}
+use Rattle.vs_rules.specs.vs_law_threads.specs.Blocks.{outputs_for}
 use Rattle.vs_law_writes.specs.Writes.{statement_writes}
 use Rattle.vs_rules.specs.Drivers.{Driver, assign, block, DriverWrites, DriverNeeds}
 use Rattle.vs_rules.specs.Paths.{reads_for, text_reads}

@@ -5,8 +5,8 @@ ghost use Rattle.vs_slots_cones.specs.Assigned.{AssignsAt, AssignsIn, signals_of
 
 use std::alloc::{AllocError, Global};
 use vs_design::BitRange;
-use vs_reach::{Family, gather};
 use vs_slots_paths::Tables;
+use vs_slots_paths::vs_reach::{Family, gather};
 
 // Puts the signals of ranges.
 fn push_signals(out: &mut Vec<usize>, ranges: &[BitRange]) -> Result<(), AllocError>

@@ -12,4 +12,6 @@ mod writers;
 
 pub use common::meets;
 pub use cones::Cones;
+pub use vs_law_writes;
+pub use vs_slots_paths;
 pub use writers::Written;

@@ -1,7 +1,7 @@
 //! Walks from ranges backward through drivers.
 ghost use Rattle.std.specs.Prelude.{◌≡◌, ◌++◌, [], ◌∷◌, length, get_or, if◌then◌else◌, IfOk, OnOk};
 ghost use Rattle.vs_design.specs.Tables.{rows};
-ghost use Rattle.vs_reach.specs.Reached.{AreReached};
+ghost use Rattle.vs_slots_paths.specs.vs_reach.specs.Reached.{AreReached};
 ghost use Rattle.vs_slots_cones.specs.Meets.{meet_among};
 ghost use Rattle.vs_slots_cones.specs.Walks.{met_in, met, all_met, linked, LeadBelow};
 
@@ -9,7 +9,7 @@ use crate::common::meets;
 use crate::writers::Written;
 use std::alloc::{AllocError, Global};
 use vs_design::{BitRange, Signal};
-use vs_reach::{Graph, reach};
+use vs_slots_paths::vs_reach::{Graph, reach};
 
 // Puts the driver of a range that meets another one.
 fn push_one(

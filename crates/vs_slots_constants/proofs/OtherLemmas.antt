@@ -5,7 +5,7 @@ use Rattle.std.proofs.lemmas.Option.{same_Some, slice_get-get_or}
 use Rattle.std.proofs.lemmas.List.Elements.{Contains-append_left}
 use borrow.Author.Tests.{ltb-true}
 use Rattle.std.proofs.Common.{true, ltb}
-use Rattle.vs_logic4.specs.declared.digit.Digit.{Digit}
+use Rattle.vs_design.specs.vs_logic4.specs.declared.digit.Digit.{Digit}
 use Rattle.vs_design.specs.declared.design.Process.{Process}
 use Rattle.vs_design.specs.declared.design.ProcessKind.TheVariants.{Initial, Always}
 use Rattle.vs_design.specs.declared.range.BitRange.{BitRange}
@@ -15,7 +15,7 @@ use Rattle.vs_design.specs.declared.statement.Statement.TheFolds.{fold_out-State
 use Rattle.vs_design.specs.declared.statement.Statement.TheViews.{out-Statement}
 use Rattle.vs_design.specs.Uses.{aim_range, joined, slice_range}
 use Rattle.vs_design.specs.Parts.{Parts}
-use Rattle.vs_law_threads.specs.Blocks.{outputs_for}
+use Rattle.vs_rules.specs.vs_law_threads.specs.Blocks.{outputs_for}
 use Rattle.vs_law_writes.specs.Writes.{statement_writes, statement_writes_step}
 use Rattle.vs_rules.specs.Constants.{HasBody, IsBare, itself, inside, Sets, SetsAndTurns, TurnsForever}
 use Rattle.vs_rules.specs.Constants as k

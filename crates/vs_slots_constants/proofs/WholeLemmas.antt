@@ -2,8 +2,8 @@
 use Rattle.std.proofs.Common.{◌≡◌, ℕ, ◌↔◌, ◌==◌, ◌&&◌, Bool, true, false, if◌then◌else◌, ℤ, pos, negsuc, Option, Some, None, List, [], ◌∷◌, slice_get, refl, sym, ◌∙◌, ap}
 use Rattle.std.proofs.lemmas.Bool.{and_parts, and_from, eqb-true}
 use Rattle.std.proofs.lemmas.Option.{same_Some}
-use Rattle.vs_logic4.specs.declared.operators.Unary.TheVariants as u
-use Rattle.vs_logic4.proofs.Basics.{same_self}
+use Rattle.vs_design.specs.vs_logic4.specs.declared.operators.Unary.TheVariants as u
+use Rattle.vs_design.specs.vs_logic4.proofs.Basics.{same_self}
 use Rattle.vs_design.specs.declared.signal.Bounds.{Bounds}
 use Rattle.vs_design.specs.declared.signal.Signal.{Signal}
 use Rattle.vs_design.specs.declared.expression.Operand.{Operand}

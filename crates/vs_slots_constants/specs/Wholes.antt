@@ -1,7 +1,7 @@
 -- The signal that an expression or a target is, whole.
 use Rattle.std.specs.Prelude.{ℕ, ◌==◌, ◌&&◌, Bool, true, false, ℤ, pos, negsuc, Option, Some, None, List, [], ◌∷◌, slice_get, if◌then◌else◌}
-use Rattle.vs_logic4.specs.declared.operators.Unary.{Unary}
-use Rattle.vs_logic4.specs.declared.operators.Unary.TheVariants as u
+use Rattle.vs_design.specs.vs_logic4.specs.declared.operators.Unary.{Unary}
+use Rattle.vs_design.specs.vs_logic4.specs.declared.operators.Unary.TheVariants as u
 use Rattle.vs_design.specs.declared.signal.Bounds.{Bounds}
 use Rattle.vs_design.specs.declared.signal.Signal.{Signal}
 use Rattle.vs_design.specs.declared.expression.Operand.{Operand}

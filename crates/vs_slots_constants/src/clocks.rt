@@ -1,7 +1,7 @@
 //! Clocks: signals that are set once and then turned for ever.
 ghost use Rattle.std.specs.Prelude.{ℕ, ◌≡◌, ◌<◌, ◌↔◌, Some, IfOk, IsTrue};
 ghost use Rattle.std.specs.List.{Contains};
-ghost use Rattle.vs_logic4.specs.declared.digit.Digit.{Digit};
+ghost use Rattle.vs_design.specs.vs_logic4.specs.declared.digit.Digit.{Digit};
 ghost use Rattle.vs_design.specs.declared.design.ProcessKind.TheVariants.{Initial, Always};
 ghost use Rattle.vs_design.specs.declared.statement.Statement.TheViews.{out-Statement};
 ghost use Rattle.vs_rules.specs.Constants.{Sets, Turns, TurnsForever, SetsAndTurns, HasBody};
@@ -12,8 +12,8 @@ ghost use Rattle.vs_slots_constants.specs.Clocks.{TurnsLayer, ForeverLayer, Begi
 use crate::constants::{Bit, given};
 use crate::wholes::{inverse_layer, whole_parts};
 use std::alloc::{AllocError, Global};
+use vs_design::vs_logic4::Digit;
 use vs_design::{Design, ProcessKind, Statement, Target, Typed};
-use vs_logic4::Digit;
 
 /// What a clock does: it is set to a digit after so many ticks, and turned after so many others, again and again.
 #[derive(Clone, Copy)]

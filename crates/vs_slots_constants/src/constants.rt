@@ -9,9 +9,9 @@ ghost use Rattle.vs_rules.specs.Constants.{any_aims, bit_of, digit_there, given,
 ghost use Rattle.vs_slots_constants.specs.Givings.{bit_view, given_here};
 
 use std::alloc::{AllocError, Global};
+use vs_design::vs_logic4::{Digit, Vec4};
 use vs_design::{Aim, DEFAULT_TIMESCALE, Design, Statement, Store, Target, Typed, reads};
 use vs_eval::cut_value;
-use vs_logic4::{Digit, Vec4};
 
 /// A bit.
 #[derive(Clone, Copy)]

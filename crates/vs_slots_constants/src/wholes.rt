@@ -4,8 +4,8 @@ ghost use Rattle.vs_design.specs.declared.expression.Typed.TheViews.{out-Typed};
 ghost use Rattle.vs_rules.specs.Constants.{IsWhole, IsInverse, IsWholeTarget};
 ghost use Rattle.vs_slots_constants.specs.Wholes.{is_plain, whole_name, whole_slice, whole_select, whole_layer, name_layer, inverse_layer, whole_parts};
 
+use vs_design::vs_logic4::Unary;
 use vs_design::{Aim, Design, Operand, Slice, Target, Typed};
-use vs_logic4::Unary;
 
 /// Whether there is a signal of this number and width that is no array.
 pub fn is_plain(design: &Design, v: usize, width: u32) -> bool

@@ -15,12 +15,12 @@ use Rattle.vs_design.specs.declared.signal.Signal.{Signal}
 use Rattle.vs_design.specs.declared.statement.Target.{Target}
 use Rattle.vs_design.specs.Parts.{Parts}
 use Rattle.vs_design.specs.Uses.{aim_range, slice_range, writes}
-use Rattle.vs_reach.specs.Reached.{Reached, AreReached, begins, goes_on}
-use Rattle.vs_rules.specs.Claims.{HasKind}
-use Rattle.vs_rules.specs.Constants.{IsWhole, IsWholeSelect, IsWholeLayer, IsWholeTarget}
-use Rattle.vs_rules.specs.Rules.{IsCopy, IsOneBit, CopiesRoot}
-use Rattle.vs_rules.specs.Rules as r
-use Rattle.vs_rules.specs.Blocks.{CopiesWhole, itself, copy}
+use Rattle.vs_slots_paths.specs.vs_reach.specs.Reached.{Reached, AreReached, begins, goes_on}
+use Rattle.vs_slots_constants.specs.vs_rules.specs.Claims.{HasKind}
+use Rattle.vs_slots_constants.specs.vs_rules.specs.Constants.{IsWhole, IsWholeSelect, IsWholeLayer, IsWholeTarget}
+use Rattle.vs_slots_constants.specs.vs_rules.specs.Rules.{IsCopy, IsOneBit, CopiesRoot}
+use Rattle.vs_slots_constants.specs.vs_rules.specs.Rules as r
+use Rattle.vs_slots_constants.specs.vs_rules.specs.Blocks.{CopiesWhole, itself, copy}
 use Rattle.vs_slots_constants.specs.Wholes.{is_plain}
 use Rattle.vs_slots_constants.proofs.WholeLemmas.{plain_of, plain_by}
 use Rattle.vs_slots_paths.specs.Ranges.{HasSignal}

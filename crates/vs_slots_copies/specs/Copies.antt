@@ -5,8 +5,8 @@ use Rattle.vs_design.specs.declared.design.Assign.{Assign}
 use Rattle.vs_design.specs.declared.signal.Signal.{Signal}
 use Rattle.vs_design.specs.Parts.{Parts}
 use Rattle.vs_design.specs.Uses.{writes}
-use Rattle.vs_rules.specs.Constants.{IsWhole, IsWholeTarget}
-use Rattle.vs_rules.specs.Rules.{IsCopy}
+use Rattle.vs_slots_constants.specs.vs_rules.specs.Constants.{IsWhole, IsWholeTarget}
+use Rattle.vs_slots_constants.specs.vs_rules.specs.Rules.{IsCopy}
 use Rattle.vs_slots_paths.specs.Ranges.{HasSignal}
 
 -- it holds of a number, and of no other

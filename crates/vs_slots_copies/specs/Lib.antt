@@ -1,1 +1,3 @@
 pub mod Copies
+pub use Rattle.vs_slots_constants
+pub use Rattle.vs_slots_paths

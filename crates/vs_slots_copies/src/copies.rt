@@ -1,20 +1,20 @@
 //! Which net copies which signal.
 ghost use Rattle.std.specs.Prelude.{ℕ, ◌≡◌, ◌<◌, ◌↔◌, ◌∷◌, [], false, Some, length, slice_index_or, IfOk, IsTrue};
-ghost use Rattle.vs_reach.specs.Reached.{Reached};
+ghost use Rattle.vs_slots_paths.specs.vs_reach.specs.Reached.{Reached};
 ghost use Rattle.std.specs.List.{Contains};
 ghost use Rattle.vs_design.specs.declared.signal.Signal.{Signal};
-ghost use Rattle.vs_rules.specs.Claims.{HasKind};
-ghost use Rattle.vs_rules.specs.Rules.{IsCopy, CopiesRoot};
-ghost use Rattle.vs_rules.specs.Blocks.{CopiesWhole};
+ghost use Rattle.vs_slots_constants.specs.vs_rules.specs.Claims.{HasKind};
+ghost use Rattle.vs_slots_constants.specs.vs_rules.specs.Rules.{IsCopy, CopiesRoot};
+ghost use Rattle.vs_slots_constants.specs.vs_rules.specs.Blocks.{CopiesWhole};
 ghost use Rattle.vs_slots_copies.specs.Copies.{NamesTarget, AreDrivers, AreSources, IsCopied, HaveSameWidth, ends_of, source_in};
 
 use crate::lists::{only, push_signals};
 use std::alloc::{AllocError, Global};
 use std::marker::Model;
 use vs_design::{Design, SignalKind, writes};
-use vs_reach::{Family, Graph, reach};
 use vs_slots_constants::{is_plain, whole, whole_target};
 use vs_slots_paths::index_of;
+use vs_slots_paths::vs_reach::{Family, Graph, reach};
 
 // The signals that continuous assignments name on their left sides.
 #[derive(Drop)]

@@ -6,3 +6,5 @@ mod lists;
 
 pub use copies::Copies;
 pub use lists::{only, push_signals};
+pub use vs_slots_constants;
+pub use vs_slots_paths;

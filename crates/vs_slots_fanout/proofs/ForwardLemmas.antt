@@ -9,14 +9,14 @@ use Rattle.vs_design.specs.declared.range.BitRange.{BitRange}
 use Rattle.vs_design.specs.declared.signal.Signal.{Signal}
 use Rattle.vs_design.specs.Parts.{Parts}
 use Rattle.vs_design.specs.WellFormed.{width_at}
-use Rattle.vs_law_threads.specs.Bits.{meet_in, common_word, common_place}
+use Rattle.vs_rules.specs.vs_law_threads.specs.Bits.{meet_in, common_word, common_place}
 use Rattle.vs_reach.specs.Reached.{Reached, begins, goes_on}
 use Rattle.vs_rules.specs.Claims.{Claims}
 use Rattle.vs_rules.specs.Drivers.{Driver, IsDriver, DriverWrites, DriverNeeds, InCone}
 use Rattle.vs_rules.specs.Drivers as r
 use Rattle.vs_slots_cones.specs.Wires.{driver_at, drivers}
 use Rattle.vs_slots_cones.proofs.Numbers.{block_within, driver_cases, number_of}
-use Rattle.vs_slots_paths.specs.Indexes.{AreRows, row_of}
+use Rattle.vs_slots_cones.specs.vs_slots_paths.specs.Indexes.{AreRows, row_of}
 use Rattle.vs_slots_fanout.specs.Forward.{AreForward, IsUser, LeadsWithin, WritesSignal, forward}
 
 -- ---- edges

@@ -4,7 +4,7 @@ use Rattle.std.specs.List.{Contains}
 use Rattle.std.proofs.lemmas.Bool.{false≢true}
 use Rattle.std.proofs.lemmas.List.Elements.{Contains-append_left, Contains-append_right, Contains-append_cases}
 use Rattle.std.proofs.lemmas.Option.{none-some, same_Some, slice_get-get_or}
-use Rattle.vs_slots_paths.proofs.RangeLemmas.{first_in, later_in, in_either}
+use Rattle.vs_slots_cones.specs.vs_slots_paths.proofs.RangeLemmas.{first_in, later_in, in_either}
 
 -- what is put at a list's end, one image for each element
 in_map : {A : Type 0} (f : A → ℕ) (ys : List A) (v : ℕ) → Contains (map f ys) v → (y : A) × Contains ys y × (f y ≡ v)

@@ -9,7 +9,7 @@ use Rattle.vs_rules.specs.Claims.{Claims}
 use Rattle.vs_rules.specs.Drivers.{IsDriver, DriverNeeds, DriverWrites}
 use Rattle.vs_slots_cones.specs.declared.writers.Written.{Written}
 use Rattle.vs_slots_cones.specs.Wires.{driver_at, drivers}
-use Rattle.vs_slots_paths.specs.Indexes.{AreRows, row_of}
+use Rattle.vs_slots_cones.specs.vs_slots_paths.specs.Indexes.{AreRows, row_of}
 
 -- the signals of ranges
 abbrev pub signals_of : List BitRange → List ℕ

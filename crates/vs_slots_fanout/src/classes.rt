@@ -98,7 +98,7 @@ impl<'a> Model for WriteClasses<'a> {
     ghost use Rattle.std.specs.Coded.{codes};
     ghost use Rattle.vs_design.specs.contracts.expression.Typed as expression;
     ghost use Rattle.vs_design.specs.contracts.statement.Statement as statement;
-    ghost use Rattle.vs_cert_facts.specs.Facts.{Case};
+    ghost use Rattle.vs_slots.specs.vs_cert_facts.specs.Facts.{Case};
     ghost use Rattle.vs_slots_fanout.specs.Classes.{AreClasses};
 
     ghost Value = { Case };

@@ -3,15 +3,15 @@ ghost use Rattle.std.specs.Prelude.{ℕ, ◌+◌, ◌≡◌, ◌<◌, ◌↔◌,
 ghost use Rattle.std.specs.List.{Contains};
 ghost use Rattle.vs_reach.specs.Reached.{AreReached};
 ghost use Rattle.vs_slots_cones.specs.Wires.{drivers, IsWiringOf};
-ghost use Rattle.vs_slots_paths.specs.Indexes.{row_of, AreRows};
+ghost use Rattle.vs_slots_cones.specs.vs_slots_paths.specs.Indexes.{row_of, AreRows};
 ghost use Rattle.vs_slots_fanout.specs.Forward.{drivers_of, forward, signals_of, AreNeedRows, AreWriterRows, IsUser, LeadsWithin, WritesSignal};
 
 use std::alloc::{AllocError, Global};
-use vs_cert_facts::Facts;
 use vs_design::BitRange;
 use vs_reach::{Family, Graph, reach};
+use vs_slots::vs_cert_facts::Facts;
+use vs_slots_cones::vs_slots_paths::index_of;
 use vs_slots_cones::{Cones, Written};
-use vs_slots_paths::index_of;
 
 // ---- tables
 

@@ -5,3 +5,5 @@ mod classes;
 mod forward;
 
 pub use classes::WriteClasses;
+pub use vs_slots;
+pub use vs_slots_cones;

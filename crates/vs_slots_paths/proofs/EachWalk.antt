@@ -13,7 +13,7 @@ use Rattle.vs_flatcode.specs.Ways.{Pause, none, delay, event, next_by}
 use Rattle.vs_flatcode.specs.Stops.{Stop, stop_at, stop_statement, stops_tos, stops_behind, IsText}
 use Rattle.vs_rules.specs.Points.{Goes, first_todo}
 use Rattle.vs_rules.specs.Paths.{ListsSignal, Path, PathFrom, IsPoint, IsLate, IsHot, WritesNow, WritesLater, HasTerm, is_plain}
-use Rattle.vs_reach.specs.Reached.{Reached}
+use Rattle.vs_reach_local.specs.vs_reach.specs.Reached.{Reached}
 use Rattle.vs_slots_paths.specs.declared.along.Along.{Along}
 use Rattle.vs_slots_paths.specs.declared.along.Along.TheVariants.{Any, ZeroTime}
 use Rattle.vs_slots_paths.specs.Ranges.{HasSignal, HasTermAt, now_at, later_at, pause_terms}

@@ -10,7 +10,7 @@ use Rattle.vs_flatcode.specs.Ways.{Pause, next_by}
 use Rattle.vs_flatcode.specs.Maps.{IsMap, tos_by}
 use Rattle.vs_flatcode.specs.Stops.{Stop, stops_tos, stops_behind, IsText}
 use Rattle.vs_rules.specs.Points.{first_todo}
-use Rattle.vs_reach.specs.Reached.{Reached}
+use Rattle.vs_reach_local.specs.vs_reach.specs.Reached.{Reached}
 use Rattle.vs_rules.specs.Claims.{kind_of}
 use Rattle.vs_rules.specs.Paths.{Path, PathFrom, WritesNow, is_plain}
 use Rattle.vs_rules.specs.Slots.{Ends}

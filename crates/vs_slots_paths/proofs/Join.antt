@@ -12,7 +12,7 @@ use Rattle.vs_rules.specs.Points.{Among, Goes, Point, first_todo}
 use Rattle.vs_rules.specs.Points as r
 use Rattle.vs_rules.specs.Paths.{Path, PathFrom}
 use Rattle.vs_rules.specs.Paths as x
-use Rattle.vs_reach.specs.Reached.{Reached, begins, goes_on}
+use Rattle.vs_reach_local.specs.vs_reach.specs.Reached.{Reached, begins, goes_on}
 use Rattle.vs_flatcode.specs.Maps.{todo_pause, IsMap, tos_by, steps}
 use Rattle.vs_slots_paths.specs.Laws.{Alike, IsBegun, MapsAreExact}
 

@@ -4,7 +4,7 @@ use Rattle.std.proofs.lemmas.List.{append-nil}
 use Rattle.std.specs.declared.boxed.Box.{Box}
 use Rattle.std.specs.declared.vec.Vec.{Vec}
 use Rattle.std.specs.declared.alloc.Global.{Global}
-use Rattle.vs_logic4.specs.declared.case.CaseKind.{CaseKind}
+use Rattle.vs_design.specs.vs_logic4.specs.declared.case.CaseKind.{CaseKind}
 use Rattle.vs_design.specs.declared.expression.Typed.{Typed}
 use Rattle.vs_design.specs.declared.range.BitRange.{BitRange}
 use Rattle.vs_design.specs.declared.statement.EventTerm.{EventTerm}
@@ -18,7 +18,7 @@ use Rattle.vs_design.specs.Uses.{reads, joined}
 use Rattle.vs_design.specs.Statements.{all_reads, assignment_reads, statement_reads}
 use Rattle.vs_design.proofs.UsesLemmas.{joined_each}
 use Rattle.vs_design.proofs.StatementLemmas.{Items, fold_layer, reads_assignment}
-use Rattle.vs_law_threads.specs.Threads.{item_reads}
+use Rattle.vs_rules.specs.vs_law_threads.specs.Threads.{item_reads}
 use Rattle.vs_rules.specs.Paths.{text_reads, text_reads_step}
 
 -- an assignment

@@ -18,7 +18,7 @@ use Rattle.vs_flatcode.specs.Maps.{statement_pause, todo_pause, tos_by}
 use Rattle.vs_flatcode.specs.Stops.{Stop, stop_at, stop_statement, stops_tos, stops_behind, next_statement, IsText}
 use Rattle.vs_rules.specs.Points.{Among, Goes, Point, first_todo}
 use Rattle.vs_rules.specs.Paths.{Path, IsPoint, any_way, is_plain, is_zero_time}
-use Rattle.vs_reach.specs.Reached.{Reached, begins, goes_on}
+use Rattle.vs_reach_local.specs.vs_reach.specs.Reached.{Reached, begins, goes_on}
 use Rattle.vs_slots_paths.specs.declared.along.Along.{Along}
 use Rattle.vs_slots_paths.specs.declared.along.Along.TheVariants.{Any, Plain, ZeroTime}
 use Rattle.vs_slots_paths.specs.Laws.{Alike}

@@ -4,7 +4,7 @@ use Rattle.std.specs.List.{Contains}
 use Rattle.std.proofs.lemmas.List.{length-map}
 use Rattle.vs_flatcode.specs.declared.stops.TextMap as h
 use Rattle.vs_flatcode.specs.Stops.{LeadsIn, stop_at, stop_statement, stops_tos, stops_behind, stop_view}
-use Rattle.vs_reach.specs.Reached.{Reached, AreReached, begins, goes_on}
+use Rattle.vs_reach_local.specs.vs_reach.specs.Reached.{Reached, AreReached, begins, goes_on}
 use Rattle.vs_slots_paths.specs.declared.along.Along.{Along}
 use Rattle.vs_slots_paths.specs.declared.along.Along.TheVariants.{Plain}
 use Rattle.vs_slots_paths.specs.Reaches.{Chart, IsPlace, chart_of, places, statement_passes, stops_along, stops_steps}

@@ -8,7 +8,7 @@ use Rattle.vs_flatcode.specs.Steps.{Next}
 use Rattle.vs_flatcode.specs.Numbers.{number_next}
 use Rattle.vs_flatcode.specs.Ways.{next_by}
 use Rattle.vs_flatcode.specs.Stops.{Stop, stop_at, stop_statement, stops_tos, IsText}
-use Rattle.vs_reach.specs.Reached.{Reached}
+use Rattle.vs_reach_local.specs.vs_reach.specs.Reached.{Reached}
 use Rattle.vs_rules.specs.Claims.{Claims, kind_of}
 use Rattle.vs_rules.specs.Paths.{IsPoint, IsSlot0, IsPrologue, IsLate, IsHot, WritesNow, is_plain}
 use Rattle.vs_rules.specs.Slots.{Ends, HasSlot}

@@ -6,7 +6,7 @@ use Rattle.vs_flatcode.specs.Steps.{Next}
 use Rattle.vs_flatcode.specs.Numbers.{number_next}
 use Rattle.vs_flatcode.specs.Ways.{Pause, next_by}
 use Rattle.vs_flatcode.specs.Maps.{todo_pause, IsMap, tos_by, steps}
-use Rattle.vs_reach.specs.Reached.{Reached}
+use Rattle.vs_reach_local.specs.vs_reach.specs.Reached.{Reached}
 use Rattle.vs_rules.specs.Points.{Point}
 use Rattle.vs_rules.specs.Paths.{Path}
 

@@ -5,3 +5,4 @@ pub mod Exact
 pub mod Ranges
 pub mod Walks
 pub mod Indexes
+pub use Rattle.vs_reach_local.specs.vs_reach

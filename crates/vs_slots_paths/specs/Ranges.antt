@@ -8,7 +8,7 @@ use Rattle.vs_design.specs.declared.statement.Statement.TheOpen.{Statement-F}
 use Rattle.vs_design.specs.declared.statement.Statement.TheViews.{out-Statement}
 use Rattle.vs_flatcode.specs.Stops.{stop_at, stop_statement}
 use Rattle.vs_flatcode.specs.Ways.{Pause, event}
-use Rattle.vs_law_threads.specs.Threads.{own_reads, own_shows}
+use Rattle.vs_rules.specs.vs_law_threads.specs.Threads.{own_reads, own_shows}
 use Rattle.vs_rules.specs.Paths.{statement_now, statement_later}
 use Rattle.vs_slots_paths.specs.Reaches.{Chart, IsPlace, pause_at}
 

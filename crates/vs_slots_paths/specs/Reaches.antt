@@ -8,7 +8,7 @@ use denote.Ref.{Bor}
 use Rattle.vs_flatcode.specs.declared.stops.Stop as k
 use Rattle.vs_flatcode.specs.declared.stops.TextMap as h
 use Rattle.vs_flatcode.specs.Stops.{LeadsIn, Stop, stop_view, stop_at, stop_statement, stops_tos, stops_behind}
-use Rattle.vs_reach.specs.Reached.{Reached, AreReached}
+use Rattle.vs_reach_local.specs.vs_reach.specs.Reached.{Reached, AreReached}
 use Rattle.vs_slots_paths.specs.declared.along.Along.{Along}
 use Rattle.vs_slots_paths.specs.declared.along.Along.TheVariants.{Any, Plain, ZeroTime}
 use Rattle.vs_slots_paths.specs.declared.pauses.Pause as p

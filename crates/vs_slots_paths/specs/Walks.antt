@@ -3,7 +3,7 @@ use Rattle.std.specs.Prelude.{ℕ, ◌≡◌, ◌<◌, ◌↔◌, Bool, true, fa
 use Rattle.std.specs.List.{Contains}
 use Rattle.vs_flatcode.specs.Stops.{stops_tos}
 use Rattle.vs_flatcode.specs.Ways.{Pause, none}
-use Rattle.vs_reach.specs.Reached.{Reached}
+use Rattle.vs_reach_local.specs.vs_reach.specs.Reached.{Reached}
 use Rattle.vs_slots_paths.specs.declared.along.Along.{Along}
 use Rattle.vs_slots_paths.specs.declared.along.Along.TheVariants.{Any, Plain, ZeroTime}
 use Rattle.vs_slots_paths.specs.Reaches.{Chart, IsPlace, pause_at, stops_along}

@@ -5,7 +5,7 @@ ghost use Rattle.vs_design.specs.Tables.{rows};
 ghost use Rattle.vs_slots_paths.specs.Indexes.{all_put, AreRows};
 
 use std::alloc::{AllocError, Global};
-use vs_reach::Family;
+use vs_reach_local::vs_reach::Family;
 
 /// So many empty rows.
 pub fn empty_rows(alloc: Global, n: usize) -> Result<Vec<Vec<usize>>, AllocError>

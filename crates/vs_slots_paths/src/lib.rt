@@ -19,4 +19,5 @@ pub use laws::{maps_are_exact, texts_are_exact};
 pub use pauses::Pause;
 pub use readings::text_reads;
 pub use tables::Tables;
+pub use vs_reach_local::vs_reach;
 pub use walks::{controls_before, hot, late, marks_of, terms, walks_from};

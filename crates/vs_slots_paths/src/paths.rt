@@ -2,7 +2,7 @@
 ghost use Rattle.std.specs.Prelude.{ℕ, ◌≡◌, ◌<◌, ◌↔◌, ◌++◌, ◌∷◌, [], suc, map, length, IfOk, OnOk, List};
 ghost use Rattle.std.specs.List.{Contains};
 ghost use Rattle.vs_flatcode.specs.Stops.{LeadsIn, stop_view, stop_at};
-ghost use Rattle.vs_reach.specs.Reached.{Reached, AreReached};
+ghost use Rattle.vs_reach_local.specs.vs_reach.specs.Reached.{Reached, AreReached};
 ghost use Rattle.vs_reach_local.specs.Clear.{AreClear};
 ghost use Rattle.vs_slots_paths.specs.Reaches.{stops_along, stops_steps, stop_seen};
 ghost use Rattle.vs_slots_paths.specs.Inside.{along_in, steps_in};
@@ -11,7 +11,7 @@ use crate::along::Along;
 use crate::pauses::{passes, pause_of};
 use std::alloc::{AllocError, Global};
 use vs_flatcode::Stop;
-use vs_reach::{Graph, reach};
+use vs_reach_local::vs_reach::{Graph, reach};
 use vs_reach_local::walk;
 
 /// The places of a map, and those to which it leads from each by the ways that count.

@@ -36,7 +36,7 @@ impl<'a> Model for Tables<'a> {
 
 impl<'a> Tables<'a> {
     ghost use Rattle.vs_flatcode.specs.Stops.{LeadsIn, stop_at, stops_tos};
-    ghost use Rattle.vs_reach.specs.Reached.{Reached, AreReached};
+    ghost use Rattle.vs_reach_local.specs.vs_reach.specs.Reached.{Reached, AreReached};
     ghost use Rattle.vs_reach_local.specs.Clear.{AreClear};
     ghost use Rattle.vs_slots_paths.specs.Reaches.{chart_of, places, pause_at, pause_view, stop_seen, stops_along};
     ghost use Rattle.vs_slots_paths.specs.Reaches.{IsPlace, InSlot0, InPrologue};

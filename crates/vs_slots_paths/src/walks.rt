@@ -15,8 +15,8 @@ use crate::pauses::Pause;
 use crate::tables::Tables;
 use std::alloc::{AllocError, Global};
 use vs_design::EventTerm;
-use vs_reach::{Family, Rule, gather};
 use vs_reach_local::clear_marks;
+use vs_reach_local::vs_reach::{Family, Rule, gather};
 
 /// Marks which of the things below a number keep a rule.
 pub fn marks_of<R: Rule>(alloc: Global, rule: &R, n: usize) -> Result<Vec<bool>, AllocError>

@@ -1,2 +1,3 @@
 pub mod Places
 pub mod Ranges
+pub use Rattle.vs_rules

@@ -1,1 +1,2 @@
 pub mod Numbers
+pub use Rattle.vs_reach

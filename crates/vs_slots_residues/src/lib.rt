@@ -8,3 +8,4 @@ mod residues;
 pub use gathered::Gathered;
 pub use numbers::Numbers;
 pub use residues::{Residues, are_apart};
+pub use vs_reach;

@@ -9,7 +9,7 @@ use Rattle.vs_design.specs.declared.design.Process.{Process}
 use Rattle.vs_design.specs.declared.range.BitRange.{BitRange}
 use Rattle.vs_design.specs.declared.statement.EventTerm.{EventTerm}
 use Rattle.vs_design.specs.Parts.{Parts}
-use Rattle.vs_law_threads.specs.Blocks.{outputs_for}
+use Rattle.vs_rules.specs.vs_law_threads.specs.Blocks.{outputs_for}
 use Rattle.vs_law_writes.specs.Writes.{statement_writes}
 use Rattle.vs_rules.specs.Paths.{ListsSignal, reads_for, reads_of, text_reads, writes_of}
 use Rattle.vs_slots_paths.specs.Ranges.{HasSignal, HasTermAt}

@@ -4,7 +4,7 @@ use Rattle.std.specs.List.{Contains}
 use Rattle.std.proofs.lemmas.List.Elements.{Contains-append_left, Contains-append_right, Contains-append_cases}
 use Rattle.std.proofs.lemmas.Option.{slice_get-get_or, slice_get_within, same_Some}
 use Rattle.std.proofs.lemmas.Bool.{false≢true}
-use Rattle.vs_law_threads.proofs.Lists.{contains_at}
+use Rattle.vs_rules.specs.vs_law_threads.proofs.Lists.{contains_at}
 use Rattle.vs_slots_paths.specs.Reaches.{Chart, IsPlace}
 use Rattle.vs_slots_paths.proofs.RangeLemmas.{first_in, in_either}
 use Rattle.vs_slots_uses.specs.declared.sites.Site.{Site}

@@ -1,2 +1,3 @@
 pub mod Texts
 pub mod Written
+pub use Rattle.vs_rules

@@ -10,7 +10,7 @@ use crate::sites::Site;
 use std::alloc::{AllocError, Global};
 use vs_design::{BitRange, Design, EventTerm};
 use vs_law_writes::statement_writes;
-use vs_reach::Family;
+use vs_slots_paths::vs_reach::Family;
 use vs_slots_paths::{Tables, terms, text_reads};
 
 /// Puts the signals of ranges at a list's end.

@@ -8,4 +8,5 @@ mod written;
 
 pub use sites::{Site, SiteRule};
 pub use uses::Uses;
+pub use vs_law_writes;
 pub use written::put_writes;

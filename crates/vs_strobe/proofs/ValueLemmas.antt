@@ -5,17 +5,17 @@ use Rattle.std.proofs.Math.Seq.{drop-cons}
 use Rattle.std.proofs.Math.Nat.{pow-succ', pow-le-pow_right, mul-le-mul_left}
 use Rattle.std.proofs.lemmas.List.{length-drop, length-take, take_min}
 use Rattle.std.proofs.lemmas.Bool.{cond-false, ne_eqb}
-use Rattle.vs_logic4.specs.declared.digit.Digit.{Digit}
-use Rattle.vs_logic4.specs.declared.digit.Digit.TheVariants.{Zero, One, X, Z}
-use Rattle.vs_logic4.specs.Parts.{selected}
+use Rattle.vs_design.specs.vs_logic4.specs.declared.digit.Digit.{Digit}
+use Rattle.vs_design.specs.vs_logic4.specs.declared.digit.Digit.TheVariants.{Zero, One, X, Z}
+use Rattle.vs_design.specs.vs_logic4.specs.Parts.{selected}
 use Rattle.std.specs.Fmt.{signed_decimal}
-use Rattle.vs_logic4.specs.Comparisons.{is_known}
-use Rattle.vs_logic4.specs.Arithmetic.{bit_of, number, integer, known_number}
+use Rattle.vs_design.specs.vs_logic4.specs.Comparisons.{is_known}
+use Rattle.vs_design.specs.vs_logic4.specs.Arithmetic.{bit_of, number, integer, known_number}
 use Rattle.vs_strobe.specs.Values.{unknown_letter, group, group_count, by_groups, without_zeros, without_zero_bytes, number_text}
 use Rattle.std.specs.List.{list_any}
-use Rattle.vs_logic4.specs.Vectors.{same_digit}
+use Rattle.vs_design.specs.vs_logic4.specs.Vectors.{same_digit}
 use Rattle.vs_strobe.proofs.PieceLemmas.{drop_at}
-use Rattle.vs_logic4.proofs.Numbers.{bit_of-lt}
+use Rattle.vs_design.specs.vs_logic4.proofs.Numbers.{bit_of-lt}
 
 pub number-lt : (ds : List Digit) → number ds < 2 ^ length ds
 number-lt [] = omega arith

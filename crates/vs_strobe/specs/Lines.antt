@@ -1,7 +1,7 @@
 -- The lines that formats make (clause 17.1).
 use Rattle.std.specs.Prelude.{ℕ, ◌/◌, Bool, false, unwrap_or, List, [], ◌∷◌, ◌++◌}
-use Rattle.vs_logic4.specs.declared.digit.Digit.{Digit}
-use Rattle.vs_logic4.specs.Vectors.{of_number}
+use Rattle.vs_design.specs.vs_logic4.specs.declared.digit.Digit.{Digit}
+use Rattle.vs_design.specs.vs_logic4.specs.Vectors.{of_number}
 use Rattle.vs_design.specs.Stores.{Store}
 use Rattle.vs_eval.specs.Values.{value_of}
 use Rattle.vs_design.specs.declared.statement.FormatArg.{FormatArg}

@@ -2,11 +2,11 @@
 use Rattle.std.specs.Prelude.{ℕ, zero, suc, ◌+◌, ◌-◌, ◌*◌, ◌/◌, ◌^◌, ◌==◌, pos, ◌*ℤ◌, Bool, true, false, if◌then◌else◌, nat_lt, List, [], ◌∷◌, ◌++◌, length, take, drop, replicate, decimal}
 use Rattle.std.specs.Fmt.{signed_decimal}
 use Rattle.std.specs.List.{list_any}
-use Rattle.vs_logic4.specs.declared.digit.Digit.{Digit}
-use Rattle.vs_logic4.specs.declared.digit.Digit.TheVariants.{X}
-use Rattle.vs_logic4.specs.Vectors.{same_digit, same_digits, all_unknown, all_high_impedance}
-use Rattle.vs_logic4.specs.Comparisons.{is_known}
-use Rattle.vs_logic4.specs.Arithmetic.{number, integer}
+use Rattle.vs_design.specs.vs_logic4.specs.declared.digit.Digit.{Digit}
+use Rattle.vs_design.specs.vs_logic4.specs.declared.digit.Digit.TheVariants.{X}
+use Rattle.vs_design.specs.vs_logic4.specs.Vectors.{same_digit, same_digits, all_unknown, all_high_impedance}
+use Rattle.vs_design.specs.vs_logic4.specs.Comparisons.{is_known}
+use Rattle.vs_design.specs.vs_logic4.specs.Arithmetic.{number, integer}
 use Rattle.vs_strobe.specs.declared.piece.Show.{Show}
 use Rattle.vs_strobe.specs.declared.piece.Show.TheVariants.{Binary, Octal, Hex, Decimal, Time, Character, Text}
 

@@ -2,9 +2,9 @@
 ghost use Rattle.std.specs.Prelude.{◌≡◌, ◌<◌};
 ghost use Rattle.vs_strobe.specs.Lines.{is_signed, arg_value};
 
+use vs_design::vs_logic4::Vec4;
 use vs_design::{FormatArg, Store};
 use vs_eval::value;
-use vs_logic4::Vec4;
 
 /// Whether an argument is a signed number.
 pub(crate) fn is_signed(arg: &FormatArg) -> bool

@@ -1,13 +1,13 @@
 //! Values in decimal.
 ghost use Rattle.std.specs.Prelude.{◌≡◌, ◌<◌, ◌≤◌, ◌-◌, ◌^◌, ◌++◌, Some, None, IfSome, unsigned_abs, length, if◌then◌else◌, replicate, OnOk};
-ghost use Rattle.vs_logic4.specs.Comparisons.{is_known};
-ghost use Rattle.vs_logic4.specs.Arithmetic.{integer};
+ghost use Rattle.vs_design.specs.vs_logic4.specs.Comparisons.{is_known};
+ghost use Rattle.vs_design.specs.vs_logic4.specs.Arithmetic.{integer};
 ghost use Rattle.vs_strobe.specs.Values.{decimal_places, room, justified, number_text};
 
 use crate::digits::unknown_letter;
 use itoa::Buffer;
 use std::alloc::AllocError;
-use vs_logic4::Vec4;
+use vs_design::vs_logic4::Vec4;
 
 /// The number of a value, where all digits are known.
 fn integer(signed: bool, value: Vec4) -> Option<i128>

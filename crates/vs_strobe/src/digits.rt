@@ -1,14 +1,14 @@
 //! Values in the bases of one, three, four and eight digits a group.
 ghost use Rattle.std.specs.Prelude.{◌≡◌, ◌*◌, ◌-◌, ◌<◌, ◌≤◌, ◌++◌, ◌^◌, length, OnOk};
 ghost use Rattle.std.specs.List.{list_any};
-ghost use Rattle.vs_logic4.specs.declared.digit.Digit.TheVariants.{X};
-ghost use Rattle.vs_logic4.specs.Vectors.{same_digit};
-ghost use Rattle.vs_logic4.specs.Arithmetic.{bit_of, number};
+ghost use Rattle.vs_design.specs.vs_logic4.specs.declared.digit.Digit.TheVariants.{X};
+ghost use Rattle.vs_design.specs.vs_logic4.specs.Vectors.{same_digit};
+ghost use Rattle.vs_design.specs.vs_logic4.specs.Arithmetic.{bit_of, number};
 ghost use Rattle.vs_strobe.specs.Values.{unknown_letter, hex_character, group, group_count, by_groups, group_character, without_zeros, digits_text, base_text};
 ghost use Rattle.vs_strobe.specs.Values.{without_zero_bytes, bytes_text, character_text};
 
 use std::alloc::AllocError;
-use vs_logic4::{Digit, Vec4};
+use vs_design::vs_logic4::{Digit, Vec4};
 
 /// Whether some digit is x.
 fn has_x(value: Vec4) -> bool

@@ -12,3 +12,4 @@ mod piece;
 pub use fault::{FormatFault, FormatReason};
 pub use format::Format;
 pub use lines::{full_line, line};
+pub use vs_eval;

@@ -9,8 +9,8 @@ use crate::digits::{push_base, push_bytes, push_character};
 use crate::format::Format;
 use crate::piece::{FormatPiece, Show};
 use std::alloc::{AllocError, Global};
+use vs_design::vs_logic4::Vec4;
 use vs_design::{FormatArg, Store};
-use vs_logic4::Vec4;
 
 /// Appends what a directive shows of a value.
 fn push_shown(

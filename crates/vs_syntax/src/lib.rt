@@ -12,3 +12,5 @@ pub use tree::{
     ParameterForm, PartSelect, Port, PortForm, PortKind, PrintArguments, PrintTask, Range,
     Separator, Source, Stmt,
 };
+pub use vs_lexer;
+pub use vs_logic4;

@@ -2,8 +2,8 @@
 use Rattle.std.proofs.Common.{◌≡◌, ℕ, ◌+◌, ◌-◌, ◌/◌, ◌%◌, ◌<◌, ◌≤◌, Bool, true, false, List, [], ◌∷◌, ◌++◌, refl, sym, ap, ◌∙◌, arith, inl, inr}
 use Rattle.std.proofs.lemmas.Bool.{false≢true}
 use Rattle.std.proofs.lemmas.List.{append-nil}
-use Rattle.vs_vcd_writing.specs.Codes.{code}
-use Rattle.vs_vcd_writing.proofs.CodeLemmas.{code-long, code-short}
+use Rattle.vs_vcd_lines.specs.vs_vcd_writing.specs.Codes.{code}
+use Rattle.vs_vcd_lines.specs.vs_vcd_writing.proofs.CodeLemmas.{code-long, code-short}
 use Rattle.vs_vcd_lines.proofs.CodeLemmas.{code_cases}
 use Rattle.vs_vcd_beginnings.specs.Beginnings.{Begins}
 use Rattle.vs_vcd_beginnings.proofs.TextLemmas.{begins_nil, nil_before, Tells}

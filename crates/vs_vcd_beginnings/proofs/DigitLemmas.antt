@@ -2,10 +2,10 @@
 use Rattle.std.proofs.Common.{◌≡◌, ℕ, ◌+◌, ◌-◌, ◌<◌, ◌≤◌, Bool, true, false, Option, List, [], ◌∷◌, ◌++◌, length, map, reverse, replicate, refl, sym, ap, subst, ◌∙◌, length-append, arith, inl, inr}
 use Rattle.std.proofs.lemmas.Bool.{cases_Bool, false≢true}
 use Rattle.std.proofs.lemmas.List.{append-nil, length-map, length-replicate, length-reverse, reverse-reverse}
-use Rattle.vs_logic4.specs.declared.digit.Digit.{Digit}
-use Rattle.vs_logic4.specs.declared.digit.Digit.TheVariants.{Zero, One, X, Z}
-use Rattle.vs_vcd_writing.specs.Shown.{extended, left_digit}
-use Rattle.vs_vcd_writing.specs.Values.{digit_character, is_extension, shortened}
+use Rattle.vs_design.specs.vs_logic4.specs.declared.digit.Digit.{Digit}
+use Rattle.vs_design.specs.vs_logic4.specs.declared.digit.Digit.TheVariants.{Zero, One, X, Z}
+use Rattle.vs_vcd_lines.specs.vs_vcd_writing.specs.Shown.{extended, left_digit}
+use Rattle.vs_vcd_lines.specs.vs_vcd_writing.specs.Values.{digit_character, is_extension, shortened}
 use Rattle.vs_vcd_lines.specs.Lines.{IsValue}
 use Rattle.vs_vcd_lines.proofs.ValueLemmas.{length-shortened-le, shortened-drops, shortened-extended, shortened-keeps, spelled_once, value_short}
 use Rattle.vs_vcd_beginnings.specs.Beginnings.{Begins, BeginsDigits, IsOther}

@@ -4,7 +4,7 @@ use Rattle.std.specs.Fmt.{signed_decimal}
 use Rattle.std.specs.Int.{IsInRange}
 use Rattle.vs_design.specs.declared.design.ScopeKind.{ScopeKind}
 use Rattle.vs_design.specs.declared.design.ScopeKind.TheVariants.{Module, Begin}
-use Rattle.vs_vcd_writing.specs.Text.{scope_line}
+use Rattle.vs_vcd_lines.specs.vs_vcd_writing.specs.Text.{scope_line}
 use Rattle.vs_vcd_lines.specs.Names.{IsName, IsNumber, IsScopeName}
 use Rattle.vs_vcd_lines.specs.Names.IsShort.{short}
 use Rattle.vs_vcd_lines.proofs.NameLemmas.{lacks-signed_decimal}

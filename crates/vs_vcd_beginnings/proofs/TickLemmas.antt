@@ -5,7 +5,7 @@ use Rattle.vs_design.specs.declared.timescale.Magnitude.{Magnitude}
 use Rattle.vs_design.specs.declared.timescale.Magnitude.TheVariants.{One, Ten, Hundred}
 use Rattle.vs_design.specs.declared.timescale.TimeUnit.{TimeUnit}
 use Rattle.vs_design.specs.declared.timescale.TimeUnit.TheVariants.{Second, Millisecond, Microsecond, Nanosecond, Picosecond, Femtosecond}
-use Rattle.vs_vcd_writing.specs.Text.{magnitude_word, unit_word}
+use Rattle.vs_vcd_lines.specs.vs_vcd_writing.specs.Text.{magnitude_word, unit_word}
 use Rattle.vs_vcd_lines.specs.Cuts.{lacks, IsCut}
 use Rattle.vs_vcd_lines.proofs.CutLemmas.{cut_once, eqb_gives}
 use Rattle.vs_vcd_beginnings.specs.Beginnings.{is_multiple, Begins, BeginsSpan, BeginsUnit, IsCount}

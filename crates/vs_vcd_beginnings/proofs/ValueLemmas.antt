@@ -1,11 +1,11 @@
 -- Values as lines have them.
 use Rattle.std.proofs.Common.{◌≡◌, ℕ, true, List, [], ◌∷◌, length, map, reverse, refl, sym, ap, ◌∙◌}
 use Rattle.std.proofs.lemmas.List.{length-reverse, reverse-reverse}
-use Rattle.vs_logic4.specs.declared.digit.Digit.{Digit}
-use Rattle.vs_logic4.specs.declared.digit.Digit.TheVariants.{Zero, One, X, Z}
-use Rattle.vs_vcd_writing.specs.Shown.{extended}
-use Rattle.vs_vcd_writing.specs.Values.{digit_character, shortened}
-use Rattle.vs_vcd_writing.proofs.ExtendLemmas.{extended-shortened}
+use Rattle.vs_design.specs.vs_logic4.specs.declared.digit.Digit.{Digit}
+use Rattle.vs_design.specs.vs_logic4.specs.declared.digit.Digit.TheVariants.{Zero, One, X, Z}
+use Rattle.vs_vcd_lines.specs.vs_vcd_writing.specs.Shown.{extended}
+use Rattle.vs_vcd_lines.specs.vs_vcd_writing.specs.Values.{digit_character, shortened}
+use Rattle.vs_vcd_lines.specs.vs_vcd_writing.proofs.ExtendLemmas.{extended-shortened}
 use Rattle.vs_vcd_lines.specs.Cuts.{lacks}
 use Rattle.vs_vcd_lines.proofs.ValueLemmas.{spelled_once}
 

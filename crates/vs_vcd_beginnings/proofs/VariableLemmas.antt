@@ -4,8 +4,8 @@ use Rattle.std.specs.Fmt.{signed_decimal}
 use Rattle.vs_design.specs.declared.signal.Bounds.{Bounds}
 use Rattle.vs_design.specs.declared.signal.SignalKind.{SignalKind}
 use Rattle.vs_design.specs.declared.signal.SignalKind.TheVariants.{Reg}
-use Rattle.vs_vcd_writing.specs.Codes.{code}
-use Rattle.vs_vcd_writing.specs.Text.{kind_word, range_text}
+use Rattle.vs_vcd_lines.specs.vs_vcd_writing.specs.Codes.{code}
+use Rattle.vs_vcd_lines.specs.vs_vcd_writing.specs.Text.{kind_word, range_text}
 use Rattle.vs_vcd_lines.specs.Cuts.{lacks}
 use Rattle.vs_vcd_lines.specs.Lines.{IsRange}
 use Rattle.vs_vcd_lines.proofs.NameLemmas.{lacks-decimal}

@@ -3,11 +3,11 @@ use Rattle.std.specs.Prelude.{not}
 use Rattle.std.proofs.Common.{◌≡◌, ℕ, zero, suc, ◌<◌, ◌≤◌, ◌^◌, Bool, true, false, Option, Some, None, List, [], ◌∷◌, ◌++◌, get_or, length, map, reverse, replicate, refl, sym, ap, subst, ◌∙◌, append_assoc, length-append, arith}
 use Rattle.std.proofs.lemmas.Bool.{false≢true}
 use Rattle.std.proofs.lemmas.List.{length-replicate}
-use Rattle.vs_logic4.specs.declared.digit.Digit.{Digit}
-use Rattle.vs_logic4.specs.declared.digit.Digit.TheVariants.{Zero, One, X, Z}
-use Rattle.vs_vcd_writing.specs.Codes.{code}
-use Rattle.vs_vcd_writing.proofs.CodeLemmas.{length-code}
-use Rattle.vs_vcd_writing.specs.Values.{digit_character, shortened, value_change}
+use Rattle.vs_design.specs.vs_logic4.specs.declared.digit.Digit.{Digit}
+use Rattle.vs_design.specs.vs_logic4.specs.declared.digit.Digit.TheVariants.{Zero, One, X, Z}
+use Rattle.vs_vcd_lines.specs.vs_vcd_writing.specs.Codes.{code}
+use Rattle.vs_vcd_lines.specs.vs_vcd_writing.proofs.CodeLemmas.{length-code}
+use Rattle.vs_vcd_lines.specs.vs_vcd_writing.specs.Values.{digit_character, shortened, value_change}
 use Rattle.vs_vcd_lines.specs.Cuts.{lacks, IsCut}
 use Rattle.vs_vcd_lines.specs.Lines.{IsValue}
 use Rattle.vs_vcd_lines.proofs.ChangeLemmas.{wide_text}

@@ -1,15 +1,15 @@
 -- Beginnings of lines.
 use Rattle.std.specs.Prelude.{◌≡◌, ℕ, ◌<◌, ◌≤◌, ◌^◌, ◌==◌, ◌||◌, Bool, Option, Some, List, ◌++◌, codes, decimal, length, map, reverse}
-use Rattle.vs_logic4.specs.declared.digit.Digit.{Digit}
+use Rattle.vs_design.specs.vs_logic4.specs.declared.digit.Digit.{Digit}
 use Rattle.vs_design.specs.declared.design.ScopeKind.{ScopeKind}
 use Rattle.vs_design.specs.declared.signal.Bounds.{Bounds}
 use Rattle.vs_design.specs.declared.signal.SignalKind.{SignalKind}
 use Rattle.vs_design.specs.declared.timescale.Magnitude.{Magnitude}
 use Rattle.vs_design.specs.declared.timescale.TimeSpan.{TimeSpan}
 use Rattle.vs_design.specs.declared.timescale.TimeUnit.{TimeUnit}
-use Rattle.vs_vcd_writing.specs.Codes.{code}
-use Rattle.vs_vcd_writing.specs.Text.{kind_word, magnitude_word, range_text, scope_line, span_text, unit_word}
-use Rattle.vs_vcd_writing.specs.Values.{digit_character, shortened}
+use Rattle.vs_vcd_lines.specs.vs_vcd_writing.specs.Codes.{code}
+use Rattle.vs_vcd_lines.specs.vs_vcd_writing.specs.Text.{kind_word, magnitude_word, range_text, scope_line, span_text, unit_word}
+use Rattle.vs_vcd_lines.specs.vs_vcd_writing.specs.Values.{digit_character, shortened}
 use Rattle.vs_vcd_lines.specs.declared.dump.ValueChange.{ValueChange}
 use Rattle.vs_vcd_lines.specs.Lines.{change_line, IsRange}
 use Rattle.vs_vcd_lines.specs.Names.{IsName, IsScopeName}

@@ -4,8 +4,8 @@ use Rattle.std.specs.List.{list_all}
 use Rattle.vs_design.specs.declared.design.ScopeKind.{ScopeKind}
 use Rattle.vs_design.specs.declared.design.ScopeKind.TheVariants.{Module, Begin}
 use Rattle.vs_design.specs.declared.signal.SignalKind.{SignalKind}
-use Rattle.vs_vcd_writing.specs.Codes.{code}
-use Rattle.vs_vcd_writing.specs.Text.{kind_word}
+use Rattle.vs_vcd_lines.specs.vs_vcd_writing.specs.Codes.{code}
+use Rattle.vs_vcd_lines.specs.vs_vcd_writing.specs.Text.{kind_word}
 use Rattle.vs_vcd_lines.specs.Names.{is_body, is_further, IsName, IsNumber}
 use Rattle.vs_vcd_lines.specs.Parts.{IsSize}
 use Rattle.vs_vcd_beginnings.specs.Beginnings.{Begins}

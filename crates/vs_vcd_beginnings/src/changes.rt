@@ -3,7 +3,7 @@ ghost use Rattle.std.specs.Prelude.{◌<◌, ◌≤◌, ◌∷◌, IsTrue, ◌�
 ghost use Rattle.vs_vcd_beginnings.specs.Beginnings.{BeginsChange, BeginsDigits, IsOther};
 
 use crate::codes::begins_code;
-use vs_logic4::Vec4;
+use vs_design::vs_logic4::Vec4;
 use vs_vcd_lines::{cut, digit_of, value_of};
 
 /// Whether a value isn't the old one, where there is one.

@@ -1,6 +1,6 @@
 //! Beginnings of identifier codes.
 ghost use Rattle.std.specs.Prelude.{◌≡◌, IsTrue, ◌↔◌};
-ghost use Rattle.vs_vcd_writing.specs.Codes.{code};
+ghost use Rattle.vs_vcd_lines.specs.vs_vcd_writing.specs.Codes.{code};
 ghost use Rattle.vs_vcd_beginnings.specs.Beginnings.{Begins};
 
 /// Whether a text begins the identifier code of this number.

@@ -5,9 +5,9 @@ use Rattle.std.proofs.lemmas.List.{take-append-drop, drop-set-lt}
 use Rattle.std.proofs.Math.Seq.{take-suc-set}
 use Rattle.std.specs.Prelude.{slice_set}
 use Rattle.std.specs.List.{All}
-use Rattle.vs_logic4.specs.declared.digit.Digit.{Digit}
-use Rattle.vs_logic4.specs.Sameness.{same_digits-true, same_digits_self}
-use Rattle.vs_logic4.specs.Vectors.{same_digits}
+use Rattle.vs_design.specs.vs_logic4.specs.declared.digit.Digit.{Digit}
+use Rattle.vs_design.specs.vs_logic4.specs.Sameness.{same_digits-true, same_digits_self}
+use Rattle.vs_design.specs.vs_logic4.specs.Vectors.{same_digits}
 use Rattle.vs_design.specs.Stores.{Store}
 use Rattle.vs_vcd_writing.specs.Text.{is_same}
 use Rattle.vs_vcd_writing.specs.Values.{shown_value}

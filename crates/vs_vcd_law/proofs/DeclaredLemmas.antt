@@ -10,7 +10,7 @@ use Rattle.vs_design.specs.Parts.{Parts}
 use Rattle.vs_design.specs.WellFormed.{counts_from, declared_in, width_at}
 use Rattle.vs_vcd_writing.specs.Codes.{code, is_array, shown, shown_from, place_from}
 use Rattle.vs_vcd_writing.specs.Text.{kind_word, range_text, declaration, declared, scope_line, outline_lines}
-use Rattle.vs_vcd_lines.proofs.CutLemmas.{and_true, eqb_gives}
+use Rattle.vs_vcd_reading.specs.vs_vcd_lines.proofs.CutLemmas.{and_true, eqb_gives}
 use Rattle.vs_vcd_reading.specs.Plain.{PlainDeclaration}
 use Rattle.vs_vcd_reading.specs.Plain.{PlainDeclaration as p}
 use Rattle.vs_vcd_reading.specs.Layout.{variable_text, declaration_lines, widths_of}

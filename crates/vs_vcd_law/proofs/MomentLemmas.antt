@@ -3,14 +3,14 @@ use Rattle.std.proofs.Common.{◌≡◌, ℕ, ◌<◌, ◌≤◌, ◌^◌, Bool,
 use Rattle.std.proofs.lemmas.Bool.{cases_eq, cond_both}
 use Rattle.std.specs.Prelude.{◌==◌, if◌then◌else◌}
 use Rattle.std.specs.List.{All}
-use Rattle.vs_logic4.specs.declared.digit.Digit.{Digit}
+use Rattle.vs_design.specs.vs_logic4.specs.declared.digit.Digit.{Digit}
 use Rattle.vs_design.specs.Stores.{Store}
 use Rattle.vs_design.specs.Traces.{Slot, AreRisingAfter}
 use Rattle.vs_vcd_writing.specs.Values.{shown_value}
 use Rattle.vs_vcd_writing.specs.Text.{timed, is_written, last_time_after}
-use Rattle.vs_vcd_lines.proofs.CutLemmas.{eqb_is}
-use Rattle.vs_vcd_lines.specs.declared.dump.ValueChange.{ValueChange}
-use Rattle.vs_vcd_lines.specs.Lines.{change_line}
+use Rattle.vs_vcd_reading.specs.vs_vcd_lines.proofs.CutLemmas.{eqb_is}
+use Rattle.vs_vcd_reading.specs.vs_vcd_lines.specs.declared.dump.ValueChange.{ValueChange}
+use Rattle.vs_vcd_reading.specs.vs_vcd_lines.specs.Lines.{change_line}
 use Rattle.vs_vcd_reading.specs.Plain.{PlainMoment}
 use Rattle.vs_vcd_reading.specs.Layout.{moment_at, written, AreChanges, AreLater}
 use Rattle.vs_vcd_reading.specs.Layout.{AreLater as l}

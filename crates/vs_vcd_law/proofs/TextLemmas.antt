@@ -11,8 +11,8 @@ use Rattle.vs_vcd_writing.specs.Codes.{shown}
 use Rattle.vs_vcd_writing.specs.Text.{text_of, time_line, coded_lines, value_line, is_same, changed_line, lines_after, slots_lines, end_lines, end_of_definitions}
 use Rattle.vs_vcd_writing.specs.Text.{header_lines as written_header, first_lines as written_first, timed, change_line as written_change}
 use Rattle.vs_vcd_writing.proofs.LineLemmas.{text_of-append}
-use Rattle.vs_vcd_lines.specs.declared.dump.ValueChange.{ValueChange}
-use Rattle.vs_vcd_lines.specs.Lines.{change_line, span_line}
+use Rattle.vs_vcd_reading.specs.vs_vcd_lines.specs.declared.dump.ValueChange.{ValueChange}
+use Rattle.vs_vcd_reading.specs.vs_vcd_lines.specs.Lines.{change_line, span_line}
 use Rattle.vs_vcd_reading.specs.Plain.{PlainMoment}
 use Rattle.vs_vcd_reading.specs.Layout.{moment_at, dump_lines, first_lines, header_lines, later_lines}
 use Rattle.vs_vcd_law.specs.Said.{value_in, values_in, changes_in, timed_changes, moments_after, end_moments, dump_with}

@@ -2,13 +2,13 @@
 use Rattle.std.proofs.Common.{◌≡◌, ℕ, ◌<◌, ◌≤◌, Bool, true, false, Some, IfSome, List, [], ◌∷◌, ◌++◌, map, refl, sym, ap, subst, ◌∙◌, append_assoc, arith, inl, inr}
 use Rattle.std.proofs.lemmas.Bool.{cases_lt, cond-true, cond-false, le-leb, lt-leb}
 use Rattle.std.specs.Prelude.{◌==◌, nat_le, unwrap_or, if◌then◌else◌}
-use Rattle.vs_logic4.specs.declared.digit.Digit.{Digit}
+use Rattle.vs_design.specs.vs_logic4.specs.declared.digit.Digit.{Digit}
 use Rattle.vs_design.specs.Stores.{Store}
 use Rattle.vs_design.specs.Traces.{Slot, AreRisingAfter}
 use Rattle.vs_vcd_writing.specs.Values.{shown_value}
 use Rattle.vs_vcd_writing.specs.Shown.{slot_at}
 use Rattle.vs_vcd_writing.proofs.ChangeLemmas.{slot_at-cons, slot_at-before}
-use Rattle.vs_vcd_lines.specs.declared.dump.ValueChange.{ValueChange}
+use Rattle.vs_vcd_reading.specs.vs_vcd_lines.specs.declared.dump.ValueChange.{ValueChange}
 use Rattle.vs_vcd_reading.specs.Plain.{PlainMoment}
 use Rattle.vs_vcd_reading.specs.Layout.{moment_at, values_of, written}
 use Rattle.vs_vcd_law.specs.Said.{values_in, changes_in, timed_changes, moments_after, moments_of, end_moments}

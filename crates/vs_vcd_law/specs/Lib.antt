@@ -2,3 +2,4 @@ pub mod Said
 pub mod Values
 pub mod Conditions
 pub mod OneFault
+pub use Rattle.vs_vcd_reading

@@ -10,7 +10,7 @@ use Rattle.vs_design.specs.Traces.{Slot, Trace}
 use Rattle.vs_vcd_writing.specs.Codes.{is_array, shown}
 use Rattle.vs_vcd_writing.specs.Values.{shown_value}
 use Rattle.vs_vcd_writing.specs.Text.{is_same, last_time, end_time}
-use Rattle.vs_vcd_lines.specs.declared.dump.ValueChange.{ValueChange}
+use Rattle.vs_vcd_reading.specs.vs_vcd_lines.specs.declared.dump.ValueChange.{ValueChange}
 use Rattle.vs_vcd_reading.specs.Plain.{PlainDeclaration, PlainDump, PlainMoment, PlainVariable}
 use Rattle.vs_vcd_reading.specs.Plain.{PlainDeclaration as p}
 use Rattle.vs_vcd_reading.specs.Layout.{moment_at}

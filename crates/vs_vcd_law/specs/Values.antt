@@ -1,6 +1,6 @@
 -- The values that a dump gives its variables at a time.
 use Rattle.std.specs.Prelude.{ℕ, nat_le, if◌then◌else◌, List, [], ◌∷◌}
-use Rattle.vs_logic4.specs.declared.digit.Digit.{Digit}
+use Rattle.vs_design.specs.vs_logic4.specs.declared.digit.Digit.{Digit}
 use Rattle.vs_vcd_reading.specs.Plain.{PlainMoment}
 use Rattle.vs_vcd_reading.specs.Layout.{values_of, written}
 

@@ -4,3 +4,5 @@
 mod laws;
 
 pub use laws::{dumps_give_values, faults_are_one, written_dumps_are_read};
+pub use vs_vcd_reading;
+pub use vs_vcd_writing;

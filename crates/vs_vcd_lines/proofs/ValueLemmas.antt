@@ -4,9 +4,9 @@ use Rattle.std.proofs.Common.{take_all, length-append}
 use Rattle.std.proofs.lemmas.Bool.{false≢true, cond-true, cond-false, cases_Bool}
 use Rattle.std.proofs.lemmas.List.{length-reverse, reverse-append, length-map, get_or-reverse}
 use Rattle.std.proofs.lemmas.Option.{get_or_from_slice_get}
-use Rattle.vs_logic4.specs.declared.digit.Digit.{Digit}
-use Rattle.vs_logic4.specs.declared.digit.Digit.TheVariants.{Zero, One, X, Z}
-use Rattle.vs_logic4.specs.Vectors.{extension_digit, top_digit, resized}
+use Rattle.vs_design.specs.vs_logic4.specs.declared.digit.Digit.{Digit}
+use Rattle.vs_design.specs.vs_logic4.specs.declared.digit.Digit.TheVariants.{Zero, One, X, Z}
+use Rattle.vs_design.specs.vs_logic4.specs.Vectors.{extension_digit, top_digit, resized}
 use Rattle.vs_vcd_writing.specs.Shown.{digit_of, extended, left_digit}
 use Rattle.vs_vcd_writing.specs.Values.{digit_character, is_extension, shortened}
 use Rattle.vs_vcd_lines.specs.Lines.{IsValue}

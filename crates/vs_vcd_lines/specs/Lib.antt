@@ -3,3 +3,4 @@ pub mod Names
 pub mod Lines
 pub mod Parts
 pub mod Laws
+pub use Rattle.vs_vcd_writing

@@ -2,7 +2,7 @@
 use Rattle.std.specs.Prelude.{◌≡◌, ℕ, length, map, reverse, slice_get, nat_lt, ◌&&◌, Bool, ◌<◌, ◌≤◌, Option}
 use Rattle.std.specs.Prelude.{Some, None, List, ◌++◌, codes, decimal}
 use Rattle.std.specs.List.{list_all}
-use Rattle.vs_logic4.specs.declared.digit.Digit.{Digit}
+use Rattle.vs_design.specs.vs_logic4.specs.declared.digit.Digit.{Digit}
 use Rattle.vs_design.specs.declared.signal.Bounds.{Bounds}
 use Rattle.vs_design.specs.declared.timescale.TimeSpan.{TimeSpan}
 use Rattle.vs_vcd_writing.specs.Codes.{code}

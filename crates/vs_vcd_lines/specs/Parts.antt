@@ -3,7 +3,7 @@ use Rattle.std.specs.Prelude.{◌≡◌, ℕ, length, map, ◌<◌, ◌≤◌, t
 use Rattle.std.specs.Fmt.{signed_decimal}
 use Rattle.vs_design.specs.declared.signal.Bounds.{Bounds}
 use Rattle.vs_design.specs.declared.signal.SignalKind.{SignalKind}
-use Rattle.vs_logic4.specs.declared.digit.Digit.{Digit}
+use Rattle.vs_design.specs.vs_logic4.specs.declared.digit.Digit.{Digit}
 use Rattle.vs_vcd_writing.specs.Codes.{code}
 use Rattle.vs_vcd_writing.specs.Values.{digit_character}
 use Rattle.vs_vcd_writing.specs.Text.{kind_word, range_text}

@@ -8,7 +8,7 @@ use crate::cuts::cut;
 use crate::dump::ValueChange;
 use crate::ends::after;
 use crate::values::{digit_of, value_of};
-use vs_logic4::Vec4;
+use vs_design::vs_logic4::Vec4;
 
 /// The change of a variable of one bit that a line writes.
 fn narrow_change(line: &[u8], widths: &[u32]) -> Option<ValueChange>

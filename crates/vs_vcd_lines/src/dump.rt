@@ -1,6 +1,6 @@
 //! What the lines of a value change dump say (IEEE 1364-2005, clause 18).
+use vs_design::vs_logic4::Vec4;
 use vs_design::{Bounds, ScopeKind, SignalKind};
-use vs_logic4::Vec4;
 
 /// A variable or a net that a dump declares (clause 18.2.3). The first one that is declared has the code of number 0, and so on.
 #[derive(Drop)]

@@ -27,4 +27,5 @@ pub use names::{are_printable, is_body, is_first, is_further};
 pub use numbers::signed_of;
 pub use values::{digit_of, value_of};
 pub use variables::variable_of;
+pub use vs_vcd_writing;
 pub use words::{kind_of, size_of_word};

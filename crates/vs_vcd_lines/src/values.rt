@@ -1,13 +1,13 @@
 //! The values of changes.
 ghost use Rattle.std.specs.Prelude.{◌≡◌, ℕ, ◌-◌, ◌<◌, ◌≤◌, Some, List, length, slice_get, reverse, false, MatchOption};
-ghost use Rattle.vs_logic4.specs.declared.digit.Digit.{Digit};
-ghost use Rattle.vs_logic4.specs.Vectors.{extension_digit};
+ghost use Rattle.vs_design.specs.vs_logic4.specs.declared.digit.Digit.{Digit};
+ghost use Rattle.vs_design.specs.vs_logic4.specs.Vectors.{extension_digit};
 ghost use Rattle.vs_vcd_writing.specs.Shown.{extended, left_digit};
 ghost use Rattle.vs_vcd_writing.specs.Values.{digit_character, is_extension, shortened};
 ghost use Rattle.vs_vcd_lines.specs.Lines.{IsValue};
 ghost use Rattle.vs_vcd_lines.specs.Parts.{IsSpelled};
 
-use vs_logic4::{Digit, Vec4};
+use vs_design::vs_logic4::{Digit, Vec4};
 
 /// The digit that a character stands for.
 pub fn digit_of(byte: u8) -> Option<Digit>

@@ -4,8 +4,8 @@ use Rattle.std.specs.Prelude.{nat_lt, replicate}
 use Rattle.std.proofs.lemmas.Bool.{and_from, lt-ltb}
 use Rattle.std.proofs.lemmas.List.Folds.{list_all-append}
 use Rattle.std.proofs.lemmas.Option.{slice_get-get_or, slice_get_within}
-use Rattle.vs_logic4.specs.declared.digit.Digit.{Digit}
-use Rattle.vs_logic4.specs.declared.digit.Digit.TheVariants.{X}
+use Rattle.vs_design.specs.vs_logic4.specs.declared.digit.Digit.{Digit}
+use Rattle.vs_design.specs.vs_logic4.specs.declared.digit.Digit.TheVariants.{X}
 use Rattle.vs_design.specs.declared.design.ScopeKind.TheVariants.{Module}
 use Rattle.vs_design.specs.declared.timescale.Magnitude.TheVariants.{One}
 use Rattle.vs_design.specs.declared.timescale.TimeSpan.{TimeSpan}

@@ -2,7 +2,7 @@
 use Rattle.std.proofs.Common.{◌≡◌, ℕ, suc, true, List, [], ◌∷◌, ◌++◌, codes, map, refl, sym, ap, subst, ◌∙◌, append_assoc}
 use Rattle.std.specs.List.{flat_map}
 use Rattle.vs_design.specs.declared.timescale.TimeSpan.{TimeSpan}
-use Rattle.vs_vcd_writing.specs.Text.{text_of, end_of_definitions, time_line}
+use Rattle.vs_vcd_lines.specs.vs_vcd_writing.specs.Text.{text_of, end_of_definitions, time_line}
 use Rattle.vs_vcd_lines.specs.declared.dump.ValueChange.{ValueChange}
 use Rattle.vs_vcd_lines.specs.Cuts.{lacks}
 use Rattle.vs_vcd_lines.specs.Lines.{change_line}

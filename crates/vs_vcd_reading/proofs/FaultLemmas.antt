@@ -2,7 +2,7 @@
 use Rattle.std.proofs.Common.{◌≡◌, ◌⊎◌, inl, inr, ℕ, suc, Bool, true, false, List, [], ◌∷◌, ◌++◌, length, map, refl, sym, ap, subst, ◌∙◌, append_assoc, arith}
 use Rattle.std.proofs.lemmas.Bool.{false≢true}
 use Rattle.std.proofs.lemmas.List.{append-nil}
-use Rattle.vs_vcd_writing.specs.Text.{end_of_definitions}
+use Rattle.vs_vcd_lines.specs.vs_vcd_writing.specs.Text.{end_of_definitions}
 use Rattle.vs_vcd_lines.specs.Cuts.{lacks, IsCut}
 use Rattle.vs_vcd_reading.specs.declared.fault.VcdFault.{VcdFault}
 use Rattle.vs_vcd_reading.specs.declared.fault.VcdFault.TheVariants as f

@@ -8,8 +8,8 @@ use denote.RawPtr.{null_ptr}
 use Rattle.vs_design.specs.declared.design.ScopeKind.{ScopeKind}
 use Rattle.vs_design.specs.declared.design.ScopeKind.TheVariants.{Module}
 use Rattle.vs_design.specs.declared.timescale.TimeSpan.{TimeSpan}
-use Rattle.vs_vcd_writing.specs.Codes.{code}
-use Rattle.vs_vcd_writing.specs.Text.{kind_word, range_text, scope_line, scope_word}
+use Rattle.vs_vcd_lines.specs.vs_vcd_writing.specs.Codes.{code}
+use Rattle.vs_vcd_lines.specs.vs_vcd_writing.specs.Text.{kind_word, range_text, scope_line, scope_word}
 use Rattle.vs_vcd_lines.specs.declared.dump.Declaration.{Declaration}
 use Rattle.vs_vcd_lines.specs.declared.dump.Declaration.TheVariants as v
 use Rattle.vs_vcd_lines.specs.declared.dump.Variable.{Variable}

@@ -3,8 +3,8 @@ use Rattle.std.proofs.Common.{◌≡◌, ℕ, suc, ◌<◌, ◌^◌, true, false
 use Rattle.std.specs.Prelude.{slice_get}
 use Rattle.std.proofs.lemmas.Fmt.{decimal_injective}
 use Rattle.std.proofs.lemmas.List.{append_cancel_right, append_cancel_left}
-use Rattle.vs_logic4.specs.declared.digit.Digit.{Digit}
-use Rattle.vs_logic4.specs.declared.digit.Digit.TheVariants.{Zero, One, X, Z}
+use Rattle.vs_design.specs.vs_logic4.specs.declared.digit.Digit.{Digit}
+use Rattle.vs_design.specs.vs_logic4.specs.declared.digit.Digit.TheVariants.{Zero, One, X, Z}
 use Rattle.vs_design.specs.declared.design.ScopeKind.{ScopeKind}
 use Rattle.vs_design.specs.declared.design.ScopeKind.TheVariants.{Module, Begin}
 use Rattle.vs_design.specs.declared.signal.Bounds.{Bounds}
@@ -14,10 +14,10 @@ use Rattle.vs_design.specs.declared.timescale.Magnitude.TheVariants as magnitude
 use Rattle.vs_design.specs.declared.timescale.TimeSpan.{TimeSpan}
 use Rattle.vs_design.specs.declared.timescale.TimeUnit.{TimeUnit}
 use Rattle.vs_design.specs.declared.timescale.TimeUnit.TheVariants as units
-use Rattle.vs_vcd_writing.specs.Codes.{code}
-use Rattle.vs_vcd_writing.specs.Text.{magnitude_word, unit_word, kind_word, scope_word, range_text, scope_line, time_line}
-use Rattle.vs_vcd_writing.specs.Values.{digit_character, shortened, value_change}
-use Rattle.vs_vcd_writing.proofs.CodeLemmas.{code-injective}
+use Rattle.vs_vcd_lines.specs.vs_vcd_writing.specs.Codes.{code}
+use Rattle.vs_vcd_lines.specs.vs_vcd_writing.specs.Text.{magnitude_word, unit_word, kind_word, scope_word, range_text, scope_line, time_line}
+use Rattle.vs_vcd_lines.specs.vs_vcd_writing.specs.Values.{digit_character, shortened, value_change}
+use Rattle.vs_vcd_lines.specs.vs_vcd_writing.proofs.CodeLemmas.{code-injective}
 use Rattle.vs_vcd_lines.specs.declared.dump.ValueChange.{ValueChange}
 use Rattle.vs_vcd_lines.specs.Lines.{span_line, change_line, IsSized}
 use Rattle.vs_vcd_lines.specs.Parts.{IsShape}

@@ -5,8 +5,8 @@ use Rattle.std.specs.Prelude.{nat_lt}
 use Rattle.std.specs.Fmt.{signed_decimal}
 use Rattle.std.specs.Int.{IsInRange}
 use Rattle.std.specs.List.{list_all}
-use Rattle.vs_logic4.specs.declared.digit.Digit.{Digit}
-use Rattle.vs_logic4.specs.declared.digit.Digit.TheVariants.{Zero, One, X, Z}
+use Rattle.vs_design.specs.vs_logic4.specs.declared.digit.Digit.{Digit}
+use Rattle.vs_design.specs.vs_logic4.specs.declared.digit.Digit.TheVariants.{Zero, One, X, Z}
 use Rattle.vs_design.specs.declared.design.ScopeKind.{ScopeKind}
 use Rattle.vs_design.specs.declared.design.ScopeKind.TheVariants.{Module, Begin}
 use Rattle.vs_design.specs.declared.signal.Bounds.{Bounds}
@@ -17,9 +17,9 @@ use Rattle.vs_design.specs.declared.timescale.Magnitude.TheVariants as magnitude
 use Rattle.vs_design.specs.declared.timescale.TimeSpan.{TimeSpan}
 use Rattle.vs_design.specs.declared.timescale.TimeUnit.{TimeUnit}
 use Rattle.vs_design.specs.declared.timescale.TimeUnit.TheVariants as units
-use Rattle.vs_vcd_writing.specs.Codes.{code, code_with_fuel}
-use Rattle.vs_vcd_writing.specs.Text.{magnitude_word, unit_word, span_text, kind_word, scope_word, range_text, scope_line}
-use Rattle.vs_vcd_writing.specs.Values.{digit_character, shortened, value_change}
+use Rattle.vs_vcd_lines.specs.vs_vcd_writing.specs.Codes.{code, code_with_fuel}
+use Rattle.vs_vcd_lines.specs.vs_vcd_writing.specs.Text.{magnitude_word, unit_word, span_text, kind_word, scope_word, range_text, scope_line}
+use Rattle.vs_vcd_lines.specs.vs_vcd_writing.specs.Values.{digit_character, shortened, value_change}
 use Rattle.vs_vcd_lines.specs.Cuts.{lacks}
 use Rattle.vs_vcd_lines.specs.Lines.{span_line, IsRange}
 use Rattle.vs_vcd_lines.specs.Names.{is_first, is_further, is_printable, is_simple, is_body, IsName, IsScopeName, IsTurn}

@@ -2,7 +2,7 @@
 use Rattle.std.proofs.Common.{◌≡◌, ℕ, zero, suc, Bool, true, false, List, [], ◌∷◌, ◌++◌, length, refl, sym, subst, append_assoc, length-append, arith}
 use Rattle.std.proofs.lemmas.Bool.{false≢true}
 use Rattle.std.proofs.lemmas.List.{append-nil}
-use Rattle.vs_logic4.specs.declared.digit.Digit.{Digit}
+use Rattle.vs_design.specs.vs_logic4.specs.declared.digit.Digit.{Digit}
 use Rattle.vs_design.specs.declared.design.ScopeKind.TheVariants.{Module}
 use Rattle.vs_vcd_lines.specs.declared.dump.ValueChange.{ValueChange}
 use Rattle.vs_vcd_reading.specs.Plain.{PlainDeclaration, PlainDump, PlainMoment}

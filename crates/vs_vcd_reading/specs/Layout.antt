@@ -1,11 +1,11 @@
 -- The layout of a value change dump, as a relation between a text and what it says.
 use Rattle.std.specs.Prelude.{◌≡◌, ℕ, suc, ◌<◌, ◌≤◌, ◌^◌, Some, List, [], ◌∷◌, ◌++◌, codes, decimal, length, map, slice_get, slice_set}
 use Rattle.std.specs.List.{flat_map}
-use Rattle.vs_logic4.specs.declared.digit.Digit.{Digit}
+use Rattle.vs_design.specs.vs_logic4.specs.declared.digit.Digit.{Digit}
 use Rattle.vs_design.specs.declared.design.ScopeKind.{ScopeKind}
 use Rattle.vs_design.specs.declared.design.ScopeKind.TheVariants.{Module}
-use Rattle.vs_vcd_writing.specs.Codes.{code}
-use Rattle.vs_vcd_writing.specs.Text.{text_of, end_of_definitions, time_line, scope_line, kind_word, range_text}
+use Rattle.vs_vcd_lines.specs.vs_vcd_writing.specs.Codes.{code}
+use Rattle.vs_vcd_lines.specs.vs_vcd_writing.specs.Text.{text_of, end_of_definitions, time_line, scope_line, kind_word, range_text}
 use Rattle.vs_vcd_lines.specs.declared.dump.ValueChange.{ValueChange}
 use Rattle.vs_vcd_lines.specs.Lines.{span_line, change_line, IsRange, IsSized}
 use Rattle.vs_vcd_lines.specs.Names.{IsName, IsScopeName}

@@ -1,10 +1,10 @@
 -- The layout, line by line: nothing that is promised rests on these.
 use Rattle.std.specs.Prelude.{◌≡◌, ℕ, zero, suc, ◌<◌, ◌≤◌, ◌^◌, Bool, true, false, List, [], ◌∷◌, ◌++◌, codes, length, map}
-use Rattle.vs_logic4.specs.declared.digit.Digit.{Digit}
+use Rattle.vs_design.specs.vs_logic4.specs.declared.digit.Digit.{Digit}
 use Rattle.vs_design.specs.declared.design.ScopeKind.{ScopeKind}
 use Rattle.vs_design.specs.declared.design.ScopeKind.TheVariants.{Module}
 use Rattle.vs_design.specs.declared.timescale.TimeSpan.{TimeSpan}
-use Rattle.vs_vcd_writing.specs.Text.{text_of, end_of_definitions, time_line, scope_line}
+use Rattle.vs_vcd_lines.specs.vs_vcd_writing.specs.Text.{text_of, end_of_definitions, time_line, scope_line}
 use Rattle.vs_vcd_lines.specs.declared.dump.ValueChange.{ValueChange}
 use Rattle.vs_vcd_lines.specs.Lines.{span_line, change_line, IsSized}
 use Rattle.vs_vcd_lines.specs.Names.{IsName, IsScopeName}

@@ -1,6 +1,6 @@
 //! Beginnings of lines that can stand at a place.
 ghost use Rattle.std.specs.Prelude.{◌≡◌, ◌<◌, ℕ, Bool, List, length, IsTrue, ◌↔◌};
-ghost use Rattle.vs_logic4.specs.declared.digit.Digit.{Digit};
+ghost use Rattle.vs_design.specs.vs_logic4.specs.declared.digit.Digit.{Digit};
 ghost use Rattle.vs_vcd_lines.specs.Lines.{are_sizes};
 ghost use Rattle.vs_vcd_reading.specs.Bodies.{IsAtTime};
 ghost use Rattle.vs_vcd_beginnings.specs.Beginnings.{BeginsSomeScope};
@@ -8,7 +8,7 @@ ghost use Rattle.vs_vcd_reading.specs.Steps.{Place as p};
 ghost use Rattle.vs_vcd_reading.specs.Stops.{GoesOn};
 
 use vs_design::ScopeKind;
-use vs_logic4::Vec4;
+use vs_design::vs_logic4::Vec4;
 use vs_vcd_beginnings::{begins, begins_change, begins_scope, begins_variable};
 
 /// Whether a text begins the line of a scope.

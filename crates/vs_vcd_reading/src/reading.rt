@@ -9,7 +9,7 @@ use crate::first::read_first;
 use crate::header::{read_header, read_tick};
 use crate::later::read_later;
 use std::alloc::{AllocError, Global};
-use vs_logic4::Vec4;
+use vs_design::vs_logic4::Vec4;
 use vs_vcd_lines::ValueChange;
 
 /// The values of changes, in their order.

@@ -1,6 +1,6 @@
 //! Beginnings of the lines of times.
 ghost use Rattle.std.specs.Prelude.{ℕ, List, IsTrue, ◌↔◌};
-ghost use Rattle.vs_logic4.specs.declared.digit.Digit.{Digit};
+ghost use Rattle.vs_design.specs.vs_logic4.specs.declared.digit.Digit.{Digit};
 ghost use Rattle.vs_vcd_reading.specs.Bodies.{IsFromTime};
 ghost use Rattle.vs_vcd_reading.specs.Steps.{Place as p};
 ghost use Rattle.vs_vcd_reading.specs.Stops.{GoesOn};

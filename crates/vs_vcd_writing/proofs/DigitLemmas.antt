@@ -11,14 +11,14 @@ use Rattle.std.proofs.lemmas.Simd.{get_or-put_chunk_above, get_or-put_chunk_at}
 use Rattle.std.proofs.lemmas.Nat.{shr_split, shr-shr, shr_le, and_le_r, leading_top, pow_pos}
 use Rattle.std.proofs.lemmas.Nat.Bits.{and_pow, bit_at_lowest, bit_at-suc, bit_at-zero, bit_at-lt, bit_at_and, bit_at_or, bit_at_xor, bit_at_ones, bit_at_ones_above, bit_at_above, bit_at_cat_low, bit_at_cat_high, ones_shr}
 use Rattle.std.proofs.lemmas.List.{take_more, take_more_set, drop_more, drop_at, drop-take, drop-append-le, length-take-le, length-reverse, length-map, length-drop, get_or-drop, get_or-map, get_or-reverse, get_or-take, ext_get_or}
-use Rattle.vs_logic4.specs.declared.digit.Digit.{Digit}
-use Rattle.vs_logic4.specs.declared.digit.Digit.TheVariants.{X}
-use Rattle.vs_logic4.specs.Planes.{digit_of_bits, value_plane, unknown_plane}
-use Rattle.vs_logic4.specs.PlaneLaws.{at_bit, digits_of_planes-of, slice_get-digits_of_planes, get_or-digits_of_planes}
+use Rattle.vs_design.specs.vs_logic4.specs.declared.digit.Digit.{Digit}
+use Rattle.vs_design.specs.vs_logic4.specs.declared.digit.Digit.TheVariants.{X}
+use Rattle.vs_design.specs.vs_logic4.specs.Planes.{digit_of_bits, value_plane, unknown_plane}
+use Rattle.vs_design.specs.vs_logic4.specs.PlaneLaws.{at_bit, digits_of_planes-of, slice_get-digits_of_planes, get_or-digits_of_planes}
 use Rattle.vs_vcd_writing.specs.Values.{digit_character, is_extension, shortened, value_change}
 use Rattle.vs_vcd_writing.specs.Kept.{before_code}
 use Rattle.vs_vcd_writing.proofs.ValueLemmas.{shortened-less, shortened-kept, shortened-one}
-use Rattle.vs_logic4.proofs.Basics.{bit_at-shr, bit_at-wrapped}
+use Rattle.vs_design.specs.vs_logic4.proofs.Basics.{bit_at-shr, bit_at-wrapped}
 
 -- the digit that two planes have at a place
 abbrev pub digit_at : ℕ → ℕ → ℕ → Digit

@@ -6,9 +6,9 @@ use Rattle.std.proofs.lemmas.Option.{none-some, same_Some}
 use Rattle.std.proofs.lemmas.List.Elements.{All-nil, All-cons, All-append}
 use Rattle.std.specs.Prelude.{slice_get, if◌then◌else◌}
 use Rattle.std.specs.List.{All}
-use Rattle.vs_logic4.specs.declared.digit.Digit.{Digit}
-use Rattle.vs_logic4.specs.Vectors.{same_digits}
-use Rattle.vs_logic4.specs.Sameness.{same_digits-true}
+use Rattle.vs_design.specs.vs_logic4.specs.declared.digit.Digit.{Digit}
+use Rattle.vs_design.specs.vs_logic4.specs.Vectors.{same_digits}
+use Rattle.vs_design.specs.vs_logic4.specs.Sameness.{same_digits-true}
 use Rattle.vs_design.specs.Stores.{Store}
 use Rattle.vs_vcd_writing.specs.declared.kept.Kept.{Kept}
 use Rattle.vs_vcd_writing.specs.declared.kept.DumpChange.{DumpChange}

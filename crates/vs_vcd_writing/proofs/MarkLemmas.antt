@@ -7,7 +7,7 @@ use Rattle.std.proofs.lemmas.Nat.Bits.{bit_at-trailing_zeros, bit_at-zero, bit_a
 use Rattle.std.specs.Prelude.{◌==◌, slice_index}
 use Rattle.std.specs.Int.{bit_at, trailing_zeros}
 use Rattle.vs_vcd_writing.specs.Marks.{is_block_marked, is_marked, IsNextMark}
-use Rattle.vs_logic4.proofs.Basics.{bit_at-shr as bit_at-shifted}
+use Rattle.vs_design.specs.vs_logic4.proofs.Basics.{bit_at-shr as bit_at-shifted}
 
 -- a block is unmarked where its bit is 0, and marked where it is 1
 bit_unmarked : (marks : List ℕ) (b word place n : ℕ) → b / 64 ≡ word → b % 64 ≡ place → slice_index marks word ≡ n → bit_at n place ≡ 0 → is_block_marked marks b ≡ false

@@ -5,8 +5,8 @@ use Rattle.std.proofs.lemmas.List.Folds.{list_all-append}
 use Rattle.std.specs.Prelude.{ℤ, pos, negsuc, ◌==◌, not, nat_lt, codes, decimal, slice_get}
 use Rattle.std.specs.List.{list_all, onto_first}
 use Rattle.std.specs.Fmt.{digits, digits_onto, digit_glyph, signed_decimal}
-use Rattle.vs_logic4.specs.declared.digit.Digit.{Digit}
-use Rattle.vs_logic4.specs.declared.digit.Digit.TheVariants.{Zero, One, X, Z}
+use Rattle.vs_design.specs.vs_logic4.specs.declared.digit.Digit.{Digit}
+use Rattle.vs_design.specs.vs_logic4.specs.declared.digit.Digit.TheVariants.{Zero, One, X, Z}
 use Rattle.vs_design.specs.declared.signal.Signal.{Signal}
 use Rattle.vs_design.specs.declared.timescale.Magnitude.{Magnitude}
 use Rattle.vs_design.specs.declared.timescale.Magnitude.TheVariants as magnitudes

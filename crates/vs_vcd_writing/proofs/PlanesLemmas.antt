@@ -5,13 +5,13 @@ use Rattle.std.proofs.lemmas.List.{length-take, length-drop, get_or-take, get_or
 use borrow.Rule.Slice.PartMut.{put_mid, post_of}
 use Rattle.std.specs.Prelude.{slice_set}
 use Rattle.std.proofs.lemmas.Option.{same_Some, slice_get_read, slice_get-get_or}
-use Rattle.vs_logic4.specs.declared.digit.Digit.{Digit}
-use Rattle.vs_logic4.specs.declared.digit.Digit.TheVariants.{X}
-use Rattle.vs_logic4.specs.Changes.{change}
-use Rattle.vs_logic4.specs.Planes.{digits_of_planes, value_plane, unknown_plane, ArePlanes}
-use Rattle.vs_logic4.specs.PlaneLaws.{digits_of_planes-of, value_plane-lt, unknown_plane-lt, same_planes-iff}
-use Rattle.vs_logic4.specs.Vectors.{same_digits}
-use Rattle.vs_logic4.specs.Sameness.{same_digits-from_iff}
+use Rattle.vs_design.specs.vs_logic4.specs.declared.digit.Digit.{Digit}
+use Rattle.vs_design.specs.vs_logic4.specs.declared.digit.Digit.TheVariants.{X}
+use Rattle.vs_design.specs.vs_logic4.specs.Changes.{change}
+use Rattle.vs_design.specs.vs_logic4.specs.Planes.{digits_of_planes, value_plane, unknown_plane, ArePlanes}
+use Rattle.vs_design.specs.vs_logic4.specs.PlaneLaws.{digits_of_planes-of, value_plane-lt, unknown_plane-lt, same_planes-iff}
+use Rattle.vs_design.specs.vs_logic4.specs.Vectors.{same_digits}
+use Rattle.vs_design.specs.vs_logic4.specs.Sameness.{same_digits-from_iff}
 use Rattle.vs_vcd_writing.specs.Planes.{words_of, AreWords, are_same}
 
 -- ---- lists

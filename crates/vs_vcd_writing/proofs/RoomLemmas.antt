@@ -2,7 +2,7 @@
 use Rattle.std.proofs.Common.{◌≡◌, ℕ, ◌+◌, ◌<◌, ◌≤◌, Some, List, length, slice_get, sym, ap, ◌∙◌, inl, inr, arith}
 use Rattle.std.specs.Prelude.{Result, Ok, Err, OnOk, slice_set}
 use Rattle.std.proofs.lemmas.Bool.{cases_lt}
-use Rattle.vs_logic4.specs.declared.digit.Digit.{Digit}
+use Rattle.vs_design.specs.vs_logic4.specs.declared.digit.Digit.{Digit}
 use Rattle.vs_design.specs.Stores.{Store}
 use Rattle.vs_vcd_writing.specs.Values.{shown_value}
 use Rattle.vs_vcd_writing.proofs.PlanesLemmas.{get_set_same, get_set_other}

@@ -2,7 +2,7 @@
 use Rattle.std.proofs.Common.{◌≡◌, ℕ, zero, suc, ◌<◌, Option, Some, List, [], ◌∷◌, length, get_or, slice_get, refl, sym, ap, ◌∙◌, arith}
 use Rattle.std.specs.Prelude.{slice_set}
 use Rattle.std.proofs.lemmas.Option.{none-some, same_Some}
-use Rattle.vs_logic4.specs.declared.digit.Digit.{Digit}
+use Rattle.vs_design.specs.vs_logic4.specs.declared.digit.Digit.{Digit}
 use Rattle.vs_vcd_writing.specs.declared.kept.Kept.{Kept}
 use Rattle.vs_vcd_writing.specs.Words.{kept_of}
 use Rattle.vs_vcd_writing.specs.Kept.{codes_of, with_value}

@@ -1,7 +1,7 @@
 -- Words in flat planes: nothing that is promised rests on these.
 use Rattle.std.specs.Prelude.{ℕ, ◌==◌, ◌&&◌, Bool, List, [], ◌∷◌}
-use Rattle.vs_logic4.specs.declared.digit.Digit.{Digit}
-use Rattle.vs_logic4.specs.Planes.{digits_of_planes, ArePlanes}
+use Rattle.vs_design.specs.vs_logic4.specs.declared.digit.Digit.{Digit}
+use Rattle.vs_design.specs.vs_logic4.specs.Planes.{digits_of_planes, ArePlanes}
 
 -- the words of these widths, value planes and unknown planes
 abbrev pub words_of : List ℕ → List ℕ → List ℕ → List (List Digit)

@@ -1,7 +1,7 @@
 -- Room to compare in: nothing that is promised rests on these.
 use Rattle.std.specs.Prelude.{◌≡◌, ℕ, ◌<◌, ◌≤◌, Bool, Some, List, length, slice_get, slice_index}
-use Rattle.vs_logic4.specs.declared.digit.Digit.{Digit}
-use Rattle.vs_logic4.specs.Vectors.{same_digits}
+use Rattle.vs_design.specs.vs_logic4.specs.declared.digit.Digit.{Digit}
+use Rattle.vs_design.specs.vs_logic4.specs.Vectors.{same_digits}
 use Rattle.vs_design.specs.Stores.{Store}
 use Rattle.vs_vcd_writing.specs.declared.kept.Kept.{Kept}
 use Rattle.vs_vcd_writing.specs.declared.room.LineRoom.{LineRoom}

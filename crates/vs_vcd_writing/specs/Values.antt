@@ -1,7 +1,7 @@
 -- Values in a value change dump.
 use Rattle.std.specs.Prelude.{ℕ, Bool, true, false, unwrap_or, List, [], ◌∷◌, ◌++◌, codes, map, reverse, if◌then◌else◌}
-use Rattle.vs_logic4.specs.declared.digit.Digit.{Digit}
-use Rattle.vs_logic4.specs.declared.digit.Digit.TheVariants.{Zero, One, X, Z}
+use Rattle.vs_design.specs.vs_logic4.specs.declared.digit.Digit.{Digit}
+use Rattle.vs_design.specs.vs_logic4.specs.declared.digit.Digit.TheVariants.{Zero, One, X, Z}
 use Rattle.vs_design.specs.Stores.{Store, word_of}
 
 -- the character of a digit (clause 18.2.2)

@@ -9,7 +9,7 @@ use crate::room::{LineRoom, gather};
 use std::alloc::{AllocError, Global};
 use std::marker::Model;
 use vs_design::Store;
-use vs_logic4::Vec4;
+use vs_design::vs_logic4::Vec4;
 
 /// Of a signal the number of its code, where it has one, and the value that was written last.
 #[derive(Clone, Copy)]

@@ -1,14 +1,14 @@
 //! Words in flat planes.
 ghost use Rattle.std.specs.Prelude.{◌≡◌, ℕ, ◌<◌, ◌≤◌, [], ◌∷◌, List, IfOk, Some, length, replicate, slice_get, slice_index, slice_set};
-ghost use Rattle.vs_logic4.specs.declared.digit.Digit.{Digit};
-ghost use Rattle.vs_logic4.specs.declared.digit.Digit.TheVariants.{X};
-ghost use Rattle.vs_logic4.specs.Changes.{change};
-ghost use Rattle.vs_logic4.specs.Vectors.{same_digits};
+ghost use Rattle.vs_design.specs.vs_logic4.specs.declared.digit.Digit.{Digit};
+ghost use Rattle.vs_design.specs.vs_logic4.specs.declared.digit.Digit.TheVariants.{X};
+ghost use Rattle.vs_design.specs.vs_logic4.specs.Changes.{change};
+ghost use Rattle.vs_design.specs.vs_logic4.specs.Vectors.{same_digits};
 ghost use Rattle.vs_vcd_writing.specs.Planes.{are_same};
 
 use std::alloc::{AllocError, Global};
 use std::marker::Model;
-use vs_logic4::{Vec4, changed};
+use vs_design::vs_logic4::{Vec4, changed};
 
 /// Words of 1 to 64 digits: of each its width, its value plane and its unknown plane. A contract sees the list of the words.
 #[derive(Drop)]
@@ -20,7 +20,7 @@ pub(crate) struct Planes {
 
 impl Model for Planes {
     ghost use Rattle.std.specs.Prelude.{List};
-    ghost use Rattle.vs_logic4.specs.declared.digit.Digit.{Digit};
+    ghost use Rattle.vs_design.specs.vs_logic4.specs.declared.digit.Digit.{Digit};
     ghost use Rattle.vs_vcd_writing.specs.Planes.{words_of, AreWords};
 
     ghost Value = { List (List Digit) };

@@ -6,7 +6,7 @@ ghost use Rattle.vs_vcd_writing.specs.Rooms.{IsRoom, is_same};
 use crate::planes::Planes;
 use std::alloc::{AllocError, Global};
 use vs_design::Store;
-use vs_logic4::Vec4;
+use vs_design::vs_logic4::Vec4;
 
 /// The words that a store shows, and of each for each plane a flag: 0 where the plane is the one that was written last.
 #[derive(Drop)]

@@ -2,7 +2,7 @@
 ghost use Rattle.std.specs.Int.{bit_at};
 ghost use Rattle.std.specs.Prelude.{◌≡◌, ℕ, suc, ◌-◌, ◌<◌, ◌≤◌, ◌++◌, ◌∷◌, [], length, take, drop, reverse, slice_index, OnOk};
 ghost use Rattle.std.specs.Prelude.{if◌then◌else◌};
-ghost use Rattle.vs_logic4.specs.Planes.{digit_of_bits};
+ghost use Rattle.vs_design.specs.vs_logic4.specs.Planes.{digit_of_bits};
 ghost use Rattle.vs_vcd_writing.specs.Codes.{code};
 ghost use Rattle.vs_vcd_writing.specs.Values.{digit_character, is_extension, shortened, value_change};
 ghost use Rattle.vs_vcd_writing.specs.Text.{text_of};
@@ -10,7 +10,7 @@ ghost use Rattle.vs_vcd_writing.specs.Kept.{before_code};
 
 use std::alloc::AllocError;
 use std::simd::prelude::*;
-use vs_logic4::{Digit, Vec4};
+use vs_design::vs_logic4::{Digit, Vec4};
 
 /// The character of a digit.
 fn character(digit: Digit) -> u8

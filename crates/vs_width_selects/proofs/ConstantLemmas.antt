@@ -3,15 +3,15 @@ use Rattle.std.proofs.Common.{◌≡◌, ℕ, ◌-◌, ◌==◌, Bool, true, fal
 use Rattle.std.specs.List.{slice_get, list_any, IsDistinct}
 use Rattle.std.proofs.lemmas.Option.{get_or_from_slice_get}
 use denote.Enum.Bare.{sameb}
-use Rattle.vs_logic4.specs.contracts.digit.Digit.{the_type}
-use Rattle.vs_logic4.specs.declared.digit.Digit.TheVariants.{Zero, One, X, Z}
-use Rattle.vs_logic4.specs.Arithmetic.{known_number}
-use Rattle.vs_logic4.specs.Vectors.{same_digit, top_digit}
+use Rattle.vs_design.specs.vs_logic4.specs.contracts.digit.Digit.{the_type}
+use Rattle.vs_design.specs.vs_logic4.specs.declared.digit.Digit.TheVariants.{Zero, One, X, Z}
+use Rattle.vs_design.specs.vs_logic4.specs.Arithmetic.{known_number}
+use Rattle.vs_design.specs.vs_logic4.specs.Vectors.{same_digit, top_digit}
 use Rattle.vs_width_selects.specs.Constants.{natural_number, where_none}
 use Rattle.std.specs.Str.{bytes_eq}
 use Rattle.std.proofs.lemmas.Bool.{eqb-true, eqb-false}
 use Rattle.std.proofs.Math.Path.{fun_ext}
-use Rattle.vs_logic4.specs.declared.digit.Digit.{Digit}
+use Rattle.vs_design.specs.vs_logic4.specs.declared.digit.Digit.{Digit}
 use Rattle.vs_design.specs.declared.expression.Typed.{Typed, Typed-F, fold-Typed}
 use Rattle.vs_design.specs.declared.expression.Typed.TheOpen as t
 use Rattle.vs_design.specs.Stores.{Store, is_changed}

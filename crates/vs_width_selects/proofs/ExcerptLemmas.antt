@@ -2,11 +2,11 @@
 use Rattle.std.proofs.Common.{◌≡◌, ℕ, ℤ, Bool, List, [], ◌∷◌, Some, option_map, length, refl, ap, sym, subst, ◌∙◌}
 use Rattle.std.specs.declared.boxed.Box.{Box}
 use Rattle.std.specs.declared.alloc.Global.{Global}
-use Rattle.vs_logic4.specs.declared.digit.Digit.{Digit}
-use Rattle.vs_logic4.specs.Lengths.{length-selected}
-use Rattle.vs_logic4.specs.Parts.{selected}
-use Rattle.vs_logic4.specs.Vectors.{resized}
-use Rattle.vs_logic4.proofs.Properties.{resized-own_width}
+use Rattle.vs_design.specs.vs_logic4.specs.declared.digit.Digit.{Digit}
+use Rattle.vs_design.specs.vs_logic4.specs.Lengths.{length-selected}
+use Rattle.vs_design.specs.vs_logic4.specs.Parts.{selected}
+use Rattle.vs_design.specs.vs_logic4.specs.Vectors.{resized}
+use Rattle.vs_design.specs.vs_logic4.proofs.Properties.{resized-own_width}
 use Rattle.vs_design.specs.declared.expression.Excerpt.{Excerpt}
 use Rattle.vs_design.specs.Selects.{place_of}
 use Rattle.vs_design.specs.Stores.{Store}

@@ -4,13 +4,13 @@ use Rattle.std.proofs.lemmas.List.{take_more, take_all}
 use Rattle.std.specs.declared.vec.Vec.{Vec}
 use Rattle.std.specs.declared.boxed.Box.{Box}
 use Rattle.std.specs.declared.alloc.Global.{Global}
-use Rattle.vs_logic4.specs.declared.digit.Digit.{Digit}
-use Rattle.vs_logic4.specs.declared.operators.Binary.{Binary}
-use Rattle.vs_logic4.specs.declared.operators.Unary.{Unary}
-use Rattle.vs_logic4.specs.Operators.{unary, gives_bit, sizing_of}
-use Rattle.vs_logic4.specs.Parts.{replication}
-use Rattle.vs_logic4.specs.Vectors.{resized}
-use Rattle.vs_logic4.specs.Comparisons.{truth}
+use Rattle.vs_design.specs.vs_logic4.specs.declared.digit.Digit.{Digit}
+use Rattle.vs_design.specs.vs_logic4.specs.declared.operators.Binary.{Binary}
+use Rattle.vs_design.specs.vs_logic4.specs.declared.operators.Unary.{Unary}
+use Rattle.vs_design.specs.vs_logic4.specs.Operators.{unary, gives_bit, sizing_of}
+use Rattle.vs_design.specs.vs_logic4.specs.Parts.{replication}
+use Rattle.vs_design.specs.vs_logic4.specs.Vectors.{resized}
+use Rattle.vs_design.specs.vs_logic4.specs.Comparisons.{truth}
 use Rattle.vs_design.specs.declared.expression.Link.{Link}
 use Rattle.vs_design.specs.declared.expression.Count.{Count}
 use Rattle.vs_design.specs.declared.expression.Excerpt.{Excerpt}

@@ -1,9 +1,9 @@
 -- Constants and their numbers.
 use Rattle.std.specs.Prelude.{ℕ, zero, suc, ◌^◌, ℤ, pos, ◌-ℤ◌, nat_lt, Bool, true, false, ◌&&◌, if◌then◌else◌, List, [], ◌∷◌, Option, Some, None, length}
-use Rattle.vs_logic4.specs.declared.digit.Digit.{Digit}
-use Rattle.vs_logic4.specs.declared.digit.Digit.TheVariants.{One}
-use Rattle.vs_logic4.specs.Vectors.{same_digit, top_digit}
-use Rattle.vs_logic4.specs.Arithmetic.{known_number, known_signed_number}
+use Rattle.vs_design.specs.vs_logic4.specs.declared.digit.Digit.{Digit}
+use Rattle.vs_design.specs.vs_logic4.specs.declared.digit.Digit.TheVariants.{One}
+use Rattle.vs_design.specs.vs_logic4.specs.Vectors.{same_digit, top_digit}
+use Rattle.vs_design.specs.vs_logic4.specs.Arithmetic.{known_number, known_signed_number}
 use Rattle.vs_design.specs.Selects.{index_number}
 use Rattle.vs_design.specs.declared.range.BitRange.{BitRange}
 use Rattle.vs_design.specs.declared.signal.Bounds.{Bounds}

@@ -1,8 +1,8 @@
 -- Sizes and signs of expressions, and why one has none.
 use Rattle.std.specs.Prelude.{◌≡◌, ℕ, ◌+◌, ◌*◌, Bool, true, false, ◌&&◌, ◌||◌, max, nat_le, if◌then◌else◌, List, [], Option, Some, None}
-use Rattle.vs_logic4.specs.declared.digit.Digit.{Digit}
-use Rattle.vs_logic4.specs.declared.operators.Sizing.{Sizing}
-use Rattle.vs_logic4.specs.declared.operators.Sizing.TheVariants.{Alike, Shift, Comparison, Logical}
+use Rattle.vs_design.specs.vs_logic4.specs.declared.digit.Digit.{Digit}
+use Rattle.vs_design.specs.vs_logic4.specs.declared.operators.Sizing.{Sizing}
+use Rattle.vs_design.specs.vs_logic4.specs.declared.operators.Sizing.TheVariants.{Alike, Shift, Comparison, Logical}
 use Rattle.vs_width_selects.specs.declared.faults.WidthReason.{WidthReason}
 use Rattle.vs_width_selects.specs.declared.faults.WidthReason.TheVariants.{TooWide, Unknown, NotConstant, WrongKind}
 use Rattle.vs_width_selects.specs.declared.faults.WidthFault.{WidthFault}

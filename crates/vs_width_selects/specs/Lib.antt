@@ -7,3 +7,4 @@ pub mod Meants
 pub mod Constants
 pub mod Selects
 pub mod passes
+pub use Rattle.vs_eval

@@ -1,6 +1,6 @@
 -- What expressions mean.
 use Rattle.std.specs.Prelude.{ℕ, Bool, List}
-use Rattle.vs_logic4.specs.declared.digit.Digit.{Digit}
+use Rattle.vs_design.specs.vs_logic4.specs.declared.digit.Digit.{Digit}
 use Rattle.vs_design.specs.declared.range.BitRange.{BitRange}
 use Rattle.vs_design.specs.Stores.{Store}
 use Rattle.vs_width_selects.specs.Findings.{Finding, at_found}

@@ -11,9 +11,9 @@ use crate::fitting::fitted;
 use crate::forms::{Measured, Sizable};
 use crate::shape::Shape;
 use std::alloc::{AllocError, Global};
+use vs_design::vs_logic4::{Digit, Vec4};
 use vs_design::{Bounds, DEFAULT_TIMESCALE, Design, Store, Typed, reads};
 use vs_eval::{index_number, reads_hold, sizes_hold, value};
-use vs_logic4::{Digit, Vec4};
 
 /// The fault that no constant stands where one is wanted, or one out of its range.
 pub const NOT_CONSTANT: WidthFault = WidthFault::Refused(WidthReason::NotConstant);

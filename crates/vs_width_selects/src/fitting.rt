@@ -6,8 +6,8 @@ ghost use Rattle.vs_width_selects.specs.Senses.{sense, IsFitted, IsExtended, IsL
 use crate::forms::Sizable;
 use crate::shape::{BIT, Shape};
 use std::alloc::{AllocError, Global};
+use vs_design::vs_logic4::Binary;
 use vs_design::{Extension, Link, Operand, Typed};
-use vs_logic4::Binary;
 
 /// A form at the size and with the sign of a context.
 #[cycle(fitted)]

@@ -9,9 +9,9 @@ use crate::fitting::fitted;
 use crate::forms::{Measured, Sizable};
 use crate::places::{ChosenBits, Extent};
 use std::alloc::{AllocError, Global};
+use vs_design::vs_logic4::Vec4;
 use vs_design::{Excerpt, Selection, Slice};
 use vs_eval::{place_of, reads_hold, word_place};
-use vs_logic4::Vec4;
 
 /// The value of an index, where it reads nothing.
 fn alone(alloc: Global, x: &Measured) -> Result<Option<Vec4>, AllocError>

@@ -3,8 +3,8 @@ ghost use Rattle.std.specs.Prelude.{◌≡◌, MatchResult};
 ghost use Rattle.vs_width_selects.specs.declared.forms.Sizable.TheVariants as forms;
 
 use crate::shape::Shape;
+use vs_design::vs_logic4::{Binary, Unary, Vec4};
 use vs_design::{Count, Excerpt, Link, Selection, Slice};
-use vs_logic4::{Binary, Unary, Vec4};
 
 /// An expression of a source whose names, counts and own sizes are known, and whose context isn't.
 pub enum Sizable {

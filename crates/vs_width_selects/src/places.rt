@@ -11,8 +11,8 @@ use crate::faults::{WidthFault, WidthReason};
 use crate::forms::{Measured, Sizable};
 use crate::shape::{BIT, Shape};
 use std::alloc::Global;
+use vs_design::vs_logic4::{Digit, Vec4};
 use vs_design::{Axis, Bounds};
-use vs_logic4::{Digit, Vec4};
 use vs_syntax::PartSelect;
 
 /// The fault that a name has selects that its declaration doesn't allow.

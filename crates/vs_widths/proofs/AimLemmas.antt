@@ -2,7 +2,7 @@
 use Rattle.std.proofs.Common.{◌≡◌, ℕ, ℤ, Bool, true, false, ◌&&◌, ◌||◌, List, [], ◌∷◌, ◌++◌, Option, Some, None, is_some, map, sum, refl, ap, ap₂, sym, subst, ◌∙◌, arith}
 use Rattle.std.specs.List.{list_all, list_any}
 use Rattle.std.proofs.lemmas.List.Folds.{list_all-append}
-use Rattle.vs_logic4.specs.declared.digit.Digit.{Digit}
+use Rattle.vs_design.specs.vs_logic4.specs.declared.digit.Digit.{Digit}
 use Rattle.vs_syntax.specs.declared.tree.PartSelect.TheVariants as k
 use Rattle.vs_design.specs.declared.expression.Selection.{Selection}
 use Rattle.vs_design.specs.declared.expression.Slice.{Slice}
@@ -41,7 +41,7 @@ use Rattle.vs_widths.specs.Lefts.{wanted, takes_bound, takes_reads, name_aimed}
 use Rattle.vs_widths.specs.Aiming.{is_none_read, is_fixed, IsPlace, IsTarget}
 use Rattle.vs_widths.specs.passes.Aims.{takes_aim, IsAim, IsTakenAim, select_passes, AreWithin}
 use Rattle.std.proofs.lemmas.Bool.{or_right}
-use Rattle.vs_logic4.proofs.Basics.{and_left, and_right}
+use Rattle.vs_design.specs.vs_logic4.proofs.Basics.{and_left, and_right}
 use Rattle.vs_width_selects.proofs.FixingLemmas.{both_empty}
 use Rattle.vs_width_selects.proofs.PlaceLemmas.{refused_by}
 

@@ -2,9 +2,9 @@
 use Rattle.std.proofs.Common.{◌≡◌, ℕ, ◌+◌, ◌*◌, max, ◌<◌, ◌≤◌, List, length, get_or, ap, arith}
 use denote.Param.Weighed.{most, at_most}
 use Rattle.std.proofs.Math.Nat.{mul-le-mul_left}
-use Rattle.vs_logic4.specs.declared.operators.Binary.{Binary}
+use Rattle.vs_design.specs.vs_logic4.specs.declared.operators.Binary.{Binary}
 use Rattle.vs_syntax.specs.declared.tree.Expr.{Expr, size-Expr}
-use Rattle.vs_logic4.proofs.Basics.{second_most as middle_most}
+use Rattle.vs_design.specs.vs_logic4.proofs.Basics.{second_most as middle_most}
 
 -- the depth of the deepest of some expressions
 abbrev pub parts_depth : List Expr → ℕ

@@ -14,7 +14,7 @@ use Rattle.vs_width_selects.specs.Environment.{Environment}
 use Rattle.vs_widths.specs.Expressions.{meant_selects}
 use Rattle.vs_widths.specs.declared.kinds.AssignmentKind.{AssignmentKind}
 use Rattle.vs_widths.specs.Lefts.{Aimed, name_aimed, concat_aimed, is_left, is_left_step, bare_select, as_left_step, as_left}
-use Rattle.vs_logic4.proofs.Basics.{and_left, and_right}
+use Rattle.vs_design.specs.vs_logic4.proofs.Basics.{and_left, and_right}
 
 -- ---- the form
 

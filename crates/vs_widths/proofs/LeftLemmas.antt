@@ -32,7 +32,7 @@ use Rattle.vs_widths.specs.passes.Aims.{AreWithin, Aims, IsJoined}
 use Rattle.vs_widths.proofs.ReadLemmas.{reads_within}
 use Rattle.vs_widths.proofs.AimLemmas.{stands_left, stands_right, selects_refused}
 use Rattle.vs_width_selects.proofs.PlaceLemmas.{refused_by}
-use Rattle.vs_logic4.proofs.Basics.{take_push as split_at}
+use Rattle.vs_design.specs.vs_logic4.proofs.Basics.{take_push as split_at}
 
 -- ---- faults of parts
 

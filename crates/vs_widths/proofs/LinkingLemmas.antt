@@ -6,19 +6,19 @@ use Rattle.std.proofs.lemmas.Option.{none-some}
 use Rattle.std.specs.declared.vec.Vec.{Vec}
 use Rattle.std.specs.declared.boxed.Box.{Box}
 use Rattle.std.specs.declared.alloc.Global.{Global}
-use Rattle.vs_logic4.specs.declared.digit.Digit.{Digit}
-use Rattle.vs_logic4.specs.declared.operators.Binary.{Binary}
-use Rattle.vs_logic4.specs.declared.operators.Binary.TheVariants as b
-use Rattle.vs_logic4.specs.declared.operators.Sizing.{Sizing}
-use Rattle.vs_logic4.specs.declared.operators.Sizing.TheVariants.{Alike, Shift, Comparison, Logical}
-use Rattle.vs_logic4.specs.Operators.{binary, sizing_of, is_one_bit}
-use Rattle.vs_logic4.specs.Vectors.{resized}
+use Rattle.vs_design.specs.vs_logic4.specs.declared.digit.Digit.{Digit}
+use Rattle.vs_design.specs.vs_logic4.specs.declared.operators.Binary.{Binary}
+use Rattle.vs_design.specs.vs_logic4.specs.declared.operators.Binary.TheVariants as b
+use Rattle.vs_design.specs.vs_logic4.specs.declared.operators.Sizing.{Sizing}
+use Rattle.vs_design.specs.vs_logic4.specs.declared.operators.Sizing.TheVariants.{Alike, Shift, Comparison, Logical}
+use Rattle.vs_design.specs.vs_logic4.specs.Operators.{binary, sizing_of, is_one_bit}
+use Rattle.vs_design.specs.vs_logic4.specs.Vectors.{resized}
 use Rattle.vs_design.specs.declared.expression.Link.{Link}
 use Rattle.vs_design.specs.declared.range.BitRange.{BitRange}
 use Rattle.vs_design.specs.Stores.{Store}
 use Rattle.vs_design.specs.Uses.{joined}
 use Rattle.vs_design.specs.WellFormed.{sized_by, linked_size, chain_size}
-use Rattle.vs_eval.specs.Values.{left_side, right_side, linked, chained}
+use Rattle.vs_width_selects.specs.vs_eval.specs.Values.{left_side, right_side, linked, chained}
 use Rattle.vs_width_selects.specs.declared.shape.Shape.{Shape}
 use Rattle.vs_width_selects.specs.declared.forms.Sizable.{Sizable}
 use Rattle.vs_width_selects.specs.declared.forms.Sizable.TheVariants as v

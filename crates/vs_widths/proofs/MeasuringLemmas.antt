@@ -7,20 +7,20 @@ use Rattle.std.proofs.lemmas.Bool.{eq-eqb, le-leb, lt-leb}
 use Rattle.std.specs.declared.vec.Vec.{Vec}
 use Rattle.std.specs.declared.boxed.Box.{Box}
 use Rattle.std.specs.declared.alloc.Global.{Global}
-use Rattle.vs_logic4.specs.declared.digit.Digit.{Digit}
-use Rattle.vs_logic4.specs.declared.operators.Unary.{Unary}
-use Rattle.vs_logic4.specs.declared.operators.Binary.{Binary}
-use Rattle.vs_logic4.specs.Operators.{sizing_of, gives_bit}
-use Rattle.vs_logic4.specs.Vectors.{resized}
-use Rattle.vs_logic4.specs.Parts.{replication}
-use Rattle.vs_lex_tokens.specs.declared.token.Literal.{Literal}
+use Rattle.vs_design.specs.vs_logic4.specs.declared.digit.Digit.{Digit}
+use Rattle.vs_design.specs.vs_logic4.specs.declared.operators.Unary.{Unary}
+use Rattle.vs_design.specs.vs_logic4.specs.declared.operators.Binary.{Binary}
+use Rattle.vs_design.specs.vs_logic4.specs.Operators.{sizing_of, gives_bit}
+use Rattle.vs_design.specs.vs_logic4.specs.Vectors.{resized}
+use Rattle.vs_design.specs.vs_logic4.specs.Parts.{replication}
+use Rattle.vs_syntax.specs.vs_lex_tokens.specs.declared.token.Literal.{Literal}
 use Rattle.vs_syntax.specs.declared.tree.Expr.{Expr, Expr-F, map-Expr, roll-Expr, fold-roll-Expr}
 use Rattle.vs_syntax.specs.declared.tree.Expr.TheVariants as e
 use Rattle.vs_syntax.specs.declared.tree.Expr.TheOpen as x
 use Rattle.vs_design.specs.Stores.{Store}
 use Rattle.vs_design.specs.Uses.{joined}
 use Rattle.vs_design.specs.WellFormed.{choice_size, picked_size, sum_size, at_most_64}
-use Rattle.vs_eval.specs.Values.{chosen, concatenated}
+use Rattle.vs_width_selects.specs.vs_eval.specs.Values.{chosen, concatenated}
 use Rattle.vs_width_selects.specs.declared.shape.Shape.{Shape}
 use Rattle.vs_width_selects.specs.declared.faults.WidthReason.{WidthReason}
 use Rattle.vs_width_selects.specs.declared.faults.WidthReason.TheVariants.{TooWide}
@@ -42,7 +42,7 @@ use Rattle.vs_width_selects.specs.Each.{Each, each_none, each_more}
 use Rattle.vs_width_selects.proofs.FittingLemmas.{layer, pairs_sensed}
 use Rattle.vs_width_selects.proofs.FixingLemmas.{meant_same}
 use Rattle.std.proofs.lemmas.Bool.{or_right}
-use Rattle.vs_logic4.proofs.Basics.{front_of}
+use Rattle.vs_design.specs.vs_logic4.proofs.Basics.{front_of}
 use Rattle.vs_width_selects.proofs.PlaceLemmas.{refused_by}
 
 -- ---- faults

@@ -33,7 +33,7 @@ use Rattle.vs_widths.specs.passes.Selects.{AreMeasured}
 use Rattle.vs_widths.proofs.MeasuringLemmas.{stands_alone, stands_left, stands_right, form}
 use Rattle.std.proofs.lemmas.Bool.{or_right}
 use Rattle.vs_width_selects.proofs.PlaceLemmas.{refused_by}
-use Rattle.vs_logic4.proofs.Basics.{or_parts}
+use Rattle.vs_design.specs.vs_logic4.proofs.Basics.{or_parts}
 
 -- ---- faults
 

@@ -1,7 +1,7 @@
 -- Targets of a design that are what those of a source are.
 use Rattle.std.specs.Prelude.{◌≡◌, ℕ, Bool, true, false, ◌&&◌, List, [], ◌∷◌, Some, None, is_some, map, sum}
 use Rattle.std.specs.List.{list_all}
-use Rattle.vs_logic4.specs.declared.digit.Digit.{Digit}
+use Rattle.vs_design.specs.vs_logic4.specs.declared.digit.Digit.{Digit}
 use Rattle.vs_design.specs.declared.statement.Aim.{Aim}
 use Rattle.vs_design.specs.declared.statement.Aim.TheVariants.{Fixed, Chosen}
 use Rattle.vs_design.specs.declared.statement.Target.{Target}
@@ -10,7 +10,7 @@ use Rattle.vs_design.specs.declared.write.Part.{Part}
 use Rattle.vs_design.specs.Stores.{Store}
 use Rattle.vs_design.specs.Uses.{aim_range, aim_reads, writes}
 use Rattle.vs_design.specs.WellFormed.{aim_width, size_of}
-use Rattle.vs_eval.specs.Targets.{part_at}
+use Rattle.vs_width_selects.specs.vs_eval.specs.Targets.{part_at}
 use Rattle.vs_width_selects.specs.declared.bindings.Meaning.{Meaning}
 use Rattle.vs_width_selects.specs.declared.bindings.Binding.TheVariants.{Signal}
 use Rattle.vs_width_selects.specs.Environment.{Environment}

@@ -1,13 +1,13 @@
 -- Expressions of a design that are what those of a source are.
 use Rattle.std.specs.Prelude.{◌≡◌, ℕ, Bool, true, false, List, Some, length}
 use Rattle.std.specs.List.{list_all}
-use Rattle.vs_logic4.specs.declared.digit.Digit.{Digit}
+use Rattle.vs_design.specs.vs_logic4.specs.declared.digit.Digit.{Digit}
 use Rattle.vs_design.specs.declared.expression.Typed.{Typed}
 use Rattle.vs_design.specs.declared.range.BitRange.{BitRange}
 use Rattle.vs_design.specs.Stores.{Store}
 use Rattle.vs_design.specs.Uses.{reads}
 use Rattle.vs_design.specs.WellFormed.{size_of}
-use Rattle.vs_eval.specs.Values.{value_of}
+use Rattle.vs_width_selects.specs.vs_eval.specs.Values.{value_of}
 use Rattle.vs_syntax.specs.declared.tree.Expr.{Expr}
 use Rattle.vs_width_selects.specs.declared.bindings.Meaning.{Meaning}
 use Rattle.vs_width_selects.specs.declared.bindings.Binding.TheVariants.{Signal}

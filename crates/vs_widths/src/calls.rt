@@ -11,7 +11,7 @@ use crate::levels::Levels;
 use crate::measuring::{measured, of_name};
 use std::alloc::Global;
 use vs_design::Typed;
-use vs_logic4::Vec4;
+use vs_design::vs_logic4::Vec4;
 use vs_syntax::Expr;
 use vs_width_selects::{Const, Shape, WidthFault, fitted, known};
 

@@ -17,7 +17,7 @@ use crate::levels::Levels;
 use crate::linking::{joined_shape, linked, own};
 use std::alloc::{AllocError, Global};
 use vs_design::Count;
-use vs_logic4::{Binary, Unary, Vec4};
+use vs_design::vs_logic4::{Binary, Unary, Vec4};
 use vs_syntax::{Expr, PartSelect};
 use vs_width_selects::{
     BIT, Binding, Const, Meaning, Measured, Shape, Sizable, WidthFault, WidthReason,

@@ -11,9 +11,9 @@ use Rattle.vs_design.specs.declared.design.Process.{Process}
 use Rattle.vs_design.specs.declared.signal.Signal.{Signal}
 use Rattle.vs_design.specs.Parts.{Parts}
 use Rattle.vs_design.specs.WellFormed.{WellFormed}
-use Rattle.vs_rules.specs.Certificates.{claims_of, name_from, residues_from, signal_claim}
-use Rattle.vs_rules.specs.Claims.{Name, SignalClaim, EdgeClaim, Kind, Start, block, delays}
-use Rattle.vs_rules.specs.Limits.{IsCertificate}
+use Rattle.vs_cert_index.specs.vs_rules.specs.Certificates.{claims_of, name_from, residues_from, signal_claim}
+use Rattle.vs_cert_index.specs.vs_rules.specs.Claims.{Name, SignalClaim, EdgeClaim, Kind, Start, block, delays}
+use Rattle.vs_cert_index.specs.vs_rules.specs.Limits.{IsCertificate}
 use Rattle.vs_slots_paths.specs.Reaches.{Chart}
 use Rattle.vs_cert_facts.specs.declared.facts.EntriesOf.{EntriesOf}
 use Rattle.vs_cert_facts.specs.declared.facts.EntriesOf.TheVariants as entries

@@ -1,10 +1,10 @@
 -- Masks of bits of a word.
 use Rattle.std.specs.Prelude.{ℕ, ◌≡◌, ◌<◌, ◌≤◌, ◌^◌, ◌==◌, ◌&&◌, not, Option, Some, List, length, get_or, bit_and}
 use Rattle.std.specs.Int.{bit_at}
-use Rattle.vs_logic4.specs.declared.digit.Digit.{Digit}
-use Rattle.vs_logic4.specs.declared.digit.Digit.TheVariants.{Zero}
-use Rattle.vs_logic4.specs.declared.edge.Edge.{Edge}
-use Rattle.vs_logic4.specs.Edges.{is_edge}
+use Rattle.vs_design.specs.vs_logic4.specs.declared.digit.Digit.{Digit}
+use Rattle.vs_design.specs.vs_logic4.specs.declared.digit.Digit.TheVariants.{Zero}
+use Rattle.vs_design.specs.vs_logic4.specs.declared.edge.Edge.{Edge}
+use Rattle.vs_design.specs.vs_logic4.specs.Edges.{is_edge}
 use Rattle.vs_design.specs.declared.range.Bits.{Bits}
 use Rattle.vs_design.specs.Uses.{has_word}
 use Rattle.vs_edges.specs.declared.masks.WordMask.{WordMask}

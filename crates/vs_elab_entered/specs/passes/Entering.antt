@@ -8,30 +8,30 @@ use Rattle.vs_width_selects.specs.declared.constants.Const.{Const}
 use Rattle.vs_width_selects.specs.declared.faults.WidthReason.{WidthReason}
 use Rattle.vs_width_selects.specs.declared.faults.WidthFault.{WidthFault}
 use Rattle.vs_width_selects.specs.declared.faults.WidthFault.TheVariants as width
-use Rattle.vs_widths.specs.Names.{meaning_of}
+use Rattle.vs_elab_generate.specs.vs_widths.specs.Names.{meaning_of}
 use Rattle.vs_elab_pieces.specs.Pieces.{Piece, pieces_of, block_pieces}
-use Rattle.vs_scopes.specs.declared.faults.Reason.{Reason}
-use Rattle.vs_scopes.specs.declared.faults.Reason.TheVariants.{NoModule, Inside, PortMismatch, ParameterMismatch, DeclaredTwice, Width}
-use Rattle.vs_scopes.specs.declared.faults.ElabFault.{ElabFault}
-use Rattle.vs_scopes.specs.declared.faults.ElabFault.TheVariants.{Memory}
-use Rattle.vs_scopes.specs.declared.faults.ParameterRefusal.{ParameterRefusal}
-use Rattle.vs_scopes.specs.declared.faults.ParameterRefusal.TheVariants as refusal
-use Rattle.vs_scopes.specs.Printed.{PathName, Path}
-use Rattle.vs_scopes.specs.Parameters.{is_override_mismatch}
-use Rattle.vs_scopes.specs.Declarations.{Use}
-use Rattle.vs_scopes.specs.Nets.{permits_nets}
-use Rattle.vs_scopes.specs.Generate.{Inner, instance, generated}
-use Rattle.vs_scopes.specs.Generate as g
-use Rattle.vs_scopes.specs.Scopes.{Scope, Before, instance_scope, block_scope, block_fault, opened, module_named, named, named_at, is_inside, is_port_mismatch, levels}
-use Rattle.vs_scopes.specs.passes.Answers.{IsFaultAt}
-use Rattle.vs_scopes.specs.passes.Names.{read_title}
-use Rattle.vs_scopes.specs.declared.printed.PathName.{PathName as FoundName}
-use Rattle.vs_elab_listed.specs.declared.opened.ListedScope.{ListedScope as FoundScope}
-use Rattle.vs_elab_listed.specs.declared.opened.Numbering.{Numbering}
-use Rattle.vs_elab_listed.specs.Opened.{IsEntered}
+use Rattle.vs_elab_implicit_nets.specs.vs_scopes.specs.declared.faults.Reason.{Reason}
+use Rattle.vs_elab_implicit_nets.specs.vs_scopes.specs.declared.faults.Reason.TheVariants.{NoModule, Inside, PortMismatch, ParameterMismatch, DeclaredTwice, Width}
+use Rattle.vs_elab_implicit_nets.specs.vs_scopes.specs.declared.faults.ElabFault.{ElabFault}
+use Rattle.vs_elab_implicit_nets.specs.vs_scopes.specs.declared.faults.ElabFault.TheVariants.{Memory}
+use Rattle.vs_elab_implicit_nets.specs.vs_scopes.specs.declared.faults.ParameterRefusal.{ParameterRefusal}
+use Rattle.vs_elab_implicit_nets.specs.vs_scopes.specs.declared.faults.ParameterRefusal.TheVariants as refusal
+use Rattle.vs_elab_implicit_nets.specs.vs_scopes.specs.Printed.{PathName, Path}
+use Rattle.vs_elab_implicit_nets.specs.vs_scopes.specs.Parameters.{is_override_mismatch}
+use Rattle.vs_elab_implicit_nets.specs.vs_scopes.specs.Declarations.{Use}
+use Rattle.vs_elab_implicit_nets.specs.vs_scopes.specs.Nets.{permits_nets}
+use Rattle.vs_elab_implicit_nets.specs.vs_scopes.specs.Generate.{Inner, instance, generated}
+use Rattle.vs_elab_implicit_nets.specs.vs_scopes.specs.Generate as g
+use Rattle.vs_elab_implicit_nets.specs.vs_scopes.specs.Scopes.{Scope, Before, instance_scope, block_scope, block_fault, opened, module_named, named, named_at, is_inside, is_port_mismatch, levels}
+use Rattle.vs_elab_implicit_nets.specs.vs_scopes.specs.passes.Answers.{IsFaultAt}
+use Rattle.vs_elab_implicit_nets.specs.vs_scopes.specs.passes.Names.{read_title}
+use Rattle.vs_elab_implicit_nets.specs.vs_scopes.specs.declared.printed.PathName.{PathName as FoundName}
+use Rattle.vs_elab_implicit_nets.specs.vs_elab_listed.specs.declared.opened.ListedScope.{ListedScope as FoundScope}
+use Rattle.vs_elab_implicit_nets.specs.vs_elab_listed.specs.declared.opened.Numbering.{Numbering}
+use Rattle.vs_elab_implicit_nets.specs.vs_elab_listed.specs.Opened.{IsEntered}
 use Rattle.vs_elab_entered.specs.declared.entering.NamedModule.{NamedModule}
 use Rattle.vs_elab_entered.specs.passes.Blocks.{IsTitled}
-use Rattle.vs_elab_listed.specs.ScopeFaults.{of_module, parameter_fault, override_fault, NamesTwice}
+use Rattle.vs_elab_implicit_nets.specs.vs_elab_listed.specs.ScopeFaults.{of_module, parameter_fault, override_fault, NamesTwice}
 
 -- ---- modules
 

@@ -3,7 +3,7 @@ use Rattle.std.specs.Prelude.{◌≡◌, ℕ, zero, suc, ◌+◌, ◌⊎◌, Boo
 use Rattle.std.specs.List.{list_any, All, AllZip, IsDistinct}
 use Rattle.std.specs.Str.{bytes_eq}
 use Rattle.vs_syntax.specs.declared.tree.Module.{Module}
-use Rattle.vs_width_selects.specs.declared.faults.WidthReason.{WidthReason}
+use Rattle.vs_scopes.specs.vs_width_selects.specs.declared.faults.WidthReason.{WidthReason}
 use Rattle.vs_scopes.specs.declared.faults.Reason.{Reason}
 use Rattle.vs_scopes.specs.declared.faults.Reason.TheVariants.{Width}
 use Rattle.vs_scopes.specs.Printed.{plainly, Path}
@@ -14,7 +14,7 @@ use Rattle.vs_elab_listed.specs.declared.opened.Numbering.{Numbering}
 use Rattle.vs_elab_listed.specs.Outlines.{Line, leave, outline_within, outline_below, outline_of, IsEntry}
 use Rattle.vs_elab_listed.specs.ScopeFaults.{HasConstructFault, HoldsOpeningIn, top_fault}
 use Rattle.vs_elab_listed.specs.Opened.{IsEntered}
-use Rattle.vs_elab_implicit_nets.specs.passes.Nets.{IsNamedAsNet}
+use Rattle.vs_elab_entered.specs.vs_elab_implicit_nets.specs.passes.Nets.{IsNamedAsNet}
 use Rattle.vs_elab_entered.specs.declared.entering.NamedModule.{NamedModule}
 use Rattle.vs_elab_entered.specs.passes.Blocks.{HasEachNamed, AreNamed, Extends}
 use Rattle.vs_elab_entered.specs.passes.Entering.{Lists, before_next, IsSoundInner, module_names}

@@ -2,7 +2,7 @@
 use Rattle.std.specs.Prelude.{◌≡◌, ℕ, Bool, List, [], ◌∷◌, ◌++◌, reverse}
 use Rattle.std.specs.List.{IsDistinct}
 use Rattle.std.specs.Str.{bytes_eq}
-use Rattle.vs_widths.specs.Names.{meaning_of}
+use Rattle.vs_elab_ports.specs.vs_widths.specs.Names.{meaning_of}
 use Rattle.vs_scopes.specs.declared.faults.Reason.{Reason}
 use Rattle.vs_scopes.specs.declared.faults.Reason.TheVariants.{DeclaredTwice}
 use Rattle.vs_scopes.specs.Printed.{plainly, Path}

@@ -5,7 +5,7 @@ use Rattle.std.specs.declared.boxed.Box.{Box}
 use Rattle.std.specs.declared.vec.Vec.{Vec}
 use Rattle.std.specs.declared.alloc.Global.{Global}
 use Rattle.vs_syntax.specs.declared.tree.CaseLabel.{CaseLabel}
-use Rattle.vs_logic4.specs.declared.operators.Binary.{Binary}
+use Rattle.vs_syntax.specs.vs_logic4.specs.declared.operators.Binary.{Binary}
 use Rattle.vs_syntax.specs.declared.tree.Expr.{Expr}
 use Rattle.vs_syntax.specs.declared.tree.Left.{Left}
 use Rattle.vs_syntax.specs.declared.tree.PartSelect.{PartSelect}

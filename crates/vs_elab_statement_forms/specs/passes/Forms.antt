@@ -8,7 +8,7 @@ use Rattle.vs_syntax.specs.declared.tree.Stmt.{Stmt}
 use Rattle.vs_design.specs.declared.expression.Typed.{Typed}
 use Rattle.vs_design.specs.declared.statement.Statement.{Statement}
 use Rattle.vs_design.specs.declared.statement.Target.{Target}
-use Rattle.vs_scopes.specs.Printed.{Path}
+use Rattle.vs_elab_operands.specs.vs_scopes.specs.Printed.{Path}
 use Rattle.vs_elab_operands.specs.declared.faults.StatementFault.{StatementFault}
 use Rattle.vs_elab_operands.specs.declared.faults.StatementFault.TheVariants.{Overfull}
 use Rattle.vs_elab_operands.specs.Surroundings.{Surroundings}

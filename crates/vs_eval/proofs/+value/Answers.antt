@@ -1,8 +1,8 @@
 use Rattle.std.proofs.Common.{◌∙◌, refl, sym, ap, ap₂, map, take}
-use Rattle.vs_logic4.specs.Comparisons.{truth}
-use Rattle.vs_logic4.specs.Operators.{unary}
-use Rattle.vs_logic4.specs.Parts.{concatenation, replication}
-use Rattle.vs_logic4.specs.Vectors.{resized}
+use Rattle.vs_design.specs.vs_logic4.specs.Comparisons.{truth}
+use Rattle.vs_design.specs.vs_logic4.specs.Operators.{unary}
+use Rattle.vs_design.specs.vs_logic4.specs.Parts.{concatenation, replication}
+use Rattle.vs_design.specs.vs_logic4.specs.Vectors.{resized}
 use Rattle.vs_design.specs.declared.expression.Typed.TheVariants.{rolls-Number, rolls-Signal, rolls-Slice, rolls-Select, rolls-Excerpt, rolls-Unary, rolls-Chain, rolls-Choice, rolls-Concat, rolls-Repeat, rolls-Resized}
 use Rattle.vs_design.specs.declared.expression.Typed.TheOpen as layer
 use Rattle.vs_eval.specs.Values.{selection_value, excerpt_value, linked, chained, picked, chosen, concatenated, value_of}

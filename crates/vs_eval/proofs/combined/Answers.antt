@@ -1,5 +1,5 @@
 use Rattle.std.proofs.Common.{◌∙◌, sym, ap, ap₂, length}
-use Rattle.vs_logic4.specs.Operators.{binary, sizing_of}
+use Rattle.vs_design.specs.vs_logic4.specs.Operators.{binary, sizing_of}
 use Rattle.vs_eval.proofs.SizesHold.{one_size}
 use Rattle.vs_eval.proofs.combined.Goals as goal
 

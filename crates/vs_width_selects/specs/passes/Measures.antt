@@ -1,7 +1,7 @@
 -- Expressions with their own sizes and signs.
 use Rattle.std.specs.Prelude.{◌≡◌, ℕ, ℤ, Bool, List, [], Some, Result, Ok, Err, option_map, length}
-use Rattle.vs_logic4.specs.declared.digit.Digit.{Digit}
-use Rattle.vs_logic4.specs.Vectors.{resized}
+use Rattle.vs_design.specs.vs_logic4.specs.declared.digit.Digit.{Digit}
+use Rattle.vs_design.specs.vs_logic4.specs.Vectors.{resized}
 use Rattle.vs_design.specs.Stores.{Store}
 use Rattle.vs_width_selects.specs.declared.shape.Shape.{Shape}
 use Rattle.vs_width_selects.specs.declared.forms.Sizable.{Sizable}

@@ -1,7 +1,7 @@
 -- Places and targets as they are made.
 use Rattle.std.specs.Prelude.{◌≡◌, ℕ, ◌+◌, Bool, true, false, ◌&&◌, List, ◌++◌, Some, None, Result, Ok, Err}
 use Rattle.std.specs.List.{list_all}
-use Rattle.vs_logic4.specs.declared.digit.Digit.{Digit}
+use Rattle.vs_design.specs.vs_logic4.specs.declared.digit.Digit.{Digit}
 use Rattle.vs_design.specs.declared.range.BitRange.{BitRange}
 use Rattle.vs_design.specs.declared.statement.Aim.{Aim}
 use Rattle.vs_design.specs.declared.statement.Aim.TheVariants.{Fixed, Chosen}
@@ -9,7 +9,7 @@ use Rattle.vs_design.specs.declared.statement.Target.{Target}
 use Rattle.vs_design.specs.Stores.{Store}
 use Rattle.vs_design.specs.Uses.{aim_range, aim_reads}
 use Rattle.vs_design.specs.WellFormed.{aim_width}
-use Rattle.vs_eval.specs.Targets.{part_at}
+use Rattle.vs_width_selects.specs.vs_eval.specs.Targets.{part_at}
 use Rattle.vs_width_selects.specs.declared.bindings.Binding.{Binding}
 use Rattle.vs_width_selects.specs.declared.faults.WidthFault.{WidthFault}
 use Rattle.vs_width_selects.specs.Environment.{Environment}

@@ -1,15 +1,15 @@
 -- Expressions of a source as their parts are measured.
 use Rattle.std.specs.Prelude.{◌≡◌, ℕ, ◌*◌, ◌≤◌, Bool, true, false, IsSome, List, [], ◌∷◌, ◌++◌, Option, Some, Result, Ok, Err, option_map, map, take}
-use Rattle.vs_logic4.specs.declared.digit.Digit.{Digit}
-use Rattle.vs_logic4.specs.declared.operators.Binary.{Binary}
-use Rattle.vs_logic4.specs.Operators.{sizing_of, is_one_bit}
-use Rattle.vs_logic4.specs.Vectors.{resized}
-use Rattle.vs_logic4.specs.Parts.{replication}
+use Rattle.vs_design.specs.vs_logic4.specs.declared.digit.Digit.{Digit}
+use Rattle.vs_design.specs.vs_logic4.specs.declared.operators.Binary.{Binary}
+use Rattle.vs_design.specs.vs_logic4.specs.Operators.{sizing_of, is_one_bit}
+use Rattle.vs_design.specs.vs_logic4.specs.Vectors.{resized}
+use Rattle.vs_design.specs.vs_logic4.specs.Parts.{replication}
 use Rattle.vs_syntax.specs.declared.tree.Expr.{Expr}
 use Rattle.vs_design.specs.declared.expression.Link.{Link}
 use Rattle.vs_design.specs.Stores.{Store}
 use Rattle.vs_design.specs.WellFormed.{linked_size, at_most_64}
-use Rattle.vs_eval.specs.Values.{left_side, linked}
+use Rattle.vs_width_selects.specs.vs_eval.specs.Values.{left_side, linked}
 use Rattle.vs_width_selects.specs.declared.shape.Shape.{Shape}
 use Rattle.vs_width_selects.specs.declared.forms.Sizable.{Sizable}
 use Rattle.vs_width_selects.specs.declared.forms.Measured.{Measured}

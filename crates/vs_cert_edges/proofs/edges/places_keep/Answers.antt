@@ -1,7 +1,7 @@
 use Rattle.std.proofs.Common.{◌≡◌, ℕ, ◌<◌, ◌↔◌, IsTrue, Some, List, slice_get, sym, ◌∙◌, subst}
 use Rattle.std.proofs.lemmas.Bool.{false≢true}
 use Rattle.vs_design.specs.declared.statement.EventTerm.{EventTerm}
-use Rattle.vs_slots_paths.specs.Reaches.{IsPlace}
+use Rattle.vs_cert_facts.specs.vs_slots_paths.specs.Reaches.{IsPlace}
 use Rattle.vs_cert_edges.specs.declared.edges.Term.{Term}
 use Rattle.vs_cert_edges.specs.EdgePlaces.{AreKnown, IsPair}
 use Rattle.vs_cert_edges.proofs.EdgeLemmas.{places_are}

@@ -1,7 +1,7 @@
 use Rattle.std.proofs.Common.{ℕ, ◌↔◌, true, IsTrue, refl, sym, subst}
 use Rattle.std.proofs.lemmas.Bool.{false≢true}
 use Rattle.vs_rules.specs.Rules.{K9}
-use Rattle.vs_slots_paths.specs.Reaches.{IsPlace}
+use Rattle.vs_cert_facts.specs.vs_slots_paths.specs.Reaches.{IsPlace}
 use Rattle.vs_cert_facts.specs.Facts.{Case}
 use Rattle.vs_cert_edges.specs.ReadingPlaces.{MayReadAt}
 use Rattle.vs_cert_edges.proofs.ReadingLemmas.{kept_readings, other_readings, reader_chart}

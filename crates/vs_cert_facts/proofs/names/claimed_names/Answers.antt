@@ -1,5 +1,5 @@
 use Rattle.std.proofs.Common.{◌∙◌, ap, map}
-use Rattle.vs_rules.specs.Certificates.{name_from}
+use Rattle.vs_cert_index.specs.vs_rules.specs.Certificates.{name_from}
 use Rattle.vs_cert_facts.specs.passes.Kept.{signal_entries, process_entries}
 use Rattle.vs_cert_facts.proofs.names.claimed_names.Goals as goal
 

@@ -1,8 +1,8 @@
 use Rattle.std.proofs.Common.{refl, ◌∙◌, arith}
 use Rattle.std.proofs.lemmas.Bool.{false≢true}
-use Rattle.vs_slots_paths.specs.Ranges.{shows_at}
-use Rattle.vs_slots_paths.specs.Reaches.{IsPlace}
-use Rattle.vs_slots_paths.proofs.MarkLemmas.{put_more}
+use Rattle.vs_slots_cones.specs.vs_slots_paths.specs.Ranges.{shows_at}
+use Rattle.vs_slots_cones.specs.vs_slots_paths.specs.Reaches.{IsPlace}
+use Rattle.vs_slots_cones.specs.vs_slots_paths.proofs.MarkLemmas.{put_more}
 use Rattle.vs_cert_first_slot.proofs.HungLemmas.{put_no_shown}
 use Rattle.vs_cert_first_slot.proofs.hung.push_shows_at.Goals as goal
 

@@ -1,7 +1,7 @@
 use Rattle.std.proofs.Common.{◌++◌, map, ◌∙◌, ap}
 use Rattle.std.specs.List.{flat_map}
-use Rattle.vs_rules.specs.Certificates.{edge_claim, name_from, process_claim, signal_claim}
-use Rattle.vs_rules.specs.Claims.{ProcessClaim, SignalClaim, names_of_edge}
+use Rattle.vs_cert_index.specs.vs_rules.specs.Certificates.{edge_claim, name_from, process_claim, signal_claim}
+use Rattle.vs_cert_index.specs.vs_rules.specs.Claims.{ProcessClaim, SignalClaim, names_of_edge}
 use Rattle.vs_cert_index.specs.Places.{texts}
 use Rattle.vs_cert_names.proofs.NameLemmas.{all_are}
 use Rattle.vs_cert_names.proofs.listed.all_names.Goals as goal

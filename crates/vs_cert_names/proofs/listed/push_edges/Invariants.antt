@@ -1,7 +1,7 @@
 use Rattle.std.proofs.Common.{◌≡◌, ◌++◌, map, take}
 use Rattle.std.specs.List.{flat_map}
-use Rattle.vs_rules.specs.Certificates.{edge_claim}
-use Rattle.vs_rules.specs.Claims.{names_of_edge}
+use Rattle.vs_cert_index.specs.vs_rules.specs.Certificates.{edge_claim}
+use Rattle.vs_cert_index.specs.vs_rules.specs.Claims.{names_of_edge}
 use Rattle.vs_cert_index.specs.Places.{texts}
 use Rattle.vs_cert_names.proofs.listed.push_edges.Given as goal
 

@@ -1,5 +1,5 @@
 use Rattle.std.proofs.Common.{◌≡◌, ◌++◌, map, take}
-use Rattle.vs_rules.specs.Certificates.{name_from}
+use Rattle.vs_cert_index.specs.vs_rules.specs.Certificates.{name_from}
 use Rattle.vs_cert_index.specs.Places.{texts}
 use Rattle.vs_cert_names.proofs.listed.push_order.Given as goal
 

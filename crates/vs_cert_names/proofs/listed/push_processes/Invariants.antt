@@ -1,6 +1,6 @@
 use Rattle.std.proofs.Common.{◌≡◌, ◌++◌, map, take}
-use Rattle.vs_rules.specs.Certificates.{process_claim}
-use Rattle.vs_rules.specs.Claims.{ProcessClaim}
+use Rattle.vs_cert_index.specs.vs_rules.specs.Certificates.{process_claim}
+use Rattle.vs_cert_index.specs.vs_rules.specs.Claims.{ProcessClaim}
 use Rattle.vs_cert_index.specs.Places.{texts}
 use Rattle.vs_cert_names.proofs.listed.push_processes.Given as goal
 

@@ -1,5 +1,5 @@
 use Rattle.std.proofs.Common.{ℕ, inl, inr, refl, sym, ◌∙◌}
-use Rattle.vs_rules.specs.Claims.{IsSignalNamed, IsAssignNamed, IsProcessNamed}
+use Rattle.vs_cert_index.specs.vs_rules.specs.Claims.{IsSignalNamed, IsAssignNamed, IsProcessNamed}
 use Rattle.vs_cert_names.proofs.NameLemmas.{some_named, none_named, last_named}
 use Rattle.vs_cert_names.proofs.rule.keeps_listed_name.Goals as goal
 

@@ -1,5 +1,5 @@
 use Rattle.std.proofs.Common.{◌≡◌, ◌++◌, map, take}
-use Rattle.vs_rules.specs.Verdict.{listed}
+use Rattle.vs_cert_index.specs.vs_rules.specs.Verdict.{listed}
 use Rattle.vs_cert_index.specs.Places.{texts}
 use Rattle.vs_cert_names.specs.Subjects.{subject_view}
 use Rattle.vs_cert_names.proofs.subjects.push_listed.Given as goal

@@ -1,5 +1,5 @@
 use Rattle.std.proofs.Common.{refl}
-use Rattle.vs_rules.specs.Verdict.{signal}
+use Rattle.vs_cert_index.specs.vs_rules.specs.Verdict.{signal}
 use Rattle.vs_cert_names.proofs.NameLemmas.{pushed}
 use Rattle.vs_cert_names.proofs.subjects.push_signals.Goals as goal
 

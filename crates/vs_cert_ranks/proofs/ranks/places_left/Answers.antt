@@ -1,6 +1,6 @@
 use Rattle.std.proofs.Common.{◌≡◌, ◌+◌, [], ◌∷◌, length, ap, ◌∙◌, arith, length-append}
-use Rattle.vs_slots_paths.specs.declared.along.Along.TheVariants.{ZeroTime}
-use Rattle.vs_slots_paths.specs.Reaches.{stops_along}
+use Rattle.vs_cert_facts.specs.vs_slots_paths.specs.declared.along.Along.TheVariants.{ZeroTime}
+use Rattle.vs_cert_facts.specs.vs_slots_paths.specs.Reaches.{stops_along}
 use Rattle.vs_cert_ranks.proofs.RankLemmas.{entered_less}
 use Rattle.vs_cert_ranks.proofs.ranks.places_left.Goals as goal
 

@@ -2,7 +2,7 @@ use Rattle.std.proofs.Common.{ℕ, ◌+◌, sym, ap, subst, ◌∙◌}
 use Rattle.std.specs.declared.vec.Vec.{Vec}
 use Rattle.std.specs.declared.alloc.Global.{Global}
 use Rattle.std.proofs.lemmas.Bool.{false≢true}
-use Rattle.vs_rules.specs.Claims.{IsWriter}
+use Rattle.vs_slots_uses.specs.vs_rules.specs.Claims.{IsWriter}
 use Rattle.vs_cert_ranks.proofs.WriteLemmas.{HaveSome, none_yet, one_passed, one_put, all_put_there}
 use Rattle.vs_cert_ranks.proofs.writes.push_own.Goals as goal
 use Rattle.vs_cert_ranks.proofs.writes.push_own.Goals.{then-is_writer+in_ok-push, else-is_writer}

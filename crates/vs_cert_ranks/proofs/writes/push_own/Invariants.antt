@@ -1,4 +1,4 @@
-use Rattle.vs_rules.specs.Claims.{IsWriter}
+use Rattle.vs_slots_uses.specs.vs_rules.specs.Claims.{IsWriter}
 use Rattle.vs_cert_ranks.proofs.WriteLemmas.{HaveSome}
 use Rattle.vs_cert_ranks.proofs.writes.push_own.Given as goal
 

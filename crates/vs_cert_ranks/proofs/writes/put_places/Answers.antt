@@ -1,8 +1,8 @@
 use Rattle.std.proofs.Common.{ℕ, List, ◌⊎◌, ◌<◌, sym, subst, ◌∙◌, arith}
 use Rattle.std.specs.List.{Contains}
 use Rattle.vs_design.specs.declared.range.BitRange.{BitRange}
-use Rattle.vs_rules.specs.Claims.{IsWriter}
-use Rattle.vs_slots_paths.specs.Ranges.{HasSignal, now_at}
+use Rattle.vs_slots_uses.specs.vs_rules.specs.Claims.{IsWriter}
+use Rattle.vs_cert_facts.specs.vs_slots_paths.specs.Ranges.{HasSignal, now_at}
 use Rattle.vs_cert_ranks.specs.Places.{WritesAt}
 use Rattle.vs_cert_ranks.proofs.WriteLemmas.{none_there, of_both, one_there}
 use Rattle.vs_cert_ranks.proofs.writes.put_places.Goals as goal

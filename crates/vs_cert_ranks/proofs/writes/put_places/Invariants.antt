@@ -1,4 +1,4 @@
-use Rattle.vs_rules.specs.Claims.{IsWriter}
+use Rattle.vs_slots_uses.specs.vs_rules.specs.Claims.{IsWriter}
 use Rattle.vs_cert_ranks.specs.Places.{WritesAt}
 use Rattle.vs_cert_ranks.proofs.WriteLemmas.{AreThere}
 use Rattle.vs_cert_ranks.proofs.writes.put_places.Given as goal

@@ -1,7 +1,7 @@
 use Rattle.std.proofs.Common.{◌∙◌, subst}
 use Rattle.std.proofs.lemmas.Option.{none-some, same_Some}
 use Rattle.std.proofs.lemmas.Result.{on_ok_weaker}
-use Rattle.vs_slots_paths.specs.Reaches.{Chart}
+use Rattle.vs_cert_facts.specs.vs_slots_paths.specs.Reaches.{Chart}
 use Rattle.vs_cert_ranks.specs.Ranks.{AreOwnPlaces}
 use Rattle.vs_cert_ranks.proofs.writes.put_process.Goals as goal
 

@@ -1,7 +1,7 @@
 use Rattle.std.proofs.Common.{◌∙◌, subst}
 use Rattle.std.proofs.lemmas.Option.{same_Some}
 use Rattle.std.proofs.lemmas.Result.{IfOk-weaker}
-use Rattle.vs_slots_paths.specs.Reaches.{Chart}
+use Rattle.vs_cert_facts.specs.vs_slots_paths.specs.Reaches.{Chart}
 use Rattle.vs_cert_ranks.specs.declared.ranks.Ranks.{Ranks}
 use Rattle.vs_cert_ranks.specs.Ranks.{AreRanks}
 use Rattle.vs_cert_ranks.proofs.writes.ranks_of.Goals as goal

@@ -1,4 +1,4 @@
-use Rattle.vs_slots_constants.specs.Givings.{bit_view}
+use Rattle.vs_slots_copies.specs.vs_slots_constants.specs.Givings.{bit_view}
 use Rattle.vs_cert_starts.specs.Beginnings.{HasAt}
 use Rattle.vs_cert_starts.proofs.BeginningLemmas.{NoneBelow}
 use Rattle.vs_cert_starts.proofs.begins.any_has.Given as goal

@@ -5,7 +5,7 @@ use Rattle.vs_design.specs.declared.statement.Statement.TheOpen.{Statement-F}
 use Rattle.vs_design.specs.declared.statement.Statement.TheOpen as f
 use Rattle.vs_design.specs.declared.statement.Statement.TheVariants.{rolls-Later}
 use Rattle.vs_design.specs.declared.statement.Statement.TheViews.{out-Statement}
-use Rattle.vs_slots_constants.proofs.Cores.{layer_of}
+use Rattle.vs_slots_copies.specs.vs_slots_constants.proofs.Cores.{layer_of}
 use Rattle.vs_cert_starts.specs.Beginnings.{BeginsLayer, GivesNamed}
 use Rattle.vs_cert_starts.proofs.begins.begins_layer.Goals as goal
 

@@ -1,5 +1,5 @@
 use Rattle.std.proofs.Common.{refl}
-use Rattle.vs_slots_constants.specs.Givings.{bit_view}
+use Rattle.vs_slots_copies.specs.vs_slots_constants.specs.Givings.{bit_view}
 use Rattle.vs_cert_starts.proofs.BeginningLemmas.{gives_is}
 use Rattle.vs_cert_starts.proofs.begins.gives_bit.Goals as goal
 

@@ -1,6 +1,6 @@
 use Rattle.std.proofs.Common.{ℕ, ◌<◌, ◌↔◌, IsTrue}
 use Rattle.std.proofs.lemmas.Result.{IfOk-weaker}
-use Rattle.vs_slots_paths.specs.Reaches.{InSlot0}
+use Rattle.vs_slots_cones.specs.vs_slots_paths.specs.Reaches.{InSlot0}
 use Rattle.vs_cert_starts.specs.Beginnings.{BeginsAt, StartsSurely, WritesAt}
 use Rattle.vs_cert_starts.proofs.BeginningLemmas.{surely_is}
 use Rattle.vs_cert_starts.proofs.MissingLemmas.{slot0_below}

@@ -1,8 +1,8 @@
 use Rattle.std.proofs.Common.{ℕ, ◌≡◌, ◌<◌, ◌↔◌, ◌∙◌, IsTrue, Bool, false, List, [], ◌∷◌, length, vec_len, rules, slice_index_or, subst, sym}
 use Rattle.std.proofs.lemmas.Result.{IfOk-weaker}
 use Rattle.vs_reach.specs.Reached.{AreReached}
-use Rattle.vs_slots_paths.specs.Reaches.{places}
-use Rattle.vs_slots_paths.specs.Walks.{AreMarked}
+use Rattle.vs_slots_cones.specs.vs_slots_paths.specs.Reaches.{places}
+use Rattle.vs_slots_cones.specs.vs_slots_paths.specs.Walks.{AreMarked}
 use Rattle.vs_cert_starts.specs.Missing.{IsSure, stops_here, unmarked}
 use Rattle.vs_cert_starts.proofs.MissingLemmas.{sure_is}
 use Rattle.vs_cert_starts.proofs.missing.is_sure.Goals as goal

@@ -2,8 +2,8 @@ use Rattle.std.proofs.Common.{ℕ, ◌≡◌, ◌↔◌, IsTrue, Some, map, slic
 use Rattle.std.proofs.lemmas.Result.{IfOk-weaker}
 use Rattle.vs_design.specs.declared.design.Process.{Process}
 use Rattle.vs_design.specs.declared.statement.Statement.{Statement}
-use Rattle.vs_flatcode.specs.Stops.{IsText, stop_view}
-use Rattle.vs_slots_paths.specs.Reaches.{chart_of}
+use Rattle.vs_slots_cold.specs.vs_flatcode.specs.Stops.{IsText, stop_view}
+use Rattle.vs_slots_cones.specs.vs_slots_paths.specs.Reaches.{chart_of}
 use Rattle.vs_cert_starts.specs.Beginnings.{AreNamed, StartsSurely}
 use Rattle.vs_cert_starts.specs.Started.{StartsFor}
 use Rattle.vs_cert_starts.proofs.BeginningLemmas.{starts_for}

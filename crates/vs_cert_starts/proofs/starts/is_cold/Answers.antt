@@ -1,7 +1,7 @@
 use Rattle.std.proofs.Common.{◌≡◌, ◌<◌, ◌↔◌, Some, true, Bool, IsTrue, List, length, slice_get, sym, subst, ◌∙◌}
 use Rattle.vs_design.specs.declared.design.Process.{Process}
 use Rattle.vs_design.specs.Parts.{Parts}
-use Rattle.vs_process.specs.Executions.{is_combinational}
+use Rattle.vs_cert_facts.specs.vs_process.specs.Executions.{is_combinational}
 use Rattle.vs_rules.specs.Claims.{cold}
 use Rattle.vs_slots_cold.specs.Cold.{StaysAtEach}
 use Rattle.vs_cert_starts.specs.Starts.{NoStarterIn}

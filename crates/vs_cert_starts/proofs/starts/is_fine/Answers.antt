@@ -1,6 +1,6 @@
 use Rattle.std.proofs.Common.{refl}
 use Rattle.vs_rules.specs.Drivers.{IsSource}
-use Rattle.vs_slots_paths.specs.Ranges.{HasSignal}
+use Rattle.vs_slots_cones.specs.vs_slots_paths.specs.Ranges.{HasSignal}
 use Rattle.vs_cert_starts.proofs.StartLemmas.{a_source, other_signal, false_not}
 use Rattle.vs_cert_starts.proofs.starts.is_fine.Goals as goal
 

@@ -2,7 +2,7 @@ use Rattle.std.proofs.Common.{◌↔◌, sym, ap, ◌∙◌}
 use Rattle.std.proofs.lemmas.Result.{IfOk-weaker}
 use Rattle.std.specs.List.{Contains}
 use Rattle.vs_design.specs.declared.statement.EventTerm.{EventTerm}
-use Rattle.vs_slots_paths.specs.Ranges.{HasTermAt}
+use Rattle.vs_slots_cones.specs.vs_slots_paths.specs.Ranges.{HasTermAt}
 use Rattle.vs_cert_facts.specs.Facts.{seen}
 use Rattle.vs_cert_starts.specs.Started.{AreTerms}
 use Rattle.vs_cert_starts.proofs.StartLemmas.{no_chart, terms_are}

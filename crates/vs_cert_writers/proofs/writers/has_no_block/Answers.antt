@@ -1,6 +1,6 @@
 use Rattle.std.proofs.Common.{refl}
 use Rattle.std.proofs.lemmas.Bool.{false≢true}
-use Rattle.vs_rules.specs.Claims.{IsBlock}
+use Rattle.vs_slots_uses.specs.vs_rules.specs.Claims.{IsBlock}
 use Rattle.vs_slots_uses.proofs.SiteLemmas.{further, all_do, one_not}
 use Rattle.vs_cert_writers.proofs.writers.has_no_block.Goals as goal
 

@@ -1,5 +1,5 @@
 use Rattle.std.proofs.Common.{◌<◌, ℕ, get_or}
-use Rattle.vs_rules.specs.Claims.{IsBlock}
+use Rattle.vs_slots_uses.specs.vs_rules.specs.Claims.{IsBlock}
 use Rattle.vs_cert_writers.proofs.writers.has_no_block.Given as goal
 
 abbrev pub invariant-loop-j : goal.invariant-loop-j

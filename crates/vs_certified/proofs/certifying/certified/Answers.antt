@@ -1,8 +1,8 @@
 use Rattle.std.proofs.Common.{◌≡◌, false, IfErr, subst}
 use Rattle.std.specs.Prelude.{Result, Ok, Err}
 use Rattle.vs_process.specs.declared.moves.Grain.TheVariants.{Statement}
-use Rattle.vs_rules.specs.Certificates.{claims_of}
-use Rattle.vs_rules.specs.Verdict.{IsVerdict}
+use Rattle.vs_cert_check.specs.vs_rules.specs.Certificates.{claims_of}
+use Rattle.vs_cert_check.specs.vs_rules.specs.Verdict.{IsVerdict}
 use Rattle.vs_cert_check.specs.Answers.{verdict_view, HasNumber}
 use Rattle.vs_cert_check.specs.Means.{Means}
 use Rattle.vs_certified.specs.Certified.{is_before_run}

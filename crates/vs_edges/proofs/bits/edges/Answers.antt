@@ -1,8 +1,8 @@
 use Rattle.std.proofs.Common.{get_or, ◌∙◌, sym, ap, arith}
-use Rattle.vs_logic4.specs.declared.digit.Digit.TheVariants.{Zero}
-use Rattle.vs_logic4.specs.declared.edge.Edge.{Edge}
-use Rattle.vs_logic4.specs.declared.edge.Edge.TheVariants.{Any, Posedge, Negedge}
-use Rattle.vs_logic4.specs.Edges.{is_edge}
+use Rattle.vs_design.specs.vs_logic4.specs.declared.digit.Digit.TheVariants.{Zero}
+use Rattle.vs_design.specs.vs_logic4.specs.declared.edge.Edge.{Edge}
+use Rattle.vs_design.specs.vs_logic4.specs.declared.edge.Edge.TheVariants.{Any, Posedge, Negedge}
+use Rattle.vs_design.specs.vs_logic4.specs.Edges.{is_edge}
 use Rattle.vs_edges.proofs.Edges.{any_at, posedge_at, negedge_at, edge_at_place}
 use Rattle.vs_edges.proofs.bits.edges.Goals as goal
 

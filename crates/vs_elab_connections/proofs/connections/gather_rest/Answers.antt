@@ -1,7 +1,7 @@
 use Rattle.std.proofs.Common.{◌≡◌, ◌+◌, ◌++◌, ◌∷◌, [], true, subst, sym, take, drop, arith}
 use Rattle.std.proofs.lemmas.List.{take_all}
 use Rattle.vs_elab_connections.specs.passes.Ends.{Gathers, GathersMore, is_named_mismatch}
-use Rattle.vs_logic4.proofs.Basics.{take_push}
+use Rattle.vs_syntax.specs.vs_logic4.proofs.Basics.{take_push}
 use Rattle.vs_elab_connections.proofs.ConnectionLemmas.{mismatch_left, whole_at}
 use Rattle.vs_elab_connections.proofs.connections.gather_rest.Goals as goal
 

@@ -2,7 +2,7 @@ use Rattle.std.proofs.Common.{◌+◌, ◌∙◌, ap, map, drop, arith}
 use Rattle.vs_elab_connections.specs.Overrides.{first_end, given_from}
 use Rattle.vs_elab_connections.specs.passes.Ends.{read_ends, read_parameter, read_given}
 use Rattle.vs_elab_connections.proofs.PassLemmas.{moved, given_at}
-use Rattle.vs_logic4.proofs.Basics.{front_of as drop_at}
+use Rattle.vs_syntax.specs.vs_logic4.proofs.Basics.{front_of as drop_at}
 use Rattle.vs_elab_connections.proofs.parameters.given_parameters.Goals as goal
 
 pub loop-parameter-preserved : goal.loop-parameter-preserved

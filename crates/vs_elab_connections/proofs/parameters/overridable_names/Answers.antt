@@ -3,7 +3,7 @@ use Rattle.std.proofs.lemmas.List.{drop_all}
 use Rattle.vs_elab_connections.specs.Overrides.{overridable}
 use Rattle.vs_elab_connections.specs.passes.Ends.{borrowed, read_parameter}
 use Rattle.vs_elab_connections.proofs.PassLemmas.{moved, ended, overridable_fixed, overridable_other}
-use Rattle.vs_logic4.proofs.Basics.{front_of as drop_at}
+use Rattle.vs_syntax.specs.vs_logic4.proofs.Basics.{front_of as drop_at}
 use Rattle.vs_elab_connections.proofs.parameters.overridable_names.Goals as goal
 
 pub loop-parameter-preserved-then-parameter : goal.loop-parameter-preserved-then-parameter

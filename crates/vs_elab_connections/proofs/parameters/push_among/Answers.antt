@@ -8,7 +8,7 @@ use Rattle.vs_elab_pieces.specs.declared.scope.ScopePiece.TheVariants as pieces
 use Rattle.vs_elab_connections.specs.Overrides.{parameters_among}
 use Rattle.vs_elab_connections.specs.passes.Ends.{read_parameter}
 use Rattle.vs_elab_connections.proofs.PassLemmas.{moved_by, ended}
-use Rattle.vs_logic4.proofs.Basics.{front_of as drop_at}
+use Rattle.vs_syntax.specs.vs_logic4.proofs.Basics.{front_of as drop_at}
 use Rattle.vs_elab_connections.proofs.parameters.push_among.Goals as goal
 
 -- a piece that is no item declares no parameters

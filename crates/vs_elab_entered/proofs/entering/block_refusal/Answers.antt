@@ -1,8 +1,8 @@
 use Rattle.std.proofs.Common.{◌≡◌, refl, ap, sym, subst, ◌∙◌}
-use Rattle.vs_scopes.specs.declared.faults.Reason.TheVariants.{Width}
-use Rattle.vs_scopes.specs.Scopes.{named_at}
-use Rattle.vs_scopes.specs.passes.Answers.{IsFaultAt}
-use Rattle.vs_scopes.specs.passes.Names.{read_title, read_path}
+use Rattle.vs_elab_implicit_nets.specs.vs_scopes.specs.declared.faults.Reason.TheVariants.{Width}
+use Rattle.vs_elab_implicit_nets.specs.vs_scopes.specs.Scopes.{named_at}
+use Rattle.vs_elab_implicit_nets.specs.vs_scopes.specs.passes.Answers.{IsFaultAt}
+use Rattle.vs_elab_implicit_nets.specs.vs_scopes.specs.passes.Names.{read_title, read_path}
 use Rattle.vs_elab_entered.specs.passes.Entering.{IsBlockRefusal}
 use Rattle.vs_elab_entered.proofs.EnteringLemmas.{inside, stands_inside}
 use Rattle.vs_elab_entered.proofs.entering.block_refusal.Goals as goal

@@ -1,12 +1,12 @@
 use Rattle.std.proofs.Common.{◌≡◌, ◌<◌, length, map, slice_index_or, refl, subst, arith}
 use Rattle.std.proofs.lemmas.Option.{slice_get-get_or}
 use Rattle.vs_width_selects.specs.Findings.{Lacks, Refuses}
-use Rattle.vs_widths.specs.Names.{by_bytes, nested_names}
+use Rattle.vs_elab_generate.specs.vs_widths.specs.Names.{by_bytes, nested_names}
 use Rattle.vs_elab_pieces.specs.Reads.{read_piece}
-use Rattle.vs_elab_parameters.specs.passes.Values.{AreBlockValues, block_faults}
-use Rattle.vs_scopes.specs.Scopes.{block_scope, block_text, sight_in}
+use Rattle.vs_elab_implicit_nets.specs.vs_elab_parameters.specs.passes.Values.{AreBlockValues, block_faults}
+use Rattle.vs_elab_implicit_nets.specs.vs_scopes.specs.Scopes.{block_scope, block_text, sight_in}
 use Rattle.vs_elab_implicit_nets.specs.passes.Nets.{AreMembers}
-use Rattle.vs_scopes.specs.passes.Names.{read_title}
+use Rattle.vs_elab_implicit_nets.specs.vs_scopes.specs.passes.Names.{read_title}
 use Rattle.vs_elab_entered.proofs.SeatLemmas.{opened_many}
 use Rattle.vs_elab_entered.proofs.EnterLemmas.{entered_block, block_told}
 use Rattle.vs_elab_entered.proofs.EnteringLemmas.{entered_here}

@@ -1,7 +1,7 @@
 use Rattle.std.proofs.Common.{MatchResult, map, sym, subst}
 use Rattle.vs_elab_pieces.specs.Reads.{read_piece, read_block}
 use Rattle.vs_elab_generate.specs.Reads.{read_inner}
-use Rattle.vs_scopes.specs.passes.Answers.{Told}
+use Rattle.vs_elab_implicit_nets.specs.vs_scopes.specs.passes.Answers.{Told}
 use Rattle.vs_elab_entered.specs.passes.Entering.{before_next, Enters, EntersNot}
 use Rattle.vs_elab_entered.proofs.EnteringLemmas.{named_entered}
 use Rattle.vs_elab_entered.proofs.entering.enter.Goals as goal

@@ -1,5 +1,5 @@
 use Rattle.std.proofs.Common.{[], map, ap, sym, ◌∙◌}
-use Rattle.vs_widths.specs.Names.{by_bytes}
+use Rattle.vs_elab_generate.specs.vs_widths.specs.Names.{by_bytes}
 use Rattle.vs_elab_pieces.specs.Reads.{read_piece}
 use Rattle.vs_elab_generate.specs.Reads.{read_constant}
 use Rattle.vs_elab_entered.specs.passes.Entering.{before_next}

@@ -3,9 +3,9 @@ use Rattle.std.specs.List.{list_any}
 use Rattle.std.specs.Str.{bytes_eq}
 use Rattle.std.proofs.lemmas.Option.{slice_get-get_or}
 use Rattle.vs_elab_generate.specs.Reads.{read_use}
-use Rattle.vs_scopes.specs.Nets.{permits_nets}
-use Rattle.vs_scopes.specs.Scopes.{module_named, is_inside}
-use Rattle.vs_scopes.specs.passes.Answers.{borrowed}
+use Rattle.vs_elab_implicit_nets.specs.vs_scopes.specs.Nets.{permits_nets}
+use Rattle.vs_elab_implicit_nets.specs.vs_scopes.specs.Scopes.{module_named, is_inside}
+use Rattle.vs_elab_implicit_nets.specs.vs_scopes.specs.passes.Answers.{borrowed}
 use Rattle.vs_elab_entered.specs.passes.Entering.{before_next}
 use Rattle.vs_elab_entered.proofs.EnterLemmas.{home_modules, found_some, inside_told}
 use Rattle.vs_elab_entered.proofs.EnteringLemmas.{home_below, instance_entered}

@@ -1,10 +1,10 @@
 use Rattle.std.proofs.Common.{◌≡◌, ℕ, List, [], ◌++◌, IfOk, IfErr, ap, subst, ◌∙◌}
 use Rattle.std.proofs.Math.Path.{fun_ext}
-use Rattle.vs_widths.specs.Names.{meaning_of, nested_names}
-use Rattle.vs_scopes.specs.Declarations.{Bindings}
-use Rattle.vs_scopes.specs.Scopes.{environment}
-use Rattle.vs_scopes.specs.passes.Parts.{read_end}
-use Rattle.vs_elab_parameters.specs.passes.Values.{AreValues, AreNoValues}
+use Rattle.vs_elab_generate.specs.vs_widths.specs.Names.{meaning_of, nested_names}
+use Rattle.vs_elab_implicit_nets.specs.vs_scopes.specs.Declarations.{Bindings}
+use Rattle.vs_elab_implicit_nets.specs.vs_scopes.specs.Scopes.{environment}
+use Rattle.vs_elab_implicit_nets.specs.vs_scopes.specs.passes.Parts.{read_end}
+use Rattle.vs_elab_implicit_nets.specs.vs_elab_parameters.specs.passes.Values.{AreValues, AreNoValues}
 use Rattle.vs_elab_entered.proofs.entering.instance_values.Goals as goal
 
 pub returns-clause-ok : goal.returns-clause-ok

@@ -3,11 +3,11 @@ use Rattle.std.proofs.lemmas.Option.{slice_get-get_or}
 use Rattle.vs_elab_pieces.specs.Reads.{read_piece}
 use Rattle.vs_elab_pieces.specs.Pieces.{pieces_of}
 use Rattle.vs_elab_generate.specs.Reads.{read_use}
-use Rattle.vs_scopes.specs.Ports.{ports_of, listed_ports}
-use Rattle.vs_scopes.specs.Scopes.{instance_scope}
-use Rattle.vs_scopes.specs.passes.Answers.{borrowed}
-use Rattle.vs_scopes.specs.passes.Parts.{read_port}
-use Rattle.vs_elab_listed.specs.passes.Connecting.{ConnectsTo}
+use Rattle.vs_elab_implicit_nets.specs.vs_scopes.specs.Ports.{ports_of, listed_ports}
+use Rattle.vs_elab_implicit_nets.specs.vs_scopes.specs.Scopes.{instance_scope}
+use Rattle.vs_elab_implicit_nets.specs.vs_scopes.specs.passes.Answers.{borrowed}
+use Rattle.vs_elab_implicit_nets.specs.vs_scopes.specs.passes.Parts.{read_port}
+use Rattle.vs_elab_implicit_nets.specs.vs_elab_listed.specs.passes.Connecting.{ConnectsTo}
 use Rattle.vs_elab_entered.specs.passes.Entering.{before_next}
 use Rattle.vs_elab_entered.proofs.SeatLemmas.{opened_many}
 use Rattle.vs_elab_entered.proofs.EnterLemmas.{entered_instance, parameters_told, ports_told, home_modules}

@@ -1,6 +1,6 @@
 use Rattle.std.proofs.Common.{ℕ, List, ◌++◌, ap, ap₂, sym, ◌∙◌, arith}
 use Rattle.std.proofs.lemmas.Result.{err_from_is_err_and}
-use Rattle.vs_width_selects.specs.declared.constants.Const.{Const}
+use Rattle.vs_scopes.specs.vs_width_selects.specs.declared.constants.Const.{Const}
 use Rattle.vs_widths.specs.Names.{meaning_of}
 use Rattle.vs_elab_pieces.specs.Pieces.{content_of}
 use Rattle.vs_elab_pieces.specs.Reads.{read_content, referred}

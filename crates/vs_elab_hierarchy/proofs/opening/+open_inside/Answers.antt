@@ -1,6 +1,6 @@
 use Rattle.std.proofs.Common.{◌<◌, [], ◌∷◌, ◌++◌, length, map, refl, sym, subst, arith}
 use Rattle.std.proofs.lemmas.Result.{err_from_is_err_and}
-use Rattle.vs_elab_generate.specs.Reads.{read_inner}
+use Rattle.vs_elab_listed.specs.vs_elab_generate.specs.Reads.{read_inner}
 use Rattle.vs_elab_listed.specs.Opened.{AreOpened, AreSeated}
 use Rattle.vs_elab_hierarchy.specs.passes.Opens.{HasInner}
 use Rattle.vs_elab_entered.proofs.SeatLemmas.{opened_place}

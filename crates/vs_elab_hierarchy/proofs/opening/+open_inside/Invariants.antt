@@ -1,6 +1,6 @@
 use Rattle.std.proofs.Common.{◌-◌, List, map, take}
 use Rattle.vs_syntax.specs.declared.tree.Module.{Module}
-use Rattle.vs_elab_generate.specs.Reads.{read_inner}
+use Rattle.vs_elab_listed.specs.vs_elab_generate.specs.Reads.{read_inner}
 use Rattle.vs_scopes.specs.Scopes.{Scope}
 use Rattle.vs_elab_hierarchy.specs.passes.Opens.{IsReady, HoldsInner}
 use Rattle.vs_elab_hierarchy.proofs.opening.+open_inside.Given as goal

@@ -1,5 +1,5 @@
 use Rattle.std.proofs.Common.{◌≡◌, true, false, ◌||◌, is_some, ap, sym, ◌∙◌}
-use Rattle.vs_widths.specs.Names.{meaning_of}
+use Rattle.vs_elab_parameters.specs.vs_widths.specs.Names.{meaning_of}
 use Rattle.vs_scopes.specs.Nets.{is_declared}
 use Rattle.vs_elab_implicit_nets.proofs.around.is_known.Goals as goal
 

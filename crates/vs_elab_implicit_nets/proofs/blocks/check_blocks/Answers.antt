@@ -2,7 +2,7 @@ use Rattle.std.proofs.Common.{map, ap, sym, ◌∙◌, arith}
 use Rattle.std.specs.List.{list_any}
 use Rattle.std.proofs.lemmas.List.{drop_all}
 use Rattle.std.proofs.lemmas.Result.{err_from_is_err_and}
-use Rattle.vs_elab_generate.specs.Reads.{read_inner}
+use Rattle.vs_elab_listed.specs.vs_elab_generate.specs.Reads.{read_inner}
 use Rattle.vs_scopes.specs.Scopes.{is_named_as_net}
 use Rattle.vs_elab_implicit_nets.proofs.LateLemmas.{inner_told, inner_free}
 use Rattle.vs_elab_implicit_nets.proofs.blocks.check_blocks.Goals as goal

@@ -1,6 +1,6 @@
 use Rattle.std.proofs.Common.{◌≡◌, List, Some, map, drop, slice_get}
 use Rattle.std.specs.List.{list_any}
-use Rattle.vs_elab_generate.specs.Reads.{read_inner}
+use Rattle.vs_elab_listed.specs.vs_elab_generate.specs.Reads.{read_inner}
 use Rattle.vs_scopes.specs.Scopes.{Scope, is_named_as_net}
 use Rattle.vs_elab_listed.specs.Opened.{AreOpened}
 use Rattle.vs_elab_implicit_nets.proofs.blocks.check_blocks.Given as goal

@@ -3,7 +3,7 @@ use Rattle.std.specs.Borrow.{Bor}
 use Rattle.std.proofs.lemmas.List.{drop_all}
 use Rattle.std.proofs.lemmas.Result.{err_from_is_err_and}
 use Rattle.vs_scopes.specs.passes.Answers.{borrowed}
-use Rattle.vs_logic4.proofs.Basics.{get_or_same}
+use Rattle.vs_design.specs.vs_logic4.proofs.Basics.{get_or_same}
 use Rattle.vs_elab_implicit_nets.specs.passes.Nets.{late_among}
 use Rattle.vs_elab_implicit_nets.proofs.LateLemmas.{names_timely, names_late}
 use Rattle.vs_elab_implicit_nets.proofs.late.check_names.Goals as goal

@@ -1,5 +1,5 @@
 use Rattle.std.proofs.Common.{◌≡◌, false, is_some, ap, sym, ◌∙◌}
-use Rattle.vs_widths.specs.Names.{meaning_of}
+use Rattle.vs_elab_parameters.specs.vs_widths.specs.Names.{meaning_of}
 use Rattle.vs_elab_implicit_nets.proofs.NetLemmas.{adds_used, adds_known, adds_fresh}
 use Rattle.vs_elab_implicit_nets.proofs.nets.add_net.Goals as goal
 

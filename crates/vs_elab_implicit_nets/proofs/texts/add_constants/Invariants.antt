@@ -1,5 +1,5 @@
 use Rattle.std.proofs.Common.{take}
-use Rattle.vs_widths.specs.Names.{by_bytes}
+use Rattle.vs_elab_parameters.specs.vs_widths.specs.Names.{by_bytes}
 use Rattle.vs_scopes.specs.Scopes.{constant_names}
 use Rattle.vs_scopes.specs.passes.Declared.{AddsNames}
 use Rattle.vs_elab_implicit_nets.proofs.texts.add_constants.Given as goal

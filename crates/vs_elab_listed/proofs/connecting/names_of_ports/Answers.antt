@@ -3,7 +3,7 @@ use Rattle.std.proofs.lemmas.List.{drop_all}
 use Rattle.vs_scopes.specs.Ports.{port_names}
 use Rattle.vs_scopes.specs.passes.Parts.{read_port}
 use Rattle.vs_scopes.proofs.PassLemmas.{moved, ended}
-use Rattle.vs_logic4.proofs.Basics.{front_of as drop_at}
+use Rattle.vs_design.specs.vs_logic4.proofs.Basics.{front_of as drop_at}
 use Rattle.vs_elab_listed.proofs.connecting.names_of_ports.Goals as goal
 
 pub loop-port-preserved : goal.loop-port-preserved

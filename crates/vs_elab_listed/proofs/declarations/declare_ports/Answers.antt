@@ -6,7 +6,7 @@ use Rattle.vs_scopes.specs.passes.Parts.{read_port}
 use Rattle.vs_scopes.proofs.AnswerLemmas.{kept_none, one_more, one_all, one_fault}
 use Rattle.vs_elab_listed.specs.passes.Declaring.{DeclaresPorts, DeclaresPortsNot}
 use Rattle.vs_elab_listed.proofs.DeclareLemmas.{ports_not_more}
-use Rattle.vs_logic4.proofs.Basics.{map_twice}
+use Rattle.vs_design.specs.vs_logic4.proofs.Basics.{map_twice}
 use Rattle.vs_elab_listed.proofs.declarations.declare_ports.Goals as goal
 
 pub loop-port-init : goal.loop-port-init

@@ -5,7 +5,7 @@ use Rattle.vs_scopes.specs.passes.Names.{read_path}
 use Rattle.vs_elab_listed.specs.passes.Naming.{BoundBehind, BoundNot}
 use Rattle.vs_scopes.proofs.AnswerLemmas.{one_more, one_all, one_fault}
 use Rattle.vs_elab_listed.proofs.BindLemmas.{bound_not_more, alikes_bind, alike_bind}
-use Rattle.vs_logic4.proofs.Basics.{get_or_same}
+use Rattle.vs_design.specs.vs_logic4.proofs.Basics.{get_or_same}
 use Rattle.vs_elab_listed.proofs.naming.bind_all.Goals as goal
 
 pub returns-in_err-bind : goal.returns-in_err-bind

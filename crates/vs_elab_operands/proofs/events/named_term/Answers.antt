@@ -1,5 +1,5 @@
 use Rattle.std.proofs.Common.{[]}
-use Rattle.vs_logic4.specs.declared.edge.Edge.TheVariants.{Any}
+use Rattle.vs_design.specs.vs_logic4.specs.declared.edge.Edge.TheVariants.{Any}
 use Rattle.vs_widths.specs.Names.{meaning_of}
 use Rattle.vs_elab_operands.proofs.EventLemmas.{alone_place, term_is}
 use Rattle.vs_elab_operands.proofs.events.named_term.Goals as goal

@@ -1,6 +1,6 @@
 use Rattle.std.proofs.Common.{ℕ, List, map, arith}
 use Rattle.std.specs.List.{flat_map}
-use Rattle.vs_width_selects.specs.declared.bindings.Binding.TheVariants.{Other}
+use Rattle.vs_scopes.specs.vs_width_selects.specs.declared.bindings.Binding.TheVariants.{Other}
 use Rattle.vs_elab_pieces.specs.declared.scope.ScopePiece.{ScopePiece as FoundPiece}
 use Rattle.vs_elab_pieces.specs.Reads.{read_piece}
 use Rattle.vs_scopes.specs.Declarations.{inner_names_in, bound_to}

@@ -1,7 +1,7 @@
 use Rattle.std.proofs.Common.{map, take}
 use Rattle.vs_elab_pieces.specs.Pieces.{NamedBlock}
 use Rattle.vs_elab_pieces.specs.Reads.{read_block}
-use Rattle.vs_width_selects.specs.declared.bindings.Binding.TheVariants.{Other}
+use Rattle.vs_scopes.specs.vs_width_selects.specs.declared.bindings.Binding.TheVariants.{Other}
 use Rattle.vs_scopes.specs.Declarations.{bound_to}
 use Rattle.vs_scopes.specs.passes.Declared.{AddsNames}
 use Rattle.vs_elab_parameters.proofs.early.add_blocks.Given as goal

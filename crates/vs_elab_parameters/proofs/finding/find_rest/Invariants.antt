@@ -1,5 +1,5 @@
 use Rattle.std.proofs.Common.{◌≡◌, ◌-◌, length, map}
-use Rattle.vs_width_selects.specs.Environment.{Environment}
+use Rattle.vs_scopes.specs.vs_width_selects.specs.Environment.{Environment}
 use Rattle.vs_widths.specs.Names.{meaning_of, nested_names}
 use Rattle.vs_scopes.specs.passes.Parts.{read_given}
 use Rattle.vs_elab_parameters.specs.passes.Finding.{AreFound, count_found}

@@ -6,7 +6,7 @@ use Rattle.vs_scopes.specs.passes.Parts.{read_given}
 use Rattle.vs_elab_parameters.specs.passes.Finding.{IsTried}
 use Rattle.vs_elab_parameters.proofs.FindingLemmas.{found_more}
 use Rattle.vs_elab_parameters.proofs.SearchLemmas.{unfound_at, refused_among}
-use Rattle.vs_logic4.proofs.Basics.{at_place as get_map}
+use Rattle.vs_design.specs.vs_logic4.proofs.Basics.{at_place as get_map}
 use Rattle.vs_elab_parameters.proofs.finding.find_value.Goals as goal
 
 pub returns-then-is_some-clause-found : goal.returns-then-is_some-clause-found

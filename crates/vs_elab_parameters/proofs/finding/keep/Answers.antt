@@ -3,7 +3,7 @@ use Rattle.vs_scopes.specs.Declarations.{Bindings}
 use Rattle.vs_scopes.specs.passes.Parts.{read_given}
 use Rattle.vs_elab_parameters.specs.passes.Finding.{is_number, AreNamed}
 use Rattle.vs_elab_parameters.proofs.FindingLemmas.{named_first, named_later}
-use Rattle.vs_logic4.proofs.Basics.{at_place as get_map}
+use Rattle.vs_design.specs.vs_logic4.proofs.Basics.{at_place as get_map}
 use Rattle.vs_elab_parameters.proofs.finding.keep.Goals as goal
 use Rattle.vs_elab_parameters.proofs.finding.keep.Goals.{then-is_first+in_ok-bind, else-is_first}
 

@@ -5,7 +5,7 @@ use Rattle.vs_widths.specs.Names.{meaning_of, nested_names}
 use Rattle.vs_scopes.specs.passes.Parts.{read_given}
 use Rattle.vs_elab_parameters.specs.passes.Finding.{IsTried}
 use Rattle.vs_elab_parameters.proofs.SearchLemmas.{IsSearched, unfound_at, found_at, refused_among, next_is, searched_none, searched_found, searched_faulty, searched_all, searched_stuck}
-use Rattle.vs_logic4.proofs.Basics.{at_place as get_map}
+use Rattle.vs_design.specs.vs_logic4.proofs.Basics.{at_place as get_map}
 use Rattle.vs_elab_parameters.proofs.finding.next_value.Goals as goal
 use Rattle.vs_elab_parameters.proofs.finding.next_value.Goals.{then-is_none+in_ok-constant+in-Not, else-is_none}
 

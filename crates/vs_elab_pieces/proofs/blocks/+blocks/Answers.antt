@@ -4,7 +4,7 @@ use Rattle.vs_elab_pieces.proofs.TurnLemmas.{one_more, all_taken}
 use Rattle.vs_elab_pieces.specs.Pieces.{blocks_in}
 use Rattle.std.proofs.Math.Nat.{le_refl}
 use Rattle.vs_elab_pieces.proofs.DepthLemmas.{falls_in}
-use Rattle.vs_logic4.proofs.Basics.{second_most}
+use Rattle.vs_syntax.specs.vs_logic4.proofs.Basics.{second_most}
 use Rattle.vs_elab_pieces.proofs.blocks.+blocks.Goals as goal
 
 pub add_blocks-returns-in-Block : goal.add_blocks-returns-in-Block

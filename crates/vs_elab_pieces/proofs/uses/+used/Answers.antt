@@ -2,7 +2,7 @@ use Rattle.std.proofs.Common.{◌++◌, append_assoc}
 use Rattle.std.proofs.Math.Nat.{le_refl}
 use Rattle.vs_elab_pieces.proofs.UsesLemmas.{names_Group, names_Unary, names_Cast, names_Select, names_Chain, names_Choice, names_Concat, names_Repeat}
 use Rattle.vs_elab_pieces.proofs.DepthLemmas.{falls_in, falls_second}
-use Rattle.vs_logic4.proofs.Basics.{first_most, second_most}
+use Rattle.vs_syntax.specs.vs_logic4.proofs.Basics.{first_most, second_most}
 use Rattle.vs_elab_pieces.proofs.TurnLemmas.{one_more, all_taken}
 use Rattle.vs_elab_pieces.specs.Uses.{expr_names, select_expr_names}
 use Rattle.vs_elab_pieces.proofs.uses.+used.Goals as goal

@@ -3,7 +3,7 @@ use Rattle.vs_scopes.specs.declared.ports.ModulePort.{ModulePort as FoundPort}
 use Rattle.vs_scopes.specs.Ports.{ModulePort, port_names}
 use Rattle.vs_scopes.specs.passes.Parts.{read_port, IsSet}
 use Rattle.vs_scopes.proofs.ConnectionLemmas.{set_more}
-use Rattle.vs_logic4.proofs.Basics.{take_push}
+use Rattle.vs_design.specs.vs_logic4.proofs.Basics.{take_push}
 use Rattle.vs_scopes.proofs.PassLemmas.{maps_two}
 use Rattle.vs_elab_ports.proofs.stray.port_set.Goals as goal
 

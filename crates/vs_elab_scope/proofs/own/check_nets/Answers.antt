@@ -1,10 +1,10 @@
 use Rattle.std.proofs.Common.{[], Result, Ok, Err, map, ap, ◌∙◌, ◌≡◌}
 use Rattle.std.specs.Prelude.{MatchResult}
-use Rattle.vs_elab_pieces.specs.Reads.{read_piece}
+use Rattle.vs_elab_listed.specs.vs_elab_pieces.specs.Reads.{read_piece}
 use Rattle.vs_scopes.specs.declared.faults.ElabFault.{ElabFault}
 use Rattle.vs_scopes.specs.Scopes.{Scope, late_nets}
 use Rattle.vs_scopes.specs.passes.Answers.{Told}
-use Rattle.vs_elab_implicit_nets.specs.passes.Nets.{IsLate}
+use Rattle.vs_elab_entered.specs.vs_elab_implicit_nets.specs.passes.Nets.{IsLate}
 use Rattle.vs_elab_scope.specs.passes.Own.{HoldsOwn, HasTimelyNets}
 use Rattle.vs_elab_entered.proofs.SeatLemmas.{sight_front}
 use Rattle.vs_elab_scope.proofs.OwnLemmas.{nets_told}

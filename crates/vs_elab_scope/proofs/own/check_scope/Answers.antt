@@ -7,7 +7,7 @@ use Rattle.vs_scopes.specs.passes.Parts.{read_port}
 use Rattle.vs_scopes.proofs.AnswerLemmas.{told_at}
 use Rattle.vs_elab_scope.specs.passes.Own.{HoldsOwn}
 use Rattle.vs_elab_scope.proofs.OwnLemmas.{deep_told, limit_passed, limit_same}
-use Rattle.vs_logic4.proofs.Basics.{any_map}
+use Rattle.vs_design.specs.vs_logic4.proofs.Basics.{any_map}
 use Rattle.vs_elab_scope.proofs.own.check_scope.Goals as goal
 
 pub returns-then-scope-gt-LEVELS : goal.returns-then-scope-gt-LEVELS

@@ -1,14 +1,14 @@
 use Rattle.std.proofs.Common.{◌≡◌, [], map, ap, subst, ◌∙◌}
 use Rattle.std.proofs.lemmas.Result.{err_from_is_err_and}
 use Rattle.vs_widths.specs.Names.{by_bytes}
-use Rattle.vs_elab_pieces.specs.Reads.{read_piece}
+use Rattle.vs_elab_listed.specs.vs_elab_pieces.specs.Reads.{read_piece}
 use Rattle.vs_scopes.specs.Declarations.{declared_by_port, declared_among}
 use Rattle.vs_scopes.specs.Scopes.{constant_names}
 use Rattle.vs_scopes.specs.passes.Answers.{borrowed, Told}
 use Rattle.vs_scopes.specs.passes.Names.{read_path}
 use Rattle.vs_scopes.specs.passes.Parts.{read_port}
 use Rattle.vs_scopes.specs.Ports.{names_where, is_joined}
-use Rattle.vs_elab_ports.specs.passes.Counting.{Counts}
+use Rattle.vs_elab_listed.specs.vs_elab_ports.specs.passes.Counting.{Counts}
 use Rattle.vs_elab_listed.specs.passes.Naming.{Bound}
 use Rattle.vs_elab_listed.specs.passes.Declaring.{DeclaresPorts, DeclaresPortsNot, Declares, DeclaresNot, joined_names}
 use Rattle.vs_elab_listed.proofs.BindLemmas.{bound_none}

@@ -1,5 +1,5 @@
 use Rattle.std.proofs.Common.{take}
-use Rattle.vs_scopes.specs.Printed.{Path}
+use Rattle.vs_elab_operands.specs.vs_scopes.specs.Printed.{Path}
 use Rattle.vs_elab_operands.specs.Surroundings.{Surroundings}
 use Rattle.vs_elab_operands.specs.passes.Views.{IsView}
 use Rattle.vs_elab_operands.proofs.PartLemmas.{Stated, Listed}

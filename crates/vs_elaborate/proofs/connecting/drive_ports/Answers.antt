@@ -7,7 +7,7 @@ use Rattle.vs_elab_operands.specs.Members.{port_driver, port_drivers}
 use Rattle.vs_elaborate.specs.passes.Filling.{Connects, ConnectsNot}
 use Rattle.vs_elaborate.proofs.FillingLemmas.{connects_not_more}
 use Rattle.vs_elaborate.proofs.PortLemmas.{left_at, kept_to_more, kept_to_skip, kept_to_end, kept_to_fault}
-use Rattle.vs_logic4.proofs.Basics.{get_or_same as again}
+use Rattle.vs_design.specs.vs_logic4.proofs.Basics.{get_or_same as again}
 use Rattle.vs_elaborate.proofs.connecting.drive_ports.Goals as goal
 use Rattle.vs_elaborate.proofs.connecting.drive_ports.Goals.{in-Some+in_ok-drive_port, in_default}
 

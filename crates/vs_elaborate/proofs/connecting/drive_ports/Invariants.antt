@@ -1,5 +1,5 @@
 use Rattle.std.proofs.Common.{◌≡◌, map}
-use Rattle.vs_widths.specs.Names.{meaning_of}
+use Rattle.vs_elab_operands.specs.vs_widths.specs.Names.{meaning_of}
 use Rattle.vs_scopes.specs.Printed.{Path}
 use Rattle.vs_scopes.specs.Scopes.{Scope}
 use Rattle.vs_elab_operands.specs.Surroundings.{Surroundings}

@@ -1,5 +1,5 @@
 use Rattle.std.proofs.Common.{get_or, arith}
-use Rattle.vs_logic4.proofs.Basics.{get_or_same as again}
+use Rattle.vs_design.specs.vs_logic4.proofs.Basics.{get_or_same as again}
 use Rattle.vs_elaborate.proofs.CheckLemmas.{check_more, check_shared, written_back, ranges_within, same_clones}
 use Rattle.vs_elaborate.proofs.source.check_drivers.Goals as goal
 

@@ -1,5 +1,5 @@
 use Rattle.std.proofs.Common.{sym, ap, ◌∙◌, arith}
-use Rattle.vs_logic4.proofs.Basics.{get_or_same}
+use Rattle.vs_design.specs.vs_logic4.proofs.Basics.{get_or_same}
 use Rattle.vs_elaborate.specs.Timescales.{scale_in}
 use Rattle.vs_elaborate.specs.passes.Scales.{listed, first_of}
 use Rattle.vs_elaborate.proofs.ScaleLemmas.{first_found}

@@ -1,7 +1,7 @@
 use Rattle.std.proofs.Common.{false, not, ◌||◌, sym, ap, ◌∙◌, arith}
 use Rattle.std.specs.List.{list_any}
 use Rattle.vs_design.specs.declared.timescale.Timescale.{Timescale}
-use Rattle.vs_logic4.proofs.Basics.{get_or_same}
+use Rattle.vs_design.specs.vs_logic4.proofs.Basics.{get_or_same}
 use Rattle.vs_elaborate.specs.Timescales.{scale_in, same_timescale}
 use Rattle.vs_elaborate.specs.passes.Scales.{listed}
 use Rattle.vs_elaborate.proofs.ScaleLemmas.{any_flat}

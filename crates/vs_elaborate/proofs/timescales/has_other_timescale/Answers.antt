@@ -3,7 +3,7 @@ use Rattle.std.specs.List.{list_any}
 use Rattle.vs_syntax.specs.declared.tree.Module.{Module}
 use Rattle.vs_elaborate.specs.Timescales.{scales_in, same_timescale}
 use Rattle.vs_elaborate.proofs.ScaleLemmas.{any_flat}
-use Rattle.vs_logic4.proofs.Basics.{any_front as any_first}
+use Rattle.vs_design.specs.vs_logic4.proofs.Basics.{any_front as any_first}
 use Rattle.vs_elaborate.proofs.timescales.has_other_timescale.Goals as goal
 
 pub returns-then-has_other_in : goal.returns-then-has_other_in

@@ -1,7 +1,7 @@
 use Rattle.std.proofs.Common.{rules, ◌≡◌, ◌≤◌, ◌+◌, ◌++◌, ◌∷◌, ◌∙◌, ap, sym, length, drop, pos, to_z, w64, subst, List}
 use Rattle.std.proofs.lemmas.List.{drop_more}
-use Rattle.vs_logic4.specs.declared.digit.Digit.{Digit}
-use Rattle.vs_logic4.specs.Parts.{selected}
+use Rattle.vs_design.specs.vs_logic4.specs.declared.digit.Digit.{Digit}
+use Rattle.vs_design.specs.vs_logic4.specs.Parts.{selected}
 use Rattle.vs_design.specs.declared.statement.Aim.{Aim}
 use Rattle.vs_eval.specs.Targets.{parts_from, part_at}
 use Rattle.vs_eval.proofs.Places.{parts_pushed, after_most}

@@ -1,11 +1,12 @@
 use Rattle.std.proofs.Common.{◌∙◌, refl, sym, ap, ap₂, map}
-use Rattle.vs_logic4.specs.Comparisons.{truth}
+use Rattle.vs_design.specs.vs_logic4.specs.Comparisons.{truth}
+use Rattle.vs_eval.specs.Values.{value_of}
 use Rattle.vs_eval.proofs.ValueLemmas.{went_on, went_through}
 use Rattle.vs_eval_resolved.specs.declared.node.Node.{Node}
 use Rattle.vs_eval_resolved.specs.declared.node.Node.TheVariants.{rolls-Number, rolls-Word, rolls-Bits, rolls-Element, rolls-Bit, rolls-Unary, rolls-Two, rolls-Chain, rolls-If, rolls-Resized, rolls-Other}
 use Rattle.vs_eval_resolved.specs.declared.node.Node.TheOpen as layer
 use Rattle.vs_eval_resolved.specs.Nodes.{planes_in, element_planes, bit_planes, unary_planes, combined, chained, chosen, changed_planes}
-use Rattle.vs_eval_resolved.specs.PlanesOf.{digits_of}
+use Rattle.vs_eval_resolved.specs.PlanesOf.{digits_of, planes_of}
 use Rattle.vs_eval_resolved.proofs.NodeLemmas.{node_layer}
 use Rattle.vs_eval_resolved.proofs.evaluate.+evaluate.Goals as goal
 
@@ -75,7 +76,8 @@ planes_at-returns-in-Resized t c =
 
 pub planes_at-returns-in-Other : goal.planes_at-returns-in-Other
 planes_at-returns-in-Other t c =
-    c.other.ensures ∙ sym (node_layer c.args.node.now c.args.store.now c.args.time (layer.Other c.in-Other.e) (rolls-Other c.in-Other.e ∙ sym c.in-Other.is))
+    c.other.ensures ∙ ap (λ x. planes_of (value_of x c.args.store.now c.args.time)) c.deref-in-Other.ensures
+    ∙ sym (node_layer c.args.node.now c.args.store.now c.args.time (layer.Other c.in-Other.e) (rolls-Other c.in-Other.e ∙ sym c.in-Other.is))
 
 pub chain-loop-sides-preserved : goal.chain-loop-sides-preserved
 chain-loop-sides-preserved t c =

@@ -1,8 +1,8 @@
 use Rattle.std.proofs.Common.{◌≡◌, ℕ, ◌∙◌, List, length, sym, ap}
 use Rattle.std.specs.Prelude.{true}
-use Rattle.vs_logic4.specs.declared.digit.Digit.{Digit}
-use Rattle.vs_logic4.specs.Operators.{is_even, sizing_of}
-use Rattle.vs_logic4.specs.PlaneLaws.{length-digits_of_planes}
+use Rattle.vs_design.specs.vs_logic4.specs.declared.digit.Digit.{Digit}
+use Rattle.vs_design.specs.vs_logic4.specs.Operators.{is_even, sizing_of}
+use Rattle.vs_design.specs.vs_logic4.specs.PlaneLaws.{length-digits_of_planes}
 use Rattle.vs_eval_resolved.specs.declared.node.Planes.{Planes}
 use Rattle.vs_eval_resolved.specs.declared.node.Sides.{Sides}
 use Rattle.vs_eval_resolved.specs.PlanesOf.{digits_of}

@@ -1,5 +1,5 @@
 use Rattle.std.proofs.Common.{◌∙◌, sym, ap, length}
-use Rattle.vs_logic4.specs.PlaneLaws.{length-digits_of_planes}
+use Rattle.vs_design.specs.vs_logic4.specs.PlaneLaws.{length-digits_of_planes}
 use Rattle.vs_eval_resolved.proofs.evaluate.rare_binary.Goals as goal
 
 pub of-requires : goal.of-requires

@@ -6,10 +6,12 @@ use Rattle.vs_design.specs.Stores.{word_of}
 use Rattle.vs_eval.specs.Values.{chained, chosen, concatenated, linked, value_of}
 use Rattle.vs_eval_resolved.specs.declared.node.Node.{Node}
 use Rattle.vs_eval_resolved.specs.declared.node.Size.{Size}
+use Rattle.vs_eval_resolved.specs.Copies.{links_of, pairs_of}
 use Rattle.vs_eval_resolved.specs.Meant.{AreSized, IsMeant, Means, Values}
+use Rattle.vs_eval_resolved.proofs.CopyLemmas.{kept_whole}
 use Rattle.vs_eval_resolved.proofs.LayerLemmas.{number_law, signal_law, slice_law, select_law, excerpt_long, unary_meant, chain_meant, choice_meant, concat_long, repeat_long, resized_long}
 use Rattle.vs_eval_resolved.proofs.MeantLemmas.{linked_long}
-use Rattle.vs_eval_resolved.proofs.OperandLemmas.{AreLinked, answered, all_linked, all_parts, if_means, link_step, links_of, none_chosen, none_linked, one_linked, pair_before, pair_means, pairs_of, part_step, parts_of}
+use Rattle.vs_eval_resolved.proofs.OperandLemmas.{AreLinked, answered, all_linked, all_parts, if_means, link_step, none_chosen, none_linked, one_linked, pair_before, pair_means, part_step}
 use Rattle.vs_eval_resolved.proofs.WordLemmas.{bit_means, bits_long, element_means}
 use Rattle.vs_eval_resolved.proofs.resolve.+resolve.Goals as goal
 
@@ -19,20 +21,20 @@ pub resolve-returns-in-Number : goal.resolve-returns-in-Number
 resolve-returns-in-Number t c =
     c.literal.ensures c.args.design.now.signals (λ store time. value_of c.args.e.now store time) (number_law c.args.e.now c.in-Number.digits c.in-Number.is)
 
-pub resolve-returns-in-Signal : goal.resolve-returns-in-Signal
-resolve-returns-in-Signal t c = c.whole.ensures (signal_law c.args.e.now c.in-Signal.o c.in-Signal.is)
+pub resolve-returns-in_ok-whole-in-Signal : goal.resolve-returns-in_ok-whole-in-Signal
+resolve-returns-in_ok-whole-in-Signal t c = c.in_ok-whole-in-Signal.ensures (signal_law c.args.e.now c.in-Signal.o c.in-Signal.is)
 
-pub resolve-returns-in-Slice : goal.resolve-returns-in-Slice
-resolve-returns-in-Slice t c = c.slice.ensures (slice_law c.args.e.now c.in-Slice.s c.in-Slice.is)
+pub resolve-returns-in_ok-slice-in-Slice : goal.resolve-returns-in_ok-slice-in-Slice
+resolve-returns-in_ok-slice-in-Slice t c = c.in_ok-slice-in-Slice.ensures (slice_law c.args.e.now c.in-Slice.s c.in-Slice.is)
 
 pub resolve-returns-in_ok-select-in-Select : goal.resolve-returns-in_ok-select-in-Select
 resolve-returns-in_ok-select-in-Select t c =
     c.in_ok-select-in-Select.ensures
     (select_law c.args.e.now c.in-Select.s c.in-Select.word c.in-Select.low c.deref.result.now c.deref-in-Select.result.now c.in-Select.is c.deref.ensures c.deref-in-Select.ensures)
 
-pub resolve-returns-in-Excerpt : goal.resolve-returns-in-Excerpt
-resolve-returns-in-Excerpt t c =
-    c.other.ensures c.args.design.now.signals (excerpt_long c.args.design.now.signals c.args.e.now c.in-Excerpt.s c.in-Excerpt.field-1 c.in-Excerpt.is)
+pub resolve-returns-in_ok-other-in-Excerpt : goal.resolve-returns-in_ok-other-in-Excerpt
+resolve-returns-in_ok-other-in-Excerpt t c =
+    c.in_ok-other-in-Excerpt.ensures c.args.design.now.signals (excerpt_long c.args.design.now.signals c.args.e.now c.in-Excerpt.s c.in-Excerpt.field-1 c.in-Excerpt.is)
 
 pub resolve-returns-in_ok-unary-in-Some : goal.resolve-returns-in_ok-unary-in-Some
 resolve-returns-in_ok-unary-in-Some t c =
@@ -68,22 +70,22 @@ resolve-returns-in-Some-3 t c =
     (made (λ store time. value_of last store time) (rw c.in-Some-3.is at c.in_ok-last-in-Choice.ensures)))
     c.choice.ensures
 
-pub resolve-returns-in-Some-4 : goal.resolve-returns-in-Some-4
-resolve-returns-in-Some-4 t c =
-    c.other-in-Some-4.ensures c.args.design.now.signals
+pub resolve-returns-in_ok-other-in-Some-4 : goal.resolve-returns-in_ok-other-in-Some-4
+resolve-returns-in_ok-other-in-Some-4 t c =
+    c.in_ok-other-in-Some-4.ensures c.args.design.now.signals
     (concat_long c.args.design.now.signals c.args.e.now c.in-Concat.x c.in-Concat.others c.deref-in-Concat.result.now c.deref-in-Concat-2.result.now c.in-Some-4.size.width
     c.in-Concat.is c.deref-in-Concat.ensures c.deref-in-Concat-2.ensures.value (rw c.in-Some-4.is at c.in_ok-size-in-Concat.ensures))
 
-pub resolve-returns-in-Some-5 : goal.resolve-returns-in-Some-5
-resolve-returns-in-Some-5 t c =
-    let wide = c.repeated_size.ensures ∙ ap (λ n. min 64 (c.in-Repeat.count.times * n)) c.size_of.ensures in
-    c.other-in-Some-5.ensures c.args.design.now.signals
-    (repeat_long c.args.design.now.signals c.args.e.now c.in-Repeat.count c.in-Repeat.x c.deref-in-Repeat.result.now c.in-Some-5.x.0 c.in-Some-5.x.1.width c.repeated_size.result.width
+pub resolve-returns-in_ok-other-in-Some-5 : goal.resolve-returns-in_ok-other-in-Some-5
+resolve-returns-in_ok-other-in-Some-5 t c =
+    let wide = c.repeated_size-size.ensures ∙ ap (λ n. min 64 (c.in-Repeat.count.times * n)) c.size_of.ensures in
+    c.in_ok-other-in-Some-5.ensures c.args.design.now.signals
+    (repeat_long c.args.design.now.signals c.args.e.now c.in-Repeat.count c.in-Repeat.x c.deref-in-Repeat.result.now c.in-Some-5.x.0 c.in-Some-5.x.1.width c.repeated_size-size.result.width
     c.in-Repeat.is c.deref-in-Repeat.ensures (rw c.in-Some-5.is at c.in_ok-x-in-Repeat.ensures) wide)
 
-pub resolve-returns-in-Resized : goal.resolve-returns-in-Resized
-resolve-returns-in-Resized t c =
-    c.other-in-Resized.ensures c.args.design.now.signals (resized_long c.args.design.now.signals c.args.e.now c.in-Resized.size c.in-Resized.field-1 c.in-Resized.is)
+pub resolve-returns-in_ok-other-in-Resized : goal.resolve-returns-in_ok-other-in-Resized
+resolve-returns-in_ok-other-in-Resized t c =
+    c.in_ok-other-in-Resized.ensures c.args.design.now.signals (resized_long c.args.design.now.signals c.args.e.now c.in-Resized.size c.in-Resized.field-1 c.in-Resized.is)
 
 -- ---- bits that two indices choose
 
@@ -98,11 +100,12 @@ select-returns-in-Some-3 t c = λ law.
     c.in_ok-new-2.ensures.ok c.in-Some-bit_of.ensures (rw c.in-Some-3.is at c.in_ok-x-2.ensures)
 
 pub select-returns : goal.select-returns
-select-returns t c = λ law.
-    c.other.ensures c.args.design.now.signals
-    (λ store time is.
+select-returns t c =
+    kept_whole c.args.e.now c.args.s.width c.args.design.now.signals _ c.other.result
+    (λ law store time is.
     ap length (law store time)
     ∙ bits_long (place_of c.args.s.bits c.args.s.width (value_of c.args.low.now store time)) c.args.s.width (word_of store c.args.s.signal (word_place c.args.s.words (value_of c.args.word.now store time))))
+    c.other.ensures
 
 -- ---- operators between operands
 

@@ -2,8 +2,9 @@ use Rattle.std.proofs.Common.{◌+◌, ◌*◌, max, take, drop}
 use Rattle.vs_design.specs.declared.expression.Typed.{size-Typed}
 use Rattle.vs_eval.proofs.DepthLemmas.{links_depth, pairs_depth, parts_depth}
 use Rattle.vs_eval.specs.Values.{chosen, concatenated, value_of}
+use Rattle.vs_eval_resolved.specs.Copies.{pairs_of, parts_of}
 use Rattle.vs_eval_resolved.specs.Meant.{AreSized, Means, Values}
-use Rattle.vs_eval_resolved.proofs.OperandLemmas.{AreLinked, pairs_of, parts_of}
+use Rattle.vs_eval_resolved.proofs.OperandLemmas.{AreLinked}
 use Rattle.vs_eval_resolved.proofs.resolve.+resolve.Given as goal
 
 abbrev pub invariant-chain-loop-link : goal.invariant-chain-loop-link

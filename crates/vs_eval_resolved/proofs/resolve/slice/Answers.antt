@@ -2,18 +2,19 @@ use Rattle.std.proofs.Common.{refl, length, sym, ◌∙◌, ap, rules, w32}
 use Rattle.std.proofs.lemmas.Int.{to_z-of_z}
 use mir.Val.{SFits}
 use Rattle.vs_design.specs.Stores.{word_of}
+use Rattle.vs_eval_resolved.proofs.CopyLemmas.{kept_whole}
 use Rattle.vs_eval_resolved.proofs.WordLemmas.{all_bits_mean, bits_long, some_bits_mean}
 use Rattle.vs_eval_resolved.proofs.resolve.slice.Goals as goal
 
 pub returns-in_default : goal.returns-in_default
-returns-in_default c = λ law.
-    c.other.ensures c.args.design.now.signals
-    (λ store time is. ap length (law store time) ∙ bits_long c.args.s.low c.args.s.width (word_of store c.args.s.signal c.args.s.word))
+returns-in_default c =
+    kept_whole c.args.e.now c.args.s.width c.args.design.now.signals _ c.other.result
+    (λ law store time is. ap length (law store time) ∙ bits_long c.args.s.low c.args.s.width (word_of store c.args.s.signal c.args.s.word)) c.other.ensures
 
 pub returns-in_default-place_in : goal.returns-in_default-place_in
-returns-in_default-place_in c = λ law.
-    c.other-in_default-place_in.ensures c.args.design.now.signals
-    (λ store time is. ap length (law store time) ∙ bits_long c.args.s.low c.args.s.width (word_of store c.args.s.signal c.args.s.word))
+returns-in_default-place_in c =
+    kept_whole c.args.e.now c.args.s.width c.args.design.now.signals _ c.other-in_default-place_in.result
+    (λ law store time is. ap length (law store time) ∙ bits_long c.args.s.low c.args.s.width (word_of store c.args.s.signal c.args.s.word)) c.other-in_default-place_in.ensures
 
 pub returns-then-s-size : goal.returns-then-s-size
 returns-then-s-size c = λ law.

@@ -1,6 +1,6 @@
 use Rattle.std.proofs.Common.{◌≡◌, ◌∙◌, ◌+◌, ◌++◌, List, ◌∷◌, Option, drop, sym, ap, ap₂, append_assoc, arith}
 use Rattle.std.proofs.lemmas.List.{drop_more}
-use Rattle.vs_logic4.specs.declared.digit.Digit.{Digit}
+use Rattle.vs_design.specs.vs_logic4.specs.declared.digit.Digit.{Digit}
 use Rattle.vs_design.specs.declared.write.Part.{Part}
 use Rattle.vs_design.specs.Stores.{put}
 use Rattle.vs_flatcode.specs.declared.changes.Change.{Change}

@@ -5,7 +5,7 @@ use Rattle.vs_design.specs.declared.expression.Typed.{Typed}
 use Rattle.vs_design.specs.declared.statement.Statement.{Statement}
 use Rattle.vs_design.specs.declared.statement.Statement.TheOpen.{Statement-F}
 use Rattle.vs_design.specs.declared.statement.Statement.TheVariants as d
-use Rattle.vs_eval.specs.Values.{value_of}
+use Rattle.vs_strobe.specs.vs_eval.specs.Values.{value_of}
 use Rattle.vs_flatcode.specs.declared.halt.Halt.TheVariants as h
 use Rattle.vs_flatcode.specs.Extras.{starts_in}
 use Rattle.vs_flatcode.specs.Landings.{landing, start_taken, turned}

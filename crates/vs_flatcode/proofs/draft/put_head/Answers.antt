@@ -2,7 +2,7 @@ use Rattle.std.proofs.Common.{ap, ◌∙◌, ◌∷◌, [], length, arith, refl,
 use Rattle.std.proofs.lemmas.List.{length-append}
 use Rattle.vs_flatcode.specs.declared.draft.Op.{Op}
 use Rattle.vs_flatcode.specs.declared.draft.Extra.TheVariants.{Nothing}
-use Rattle.vs_logic4.proofs.Basics.{at_end as at_seam}
+use Rattle.vs_design.specs.vs_logic4.proofs.Basics.{at_end as at_seam}
 use Rattle.vs_flatcode.proofs.Drafts.{longer_put}
 use Rattle.vs_flatcode.proofs.Numbers.{adds_put}
 use Rattle.vs_flatcode.proofs.draft.put_head.Goals as goal

@@ -3,14 +3,14 @@ use Rattle.std.proofs.lemmas.Result.{err_from_is_err_and}
 use Rattle.std.specs.Prelude.{map}
 use Rattle.std.specs.declared.vec.Vec.{Vec}
 use Rattle.std.specs.declared.alloc.Global.{Global}
-use Rattle.vs_lex_tokens.specs.declared.token.Mark.TheVariants as m
+use Rattle.vs_syntax.specs.vs_lex_tokens.specs.declared.token.Mark.TheVariants as m
 use Rattle.vs_syntax.specs.Symbols.{a_mark}
 use Rattle.vs_syntax.specs.Grammar.{◌or◌, nothing, mark, header_parameters}
 use Rattle.vs_syntax.specs.Reading.{stuck_first}
 use Rattle.vs_syntax.specs.Views.{header_parameter_tree, header_parameters_tree}
 use Rattle.vs_syntax.specs.declared.tree.HeaderParameter.{HeaderParameter}
-use Rattle.vs_parse_expressions.specs.Answers.{seen}
-use Rattle.vs_parse_expressions.proofs.Exits.{fails_by}
+use Rattle.vs_parse_lists.specs.vs_parse_expressions.specs.Answers.{seen}
+use Rattle.vs_parse_lists.specs.vs_parse_expressions.proofs.Exits.{fails_by}
 use Rattle.vs_parse_lists.proofs.Forms.{present_stuck}
 use Rattle.vs_parse_headers.proofs.Declarations.{within_beyond}
 use Rattle.vs_parse_headers.proofs.Headers as h

@@ -2,15 +2,15 @@ use Rattle.std.proofs.lemmas.Result.{err_from_is_err_and}
 use Rattle.std.specs.Prelude.{map}
 use Rattle.std.specs.declared.vec.Vec.{Vec}
 use Rattle.std.specs.declared.alloc.Global.{Global}
-use Rattle.vs_lex_tokens.specs.declared.token.Mark.TheVariants as m
+use Rattle.vs_syntax.specs.vs_lex_tokens.specs.declared.token.Mark.TheVariants as m
 use Rattle.vs_syntax.specs.Symbols.{a_mark}
 use Rattle.vs_syntax.specs.Grammar.{part, mark, a_header_parameter}
 use Rattle.vs_syntax.specs.Derivation.{leaf, both}
 use Rattle.vs_syntax.specs.Reading.{stuck_first, stuck_second}
 use Rattle.vs_syntax.specs.Views.{header_parameter_tree, header_parameters_tree}
 use Rattle.vs_syntax.specs.declared.tree.HeaderParameter.{HeaderParameter}
-use Rattle.vs_parse_expressions.specs.Answers.{seen}
-use Rattle.vs_parse_expressions.proofs.Exits.{fails_by}
+use Rattle.vs_parse_lists.specs.vs_parse_expressions.specs.Answers.{seen}
+use Rattle.vs_parse_lists.specs.vs_parse_expressions.proofs.Exits.{fails_by}
 use Rattle.vs_parse_lists.specs.Lists.{behind_commas}
 use Rattle.vs_parse_lists.specs.Parts.{ReadsWithin}
 use Rattle.vs_parse_lists.proofs.Parts.{ended_as}

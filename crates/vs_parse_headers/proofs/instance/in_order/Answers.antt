@@ -3,8 +3,8 @@ use Rattle.vs_syntax.specs.Grammar.{an_end}
 use Rattle.vs_syntax.specs.Reading.{stuck_first, stuck_second}
 use Rattle.vs_syntax.specs.Views.{end_tree}
 use Rattle.vs_syntax.proofs.Gets.{gets_seq}
-use Rattle.vs_parse_expressions.specs.Answers.{seen}
-use Rattle.vs_parse_expressions.proofs.Exits.{fails_by}
+use Rattle.vs_parse_lists.specs.vs_parse_expressions.specs.Answers.{seen}
+use Rattle.vs_parse_lists.specs.vs_parse_expressions.proofs.Exits.{fails_by}
 use Rattle.vs_parse_lists.specs.Lists.{behind_commas}
 use Rattle.vs_parse_headers.proofs.InstanceLemmas.{ordered}
 use Rattle.vs_parse_lists.proofs.Lists.{grown_none}

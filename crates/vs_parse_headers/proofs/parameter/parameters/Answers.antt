@@ -3,8 +3,8 @@ use Rattle.vs_syntax.specs.Grammar.{◌·◌, parameter_form, a_constant}
 use Rattle.vs_syntax.specs.Grammar as grammar
 use Rattle.vs_syntax.specs.Reading.{stuck_first, stuck_second}
 use Rattle.vs_syntax.proofs.Gets.{gets_seq}
-use Rattle.vs_parse_expressions.specs.Answers.{seen}
-use Rattle.vs_parse_expressions.proofs.Exits.{fails_by}
+use Rattle.vs_parse_lists.specs.vs_parse_expressions.specs.Answers.{seen}
+use Rattle.vs_parse_lists.specs.vs_parse_expressions.proofs.Exits.{fails_by}
 use Rattle.vs_parse_headers.proofs.parameter.parameters.Goals as goal
 
 pub returns-in_err-said : goal.returns-in_err-said

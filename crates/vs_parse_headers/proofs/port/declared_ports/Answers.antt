@@ -2,8 +2,8 @@ use Rattle.std.proofs.lemmas.Result.{err_from_is_err_and}
 use Rattle.vs_syntax.specs.Grammar.{◌·◌, form, listed, a_bare_name}
 use Rattle.vs_syntax.specs.Reading.{stuck_second}
 use Rattle.vs_syntax.proofs.Gets.{gets_seq}
-use Rattle.vs_parse_expressions.specs.Answers.{seen}
-use Rattle.vs_parse_expressions.proofs.Exits.{fails_by}
+use Rattle.vs_parse_lists.specs.vs_parse_expressions.specs.Answers.{seen}
+use Rattle.vs_parse_lists.specs.vs_parse_expressions.proofs.Exits.{fails_by}
 use Rattle.vs_parse_headers.specs.Ports.{behind_direction}
 use Rattle.vs_parse_headers.proofs.PortLemmas.{kind_gets}
 use Rattle.vs_parse_headers.proofs.port.declared_ports.Goals as goal

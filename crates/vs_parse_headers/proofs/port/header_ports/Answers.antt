@@ -3,15 +3,15 @@ use Rattle.std.proofs.lemmas.Result.{err_from_is_err_and}
 use Rattle.std.specs.Option.{option_map}
 use Rattle.std.specs.declared.vec.Vec.{Vec}
 use Rattle.std.specs.declared.alloc.Global.{Global}
-use Rattle.vs_lex_tokens.specs.declared.token.Mark.TheVariants as m
+use Rattle.vs_syntax.specs.vs_lex_tokens.specs.declared.token.Mark.TheVariants as m
 use Rattle.vs_syntax.specs.Symbols.{a_mark, the_mark}
 use Rattle.vs_syntax.specs.Grammar.{◌·◌, ◌or◌, nothing, mark, header_ports}
 use Rattle.vs_syntax.specs.Reading.{stuck_first, stuck_second}
 use Rattle.vs_syntax.proofs.Gets.{gets_seq}
 use Rattle.vs_syntax.specs.Views.{header_ports_tree}
 use Rattle.vs_syntax.specs.declared.tree.Port.{Port}
-use Rattle.vs_parse_expressions.specs.Answers.{seen, ReadsTree}
-use Rattle.vs_parse_expressions.proofs.Exits.{fails_by}
+use Rattle.vs_parse_lists.specs.vs_parse_expressions.specs.Answers.{seen, ReadsTree}
+use Rattle.vs_parse_lists.specs.vs_parse_expressions.proofs.Exits.{fails_by}
 use Rattle.vs_parse_headers.specs.Ports.{ports_within}
 use Rattle.vs_parse_lists.proofs.Forms.{absent, present_stuck, present_read}
 use Rattle.vs_parse_lists.proofs.Parts.{ended_as}

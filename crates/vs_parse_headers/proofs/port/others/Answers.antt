@@ -1,6 +1,6 @@
 use Rattle.std.proofs.lemmas.Result.{err_from_is_err_and}
-use Rattle.vs_parse_expressions.specs.Answers.{seen}
-use Rattle.vs_parse_expressions.proofs.Exits.{fails_by}
+use Rattle.vs_parse_lists.specs.vs_parse_expressions.specs.Answers.{seen}
+use Rattle.vs_parse_lists.specs.vs_parse_expressions.proofs.Exits.{fails_by}
 use Rattle.vs_parse_lists.proofs.Lists.{pushed_one}
 use Rattle.vs_parse_headers.specs.Ports.{other_by, others_by}
 use Rattle.vs_parse_headers.proofs.PortLemmas.{joined_start, joined_one, joined_stuck, joined_all, comma_shorter}

@@ -1,5 +1,5 @@
 use Rattle.std.proofs.Common.{length}
-use Rattle.vs_parse_expressions.specs.Answers.{seen}
+use Rattle.vs_parse_lists.specs.vs_parse_expressions.specs.Answers.{seen}
 use Rattle.vs_parse_headers.proofs.PortLemmas.{Joined}
 use Rattle.vs_parse_headers.proofs.port.others.Given as goal
 

@@ -1,7 +1,7 @@
 use Rattle.std.proofs.lemmas.Result.{err_from_is_err_and}
 use Rattle.vs_syntax.specs.Grammar.{part, name}
-use Rattle.vs_parse_expressions.specs.Answers.{seen}
-use Rattle.vs_parse_expressions.proofs.Exits.{fails_by}
+use Rattle.vs_parse_lists.specs.vs_parse_expressions.specs.Answers.{seen}
+use Rattle.vs_parse_lists.specs.vs_parse_expressions.proofs.Exits.{fails_by}
 use Rattle.vs_parse_headers.specs.Ports.{named_by, value_by}
 use Rattle.vs_parse_headers.proofs.PortLemmas.{name_beyond, name_stuck, value_stuck, name_shorter}
 use Rattle.vs_parse_headers.proofs.port.port.Goals as goal

@@ -1,8 +1,8 @@
 use Rattle.std.proofs.Common.{sym, ◌∙◌}
 use Rattle.std.proofs.lemmas.Result.{err_from_is_err_and}
 use Rattle.vs_syntax.specs.Grammar.{part, told_ports, port_names}
-use Rattle.vs_parse_expressions.specs.Answers.{seen}
-use Rattle.vs_parse_expressions.proofs.Exits.{fails_by}
+use Rattle.vs_parse_lists.specs.vs_parse_expressions.specs.Answers.{seen}
+use Rattle.vs_parse_lists.specs.vs_parse_expressions.proofs.Exits.{fails_by}
 use Rattle.vs_parse_headers.specs.declared.port.Said.TheVariants as s
 use Rattle.vs_parse_headers.specs.Ports.{ports_within}
 use Rattle.vs_parse_headers.proofs.PortLemmas.{told_answers, told_stuck, no_ports, names_stuck, names_answers}

@@ -1,15 +1,15 @@
 use Rattle.std.proofs.Common.{refl, arith}
 use Rattle.std.proofs.lemmas.Result.{err_from_is_err_and}
-use Rattle.vs_lex_tokens.specs.declared.token.Word.TheVariants as w
+use Rattle.vs_syntax.specs.vs_lex_tokens.specs.declared.token.Word.TheVariants as w
 use Rattle.vs_syntax.specs.Grammar.{many, part, word, guarded, generate_loop, generate_branches, block_name, a_generate_block, an_item}
 use Rattle.vs_syntax.specs.Views.{module_item_tree}
 use Rattle.vs_syntax.specs.Reading.{stuck_here, stuck_first, stuck_second}
 use Rattle.vs_syntax.proofs.Gets.{gets_seq, gets_stop, gets_absent}
-use Rattle.vs_parse_expressions.specs.Answers.{seen}
-use Rattle.vs_parse_expressions.proofs.Exits.{fails_by}
-use Rattle.vs_parse_expressions.proofs.Rows.{along_start, along_push, shorter, all_read}
+use Rattle.vs_parse_headers.specs.vs_parse_expressions.specs.Answers.{seen}
+use Rattle.vs_parse_headers.specs.vs_parse_expressions.proofs.Exits.{fails_by}
+use Rattle.vs_parse_headers.specs.vs_parse_expressions.proofs.Rows.{along_start, along_push, shorter, all_read}
 use Rattle.std.specs.Prelude.{Err}
-use Rattle.vs_parse_expressions.specs.declared.reading.ReadFault.TheVariants as stop
+use Rattle.vs_parse_headers.specs.vs_parse_expressions.specs.declared.reading.ReadFault.TheVariants as stop
 use Rattle.vs_parse_items.specs.declared.head.ItemHead.TheVariants as i
 use Rattle.vs_parse_items.specs.Generated.{block_rest}
 use Rattle.vs_parse_items.proofs.Heads.{item_goes, item_deep, begins_of, need_of}

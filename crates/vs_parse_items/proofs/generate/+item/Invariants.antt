@@ -1,8 +1,8 @@
 use Rattle.std.proofs.Common.{◌+◌, ◌*◌, length, map}
 use Rattle.vs_syntax.specs.Grammar.{part, an_item}
 use Rattle.vs_syntax.specs.Views.{module_item_tree}
-use Rattle.vs_parse_expressions.specs.Answers.{seen}
-use Rattle.vs_parse_expressions.proofs.Rows.{Along}
+use Rattle.vs_parse_headers.specs.vs_parse_expressions.specs.Answers.{seen}
+use Rattle.vs_parse_headers.specs.vs_parse_expressions.proofs.Rows.{Along}
 use Rattle.vs_parse_items.proofs.generate.+item.Given as goal
 
 abbrev pub decreases-item : goal.decreases-item

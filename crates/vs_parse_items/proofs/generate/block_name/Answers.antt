@@ -1,11 +1,11 @@
 use Rattle.std.proofs.Common.{refl}
 use Rattle.std.proofs.lemmas.Result.{err_from_is_err_and}
-use Rattle.vs_lex_tokens.specs.declared.token.Mark.TheVariants as m
+use Rattle.vs_syntax.specs.vs_lex_tokens.specs.declared.token.Mark.TheVariants as m
 use Rattle.vs_syntax.specs.Symbols.{a_mark, the_mark}
 use Rattle.vs_syntax.specs.Grammar.{name, block_name}
-use Rattle.vs_parse_expressions.specs.Answers.{seen}
-use Rattle.vs_parse_expressions.proofs.Exits.{fails_by}
-use Rattle.vs_parse_lists.proofs.Forms.{absent, present_stuck, present_read}
+use Rattle.vs_parse_headers.specs.vs_parse_expressions.specs.Answers.{seen}
+use Rattle.vs_parse_headers.specs.vs_parse_expressions.proofs.Exits.{fails_by}
+use Rattle.vs_parse_statements.specs.vs_parse_lists.proofs.Forms.{absent, present_stuck, present_read}
 use Rattle.vs_parse_items.proofs.generate.block_name.Goals as goal
 
 pub returns-in_default : goal.returns-in_default

@@ -1,12 +1,12 @@
 use Rattle.std.proofs.lemmas.Result.{err_from_is_err_and}
 use Rattle.vs_syntax.specs.Grammar.{◌·◌, mark, named_value}
 use Rattle.vs_syntax.specs.Reading.{stuck_first, stuck_second}
-use Rattle.vs_parse_expressions.specs.Answers.{seen}
-use Rattle.vs_parse_expressions.proofs.Exits.{fails_by}
+use Rattle.vs_parse_headers.specs.vs_parse_expressions.specs.Answers.{seen}
+use Rattle.vs_parse_headers.specs.vs_parse_expressions.proofs.Exits.{fails_by}
 use Rattle.vs_syntax.specs.Derivation.{both}
 use Rattle.vs_syntax.specs.Views.{constant_tree}
-use Rattle.vs_parse_lists.specs.Parts.{Leads, marked}
-use Rattle.vs_parse_lists.proofs.Parts.{beyond_part, beyond_behind, ended_as}
+use Rattle.vs_parse_statements.specs.vs_parse_lists.specs.Parts.{Leads, marked}
+use Rattle.vs_parse_statements.specs.vs_parse_lists.proofs.Parts.{beyond_part, beyond_behind, ended_as}
 use Rattle.vs_parse_items.proofs.generate.named_value_until.Goals as goal
 
 pub returns-in_err-value : goal.returns-in_err-value

@@ -1,9 +1,9 @@
 use Rattle.std.proofs.lemmas.Result.{err_from_is_err_and}
-use Rattle.vs_lex_tokens.specs.declared.token.Mark.TheVariants as m
+use Rattle.vs_syntax.specs.vs_lex_tokens.specs.declared.token.Mark.TheVariants as m
 use Rattle.vs_syntax.specs.Grammar.{part, mark, for_parts, a_stmt}
 use Rattle.vs_syntax.specs.Reading.{stuck_first}
-use Rattle.vs_parse_expressions.specs.Answers.{seen}
-use Rattle.vs_parse_expressions.proofs.Exits.{fails_by}
+use Rattle.vs_parse_lists.specs.vs_parse_expressions.specs.Answers.{seen}
+use Rattle.vs_parse_lists.specs.vs_parse_expressions.proofs.Exits.{fails_by}
 use Rattle.vs_parse_lists.proofs.Parts.{beyond_part, beyond_behind, beyond_fails}
 use Rattle.vs_parse_statements.proofs.Assignments.{from_step, from_test, from_first}
 use Rattle.vs_parse_statements.proofs.assignment.for_header.Goals as goal

@@ -1,10 +1,10 @@
 use Rattle.std.proofs.lemmas.Result.{err_from_is_err_and}
-use Rattle.vs_lex_tokens.specs.declared.token.Mark.TheVariants as m
+use Rattle.vs_syntax.specs.vs_lex_tokens.specs.declared.token.Mark.TheVariants as m
 use Rattle.vs_syntax.specs.Grammar.{◌·◌, part, mark, assignment, a_target, an_expr}
 use Rattle.vs_syntax.specs.Reading.{stuck_first, stuck_second}
 use Rattle.vs_syntax.proofs.Gets.{gets_seq}
-use Rattle.vs_parse_expressions.specs.Answers.{seen}
-use Rattle.vs_parse_expressions.proofs.Exits.{fails_by}
+use Rattle.vs_parse_lists.specs.vs_parse_expressions.specs.Answers.{seen}
+use Rattle.vs_parse_lists.specs.vs_parse_expressions.proofs.Exits.{fails_by}
 use Rattle.vs_syntax.specs.Derivation.{both}
 use Rattle.vs_parse_lists.proofs.Parts.{beyond_part, beyond_behind, ended_as}
 use Rattle.vs_parse_lists.specs.Parts.{Leads, marked, sides_tree}

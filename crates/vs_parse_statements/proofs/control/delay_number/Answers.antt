@@ -2,7 +2,7 @@ use Rattle.std.proofs.Common.{refl, false}
 use Rattle.vs_syntax.specs.Grammar.{number}
 use Rattle.vs_syntax.specs.Symbols.{any_number}
 use Rattle.vs_syntax.specs.Reading.{stuck_here}
-use Rattle.vs_parse_expressions.proofs.Tokens.{none_at, other_at, read_number}
+use Rattle.vs_parse_lists.specs.vs_parse_expressions.proofs.Tokens.{none_at, other_at, read_number}
 use Rattle.vs_parse_statements.proofs.Controls.{delay_number_stuck, delay_number_read}
 use Rattle.vs_parse_statements.proofs.control.delay_number.Goals as goal
 

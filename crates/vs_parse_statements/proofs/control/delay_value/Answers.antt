@@ -1,12 +1,12 @@
 use Rattle.std.proofs.Common.{refl}
 use Rattle.std.proofs.lemmas.Result.{err_from_is_err_and}
-use Rattle.vs_lex_tokens.specs.declared.token.Mark.TheVariants as m
+use Rattle.vs_syntax.specs.vs_lex_tokens.specs.declared.token.Mark.TheVariants as m
 use Rattle.vs_syntax.specs.Grammar.{part, mark, name, delay, an_expr}
 use Rattle.vs_syntax.specs.Reading.{stuck_here, stuck_first, stuck_second}
 use Rattle.vs_syntax.specs.Views.{delay_tree}
 use Rattle.vs_syntax.proofs.Gets.{gets_seq}
-use Rattle.vs_parse_expressions.specs.Answers.{seen, ReadsTree}
-use Rattle.vs_parse_expressions.proofs.Exits.{fails_by}
+use Rattle.vs_parse_lists.specs.vs_parse_expressions.specs.Answers.{seen, ReadsTree}
+use Rattle.vs_parse_lists.specs.vs_parse_expressions.proofs.Exits.{fails_by}
 use Rattle.vs_parse_lists.proofs.Parts.{ended_as}
 use Rattle.vs_parse_statements.proofs.Controls.{delay_of, delay_name_stuck, delay_name_read, delay_group_stuck, delay_group_read}
 use Rattle.vs_parse_statements.proofs.control.delay_value.Goals as goal

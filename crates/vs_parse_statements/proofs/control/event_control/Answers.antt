@@ -2,8 +2,8 @@ use Rattle.std.proofs.Common.{refl}
 use Rattle.std.proofs.lemmas.Result.{err_from_is_err_and}
 use Rattle.vs_syntax.specs.Grammar.{name, event}
 use Rattle.vs_syntax.specs.Reading.{stuck_here}
-use Rattle.vs_parse_expressions.specs.Answers.{seen}
-use Rattle.vs_parse_expressions.proofs.Exits.{fails_by}
+use Rattle.vs_parse_lists.specs.vs_parse_expressions.specs.Answers.{seen}
+use Rattle.vs_parse_lists.specs.vs_parse_expressions.proofs.Exits.{fails_by}
 use Rattle.vs_parse_statements.proofs.Controls.{event_of, event_star, event_name_stuck, event_name_read, event_group}
 use Rattle.vs_parse_statements.proofs.control.event_control.Goals as goal
 

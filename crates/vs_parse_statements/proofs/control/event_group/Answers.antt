@@ -1,13 +1,13 @@
 use Rattle.std.proofs.Common.{refl}
 use Rattle.std.proofs.lemmas.Result.{err_from_is_err_and}
-use Rattle.vs_lex_tokens.specs.declared.token.Mark.TheVariants as m
+use Rattle.vs_syntax.specs.vs_lex_tokens.specs.declared.token.Mark.TheVariants as m
 use Rattle.vs_syntax.specs.Grammar.{part, many, mark, an_event_expr}
 use Rattle.vs_syntax.specs.Reading.{stuck_first, stuck_second}
 use Rattle.vs_syntax.proofs.Gets.{gets_seq, gets_right}
 use Rattle.vs_syntax.specs.declared.tree.EventControl.TheVariants as k
 use Rattle.vs_syntax.specs.Views.{event_tree}
-use Rattle.vs_parse_expressions.specs.Answers.{seen}
-use Rattle.vs_parse_expressions.proofs.Exits.{fails_by}
+use Rattle.vs_parse_lists.specs.vs_parse_expressions.specs.Answers.{seen}
+use Rattle.vs_parse_lists.specs.vs_parse_expressions.proofs.Exits.{fails_by}
 use Rattle.vs_parse_lists.specs.Parts.{ReadsWithin, marked}
 use Rattle.vs_parse_lists.proofs.Parts.{ended_as}
 use Rattle.vs_parse_statements.proofs.Controls.{grouped, star_read, terms_stuck, another_term}

@@ -4,9 +4,9 @@ use Rattle.vs_syntax.specs.Grammar.{part, many, an_event_expr}
 use Rattle.vs_syntax.specs.Reading.{stuck_many}
 use Rattle.vs_syntax.proofs.Gets.{gets_stop}
 use Rattle.vs_syntax.specs.Views.{other_event_tree}
-use Rattle.vs_parse_expressions.specs.Answers.{seen}
-use Rattle.vs_parse_expressions.proofs.Exits.{fails_by}
-use Rattle.vs_parse_expressions.proofs.Rows.{along_push, shorter, all_read}
+use Rattle.vs_parse_lists.specs.vs_parse_expressions.specs.Answers.{seen}
+use Rattle.vs_parse_lists.specs.vs_parse_expressions.proofs.Exits.{fails_by}
+use Rattle.vs_parse_lists.specs.vs_parse_expressions.proofs.Rows.{along_push, shorter, all_read}
 use Rattle.vs_parse_statements.proofs.Controls.{another_term, term_goes, term_read, term_stuck}
 use Rattle.vs_parse_statements.proofs.control.other_terms.Goals as goal
 

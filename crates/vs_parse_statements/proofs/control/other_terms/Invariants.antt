@@ -1,7 +1,7 @@
 use Rattle.std.proofs.Common.{length, map}
 use Rattle.vs_syntax.specs.Views.{other_event_tree}
-use Rattle.vs_parse_expressions.specs.Answers.{seen}
-use Rattle.vs_parse_expressions.proofs.Rows.{Along}
+use Rattle.vs_parse_lists.specs.vs_parse_expressions.specs.Answers.{seen}
+use Rattle.vs_parse_lists.specs.vs_parse_expressions.proofs.Rows.{Along}
 use Rattle.vs_parse_statements.proofs.Controls.{another_term}
 use Rattle.vs_parse_statements.proofs.control.other_terms.Given as goal
 

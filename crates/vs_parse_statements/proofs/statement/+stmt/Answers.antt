@@ -1,13 +1,13 @@
 use Rattle.std.proofs.Common.{Some, None, sym, ◌∙◌, refl, arith}
 use Rattle.std.proofs.lemmas.Result.{err_from_is_err_and}
-use Rattle.vs_lex_tokens.specs.declared.token.Word.TheVariants as w
+use Rattle.vs_syntax.specs.vs_lex_tokens.specs.declared.token.Word.TheVariants as w
 use Rattle.vs_syntax.specs.Grammar.{◌·◌, part, word, block_head, guarded, branches, case_items, for_parts, delay, event, a_stmt, a_case_item}
 use Rattle.vs_syntax.specs.Views.{stmt_tree}
 use Rattle.vs_syntax.specs.Reading.{stuck_here, stuck_first, stuck_second}
 use Rattle.vs_syntax.proofs.Gets.{gets_seq, gets_stop, gets_absent}
-use Rattle.vs_parse_expressions.specs.Answers.{seen}
-use Rattle.vs_parse_expressions.proofs.Exits.{fails_by}
-use Rattle.vs_parse_expressions.proofs.Rows.{along_start, along_push, shorter, all_read}
+use Rattle.vs_parse_lists.specs.vs_parse_expressions.specs.Answers.{seen}
+use Rattle.vs_parse_lists.specs.vs_parse_expressions.proofs.Exits.{fails_by}
+use Rattle.vs_parse_lists.specs.vs_parse_expressions.proofs.Rows.{along_start, along_push, shorter, all_read}
 use Rattle.vs_parse_lists.specs.Parts.{labelled_stmt_tree}
 use Rattle.vs_parse_statements.proofs.Heads.{head_goes, head_deep}
 use Rattle.vs_parse_statements.proofs.Statements.{null_read, word_stmt, word_is, room_of, word_room, begins_of, block_body, row_stuck, else_stuck, else_read, items_none, item_stuck, items_read}

@@ -1,8 +1,8 @@
 use Rattle.std.proofs.Common.{◌+◌, ◌*◌, length, map}
 use Rattle.vs_syntax.specs.Grammar.{part, a_stmt, a_case_item}
 use Rattle.vs_syntax.specs.Views.{stmt_tree}
-use Rattle.vs_parse_expressions.specs.Answers.{seen}
-use Rattle.vs_parse_expressions.proofs.Rows.{Along}
+use Rattle.vs_parse_lists.specs.vs_parse_expressions.specs.Answers.{seen}
+use Rattle.vs_parse_lists.specs.vs_parse_expressions.proofs.Rows.{Along}
 use Rattle.vs_parse_lists.specs.Parts.{labelled_stmt_tree}
 use Rattle.vs_parse_statements.proofs.statement.+stmt.Given as goal
 

@@ -1,5 +1,5 @@
 use Rattle.std.proofs.Common.{◌≡◌, ◌≤◌, ◌++◌, length, refl, arith, true}
-use Rattle.vs_lexer.specs.Tokens.{lexeme}
+use Rattle.vs_syntax.specs.vs_lexer.specs.Tokens.{lexeme}
 use Rattle.vs_parser.proofs.Faulty as faulty
 use Rattle.vs_parser.proofs.parser.too_deep.Goals as goal
 

@@ -1,4 +1,4 @@
-use Rattle.vs_rules.specs.Certificates.{claims_of}
+use Rattle.vs_cert_check.specs.vs_rules.specs.Certificates.{claims_of}
 use Rattle.vs_propose.proofs.Made.{made, refused, not_refused}
 use Rattle.vs_propose.proofs.search.proposal_of.Goals as goal
 

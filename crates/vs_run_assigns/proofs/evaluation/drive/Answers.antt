@@ -1,7 +1,7 @@
 use Rattle.std.proofs.Common.{◌≡◌, Some, slice_get, subst}
 use Rattle.vs_design.specs.declared.design.Assign.{Assign}
 use Rattle.vs_design.specs.Parts.{Parts}
-use Rattle.vs_flatcode.specs.Spots.{IsSpotIn}
+use Rattle.vs_process.specs.vs_flatcode.specs.Spots.{IsSpotIn}
 use Rattle.vs_run_steps.specs.Runs.{state_of}
 use Rattle.vs_run_assigns.specs.Evaluations.{HasDigits}
 use Rattle.vs_run_assigns.specs.Forms.{IsCopy, IsFixed, IsForm}

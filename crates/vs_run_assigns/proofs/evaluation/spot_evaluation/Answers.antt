@@ -3,19 +3,11 @@ use Rattle.vs_logic4.specs.declared.digit.Digit.{Digit}
 use Rattle.vs_logic4.specs.Extensions.{length-resized}
 use Rattle.vs_logic4.specs.Vectors.{resized, same_digits}
 use Rattle.vs_design.specs.declared.design.Assign.{Assign}
-use Rattle.vs_design.specs.Stores.{changes_nothing}
-use Rattle.vs_eval.specs.Targets.{assigned}
-use Rattle.vs_eval.specs.Values.{value_of}
-use Rattle.vs_run_assigns.specs.Forms.{IsCopy, IsFixed, IsForm}
+use Rattle.vs_eval_resolved.specs.vs_eval.specs.Values.{value_of}
+use Rattle.vs_run_assigns.specs.Forms.{IsFixed, IsForm}
 use Rattle.vs_run_assigns.proofs.DiffersLemmas.{twice_not}
-use Rattle.vs_run_assigns.proofs.FormsLemmas.{copy_held, copy_value, fixed_held, fixed_value, spot_within}
+use Rattle.vs_run_assigns.proofs.FormsLemmas.{fixed_held, fixed_value, spot_within}
 use Rattle.vs_run_assigns.proofs.evaluation.spot_evaluation.Goals as goal
-
-pub copied-digits-requires-clause-sized : goal.copied-digits-requires-clause-sized
-copied-digits-requires-clause-sized g c =
-    let a : Assign = c.requires.there.0 in
-    copy_value c.args.forms.now.signals a c.in-Copy.spot c.in-Copy.from c.args.run.now.watched.store c.args.run.now.regions.time
-    (subst (IsForm c.args.forms.now.signals a) c.in-Copy.is (c.in_ok-form.ensures a c.requires.there.1)) c.requires.store
 
 pub bits_of-requires : goal.bits_of-requires
 bits_of-requires g c =
@@ -24,25 +16,6 @@ bits_of-requires g c =
     subst (IsForm c.args.forms.now.signals a) c.in-Fixed.is (c.in_ok-form.ensures a c.requires.there.1)
     in
     spot_within c.args.forms.now.signals c.in-Fixed.spot c.args.run.now.watched.store form.place.spot_of.inside c.requires.store
-
-pub returns-in-Copy : goal.returns-in-Copy
-returns-in-Copy g c =
-    let store = c.args.run.now.watched.store in
-    let time : ℕ = c.args.run.now.regions.time in
-    let digits : List Digit = c.copied-digits.result.0 in
-    let form : (a : Assign) → slice_get c.args.forms.now.assigns c.args.assign ≡ Some a → IsCopy c.args.forms.now.signals a c.in-Copy.spot c.in-Copy.from =
-    λ a at. subst (IsForm c.args.forms.now.signals a) c.in-Copy.is (c.in_ok-form.ensures a at)
-    in
-    record {
-      evaluation = record {
-        value = λ a at. c.copied-digits.ensures.value ∙ sym ((form a at).copied store time c.requires.store);
-        held = λ a at.
-            ap (λ (v : List Digit). changes_nothing store (assigned a.target v store time)) c.copied-digits.ensures.value
-            ∙ copy_held c.args.forms.now.signals a c.in-Copy.spot c.in-Copy.from store time (not c.copied-digits.result.1) (form a at) c.requires.store
-            c.copied-digits.ensures.held;
-      };
-      place = λ a at. (form a at).place;
-    }
 
 pub returns-in-Fixed : goal.returns-in-Fixed
 returns-in-Fixed g c =

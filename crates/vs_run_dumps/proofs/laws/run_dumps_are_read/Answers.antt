@@ -2,12 +2,12 @@ use Rattle.std.proofs.Common.{◌≡◌, true, false, List, ◌++◌, map, sym, 
 use Rattle.std.specs.Prelude.{IfSome, filter, unwrap_or, if◌then◌else◌}
 use Rattle.vs_design.specs.Traces.{Slot, AreRising}
 use Rattle.vs_process.specs.Executions.{after, finish_time, slots, trace, is_by, is_complete}
-use Rattle.vs_vcd_writing.specs.Codes.{shown}
-use Rattle.vs_vcd_writing.specs.Shown.{slot_at}
-use Rattle.vs_vcd_writing.specs.Text.{vcd_header, vcd_slots, vcd_text}
-use Rattle.vs_vcd_writing.specs.Values.{shown_value}
-use Rattle.vs_vcd_reading.specs.Layout.{IsLayout}
-use Rattle.vs_vcd_reading.specs.Plain.{plain_dump}
+use Rattle.vs_kernel.specs.vs_vcd_writing.specs.Codes.{shown}
+use Rattle.vs_kernel.specs.vs_vcd_writing.specs.Shown.{slot_at}
+use Rattle.vs_kernel.specs.vs_vcd_writing.specs.Text.{vcd_header, vcd_slots, vcd_text}
+use Rattle.vs_kernel.specs.vs_vcd_writing.specs.Values.{shown_value}
+use Rattle.vs_vcd_law.specs.vs_vcd_reading.specs.Layout.{IsLayout}
+use Rattle.vs_vcd_law.specs.vs_vcd_reading.specs.Plain.{plain_dump}
 use Rattle.vs_kernel.specs.Runs.{text_so_far}
 use Rattle.vs_run_dumps.specs.ReadBack.{dump_so_far}
 use Rattle.vs_vcd_law.specs.Conditions.{AreWhole, IsEnd}

@@ -3,4 +3,4 @@ use Rattle.vs_design.specs.Tables.{rows, empty_rows}
 use Rattle.vs_run_tables.proofs.lists.empty_lists.Given as goal
 
 abbrev pub invariant-loop : goal.invariant-loop
-invariant-loop l = rows l.lists.items ≡ empty_rows l.counter
+invariant-loop g l = rows l.lists.items ≡ empty_rows l.counter

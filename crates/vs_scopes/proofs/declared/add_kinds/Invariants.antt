@@ -1,5 +1,5 @@
 use Rattle.std.proofs.Common.{◌≡◌, ℕ, List, take}
-use Rattle.vs_widths.specs.Names.{meaning_of}
+use Rattle.vs_elab_connections.specs.vs_widths.specs.Names.{meaning_of}
 use Rattle.vs_scopes.specs.Ports.{kind_among}
 use Rattle.vs_scopes.specs.passes.Parts.{read_end}
 use Rattle.vs_scopes.specs.passes.Declared.{first_of, form_of, read_said}

@@ -1,6 +1,6 @@
 use Rattle.std.proofs.Common.{subst, Option}
 use Rattle.vs_syntax.specs.declared.tree.Range.{Range}
-use Rattle.vs_widths.specs.Names.{meaning_of}
+use Rattle.vs_elab_connections.specs.vs_widths.specs.Names.{meaning_of}
 use Rattle.vs_scopes.specs.Ranges.{sized_as}
 use Rattle.vs_scopes.specs.passes.Answers.{Elaborates}
 use Rattle.vs_scopes.specs.passes.Sizes.{width_faults, IsSize}

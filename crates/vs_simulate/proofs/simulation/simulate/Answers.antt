@@ -3,8 +3,8 @@ use Rattle.std.specs.List.{All}
 use Rattle.vs_design.specs.declared.signal.Signal.{Signal}
 use Rattle.vs_elab_outlines.specs.Outlined.{HasShortRanges}
 use Rattle.vs_vcd_lines.specs.Lines.{IsRange}
-use Rattle.vs_process.specs.declared.moves.Grain.TheVariants.{Statement}
-use Rattle.vs_process.specs.Executions.{after, slots}
+use Rattle.vs_run_updates.specs.vs_process.specs.declared.moves.Grain.TheVariants.{Statement}
+use Rattle.vs_run_updates.specs.vs_process.specs.Executions.{after, slots}
 use Rattle.vs_run_dumps.specs.ReadBack.{ReadsBack}
 use Rattle.vs_simulate.proofs.EndLemmas.{whole_complete}
 use Rattle.vs_simulate.proofs.ReadLemmas.{text_of}

@@ -1,7 +1,7 @@
 use Rattle.std.proofs.Common.{◌≡◌, ℕ, ◌↔◌, Some, subst}
 use Rattle.std.proofs.lemmas.Result.{IfOk-weaker}
 use Rattle.vs_design.specs.Parts.{Parts}
-use Rattle.vs_logic4.specs.declared.digit.Digit.{Digit}
+use Rattle.vs_design.specs.vs_logic4.specs.declared.digit.Digit.{Digit}
 use Rattle.vs_slots_constants.specs.Clocks.{IsClockBy}
 use Rattle.vs_slots_constants.proofs.OtherLemmas.{clocks_by_writers}
 use Rattle.vs_slots.specs.Kept.{IsClockOf}

@@ -2,7 +2,7 @@ use Rattle.std.proofs.Common.{ℕ, List, ◌≡◌, Some, slice_get, refl, sym, 
 use Rattle.std.proofs.lemmas.Result.{IfOk-weaker}
 use Rattle.vs_design.specs.declared.design.Process.{Process}
 use Rattle.vs_slots_constants.proofs.OtherLemmas.{found_there, by_initial, by_always}
-use Rattle.vs_logic4.specs.declared.digit.Digit.{Digit}
+use Rattle.vs_design.specs.vs_logic4.specs.declared.digit.Digit.{Digit}
 use Rattle.vs_slots_constants.specs.declared.clocks.Clock.{Clock}
 use Rattle.vs_rules.specs.Constants.{SetsAndTurns}
 use Rattle.vs_slots_constants.specs.Clocks.{IsTurnedBy}

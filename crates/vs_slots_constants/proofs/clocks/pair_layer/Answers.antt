@@ -6,7 +6,7 @@ use Rattle.vs_design.specs.declared.statement.Statement.TheOpen as f
 use Rattle.vs_design.specs.declared.statement.Statement.TheVariants.{rolls-Block}
 use Rattle.vs_slots_constants.specs.Clocks.{ArePair, PairLayer}
 use Rattle.vs_slots_constants.proofs.Cores.{layer_of}
-use Rattle.vs_logic4.specs.declared.digit.Digit.{Digit}
+use Rattle.vs_design.specs.vs_logic4.specs.declared.digit.Digit.{Digit}
 use Rattle.vs_slots_constants.specs.declared.clocks.Clock.{Clock}
 use Rattle.vs_slots_constants.proofs.clocks.pair_layer.Goals as goal
 

@@ -3,7 +3,7 @@ use Rattle.std.proofs.lemmas.Result.{IfOk-weaker}
 use Rattle.vs_design.specs.declared.design.Process.{Process}
 use Rattle.vs_rules.specs.Constants.{Sets}
 use Rattle.vs_slots_constants.proofs.OtherLemmas.{found_there, body_is, not_both}
-use Rattle.vs_logic4.specs.declared.digit.Digit.{Digit}
+use Rattle.vs_design.specs.vs_logic4.specs.declared.digit.Digit.{Digit}
 use Rattle.vs_slots_constants.proofs.clocks.set_by.Goals as goal
 
 pub returns-in-Initial : goal.returns-in-Initial

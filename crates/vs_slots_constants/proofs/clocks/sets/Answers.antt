@@ -1,7 +1,7 @@
 use Rattle.std.proofs.Common.{◌∙◌, sym, Option, ◌≡◌}
 use Rattle.std.proofs.lemmas.Result.{IfOk-weaker}
 use Rattle.vs_slots_constants.proofs.ClockLemmas.{sets_is}
-use Rattle.vs_logic4.specs.declared.digit.Digit.{Digit}
+use Rattle.vs_design.specs.vs_logic4.specs.declared.digit.Digit.{Digit}
 use Rattle.vs_design.specs.declared.statement.Statement.TheViews.{out-Statement}
 use Rattle.vs_slots_constants.specs.Clocks.{setting_layer}
 use Rattle.vs_slots_constants.proofs.clocks.sets.Goals as goal

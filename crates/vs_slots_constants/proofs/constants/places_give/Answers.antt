@@ -1,6 +1,6 @@
 use Rattle.std.proofs.Common.{◌≡◌, ◌≤◌, ◌+◌, ◌∷◌, Bool, List, None, drop, length, if◌then◌else◌, pos, sym, ap, ◌∙◌, subst, rules, ℕ}
-use Rattle.vs_logic4.specs.Parts.{selected}
-use Rattle.vs_logic4.proofs.Basics.{front_of}
+use Rattle.vs_design.specs.vs_logic4.specs.Parts.{selected}
+use Rattle.vs_design.specs.vs_logic4.proofs.Basics.{front_of}
 use Rattle.vs_design.specs.declared.statement.Aim.{Aim}
 use Rattle.vs_design.specs.WellFormed.{aim_width}
 use Rattle.vs_eval.proofs.Places.{after_most}

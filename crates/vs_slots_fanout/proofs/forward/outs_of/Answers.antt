@@ -5,7 +5,7 @@ use Rattle.std.specs.declared.alloc.Global.{Global}
 use Rattle.std.proofs.lemmas.Result.{IfOk-weaker}
 use Rattle.vs_design.specs.Parts.{Parts}
 use Rattle.vs_slots_cones.specs.Wires.{drivers}
-use Rattle.vs_slots_paths.specs.Indexes.{AreRows, row_of}
+use Rattle.vs_slots_cones.specs.vs_slots_paths.specs.Indexes.{AreRows, row_of}
 use Rattle.vs_slots_fanout.specs.Forward.{AreWriterRows, WritesSignal}
 use Rattle.vs_slots_fanout.proofs.ForwardLemmas.{turned}
 use Rattle.vs_slots_fanout.proofs.forward.outs_of.Goals as goal

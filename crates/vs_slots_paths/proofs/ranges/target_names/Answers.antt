@@ -2,7 +2,7 @@ use Rattle.std.proofs.Common.{◌∙◌, sym, ap}
 use Rattle.std.specs.List.{list_any}
 use Rattle.vs_design.specs.Uses.{aim_range, is_of, writes_signal}
 use Rattle.vs_design.proofs.LoopLemmas.{any_here, any_next, any_none}
-use Rattle.vs_logic4.proofs.Basics.{any_map}
+use Rattle.vs_design.specs.vs_logic4.proofs.Basics.{any_map}
 use Rattle.vs_slots_paths.proofs.ranges.target_names.Goals as goal
 
 pub loop-aim-init : goal.loop-aim-init

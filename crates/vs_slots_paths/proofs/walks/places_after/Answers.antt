@@ -1,7 +1,7 @@
 use Rattle.std.proofs.Common.{ℕ, ◌↔◌, refl, sym, ◌∙◌, ap}
 use Rattle.std.specs.List.{Contains}
 use Rattle.std.proofs.lemmas.Result.{IfOk-weaker}
-use Rattle.vs_reach.specs.Reached.{Reached}
+use Rattle.vs_reach_local.specs.vs_reach.specs.Reached.{Reached}
 use Rattle.vs_slots_paths.specs.declared.along.Along.TheVariants.{Plain}
 use Rattle.vs_slots_paths.specs.Reaches.{stops_along}
 use Rattle.vs_slots_paths.specs.Walks.{IsControlBefore, is_control}

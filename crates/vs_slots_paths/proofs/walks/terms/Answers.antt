@@ -2,7 +2,7 @@ use Rattle.std.proofs.Common.{◌<◌, ◌↔◌, ◌⊎◌, ℕ, Vec, Global, i
 use Rattle.std.specs.List.{Contains}
 use Rattle.std.proofs.lemmas.Bool.{false≢true}
 use Rattle.vs_design.specs.declared.statement.EventTerm.{EventTerm}
-use Rattle.vs_reach.proofs.Sets.{more, up_to}
+use Rattle.vs_reach_local.specs.vs_reach.proofs.Sets.{more, up_to}
 use Rattle.vs_slots_paths.specs.Reaches.{IsPlace, pause_at}
 use Rattle.vs_slots_paths.specs.Ranges.{pause_terms}
 use Rattle.vs_slots_paths.proofs.MarkLemmas.{put_more}

@@ -2,7 +2,7 @@ use Rattle.std.proofs.Common.{ℕ, Bool, List, false, IsTrue, slice_index_or, sy
 use Rattle.std.proofs.lemmas.Result.{IfOk-weaker}
 use Rattle.std.specs.List.{Contains}
 use Rattle.vs_flatcode.specs.Stops.{stops_tos}
-use Rattle.vs_reach.specs.Reached.{AreReached}
+use Rattle.vs_reach_local.specs.vs_reach.specs.Reached.{AreReached}
 use Rattle.vs_slots_paths.specs.Reaches.{IsPlace, places, stops_along}
 use Rattle.vs_slots_paths.specs.Walks.{AreMarked, WalkFrom}
 use Rattle.vs_slots_paths.proofs.WalkLemmas.{seeds_are, seeds_told, seeds_in, walks_are}

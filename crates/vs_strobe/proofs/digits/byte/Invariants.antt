@@ -1,5 +1,5 @@
 use Rattle.std.proofs.Common.{◌≡◌, drop}
-use Rattle.vs_logic4.specs.Arithmetic.{number}
+use Rattle.vs_design.specs.vs_logic4.specs.Arithmetic.{number}
 use Rattle.vs_strobe.proofs.digits.byte.Given as goal
 
 abbrev pub invariant-loop-i : goal.invariant-loop-i

@@ -1,6 +1,6 @@
 use Rattle.std.proofs.Common.{◌≡◌, ◌*◌, ◌-◌, pos, ap, w64, ◌∙◌, arith, refl}
 use Rattle.std.proofs.lemmas.Int.{to_z_pos}
-use Rattle.vs_logic4.specs.Parts.{selected}
+use Rattle.vs_design.specs.vs_logic4.specs.Parts.{selected}
 use Rattle.vs_strobe.proofs.ValueLemmas.{group_selected, length-group}
 use Rattle.vs_strobe.proofs.digits.group.Goals as goal
 

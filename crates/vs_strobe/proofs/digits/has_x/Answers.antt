@@ -1,7 +1,7 @@
 use Rattle.std.proofs.Common.{suc, drop, arith, ◌+◌, ◌≡◌, ap, ◌∙◌}
 use Rattle.std.specs.List.{list_any}
-use Rattle.vs_logic4.specs.declared.digit.Digit.TheVariants.{X}
-use Rattle.vs_logic4.specs.Vectors.{same_digit}
+use Rattle.vs_design.specs.vs_logic4.specs.declared.digit.Digit.TheVariants.{X}
+use Rattle.vs_design.specs.vs_logic4.specs.Vectors.{same_digit}
 use Rattle.vs_strobe.proofs.ValueLemmas.{x_found, x_passed}
 use Rattle.vs_strobe.proofs.digits.has_x.Goals as goal
 

@@ -1,5 +1,5 @@
 use Rattle.std.proofs.Common.{◌-◌, sym, ap, ◌∙◌, arith}
-use Rattle.vs_logic4.specs.Arithmetic.{number}
+use Rattle.vs_design.specs.vs_logic4.specs.Arithmetic.{number}
 use Rattle.vs_strobe.proofs.ValueLemmas.{bytes_less, bytes_kept, group_within}
 use Rattle.vs_strobe.proofs.digits.kept_bytes.Goals as goal
 

@@ -1,5 +1,5 @@
 use Rattle.std.proofs.Common.{◌-◌, ap, ◌∙◌, arith}
-use Rattle.vs_logic4.specs.Arithmetic.{number}
+use Rattle.vs_design.specs.vs_logic4.specs.Arithmetic.{number}
 use Rattle.vs_strobe.proofs.ValueLemmas.{groups_more, group_within}
 use Rattle.vs_strobe.proofs.digits.push_bytes.Goals as goal
 

@@ -1,5 +1,5 @@
 use Rattle.std.proofs.Common.{◌≡◌, ◌≤◌, ◌++◌, length}
-use Rattle.vs_logic4.specs.Arithmetic.{number}
+use Rattle.vs_design.specs.vs_logic4.specs.Arithmetic.{number}
 use Rattle.vs_strobe.specs.Values.{group_count, by_groups, bytes_text}
 use Rattle.vs_strobe.proofs.digits.push_bytes.Given as goal
 

@@ -1,4 +1,4 @@
-use Rattle.vs_vcd_writing.specs.Codes.{code}
+use Rattle.vs_vcd_lines.specs.vs_vcd_writing.specs.Codes.{code}
 use Rattle.vs_vcd_beginnings.specs.Parts.{IsCode, IsNamedRest}
 use Rattle.vs_vcd_beginnings.proofs.PartLemmas.{fixed_tells, joined_cut, joined_other, joined_uncut}
 use Rattle.vs_vcd_beginnings.proofs.VariableLemmas.{codes_lack, named_rest_some}

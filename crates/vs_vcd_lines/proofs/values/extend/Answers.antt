@@ -1,5 +1,5 @@
 use Rattle.std.proofs.Common.{◌≡◌, ◌-◌, Some, length, slice_get, ap, subst, ◌∙◌, arith}
-use Rattle.vs_logic4.specs.Extensions.{length-resized}
+use Rattle.vs_design.specs.vs_logic4.specs.Extensions.{length-resized}
 use Rattle.vs_vcd_lines.proofs.ValueLemmas.{extend_is}
 use Rattle.vs_vcd_lines.proofs.values.extend.Goals as goal
 

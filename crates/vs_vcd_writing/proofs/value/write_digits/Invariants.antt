@@ -1,6 +1,6 @@
 use Rattle.std.proofs.Common.{◌≡◌, ℕ, ◌-◌, ◌%◌, ◌<◌, ◌≤◌, get_or}
 use Rattle.std.specs.Int.{bit_at}
-use Rattle.vs_logic4.specs.Planes.{digit_of_bits}
+use Rattle.vs_design.specs.vs_logic4.specs.Planes.{digit_of_bits}
 use Rattle.vs_vcd_writing.specs.Values.{digit_character}
 use Rattle.vs_vcd_writing.proofs.value.write_digits.Given as goal
 

@@ -4,7 +4,7 @@ use Rattle.vs_width_selects.specs.Each.{each_none}
 use Rattle.vs_width_selects.specs.Senses.{IsLink, IsTest, IsPair, IsPart}
 use Rattle.vs_width_selects.proofs.FittingLemmas.{each_step, each_all, fits_Signal, fits_Slice, fits_Select, fits_Excerpt, fits_Unary, fits_Repeat, fits_Chain, fits_Choice, fits_Concat, fits_Closed, tests_fitted}
 use Rattle.vs_width_selects.proofs.DepthLemmas.{falls_in}
-use Rattle.vs_logic4.proofs.Basics.{first_most, second_most}
+use Rattle.vs_design.specs.vs_logic4.proofs.Basics.{first_most, second_most}
 use Rattle.vs_width_selects.proofs.fitting.+fitted.Goals as goal
 
 pub fitted-returns-in-Slice : goal.fitted-returns-in-Slice

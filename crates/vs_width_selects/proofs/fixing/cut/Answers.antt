@@ -1,7 +1,7 @@
 use Rattle.std.proofs.Common.{subst, ap, ◌∙◌, rules, w64}
 use Rattle.std.proofs.lemmas.Int.{to_z-of_z}
 use mir.Val.{SFits}
-use Rattle.vs_logic4.specs.Parts.{selected}
+use Rattle.vs_design.specs.vs_logic4.specs.Parts.{selected}
 use Rattle.vs_width_selects.specs.passes.Places.{StandsAlone}
 use Rattle.vs_width_selects.proofs.ExcerptLemmas.{cut_fixed, cut_chosen}
 use Rattle.vs_width_selects.proofs.fixing.cut.Goals as goal

@@ -1,5 +1,5 @@
 use Rattle.std.proofs.Common.{ap, sym, ◌∙◌, arith}
-use Rattle.vs_logic4.specs.Operators.{is_one_bit}
+use Rattle.vs_design.specs.vs_logic4.specs.Operators.{is_one_bit}
 use Rattle.vs_widths.proofs.LinkingLemmas.{ends_at}
 use Rattle.vs_widths.proofs.linking.ends_in_test.Goals as goal
 

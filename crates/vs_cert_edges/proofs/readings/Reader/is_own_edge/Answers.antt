@@ -2,7 +2,7 @@ use Rattle.std.proofs.Common.{◌↔◌, List, sym, ◌∙◌, subst}
 use Rattle.std.specs.List.{Contains}
 use Rattle.std.proofs.lemmas.Bool.{false≢true}
 use Rattle.vs_design.specs.declared.statement.EventTerm.{EventTerm}
-use Rattle.vs_slots_paths.specs.Ranges.{HasTermAt}
+use Rattle.vs_cert_facts.specs.vs_slots_paths.specs.Ranges.{HasTermAt}
 use Rattle.vs_cert_edges.proofs.readings.Reader.is_own_edge.Goals as goal
 
 pub returns-then-not-own : goal.returns-then-not-own

@@ -1,11 +1,11 @@
 use Rattle.std.proofs.Common.{◌≡◌, ℕ, ◌↔◌, true, false, IsTrue, Some, List, slice_get, refl, sym, ◌∙◌, ap, subst}
 use Rattle.std.proofs.lemmas.Bool.{false≢true}
 use Rattle.vs_design.specs.declared.range.BitRange.{BitRange}
-use Rattle.vs_slots_paths.specs.Reaches.{IsPlace}
+use Rattle.vs_cert_facts.specs.vs_slots_paths.specs.Reaches.{IsPlace}
 use Rattle.vs_cert_facts.specs.Facts.{Case}
 use Rattle.vs_cert_edges.specs.ReadingPlaces.{MayReadRange}
 use Rattle.vs_cert_edges.proofs.ReadingLemmas.{both_read, reads_own, reads_shown}
-use Rattle.vs_slots_paths.specs.Ranges.{shows_at}
+use Rattle.vs_cert_facts.specs.vs_slots_paths.specs.Ranges.{shows_at}
 use Rattle.vs_cert_edges.proofs.readings.Reader.place_keeps.Goals as goal
 
 pub returns-then-not-is_point : goal.returns-then-not-is_point

@@ -1,6 +1,6 @@
 use Rattle.std.proofs.Common.{ℕ, refl, sym, ◌∙◌, arith}
 use Rattle.std.proofs.lemmas.Bool.{false≢true}
-use Rattle.vs_slots_paths.specs.Reaches.{IsPlace}
+use Rattle.vs_cert_facts.specs.vs_slots_paths.specs.Reaches.{IsPlace}
 use Rattle.vs_cert_edges.specs.ReadingPlaces.{MayReadAt}
 use Rattle.vs_cert_edges.proofs.PairLemmas.{next_below}
 use Rattle.vs_cert_edges.proofs.readings.Reader.places_keep.Goals as goal

@@ -1,5 +1,5 @@
 use Rattle.std.proofs.Common.{ℕ, ◌<◌}
-use Rattle.vs_slots_paths.specs.Reaches.{IsPlace}
+use Rattle.vs_cert_facts.specs.vs_slots_paths.specs.Reaches.{IsPlace}
 use Rattle.vs_cert_edges.specs.ReadingPlaces.{MayReadAt}
 use Rattle.vs_cert_edges.proofs.readings.Reader.places_keep.Given as goal
 

@@ -1,6 +1,6 @@
 use Rattle.std.proofs.Common.{length, arith}
 use Rattle.std.specs.List.{Contains}
-use Rattle.vs_reach.proofs.Sets.{more, up_to}
+use Rattle.vs_slots_paths.specs.vs_reach.proofs.Sets.{more, up_to}
 use Rattle.vs_cert_facts.specs.Facts.{IsRootAt}
 use Rattle.vs_cert_facts.proofs.RootLemmas.{roots_are}
 use Rattle.vs_cert_facts.proofs.facts.Facts.all_roots.Goals as goal

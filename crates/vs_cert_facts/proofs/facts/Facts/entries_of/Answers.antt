@@ -1,7 +1,7 @@
 use Rattle.std.proofs.Common.{◌≡◌, List, Some, slice_get, refl, sym, ◌∙◌, ap, subst, arith}
 use Rattle.std.proofs.lemmas.Option.{slice_get_read}
 use Rattle.vs_design.specs.declared.signal.Signal.{Signal}
-use Rattle.vs_rules.specs.Claims.{Name, times_in}
+use Rattle.vs_cert_index.specs.vs_rules.specs.Claims.{Name, times_in}
 use Rattle.vs_cert_facts.specs.Facts.{Case}
 use Rattle.vs_cert_index.specs.Places.{place_in}
 use Rattle.vs_cert_facts.proofs.FactLemmas.{edge_signals_are}

@@ -1,5 +1,5 @@
 use Rattle.std.proofs.Common.{◌+◌, ◌∙◌, ap, sym}
-use Rattle.vs_rules.specs.Claims.{times_in, edge_names}
+use Rattle.vs_cert_index.specs.vs_rules.specs.Claims.{times_in, edge_names}
 use Rattle.vs_cert_facts.proofs.FactLemmas.{edge_times_are}
 use Rattle.vs_cert_facts.proofs.RootLemmas.{some_times, other_times}
 use Rattle.vs_cert_facts.proofs.facts.Facts.is_in_edges.Goals as goal

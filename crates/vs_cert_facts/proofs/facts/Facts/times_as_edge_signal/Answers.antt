@@ -1,5 +1,5 @@
 use Rattle.std.proofs.Common.{◌∙◌, ap}
-use Rattle.vs_rules.specs.Claims.{times_in}
+use Rattle.vs_cert_index.specs.vs_rules.specs.Claims.{times_in}
 use Rattle.vs_cert_facts.proofs.FactLemmas.{edge_signals_are}
 use Rattle.vs_cert_facts.proofs.facts.Facts.times_as_edge_signal.Goals as goal
 

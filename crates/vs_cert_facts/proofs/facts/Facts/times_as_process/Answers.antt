@@ -1,5 +1,5 @@
 use Rattle.std.proofs.Common.{◌∙◌, ap}
-use Rattle.vs_rules.specs.Claims.{times_in}
+use Rattle.vs_cert_index.specs.vs_rules.specs.Claims.{times_in}
 use Rattle.vs_cert_facts.proofs.FactLemmas.{process_names_are}
 use Rattle.vs_cert_facts.proofs.facts.Facts.times_as_process.Goals as goal
 

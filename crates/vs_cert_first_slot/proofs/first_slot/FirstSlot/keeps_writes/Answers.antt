@@ -1,5 +1,5 @@
-use Rattle.vs_slots_paths.specs.Ranges.{now_at}
-use Rattle.vs_slots_paths.specs.Reaches.{InPrologue}
+use Rattle.vs_slots_cones.specs.vs_slots_paths.specs.Ranges.{now_at}
+use Rattle.vs_slots_cones.specs.vs_slots_paths.specs.Reaches.{InPrologue}
 use Rattle.vs_cert_first_slot.specs.FirstSlot.{NoneHangs}
 use Rattle.vs_cert_first_slot.proofs.PlaceLemmas.{writes_past}
 use Rattle.vs_cert_first_slot.proofs.SlotLemmas.{all_places}

@@ -1,6 +1,6 @@
 use Rattle.std.proofs.Common.{◌↔◌, IsTrue, refl}
 use Rattle.std.proofs.lemmas.Result.{IfOk-weaker}
-use Rattle.vs_slots_paths.specs.Reaches.{InSlot0}
+use Rattle.vs_slots_cones.specs.vs_slots_paths.specs.Reaches.{InSlot0}
 use Rattle.vs_cert_first_slot.specs.FirstSlot.{ReadsOwn}
 use Rattle.vs_cert_first_slot.proofs.SlotLemmas.{some_reads}
 use Rattle.vs_cert_first_slot.proofs.first_slot.ReadingsRule.test.Goals as goal

@@ -1,7 +1,7 @@
 use Rattle.std.proofs.Common.{◌↔◌, IsTrue, refl}
 use Rattle.std.proofs.lemmas.Result.{IfOk-weaker}
-use Rattle.vs_slots_paths.specs.Ranges.{now_at}
-use Rattle.vs_slots_paths.specs.Reaches.{InPrologue}
+use Rattle.vs_slots_cones.specs.vs_slots_paths.specs.Ranges.{now_at}
+use Rattle.vs_slots_cones.specs.vs_slots_paths.specs.Reaches.{InPrologue}
 use Rattle.vs_cert_first_slot.specs.FirstSlot.{NoneHangs}
 use Rattle.vs_cert_first_slot.proofs.SlotLemmas.{some_reads}
 use Rattle.vs_cert_first_slot.proofs.first_slot.WritingsRule.test.Goals as goal

@@ -1,6 +1,6 @@
 use Rattle.std.proofs.Common.{◌↔◌, IsTrue, refl}
 use Rattle.std.proofs.lemmas.Result.{IfOk-weaker}
-use Rattle.vs_slots_paths.specs.Reaches.{InSlot0}
+use Rattle.vs_slots_cones.specs.vs_slots_paths.specs.Reaches.{InSlot0}
 use Rattle.vs_cert_starts.specs.Beginnings.{BeginsAt, WritesAt}
 use Rattle.vs_cert_starts.proofs.BeginningLemmas.{asked}
 use Rattle.vs_cert_starts.proofs.begins.WritesAloneRule.test.Goals as goal

@@ -1,9 +1,9 @@
 use Rattle.std.proofs.Common.{◌↔◌, subst}
 use Rattle.std.specs.List.{Contains}
-use Rattle.vs_rules.specs.Paths.{Writes}
+use Rattle.vs_slots_uses.specs.vs_rules.specs.Paths.{Writes}
 use Rattle.vs_slots_uses.specs.Texts.{Texts}
 use Rattle.vs_cert_writers.proofs.Parts.{named_as}
-use Rattle.vs_rules.specs.Claims.{IsWriter, IsSecond}
+use Rattle.vs_slots_uses.specs.vs_rules.specs.Claims.{IsWriter, IsSecond}
 use Rattle.vs_cert_writers.proofs.writers.Claimed.are_named.Goals as goal
 
 pub returns : goal.returns

@@ -1,5 +1,5 @@
 use Rattle.std.proofs.Common.{refl, sym}
-use Rattle.vs_rules.specs.Claims.{IsSecond, IsWriter, claim_of, writer_in}
+use Rattle.vs_slots_uses.specs.vs_rules.specs.Claims.{IsSecond, IsWriter, claim_of, writer_in}
 use Rattle.vs_cert_writers.proofs.Parts.{at_map, first_part, same_one}
 use Rattle.vs_cert_writers.proofs.writers.Claimed.first_alone.Goals as goal
 

@@ -1,6 +1,6 @@
 use Rattle.std.proofs.Common.{refl, sym}
 use Rattle.std.proofs.lemmas.Bool.{false≢true}
-use Rattle.vs_rules.specs.Claims.{IsSecond, IsWriter, claim_of, second_in, writer_in}
+use Rattle.vs_slots_uses.specs.vs_rules.specs.Claims.{IsSecond, IsWriter, claim_of, second_in, writer_in}
 use Rattle.vs_cert_writers.specs.Writers.{FirstAloneLater}
 use Rattle.vs_cert_writers.proofs.Here.{named_here}
 use Rattle.vs_cert_writers.proofs.Parts.{at_map, granted, later_part, no_later, same_one, some_later}

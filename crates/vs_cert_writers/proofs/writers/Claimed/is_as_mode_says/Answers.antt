@@ -1,9 +1,9 @@
 use Rattle.std.proofs.Common.{◌↔◌, IsTrue, false, sym, subst}
 use Rattle.vs_certificate.specs.declared.members.SignalMode.{SignalMode}
 use Rattle.vs_design.specs.Parts.{Parts}
-use Rattle.vs_rules.specs.Certificates.{mode_from}
-use Rattle.vs_rules.specs.Claims.{HasKind}
-use Rattle.vs_rules.specs.Rules.{IsAsModeSays}
+use Rattle.vs_slots_uses.specs.vs_rules.specs.Certificates.{mode_from}
+use Rattle.vs_slots_uses.specs.vs_rules.specs.Claims.{HasKind}
+use Rattle.vs_slots_uses.specs.vs_rules.specs.Rules.{IsAsModeSays}
 use Rattle.vs_cert_writers.proofs.writers.Claimed.is_as_mode_says.Goals as goal
 
 pub returns-in-Net : goal.returns-in-Net

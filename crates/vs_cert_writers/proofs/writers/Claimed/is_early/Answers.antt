@@ -1,5 +1,5 @@
 use Rattle.std.proofs.Common.{◌≡◌, Some, slice_get, refl, sym, subst}
-use Rattle.vs_rules.specs.Claims.{IsSecond, claim_of, second_in}
+use Rattle.vs_slots_uses.specs.vs_rules.specs.Claims.{IsSecond, claim_of, second_in}
 use Rattle.vs_slots_uses.specs.Texts.{Texts}
 use Rattle.vs_cert_writers.specs.Writers.{IsEarly}
 use Rattle.vs_cert_writers.proofs.Here.{named_here}

@@ -1,6 +1,6 @@
 use Rattle.std.proofs.Common.{Some, refl}
-use Rattle.vs_rules.specs.Claims.{IsSequential, IsWriter, claim_of, writer_in}
-use Rattle.vs_rules.specs.Rules.{NeverNow}
+use Rattle.vs_slots_uses.specs.vs_rules.specs.Claims.{IsSequential, IsWriter, claim_of, writer_in}
+use Rattle.vs_slots_uses.specs.vs_rules.specs.Rules.{NeverNow}
 use Rattle.vs_cert_writers.proofs.Here.{named_here}
 use Rattle.vs_cert_writers.proofs.Parts.{never_now, one_is, with_part}
 use Rattle.vs_cert_writers.proofs.writers.Claimed.is_nonblocking.Goals as goal

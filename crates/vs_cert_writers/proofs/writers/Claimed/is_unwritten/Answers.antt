@@ -1,6 +1,6 @@
 use Rattle.std.proofs.Common.{◌↔◌, subst}
 use Rattle.std.specs.List.{Contains}
-use Rattle.vs_rules.specs.Paths.{Writes}
+use Rattle.vs_slots_uses.specs.vs_rules.specs.Paths.{Writes}
 use Rattle.vs_slots_uses.specs.Texts.{Texts}
 use Rattle.vs_cert_writers.proofs.Parts.{none_as}
 use Rattle.vs_cert_writers.proofs.writers.Claimed.is_unwritten.Goals as goal

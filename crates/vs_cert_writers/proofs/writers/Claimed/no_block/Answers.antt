@@ -1,7 +1,7 @@
 use Rattle.std.proofs.Common.{◌↔◌, refl, subst}
 use Rattle.std.specs.List.{Contains}
-use Rattle.vs_rules.specs.Claims.{IsBlock, IsSecond}
-use Rattle.vs_rules.specs.Paths.{Writes}
+use Rattle.vs_slots_uses.specs.vs_rules.specs.Claims.{IsBlock, IsSecond}
+use Rattle.vs_slots_uses.specs.vs_rules.specs.Paths.{Writes}
 use Rattle.vs_slots_uses.specs.Texts.{Texts}
 use Rattle.vs_cert_writers.proofs.Parts.{blocks_as}
 use Rattle.vs_cert_writers.proofs.writers.Claimed.no_block.Goals as goal

@@ -1,5 +1,5 @@
 use Rattle.std.proofs.Common.{arith}
-use Rattle.vs_logic4.specs.declared.edge.Edge.TheVariants.{Posedge}
+use Rattle.vs_design.specs.vs_logic4.specs.declared.edge.Edge.TheVariants.{Posedge}
 use Rattle.vs_edges.proofs.Edges.{posedge_at, edge_at_place}
 use Rattle.vs_edges.proofs.MasksLemmas.{unknown_below, value_below}
 use Rattle.vs_edges.proofs.masks.WordChange.rising.Goals as goal

@@ -1,6 +1,6 @@
 use Rattle.std.proofs.Common.{sym, ◌∙◌, ap, subst}
 use Rattle.std.specs.Prelude.{IfSome, false}
-use Rattle.vs_logic4.specs.Vectors.{resized}
+use Rattle.vs_design.specs.vs_logic4.specs.Vectors.{resized}
 use Rattle.vs_design.specs.InOrder.{IsStoreOf}
 use Rattle.vs_eval.specs.Values.{value_of}
 use Rattle.vs_eval_resolved.specs.Meant.{IsMeant, Meaning}

@@ -2,8 +2,8 @@ use Rattle.std.proofs.lemmas.Result.{err_from_is_err_and}
 use Rattle.vs_syntax.specs.Grammar.{part, name, a_bare_name}
 use Rattle.vs_syntax.specs.Reading.{stuck_part}
 use Rattle.vs_syntax.proofs.Gets.{gets_part}
-use Rattle.vs_parse_expressions.specs.Answers.{seen}
-use Rattle.vs_parse_expressions.proofs.Exits.{fails_by}
+use Rattle.vs_parse_lists.specs.vs_parse_expressions.specs.Answers.{seen}
+use Rattle.vs_parse_lists.specs.vs_parse_expressions.proofs.Exits.{fails_by}
 use Rattle.vs_parse_headers.proofs.declaration.BareNameElement.read.Goals as goal
 
 pub returns-in_err-name : goal.returns-in_err-name

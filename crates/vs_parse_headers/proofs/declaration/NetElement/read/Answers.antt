@@ -1,14 +1,14 @@
 use Rattle.std.proofs.Common.{refl}
 use Rattle.std.proofs.lemmas.Result.{err_from_is_err_and}
-use Rattle.vs_lex_tokens.specs.declared.token.Mark.TheVariants as m
+use Rattle.vs_syntax.specs.vs_lex_tokens.specs.declared.token.Mark.TheVariants as m
 use Rattle.vs_syntax.specs.Symbols.{a_mark, the_mark}
 use Rattle.vs_syntax.specs.Grammar.{◌·◌, part, name, may_value, a_net, an_expr}
 use Rattle.vs_syntax.specs.Derivation.{leaf, both}
 use Rattle.vs_syntax.specs.Reading.{stuck_first, stuck_part}
 use Rattle.vs_syntax.specs.Views.{name_tree, declarator_tree}
 use Rattle.vs_syntax.proofs.Gets.{gets_seq, gets_part}
-use Rattle.vs_parse_expressions.specs.Answers.{seen}
-use Rattle.vs_parse_expressions.proofs.Exits.{fails_by}
+use Rattle.vs_parse_lists.specs.vs_parse_expressions.specs.Answers.{seen}
+use Rattle.vs_parse_lists.specs.vs_parse_expressions.proofs.Exits.{fails_by}
 use Rattle.vs_parse_lists.proofs.Forms.{absent}
 use Rattle.vs_parse_lists.proofs.Parts.{beyond_part, beyond_behind}
 use Rattle.vs_parse_headers.proofs.Declarations.{beyond_present, within_beyond, part_answers}

@@ -1,14 +1,14 @@
 use Rattle.std.proofs.Common.{subst}
 use Rattle.std.proofs.lemmas.Result.{err_from_is_err_and}
-use Rattle.vs_lex_tokens.specs.declared.token.Mark.TheVariants as m
+use Rattle.vs_syntax.specs.vs_lex_tokens.specs.declared.token.Mark.TheVariants as m
 use Rattle.vs_syntax.specs.Symbols.{a_mark}
 use Rattle.vs_syntax.specs.Grammar.{◌·◌, ◌or◌, nothing, part, name, range, a_variable, an_expr}
 use Rattle.vs_syntax.specs.Derivation.{Tree, leaf, both}
 use Rattle.vs_syntax.specs.Reading.{Gets, stuck_first, stuck_second, stuck_part}
 use Rattle.vs_syntax.specs.Views.{name_tree, declarator_tree}
 use Rattle.vs_syntax.proofs.Gets.{gets_seq, gets_part}
-use Rattle.vs_parse_expressions.specs.Answers.{seen}
-use Rattle.vs_parse_expressions.proofs.Exits.{fails_by}
+use Rattle.vs_parse_lists.specs.vs_parse_expressions.specs.Answers.{seen}
+use Rattle.vs_parse_lists.specs.vs_parse_expressions.proofs.Exits.{fails_by}
 use Rattle.vs_parse_lists.proofs.Parts.{beyond_part, beyond_behind}
 use Rattle.vs_parse_headers.proofs.Declarations as d
 use Rattle.vs_parse_headers.proofs.declaration.VariableElement.read.Goals as goal

@@ -1,9 +1,9 @@
-use Rattle.vs_lex_tokens.specs.declared.token.Word.TheVariants as w
+use Rattle.vs_syntax.specs.vs_lex_tokens.specs.declared.token.Word.TheVariants as w
 use Rattle.vs_syntax.specs.Symbols.{the_word}
 use Rattle.vs_syntax.specs.Grammar.{◌·◌, ◌or◌, nothing, part, word, parameter_form, a_constant, a_header_parameter}
 use Rattle.vs_syntax.specs.Derivation.{empty}
 use Rattle.vs_syntax.specs.Views.{header_parameter_tree}
-use Rattle.vs_parse_expressions.specs.Answers.{seen}
+use Rattle.vs_parse_lists.specs.vs_parse_expressions.specs.Answers.{seen}
 use Rattle.vs_parse_lists.proofs.Forms.{absent}
 use Rattle.vs_parse_lists.proofs.Parts.{beyond_part}
 use Rattle.vs_parse_headers.proofs.Declarations.{within_beyond, part_answers}

@@ -2,8 +2,8 @@ use Rattle.std.proofs.lemmas.Result.{err_from_is_err_and}
 use Rattle.vs_syntax.specs.Grammar.{part, name, an_instance}
 use Rattle.vs_syntax.specs.Reading.{stuck_first, stuck_second, stuck_part}
 use Rattle.vs_syntax.proofs.Gets.{gets_seq, gets_part}
-use Rattle.vs_parse_expressions.specs.Answers.{seen}
-use Rattle.vs_parse_expressions.proofs.Exits.{fails_by}
+use Rattle.vs_parse_lists.specs.vs_parse_expressions.specs.Answers.{seen}
+use Rattle.vs_parse_lists.specs.vs_parse_expressions.proofs.Exits.{fails_by}
 use Rattle.vs_parse_headers.proofs.InstanceLemmas.{within}
 use Rattle.vs_parse_headers.proofs.instance.PlacedElement.read.Goals as goal
 

@@ -1,7 +1,7 @@
 use Rattle.std.proofs.Common.{subst}
 use Rattle.vs_run_steps.specs.Runs.{running_of, state_of}
 use Rattle.vs_run_moves.specs.Standing.{Standing}
-use Rattle.vs_run_turns.specs.Turns.{LeftTurned}
+use Rattle.vs_run_steps.specs.vs_run_turns.specs.Turns.{LeftTurned}
 use Rattle.vs_run_moves.proofs.StandingLemmas.{standing_on}
 use Rattle.vs_run_moves.proofs.run.Run.run_events.Goals as goal
 

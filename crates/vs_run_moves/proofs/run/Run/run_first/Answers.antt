@@ -1,9 +1,9 @@
 use Rattle.std.proofs.Common.{◌≡◌, ◌∙◌, ◌<◌, ℕ, None, refl, subst, arith}
-use Rattle.vs_process.proofs.Results.{on_err}
+use Rattle.vs_run_processes.specs.vs_process.proofs.Results.{on_err}
 use Rattle.vs_run_steps.specs.Runs.{state_of}
 use Rattle.vs_run_moves.specs.Standing.{point_of}
-use Rattle.vs_run_turns.specs.Turns.{LeftTurned, Turning}
-use Rattle.vs_run_turns.proofs.TurnsLemmas.{turning_one_part}
+use Rattle.vs_run_steps.specs.vs_run_turns.specs.Turns.{LeftTurned, Turning}
+use Rattle.vs_run_steps.specs.vs_run_turns.proofs.TurnsLemmas.{turning_one_part}
 use Rattle.vs_run_moves.proofs.StandingLemmas.{first_ended, first_failed_event, first_goes_on, first_left, first_on, like_like, like_moved}
 use Rattle.vs_run_moves.proofs.run.Run.run_first.Goals as goal
 

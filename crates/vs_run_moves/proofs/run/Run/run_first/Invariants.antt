@@ -1,6 +1,6 @@
 use Rattle.std.proofs.Common.{◌≡◌, ◌<◌, None}
 use Rattle.vs_run_moves.specs.Standing.{IsStanding, point_of}
-use Rattle.vs_run_turns.specs.Turns.{Turning}
+use Rattle.vs_run_steps.specs.vs_run_turns.specs.Turns.{Turning}
 use Rattle.vs_run_moves.proofs.run.Run.run_first.Given as goal
 
 abbrev pub invariant-loop-rest : goal.invariant-loop-rest

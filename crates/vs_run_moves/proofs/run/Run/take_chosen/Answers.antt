@@ -1,11 +1,11 @@
 use Rattle.std.proofs.Common.{◌≡◌, ◌∙◌, true, sym, ap, subst}
-use Rattle.vs_process.specs.Blocks.{is_step_of_any}
-use Rattle.vs_process.proofs.Results.{on_err}
-use Rattle.vs_run_moves.specs.Running.{IsChoice, move_of}
+use Rattle.vs_run_processes.specs.vs_process.specs.Blocks.{is_step_of_any}
+use Rattle.vs_run_processes.specs.vs_process.proofs.Results.{on_err}
+use Rattle.vs_run_events.specs.Running.{IsChoice, move_of}
 use Rattle.vs_run_moves.specs.Standing.{IsStanding, Standing}
 use Rattle.vs_run_steps.specs.Runs.{running_of, state_of}
-use Rattle.vs_run_turns.proofs.Appending.{part_all}
-use Rattle.vs_run_turns.proofs.TurnsLemmas.{turned_part}
+use Rattle.vs_run_steps.specs.vs_run_turns.proofs.Appending.{part_all}
+use Rattle.vs_run_steps.specs.vs_run_turns.proofs.TurnsLemmas.{turned_part}
 use Rattle.vs_run_moves.proofs.StandingLemmas.{chosen_part, chosen_standing, chosen_turned, region_part, told_same}
 use Rattle.vs_run_moves.proofs.run.Run.take_chosen.Goals as goal
 

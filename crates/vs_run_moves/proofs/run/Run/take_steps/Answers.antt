@@ -1,5 +1,5 @@
-use Rattle.vs_process.proofs.Results.{on_err}
-use Rattle.vs_run_turns.proofs.TurnsLemmas.{once_part}
+use Rattle.vs_run_processes.specs.vs_process.proofs.Results.{on_err}
+use Rattle.vs_run_steps.specs.vs_run_turns.proofs.TurnsLemmas.{once_part}
 use Rattle.vs_run_moves.proofs.StandingLemmas.{steps_one}
 use Rattle.vs_run_moves.proofs.run.Run.take_steps.Goals as goal
 

@@ -2,9 +2,9 @@ use Rattle.std.proofs.Common.{◌≡◌, ℕ, Option, List, [], refl, sym, ◌�
 use Rattle.std.proofs.lemmas.Bool.{false≢true}
 use Rattle.vs_flatcode.specs.Places.{Place, is_going}
 use Rattle.vs_flatcode.specs.Scripts.{todo_on}
-use Rattle.vs_process.specs.Executions.{if_some}
-use Rattle.vs_process.specs.States.{State}
-use Rattle.vs_process.proofs.Results.{on_err}
+use Rattle.vs_run_processes.specs.vs_process.specs.Executions.{if_some}
+use Rattle.vs_run_processes.specs.vs_process.specs.States.{State}
+use Rattle.vs_run_processes.specs.vs_process.proofs.Results.{on_err}
 use Rattle.vs_run_processes.specs.Standings.{place_by}
 use Rattle.vs_run_processes.specs.Taken.{placed}
 use Rattle.vs_run_processes.proofs.TakenLemmas.{set_there}

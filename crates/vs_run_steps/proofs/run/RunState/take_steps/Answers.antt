@@ -4,7 +4,7 @@ use Rattle.vs_flatcode.specs.declared.gait.Gait.{Gait}
 use Rattle.vs_flatcode.specs.Places.{active_at}
 use Rattle.vs_flatcode.specs.Scripts.{todo_on}
 use Rattle.vs_flatcode.proofs.SpotLemmas.{found_there}
-use Rattle.vs_process.proofs.Results.{on_err}
+use Rattle.vs_run_processes.specs.vs_process.proofs.Results.{on_err}
 use Rattle.vs_run_processes.specs.Standings.{place_by}
 use Rattle.vs_run_processes.specs.Taken.{placed}
 use Rattle.vs_run_steps.specs.declared.step.Went.{Went}

@@ -7,8 +7,8 @@ use Rattle.vs_run_tables.specs.Wakes.{AreWalked, has_one, woken_watched}
 use Rattle.vs_run_tables.proofs.WakesLemmas.{rises_walked, wakes_row}
 use Rattle.vs_run_tables.proofs.events.Events.wake.Goals as goal
 
-pub returns-then-row-2 : goal.returns-then-row-2
-returns-then-row-2 c = on_ok_weaker c.wake_rising.result
+pub returns-then-row-3 : goal.returns-then-row-3
+returns-then-row-3 c = on_ok_weaker c.wake_rising.result
     (λ rises. λ d terms before after is of.
     wakes_row d terms c.args.tables.now c.args.signal c.args.word c.args.change c.row-row.result c.differing-differing.result before after c.args.self.now.assigns
     c.wake_rising.new.self.assigns c.args.self.now.processes c.wake_rising.new.self.processes is of c.row-row.ensures.there c.requires.word (omega arith) c.differing-differing.ensures
@@ -17,7 +17,7 @@ returns-then-row-2 c = on_ok_weaker c.wake_rising.result
     (subst (λ (xs : List Process). AreWalked c.args.tables.now.watchers.items c.row-row.result c.args.word c.args.change xs c.wake_rising.new.self.processes)
     c.wake_readers.ensures.processes
     (rises_walked c.args.tables.now.watchers.items c.row-row.result c.args.word c.differing-differing.result c.args.change c.wake_readers.new.self.processes c.wake_rising.new.self.processes
-    c.if-row.true c.if-row-2.true (omega arith) c.differing-differing.ensures rises)))
+    c.if-row-2.true c.if-row-3.true (omega arith) c.differing-differing.ensures rises)))
     c.wake_rising.ensures.processes
 
 pub returns : goal.returns

@@ -1,5 +1,5 @@
 use Rattle.std.proofs.Common.{List, ap, ◌∙◌, arith}
-use Rattle.vs_logic4.specs.declared.edge.Edge.TheVariants.{Posedge}
+use Rattle.vs_design.specs.vs_logic4.specs.declared.edge.Edge.TheVariants.{Posedge}
 use Rattle.vs_run_tables.specs.declared.watchers.Watcher.{Watcher}
 use Rattle.vs_run_tables.specs.Wakes.{walked_by}
 use Rattle.vs_run_tables.proofs.EdgesExist.{edge_number, edge_number-fits, rises-are}

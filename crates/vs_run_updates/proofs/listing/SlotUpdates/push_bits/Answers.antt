@@ -1,7 +1,7 @@
 use Rattle.std.proofs.Common.{refl, sym, subst}
 use Rattle.vs_run_updates.specs.declared.update.Update.TheVariants as u
 use Rattle.vs_run_updates.specs.Updates.{AreListed, Listed, bits_write}
-use Rattle.vs_flatcode.specs.Spots.{IsSpotIn}
+use Rattle.vs_process.specs.vs_flatcode.specs.Spots.{IsSpotIn}
 use Rattle.vs_run_updates.proofs.UpdatesLemmas.{listed_bits}
 use Rattle.vs_run_updates.proofs.listing.SlotUpdates.push_bits.Goals as goal
 

@@ -4,7 +4,7 @@ use Rattle.std.specs.declared.vec.Vec.{Vec}
 use Rattle.std.specs.declared.alloc.Global.{Global}
 use Rattle.vs_design.specs.declared.range.BitRange.{BitRange}
 use Rattle.vs_design.specs.declared.signal.Signal.{Signal}
-use Rattle.vs_reach.specs.Reached.{AreReached}
+use Rattle.vs_slots_paths.specs.vs_reach.specs.Reached.{AreReached}
 use Rattle.vs_slots_cones.specs.declared.writers.Written.{Written}
 use Rattle.vs_slots_cones.specs.Walks.{Passed, all_met, linked}
 use Rattle.vs_slots_cones.specs.Wires.{Wiring, wiring}

@@ -1,8 +1,8 @@
 use Rattle.std.proofs.Common.{◌≡◌, ◌↔◌, Bool, IsTrue, true, false, sym, ◌∙◌, subst}
 use Rattle.std.proofs.lemmas.Result.{IfOk-weaker}
 use Rattle.vs_design.specs.Parts.{Parts}
-use Rattle.vs_rules.specs.Rules.{IsOneBit}
-use Rattle.vs_rules.specs.Blocks.{CopiesWhole}
+use Rattle.vs_slots_constants.specs.vs_rules.specs.Rules.{IsOneBit}
+use Rattle.vs_slots_constants.specs.vs_rules.specs.Blocks.{CopiesWhole}
 use Rattle.vs_slots_copies.proofs.CopyLemmas.{whole_root, root_whole, one_bit}
 use Rattle.vs_slots_copies.proofs.copies.Copies.copies_root.Goals as goal
 

@@ -3,8 +3,8 @@ use Rattle.std.specs.List.{Contains}
 use Rattle.std.proofs.lemmas.Result.{IfOk-weaker}
 use Rattle.vs_design.specs.declared.signal.Signal.{Signal}
 use Rattle.vs_design.specs.Parts.{Parts}
-use Rattle.vs_reach.specs.Reached.{Reached}
-use Rattle.vs_rules.specs.Blocks.{CopiesWhole, itself}
+use Rattle.vs_slots_paths.specs.vs_reach.specs.Reached.{Reached}
+use Rattle.vs_slots_constants.specs.vs_rules.specs.Blocks.{CopiesWhole, itself}
 use Rattle.vs_slots_copies.specs.Copies.{AreSources, ends_of, source_in}
 use Rattle.vs_slots_copies.proofs.CopyLemmas.{chain_is, chain_within, past_itself}
 use Rattle.vs_slots_copies.proofs.copies.Copies.copies_whole.Goals as goal

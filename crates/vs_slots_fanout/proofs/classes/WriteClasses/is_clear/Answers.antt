@@ -3,7 +3,7 @@ use Rattle.std.specs.Prelude.{not}
 use Rattle.std.specs.declared.vec.Vec.{Vec}
 use Rattle.std.specs.declared.alloc.Global.{Global}
 use Rattle.std.proofs.lemmas.Option.{slice_get_read}
-use Rattle.vs_cert_facts.specs.Facts.{Case}
+use Rattle.vs_slots.specs.vs_cert_facts.specs.Facts.{Case}
 use Rattle.vs_slots_fanout.specs.Classes.{IsClear}
 use Rattle.vs_slots_fanout.proofs.ClassLemmas.{clear, off_by}
 use Rattle.vs_slots_fanout.proofs.classes.WriteClasses.is_clear.Goals as goal

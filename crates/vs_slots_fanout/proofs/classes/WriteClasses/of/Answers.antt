@@ -1,5 +1,5 @@
 use Rattle.std.proofs.Common.{subst}
-use Rattle.vs_cert_facts.specs.Facts.{Case}
+use Rattle.vs_slots.specs.vs_cert_facts.specs.Facts.{Case}
 use Rattle.vs_slots_fanout.specs.Forward.{AreForward}
 use Rattle.vs_slots_fanout.proofs.ForwardLemmas.{are_forward}
 use Rattle.vs_slots_fanout.proofs.classes.WriteClasses.of.Goals as goal

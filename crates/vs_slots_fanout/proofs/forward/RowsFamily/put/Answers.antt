@@ -1,6 +1,6 @@
 use Rattle.std.proofs.Common.{ℕ, List, ◌++◌, sym, ◌∙◌, ap, arith}
 use Rattle.std.specs.List.{Contains}
-use Rattle.vs_slots_paths.specs.Indexes.{row_of}
+use Rattle.vs_slots_cones.specs.vs_slots_paths.specs.Indexes.{row_of}
 use Rattle.vs_slots_fanout.proofs.ForwardLemmas.{row_at, row_within}
 use Rattle.vs_slots_fanout.proofs.ListLemmas.{list_put, nothing_put}
 use Rattle.vs_slots_fanout.proofs.forward.RowsFamily.put.Goals as goal

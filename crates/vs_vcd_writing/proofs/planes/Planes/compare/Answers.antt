@@ -1,5 +1,5 @@
 use Rattle.std.proofs.Common.{length, slice_index, slice_get, ap, ap₂, sym, ◌∙◌, arith}
-use Rattle.vs_logic4.specs.Changes.{change}
+use Rattle.vs_design.specs.vs_logic4.specs.Changes.{change}
 use Rattle.vs_vcd_writing.proofs.PlanesLemmas.{length_by, words_same}
 use Rattle.vs_vcd_writing.proofs.planes.Planes.compare.Goals as goal
 

@@ -1,0 +1,1 @@
+pub use Rattle.vs_propose_assigns

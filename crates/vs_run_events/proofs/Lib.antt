@@ -1,0 +1,4 @@
+pub mod ActiveLemmas
+pub mod LeavingLemmas
+pub mod RunLemmas
+pub mod UpdateLemmas

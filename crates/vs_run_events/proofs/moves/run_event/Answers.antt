@@ -1,0 +1,109 @@
+use Rattle.std.proofs.Common.{◌≡◌, Bool, List, refl, subst, arith}
+use Rattle.vs_process.proofs.Results.{on_err}
+use Rattle.vs_run_steps.specs.Runs.{state_of}
+use Rattle.vs_run_steps.proofs.RunsLemmas.{plan_in, plan_out}
+use Rattle.vs_run_steps.specs.vs_run_turns.specs.Turns.{EventTurnedPart}
+use Rattle.vs_run_steps.specs.vs_run_turns.proofs.EventLemmas.{event_stuck}
+use Rattle.vs_run_steps.specs.vs_run_turns.proofs.MadeLemmas.{event_made, made_one}
+use Rattle.vs_run_steps.specs.vs_run_turns.proofs.TakenLemmas.{event_part, event_taken}
+use Rattle.vs_run_events.specs.Running.{IsActive, move_of}
+use Rattle.vs_run_listed.specs.declared.event.Event.TheVariants as e
+use Rattle.vs_run_events.proofs.RunLemmas.{own_run, run_of_own}
+use Rattle.vs_run_events.proofs.moves.run_event.Goals as goal
+
+pub run_process-requires : goal.run_process-requires
+run_process-requires g c κs within = (within.0, (within.1, (plan_in c.args.forms.now c.args.run.now c.requires.run, (c.requires.early, c.requires.limit))))
+
+pub evaluate-requires-clause-active : goal.evaluate-requires-clause-active
+evaluate-requires-clause-active g c = (subst (IsActive c.args.run.now) c.in-Evaluate.is c.requires.active).1
+
+pub propagate-requires-clause-active : goal.propagate-requires-clause-active
+propagate-requires-clause-active g c = (subst (IsActive c.args.run.now) c.in-Propagate.is c.requires.active).1
+
+pub run_group-requires-clause-active : goal.run_group-requires-clause-active
+run_group-requires-clause-active g c = (subst (IsActive c.args.run.now) c.in-Group.is c.requires.active).1
+
+pub make_update-requires-clause-run : goal.make_update-requires-clause-run
+make_update-requires-clause-run g c = own_run c.args.forms.now c.args.run.now c.requires.run
+
+pub make_update-requires-clause-active : goal.make_update-requires-clause-active
+make_update-requires-clause-active g c = subst (IsActive c.args.run.now) c.in-Make.is c.requires.active
+
+pub returns-in_ok-taken-in-Step-clause-run : goal.returns-in_ok-taken-in-Step-clause-run
+returns-in_ok-taken-in-Step-clause-run g c = plan_out c.args.forms.now c.args.run.now c.run_process.new.self c.requires.run c.in_ok-taken-in-Step.ensures.run
+
+pub returns-in_ok-taken-in-Step-clause-some : goal.returns-in_ok-taken-in-Step-clause-some
+returns-in_ok-taken-in-Step-clause-some g c = c.in_ok-taken-in-Step.ensures.some (subst (IsActive c.args.run.now) c.in-Step.is c.requires.active).1
+
+pub returns-in_ok-taken-in-Step-clause-ok : goal.returns-in_ok-taken-in-Step-clause-ok
+returns-in_ok-taken-in-Step-clause-ok g c = λ blocks.
+    event_taken blocks c.args.limit c.in_ok-taken-in-Step.taken c.in-Step.process (state_of c.args.run.now) (state_of c.run_process.new.self) (g.L.Sink.bytes c.args.lines.now)
+    (g.L.Sink.bytes c.run_process.new.lines) c.requires.going (c.in_ok-taken-in-Step.ensures.some (subst (IsActive c.args.run.now) c.in-Step.is c.requires.active).1)
+    (record {
+      within = c.in_ok-taken-in-Step.ensures.within;
+      text = c.in_ok-taken-in-Step.ensures.ok.0;
+      all = c.in_ok-taken-in-Step.ensures.ok.1;
+      printed = c.in_ok-taken-in-Step.ensures.ok.2;
+      stopped = c.in_ok-taken-in-Step.ensures.stopped;
+    })
+
+pub returns-in_err-taken-in-Step-clause-err : goal.returns-in_err-taken-in-Step-clause-err
+returns-in_err-taken-in-Step-clause-err g c =
+    let part : (blocks : List Bool) → EventTurnedPart c.args.limit blocks (state_of c.args.run.now) (g.L.Sink.bytes c.args.lines.now) (g.L.Sink.bytes c.run_process.new.lines) =
+    λ blocks.
+    event_part blocks c.args.limit c.in-Step.process (state_of c.args.run.now) (g.L.Sink.bytes c.args.lines.now) (g.L.Sink.bytes c.run_process.new.lines) c.requires.going
+    c.in_err-taken-in-Step.ensures.err
+    in
+    on_err _ part
+
+pub returns-in_ok-made-in-Evaluate-clause-ok : goal.returns-in_ok-made-in-Evaluate-clause-ok
+returns-in_ok-made-in-Evaluate-clause-ok g c = λ blocks.
+    event_made blocks c.args.limit c.in_ok-made-in-Evaluate.made (state_of c.args.run.now) (state_of c.evaluate.new.run) (g.L.Sink.bytes c.args.lines.now) c.requires.going
+    c.in_ok-made-in-Evaluate.ensures.within c.in_ok-made-in-Evaluate.ensures.made
+
+pub returns-in_ok-made-in-Group-clause-ok : goal.returns-in_ok-made-in-Group-clause-ok
+returns-in_ok-made-in-Group-clause-ok g c = λ blocks.
+    event_made blocks c.args.limit c.in_ok-made-in-Group.made (state_of c.args.run.now) (state_of c.run_group.new.run) (g.L.Sink.bytes c.args.lines.now) c.requires.going
+    c.in_ok-made-in-Group.ensures.within c.in_ok-made-in-Group.ensures.made
+
+pub returns-in_ok-propagate-in-Propagate-clause-ok : goal.returns-in_ok-propagate-in-Propagate-clause-ok
+returns-in_ok-propagate-in-Propagate-clause-ok g c = λ blocks.
+    event_made blocks c.args.limit 1 (state_of c.args.run.now) (state_of c.propagate.new.run) (g.L.Sink.bytes c.args.lines.now) c.requires.going (omega (arith, c.requires.limit))
+    c.in_ok-propagate-in-Propagate.ensures.made
+
+pub returns-in_ok-make_update-in-Make-clause-run : goal.returns-in_ok-make_update-in-Make-clause-run
+returns-in_ok-make_update-in-Make-clause-run g c = run_of_own c.args.forms.now c.args.run.now c.make_update.new.run c.requires.run c.in_ok-make_update-in-Make.ensures.run
+
+pub returns-in_ok-make_update-in-Make-clause-ok : goal.returns-in_ok-make_update-in-Make-clause-ok
+returns-in_ok-make_update-in-Make-clause-ok g c = λ blocks.
+    event_made blocks c.args.limit 1 (state_of c.args.run.now) (state_of c.make_update.new.run) (g.L.Sink.bytes c.args.lines.now) c.requires.going (omega (arith, c.requires.limit))
+    (made_one (state_of c.args.run.now) (state_of c.make_update.new.run) (move_of c.args.run.now (e.Make c.in-Make.number)) refl (subst (IsActive c.args.run.now) c.in-Make.is c.requires.active).1
+    c.in_ok-make_update-in-Make.ensures.made)
+
+pub returns-in_err-made-in-Evaluate-clause-err : goal.returns-in_err-made-in-Evaluate-clause-err
+returns-in_err-made-in-Evaluate-clause-err g c =
+    let part : (blocks : List Bool) → EventTurnedPart c.args.limit blocks (state_of c.args.run.now) (g.L.Sink.bytes c.args.lines.now) (g.L.Sink.bytes c.args.lines.now) =
+    λ blocks. event_stuck c.args.forms.now blocks c.args.limit (state_of c.args.run.now) (g.L.Sink.bytes c.args.lines.now) c.requires.limit c.requires.going
+    in
+    on_err _ part
+
+pub returns-in_err-propagate-in-Propagate-clause-err : goal.returns-in_err-propagate-in-Propagate-clause-err
+returns-in_err-propagate-in-Propagate-clause-err g c =
+    let part : (blocks : List Bool) → EventTurnedPart c.args.limit blocks (state_of c.args.run.now) (g.L.Sink.bytes c.args.lines.now) (g.L.Sink.bytes c.args.lines.now) =
+    λ blocks. event_stuck c.args.forms.now blocks c.args.limit (state_of c.args.run.now) (g.L.Sink.bytes c.args.lines.now) c.requires.limit c.requires.going
+    in
+    on_err _ part
+
+pub returns-in_err-made-in-Group-clause-err : goal.returns-in_err-made-in-Group-clause-err
+returns-in_err-made-in-Group-clause-err g c =
+    let part : (blocks : List Bool) → EventTurnedPart c.args.limit blocks (state_of c.args.run.now) (g.L.Sink.bytes c.args.lines.now) (g.L.Sink.bytes c.args.lines.now) =
+    λ blocks. event_stuck c.args.forms.now blocks c.args.limit (state_of c.args.run.now) (g.L.Sink.bytes c.args.lines.now) c.requires.limit c.requires.going
+    in
+    on_err _ part
+
+pub returns-in_err-make_update-in-Make-clause-err : goal.returns-in_err-make_update-in-Make-clause-err
+returns-in_err-make_update-in-Make-clause-err g c =
+    let part : (blocks : List Bool) → EventTurnedPart c.args.limit blocks (state_of c.args.run.now) (g.L.Sink.bytes c.args.lines.now) (g.L.Sink.bytes c.args.lines.now) =
+    λ blocks. event_stuck c.args.forms.now blocks c.args.limit (state_of c.args.run.now) (g.L.Sink.bytes c.args.lines.now) c.requires.limit c.requires.going
+    in
+    on_err _ part

@@ -1,0 +1,13 @@
+//! The events of a run: which is next, and the moves that it makes (IEEE 1364-2005, clause 11).
+#![tactic(auto)]
+
+mod active;
+mod moves;
+mod state;
+
+pub use active::run_active;
+pub use moves::{leave, make_event};
+pub use state::{Region, is_active, is_going, is_inside, is_pending, lost_event, next_region};
+pub use vs_run_assigns;
+pub use vs_run_listed;
+pub use vs_run_wakes;

@@ -1,0 +1,270 @@
+//! What is active in a run.
+ghost use Rattle.std.specs.Prelude.{◌≡◌, false, true, slice_get, IfSome, MatchOption};
+ghost use Rattle.std.specs.List.{list_any};
+ghost use Rattle.vs_design.specs.Parts.{Parts};
+ghost use Rattle.vs_process.specs.vs_flatcode.specs.Places.{is_going, is_inside};
+ghost use Rattle.vs_process.specs.declared.moves.Move.TheVariants as moves;
+ghost use Rattle.vs_process.specs.Executions as executions;
+ghost use Rattle.vs_run_events.specs.Running.{IsActive, IsChoice, region_move};
+ghost use Rattle.vs_run_steps.specs.Runs.{IsRunOf, state_of};
+ghost use Rattle.vs_run_updates.specs.Active.{is_active};
+ghost use Rattle.vs_run_wakes.specs.Touches.{is_left};
+
+use vs_run_assigns::is_group_active;
+use vs_run_listed::Event;
+use vs_run_steps::RunState;
+use vs_run_updates::Due;
+use vs_run_updates::vs_time_wheel::EventQueue;
+
+/// What is done where no event is active.
+#[derive(Clone, Copy)]
+pub enum Region {
+    /// The inactive processes go on.
+    Inactive,
+    /// The updates that are due in the slot are activated.
+    Updates,
+    /// The slot ends.
+    End,
+}
+
+/// Whether a process is active.
+#[inline(always)]
+pub fn is_going<Q: EventQueue<Due>>(run: &RunState<Q>, process: usize) -> bool
+    ensures { result ≡ executions.is_enabled (state_of run.now) (moves.Step process) }
+{
+    match run.watched.events.processes.get(process) {
+        Some(x) => x.is_going(),
+        None => false,
+    }
+}
+
+/// Whether a continuous assignment has to be evaluated.
+#[inline(always)]
+fn needs<Q: EventQueue<Due>>(run: &RunState<Q>, assign: usize) -> bool
+    ensures { result ≡ executions.is_enabled (state_of run.now) (moves.Evaluate assign) }
+{
+    match run.watched.events.assigns.get(assign) {
+        Some(x) => x.needs(),
+        None => false,
+    }
+}
+
+/// Whether a continuous assignment has a value that waits to be written.
+#[inline(always)]
+pub fn is_pending<Q: EventQueue<Due>>(run: &RunState<Q>, assign: usize) -> bool
+    ensures { result ≡ executions.is_enabled (state_of run.now) (moves.Propagate assign) }
+{
+    match run.watched.events.assigns.get(assign) {
+        Some(x) => x.pending().is_some(),
+        None => false,
+    }
+}
+
+/// The event of a process, where it is active.
+#[inline(always)]
+fn step_of<Q: EventQueue<Due>>(run: &RunState<Q>, process: usize) -> Option<Event>
+    ensures { IfSome result (λ event. IsActive run.now event) }
+{
+    if is_going(run, process) {
+        return Some(Event::Step(process));
+    }
+    None
+}
+
+/// The event of a continuous assignment, where it is active.
+#[inline(always)]
+fn assign_event<Q: EventQueue<Due>>(run: &RunState<Q>, assign: usize) -> Option<Event>
+    ensures { MatchOption result (executions.if_some is_left (slice_get (state_of run.now).assigns assign) ≡ false)
+        (λ event. IsChoice run.now event) }
+{
+    if is_pending(run, assign) {
+        return Some(Event::Propagate(assign));
+    }
+    if needs(run, assign) {
+        return Some(Event::Evaluate(assign));
+    }
+    None
+}
+
+/// The event of a number, where it is active.
+#[inline(always)]
+fn event_of<Q: EventQueue<Due>>(run: &RunState<Q>, number: usize) -> Option<Event>
+    ensures { IfSome result (λ event. IsActive run.now event) }
+{
+    let first = run.watched.events.first_process;
+    if number >= first {
+        return step_of(run, number - first);
+    }
+    let assigns = run.watched.tables.groups.assigns;
+    if number >= assigns {
+        let group = number - assigns;
+        if is_group_active(run, group) {
+            return Some(Event::Group(group));
+        }
+        return None;
+    }
+    match assign_event(run, number) {
+        Some(event) => Some(event),
+        None => None,
+    }
+}
+
+/// Takes the next active event out of the queue, where there is one, and what stands before it.
+#[inline(never)]
+fn later_event<Q: EventQueue<Due>>(run: &mut RunState<Q>) -> Option<Event>
+    ensures state { state_of run.new ≡ state_of run.old }
+    ensures marks { run.new.watched.marks ≡ run.old.watched.marks }
+    ensures run { (design : Parts) → IsRunOf design run.old → IsRunOf design run.new }
+    ensures active { IfSome result (λ event. IsActive run.new event) }
+{
+    for _ in 0..run.watched.events.queue.len() {
+        let Some(number) = run.watched.events.queue.pop() else {
+            return None;
+        };
+        let event = event_of(run, number);
+        if event.is_some() {
+            return event;
+        }
+    }
+    None
+}
+
+/// Takes the next active event out of the queue, where there is one.
+#[inline(always)]
+pub fn next_event<Q: EventQueue<Due>>(run: &mut RunState<Q>) -> Option<Event>
+    ensures state { state_of run.new ≡ state_of run.old }
+    ensures marks { run.new.watched.marks ≡ run.old.watched.marks }
+    ensures run { (design : Parts) → IsRunOf design run.old → IsRunOf design run.new }
+    ensures active { IfSome result (λ event. IsActive run.new event) }
+{
+    let Some(number) = run.watched.events.queue.pop() else {
+        return None;
+    };
+    let event = event_of(run, number);
+    if event.is_some() {
+        return event;
+    }
+    later_event(run)
+}
+
+/// The event of an active process, where there is one. It looks for it among all.
+#[inline(never)]
+fn sought_step<Q: EventQueue<Due>>(run: &RunState<Q>) -> Option<Event>
+    ensures { MatchOption result (list_any is_going (state_of run.now).places ≡ false) (λ event. IsChoice run.now event) }
+{
+    for process in 0..run.watched.events.processes.len() {
+        if is_going(run, process) {
+            return Some(Event::Step(process));
+        }
+    }
+    None
+}
+
+/// The event of a continuous assignment that is active, where there is one. It looks for it among all.
+#[inline(never)]
+fn sought_assign<Q: EventQueue<Due>>(run: &RunState<Q>) -> Option<Event>
+    ensures { MatchOption result (list_any is_left (state_of run.now).assigns ≡ false) (λ event. IsChoice run.now event) }
+{
+    for assign in 0..run.watched.events.assigns.len() {
+        match assign_event(run, assign) {
+            Some(event) => return Some(event),
+            None => {}
+        }
+    }
+    None
+}
+
+/// The same, where its count says that there may be one.
+#[inline(always)]
+fn going_event<Q: EventQueue<Due>>(run: &RunState<Q>) -> Option<Event>
+    ensures { MatchOption result (list_any is_going (state_of run.now).places ≡ false) (λ event. IsChoice run.now event) }
+{
+    if !run.watched.events.processes.has_going() {
+        return None;
+    }
+    sought_step(run)
+}
+
+#[inline(always)]
+fn left_event<Q: EventQueue<Due>>(run: &RunState<Q>) -> Option<Event>
+    ensures { MatchOption result (list_any is_left (state_of run.now).assigns ≡ false) (λ event. IsChoice run.now event) }
+{
+    if !run.watched.events.assigns.has_left() {
+        return None;
+    }
+    sought_assign(run)
+}
+
+/// The event of an activated update, where there is one.
+#[inline(always)]
+fn update_event<Q: EventQueue<Due>>(run: &RunState<Q>) -> Option<Event>
+    ensures { MatchOption result (list_any is_active (state_of run.now).updates ≡ false) (λ event. IsChoice run.now event) }
+{
+    if !run.regions.has_active() {
+        return None;
+    }
+    match run.regions.oldest() {
+        Some(number) => Some(Event::Make(number)),
+        None => None,
+    }
+}
+
+/// An active event, where there is one.
+#[inline(always)]
+pub fn lost_event<Q: EventQueue<Due>>(run: &RunState<Q>) -> Option<Event>
+    ensures { MatchOption result (executions.is_busy (state_of run.now) ≡ false) (λ event. IsChoice run.now event) }
+{
+    match going_event(run) {
+        Some(event) => return Some(event),
+        None => {}
+    }
+    match left_event(run) {
+        Some(event) => return Some(event),
+        None => {}
+    }
+    match update_event(run) {
+        Some(event) => Some(event),
+        None => None,
+    }
+}
+
+/// Whether an event is active; of that of a group it says no, since a policy chooses one move.
+#[inline(always)]
+pub fn is_active<Q: EventQueue<Due>>(run: &RunState<Q>, event: Event) -> bool
+    ensures { result ≡ true → IsChoice run.now event }
+{
+    match event {
+        Event::Step(process) => is_going(run, process),
+        Event::Evaluate(assign) => needs(run, assign),
+        Event::Propagate(assign) => is_pending(run, assign),
+        Event::Group(_) => false,
+        Event::Make(number) => run.regions.is_first(number),
+    }
+}
+
+/// Whether a process is active and has taken a step since its timing control ended.
+#[inline(always)]
+pub fn is_inside<Q: EventQueue<Due>>(run: &RunState<Q>, process: usize) -> bool
+    ensures { result ≡ executions.if_some is_inside (slice_get (state_of run.now).places process) }
+{
+    match run.watched.events.processes.get(process) {
+        Some(x) => x.is_inside(),
+        None => false,
+    }
+}
+
+/// What is done where no event is active.
+#[inline(always)]
+pub fn next_region<Q: EventQueue<Due>>(run: &RunState<Q>) -> Region
+    requires run { IsRunOf run.now.design.now run.now }
+    requires idle { executions.is_busy (state_of run.now) ≡ false }
+    ensures { executions.is_enabled (state_of run.now) (region_move result) ≡ true }
+{
+    if run.regions.has_inactive() {
+        return Region::Inactive;
+    }
+    if run.regions.has_due() {
+        return Region::Updates;
+    }
+    Region::End
+}
