@@ -13,11 +13,11 @@ use Rattle.vs_process.specs.declared.moves.Move.{Move}
 use Rattle.vs_process.specs.declared.moves.Move.TheVariants.{Evaluate, Propagate}
 use Rattle.vs_process.specs.Executions.{apply, if_some, is_enabled}
 use Rattle.vs_process.specs.States.{AssignState, State, settled, written}
-use Rattle.vs_run_tables.specs.declared.queue.Queue.{Queue}
-use Rattle.vs_run_tables.specs.Left.{valued}
-use Rattle.vs_run_tables.specs.Wakes.{AreWatched}
+use Rattle.vs_run_active.specs.declared.queue.Queue.{Queue}
+use Rattle.vs_run_active.specs.Left.{valued}
+use Rattle.vs_run_active.specs.Wakes.{AreWatched}
 use Rattle.vs_run_tables.specs.declared.watchers.ListedTerm.{ListedTerm}
-use Rattle.vs_run_tables.proofs.WatchedLemmas.{watched_assigns}
+use Rattle.vs_run_active.proofs.WatchedLemmas.{watched_assigns}
 use Rattle.vs_run_steps.specs.vs_run_turns.specs.Turns.{AreMade, IsReached}
 use Rattle.vs_run_steps.specs.vs_run_turns.proofs.AssignLemmas.{driven, evaluated_none, evaluated_some, propagated}
 use Rattle.vs_run_steps.specs.vs_run_turns.proofs.MadeLemmas.{made_reached}
@@ -161,6 +161,7 @@ run_left d r xs q value j h is made =
     run_moved d (Evaluate j) r (with_assigns r xs q) h made
     (agrees_with (plan_of r).design (plan_of r).terms r xs q (valued value) j (λ x. refl) (plan_in d r h).agrees is)
 
+-- what an evaluation leaves
 pub state_none : {Q : Type 0} (d : Parts) (r : RunState Q) (xs : List AssignState) (q : Queue) (j : ℕ) (v : List Digit) (b : Bool) → IsRunOf d r → is_enabled (state_of r) (Evaluate j) ≡ true →
     IsEvaluation d j r.watched.store r.regions.time v b → b ≡ false → xs ≡ changed_at (valued None) j r.watched.events.assigns → state_of (with_assigns r xs q) ≡ apply (Evaluate j) (state_of r)
 state_none d r xs q j v b h active e told is =
@@ -170,6 +171,18 @@ pub state_some : {Q : Type 0} (d : Parts) (r : RunState Q) (xs : List AssignStat
     IsEvaluation d j r.watched.store r.regions.time v b → b ≡ true → xs ≡ changed_at (valued (Some v)) j r.watched.events.assigns → state_of (with_assigns r xs q) ≡ apply (Evaluate j) (state_of r)
 state_some d r xs q j v b h active e told is =
     ap (λ (l : List AssignState). record (state_of r) { assigns = l }) is ∙ left_some d (state_of r) j v b h.1.reached active e told
+
+-- it is one after an evaluation that leaves nothing
+pub run_none : {Q : Type 0} (d : Parts) (r : RunState Q) (xs : List AssignState) (j : ℕ) (v : List Digit) (b : Bool) → IsRunOf d r → is_enabled (state_of r) (Evaluate j) ≡ true →
+    IsEvaluation d j r.watched.store r.regions.time v b → b ≡ false → xs ≡ changed_at (valued None) j r.watched.events.assigns → IsRunOf d (with_assigns r xs r.watched.events.queue)
+run_none d r xs j v b h active e told is =
+    run_left d r xs r.watched.events.queue None j h is (state_none d r xs r.watched.events.queue j v b h active e told is)
+
+-- and after one whose value waits to be written
+pub run_some : {Q : Type 0} (d : Parts) (r : RunState Q) (xs : List AssignState) (j : ℕ) (v : List Digit) (b : Bool) → IsRunOf d r → is_enabled (state_of r) (Evaluate j) ≡ true →
+    IsEvaluation d j r.watched.store r.regions.time v b → b ≡ true → xs ≡ changed_at (valued (Some v)) j r.watched.events.assigns → IsRunOf d (with_assigns r xs r.watched.events.queue)
+run_some d r xs j v b h active e told is =
+    run_left d r xs r.watched.events.queue (Some v) j h is (state_some d r xs r.watched.events.queue j v b h active e told is)
 
 -- its parts agree while a value is written
 pub agrees_left : {Q : Type 0} (d : Parts) (r : RunState Q) (xs : List AssignState) (j : ℕ) (f : AssignState → AssignState) → ((x : AssignState) → (f x).source ≡ x.source) → IsRunOf d r →

@@ -1,6 +1,10 @@
 //! The moves of a continuous assignment.
-ghost use Rattle.std.specs.Prelude.{◌≡◌, ◌<◌, ◌≤◌, true, false, IfOk, OnOk};
+ghost use Rattle.std.specs.Prelude.{◌≡◌, ◌<◌, ◌≤◌, true, false, Some, slice_get, IfOk, OnOk};
+ghost use Rattle.vs_design.specs.declared.design.Assign as design_assign;
 ghost use Rattle.vs_process.specs.Executions as executions;
+ghost use Rattle.vs_run_assigns.specs.Evaluations.{IsEvaluation};
+ghost use Rattle.vs_run_assigns.specs.Forms.{IsPlaceOf};
+ghost use Rattle.vs_run_assigns.specs.Outcomes.{HasCome};
 ghost use Rattle.vs_run_steps.specs.Runs.{IsRunOf, marks_of, state_of};
 ghost use Rattle.vs_run_steps.specs.vs_run_turns.specs.Turns.{AreMade};
 ghost use Rattle.vs_run_wakes.specs.Changes.{MarkChanges};
@@ -10,89 +14,144 @@ use crate::forms::Forms;
 use std::alloc::AllocError;
 use vs_logic4::Vec4;
 use vs_process::Move;
+use vs_process::vs_flatcode::Spot;
 use vs_run_steps::RunState;
 use vs_run_updates::Due;
 use vs_run_updates::vs_time_wheel::EventQueue;
 
-/// The evaluation of a continuous assignment of any form, which isn't listed: whether a value waits to be written then.
-#[inline(never)]
-fn evaluate_unlisted<Q: EventQueue<Due>>(
+/// What the evaluation of a continuous assignment has come to.
+#[derive(Clone, Copy)]
+pub(crate) enum Evaluated {
+    /// Its value would change nothing.
+    Same,
+    /// Its value waits to be written.
+    Waits,
+    /// Its value is written: its update is made too.
+    Written,
+}
+
+/// Whether a continuous assignment has to be evaluated.
+#[inline(always)]
+pub fn needs<Q: EventQueue<Due>>(run: &RunState<Q>, assign: usize) -> bool
+    ensures { result ≡ executions.is_enabled (state_of run.now) (Move.Evaluate assign) }
+{
+    match run.watched.events.assigns.get(assign) {
+        Some(x) => x.needs(),
+        None => false,
+    }
+}
+
+/// Whether a value of a continuous assignment waits to be written.
+#[inline(always)]
+pub fn is_pending<Q: EventQueue<Due>>(run: &RunState<Q>, assign: usize) -> bool
+    ensures { result ≡ executions.is_enabled (state_of run.now) (Move.Propagate assign) }
+{
+    match run.watched.events.assigns.get(assign) {
+        Some(x) => x.pending().is_some(),
+        None => false,
+    }
+}
+
+/// The end of an evaluation whose value would change the bits of a spot: it is written at once, or waits to be written.
+#[inline(always)]
+fn give<Q: EventQueue<Due>>(
     run: &mut RunState<Q>,
     forms: &Forms,
     assign: usize,
-) -> Result<bool, AllocError>
+    spot: &Spot,
+    digits: Vec4,
+    at_once: bool,
+) -> Result<Evaluated, AllocError>
     requires run { IsRunOf forms.now run.old }
     requires active { executions.is_enabled (state_of run.old) (Move.Evaluate assign) ≡ true }
+    requires value { IsEvaluation forms.now assign run.old.watched.store run.old.regions.time digits true }
+    requires place { (a : design_assign.Assign) → slice_get forms.now.assigns assign ≡ Some a
+        → IsPlaceOf forms.now.signals a.target spot.now }
     ensures run { OnOk result (IsRunOf forms.now run.new) }
-    ensures made { OnOk result (state_of run.new ≡ executions.apply (Move.Evaluate assign) (state_of run.old)) }
+    ensures come { IfOk result (λ e. HasCome at_once assign e (state_of run.old) (state_of run.new)) }
     ensures marked { OnOk result (MarkChanges (marks_of run.old) (marks_of run.new) (state_of run.old).store (state_of run.new).store) }
 {
-    let (digits, differs) = evaluation_any(run, forms, assign)?;
-    if !differs {
+    if at_once {
         run.watched.events.assigns.leave(assign, None);
-        return Ok(false);
+        run.write(spot, digits)?;
+        return Ok(Evaluated::Written);
     }
     run.watched.events.assigns.leave(assign, Some(digits));
-    Ok(true)
+    Ok(Evaluated::Waits)
 }
 
-/// The evaluation of a continuous assignment of any form; its update enters the queue.
+/// The evaluation of a continuous assignment of any form.
 #[inline(never)]
 fn evaluate_any<Q: EventQueue<Due>>(
     run: &mut RunState<Q>,
     forms: &Forms,
     assign: usize,
-) -> Result<(), AllocError>
+) -> Result<Evaluated, AllocError>
     requires run { IsRunOf forms.now run.old }
     requires active { executions.is_enabled (state_of run.old) (Move.Evaluate assign) ≡ true }
     ensures run { OnOk result (IsRunOf forms.now run.new) }
-    ensures made { OnOk result (state_of run.new ≡ executions.apply (Move.Evaluate assign) (state_of run.old)) }
+    ensures come { IfOk result (λ e. HasCome false assign e (state_of run.old) (state_of run.new)) }
     ensures marked { OnOk result (MarkChanges (marks_of run.old) (marks_of run.new) (state_of run.old).store (state_of run.new).store) }
 {
-    if !evaluate_unlisted(run, forms, assign)? {
-        return Ok(());
+    let (digits, differs) = evaluation_any(run, forms, assign)?;
+    if !differs {
+        run.watched.events.assigns.leave(assign, None);
+        return Ok(Evaluated::Same);
     }
-    run.watched.events.queue.push(assign)?;
-    Ok(())
+    run.watched.events.assigns.leave(assign, Some(digits));
+    Ok(Evaluated::Waits)
 }
 
-/// The evaluation of a continuous assignment that isn't a copy, and its update, where that is the next event: how many moves, at most so many.
+/// The evaluation of a continuous assignment that isn't a copy, and at once its update, where it has a fixed place and may be.
 #[inline(never)]
 fn evaluate_placed<Q: EventQueue<Due>>(
     run: &mut RunState<Q>,
     forms: &Forms,
     assign: usize,
-    limit: u64,
-) -> Result<u64, AllocError>
-    requires limit { 0 < limit }
+    at_once: bool,
+) -> Result<Evaluated, AllocError>
     requires run { IsRunOf forms.now run.old }
     requires active { executions.is_enabled (state_of run.old) (Move.Evaluate assign) ≡ true }
     ensures run { OnOk result (IsRunOf forms.now run.new) }
-    ensures some { IfOk result (λ made. 0 < made) }
-    ensures within { IfOk result (λ made. made ≤ limit) }
-    ensures made { IfOk result (λ made. AreMade made (state_of run.old) (state_of run.new)) }
+    ensures come { IfOk result (λ e. HasCome at_once assign e (state_of run.old) (state_of run.new)) }
     ensures marked { OnOk result (MarkChanges (marks_of run.old) (marks_of run.new) (state_of run.old).store (state_of run.new).store) }
 {
     let Some(placed) = spot_evaluation(run, forms, assign) else {
-        evaluate_any(run, forms, assign)?;
-        return Ok(1);
+        let come = evaluate_any(run, forms, assign)?;
+        return Ok(come);
     };
     let differs = placed.differs;
     if !differs {
         run.watched.events.assigns.leave(assign, None);
-        return Ok(1);
+        return Ok(Evaluated::Same);
     }
-    if run.watched.events.queue.is_empty() && limit > 1 {
+    give(run, forms, assign, placed.spot, placed.digits, at_once)
+}
+
+/// The evaluation of a continuous assignment, and at once its update, where it has a fixed place and may be.
+#[inline(always)]
+fn make_evaluation<Q: EventQueue<Due>>(
+    run: &mut RunState<Q>,
+    forms: &Forms,
+    assign: usize,
+    at_once: bool,
+) -> Result<Evaluated, AllocError>
+    requires run { IsRunOf forms.now run.old }
+    requires active { executions.is_enabled (state_of run.old) (Move.Evaluate assign) ≡ true }
+    ensures run { OnOk result (IsRunOf forms.now run.new) }
+    ensures come { IfOk result (λ e. HasCome at_once assign e (state_of run.old) (state_of run.new)) }
+    ensures marked { OnOk result (MarkChanges (marks_of run.old) (marks_of run.new) (state_of run.old).store (state_of run.new).store) }
+{
+    let Some(copied) = copy_evaluation(run, forms, assign) else {
+        return evaluate_placed(run, forms, assign, at_once);
+    };
+    let change = copied.change;
+    if change.differing() == 0 {
         run.watched.events.assigns.leave(assign, None);
-        run.write(placed.spot, placed.digits)?;
-        return Ok(2);
+        return Ok(Evaluated::Same);
     }
-    run.watched
-        .events
-        .assigns
-        .leave(assign, Some(placed.digits));
-    run.watched.events.queue.push(assign)?;
-    Ok(1)
+    let digits = Vec4::from_planes(copied.spot.width, change.new_value, change.new_unknown);
+    give(run, forms, assign, copied.spot, digits, at_once)
 }
 
 /// The evaluation of a continuous assignment, and its update, where that is the next event: how many moves, at most so many.
@@ -112,57 +171,20 @@ pub fn evaluate<Q: EventQueue<Due>>(
     ensures made { IfOk result (λ made. AreMade made (state_of run.old) (state_of run.new)) }
     ensures marked { OnOk result (MarkChanges (marks_of run.old) (marks_of run.new) (state_of run.old).store (state_of run.new).store) }
 {
-    let Some(copied) = copy_evaluation(run, forms, assign) else {
-        return evaluate_placed(run, forms, assign, limit);
-    };
-    let spot = copied.spot;
-    let change = copied.change;
-    if change.differing() == 0 {
-        run.watched.events.assigns.leave(assign, None);
-        return Ok(1);
+    let at_once = limit > 1 && run.watched.events.queue.is_empty();
+    match make_evaluation(run, forms, assign, at_once)? {
+        Evaluated::Same => Ok(1),
+        Evaluated::Waits => {
+            run.watched.events.queue.push(assign)?;
+            Ok(1)
+        }
+        Evaluated::Written => Ok(2),
     }
-    if limit > 1 && run.watched.events.queue.is_empty() {
-        run.watched.events.assigns.leave(assign, None);
-        run.write_planes(spot, change.new_value, change.new_unknown)?;
-        return Ok(2);
-    }
-    let digits = Vec4::from_planes(spot.width, change.new_value, change.new_unknown);
-    run.watched.events.assigns.leave(assign, Some(digits));
-    run.watched.events.queue.push(assign)?;
-    Ok(1)
 }
 
-/// The evaluation of a continuous assignment that isn't a copy, which isn't listed: whether a value waits to be written then.
-#[inline(never)]
-fn evaluate_placed_member<Q: EventQueue<Due>>(
-    run: &mut RunState<Q>,
-    forms: &Forms,
-    assign: usize,
-) -> Result<bool, AllocError>
-    requires run { IsRunOf forms.now run.old }
-    requires active { executions.is_enabled (state_of run.old) (Move.Evaluate assign) ≡ true }
-    ensures run { OnOk result (IsRunOf forms.now run.new) }
-    ensures made { OnOk result (state_of run.new ≡ executions.apply (Move.Evaluate assign) (state_of run.old)) }
-    ensures marked { OnOk result (MarkChanges (marks_of run.old) (marks_of run.new) (state_of run.old).store (state_of run.new).store) }
-{
-    let Some(placed) = spot_evaluation(run, forms, assign) else {
-        return evaluate_unlisted(run, forms, assign);
-    };
-    let differs = placed.differs;
-    if !differs {
-        run.watched.events.assigns.leave(assign, None);
-        return Ok(false);
-    }
-    run.watched
-        .events
-        .assigns
-        .leave(assign, Some(placed.digits));
-    Ok(true)
-}
-
-/// The evaluation of a continuous assignment, which isn't listed: whether a value waits to be written then.
+/// The evaluation of a continuous assignment alone, which isn't listed: whether its value waits to be written.
 #[inline(always)]
-pub(crate) fn evaluate_member<Q: EventQueue<Due>>(
+pub fn evaluate_alone<Q: EventQueue<Due>>(
     run: &mut RunState<Q>,
     forms: &Forms,
     assign: usize,
@@ -173,34 +195,10 @@ pub(crate) fn evaluate_member<Q: EventQueue<Due>>(
     ensures made { OnOk result (state_of run.new ≡ executions.apply (Move.Evaluate assign) (state_of run.old)) }
     ensures marked { OnOk result (MarkChanges (marks_of run.old) (marks_of run.new) (state_of run.old).store (state_of run.new).store) }
 {
-    let Some(copied) = copy_evaluation(run, forms, assign) else {
-        return evaluate_placed_member(run, forms, assign);
-    };
-    let change = copied.change;
-    if change.differing() == 0 {
-        run.watched.events.assigns.leave(assign, None);
-        return Ok(false);
+    match make_evaluation(run, forms, assign, false)? {
+        Evaluated::Waits => Ok(true),
+        Evaluated::Same | Evaluated::Written => Ok(false),
     }
-    let digits = Vec4::from_planes(copied.spot.width, change.new_value, change.new_unknown);
-    run.watched.events.assigns.leave(assign, Some(digits));
-    Ok(true)
-}
-
-/// The evaluation of a continuous assignment that a policy has chosen.
-#[inline(never)]
-pub fn evaluate_chosen<Q: EventQueue<Due>>(
-    run: &mut RunState<Q>,
-    forms: &Forms,
-    assign: usize,
-) -> Result<(), AllocError>
-    requires run { IsRunOf forms.now run.old }
-    requires active { executions.is_enabled (state_of run.old) (Move.Evaluate assign) ≡ true }
-    ensures run { OnOk result (IsRunOf forms.now run.new) }
-    ensures made { OnOk result (state_of run.new ≡ executions.apply (Move.Evaluate assign) (state_of run.old)) }
-    ensures marked { OnOk result (MarkChanges (marks_of run.old) (marks_of run.new) (state_of run.old).store (state_of run.new).store) }
-{
-    evaluate_member(run, forms, assign)?;
-    Ok(())
 }
 
 /// The update of a continuous assignment, where a value waits to be written: whether one does.

@@ -7,7 +7,7 @@ ghost use Rattle.vs_run_steps.specs.Runs.{IsRunOf, marks_of, state_of};
 ghost use Rattle.vs_run_steps.specs.vs_run_turns.specs.Turns.{AreMade};
 ghost use Rattle.vs_run_wakes.specs.Changes.{MarkChanges};
 
-use crate::assigns::{evaluate_member, update_member};
+use crate::assigns::{evaluate_alone, is_pending, needs, update_member};
 use crate::forms::Forms;
 use std::alloc::AllocError;
 use vs_process::Move;
@@ -23,28 +23,6 @@ fn member_at<Q: EventQueue<Due>>(run: &RunState<Q>, group: usize, index: usize) 
     match run.watched.tables.groups.members_of(group).get(index) {
         Some(assign) => Some(*assign),
         None => None,
-    }
-}
-
-/// Whether a continuous assignment has to be evaluated.
-#[inline(always)]
-fn needs<Q: EventQueue<Due>>(run: &RunState<Q>, assign: usize) -> bool
-    ensures { result ≡ executions.is_enabled (state_of run.now) (Move.Evaluate assign) }
-{
-    match run.watched.events.assigns.get(assign) {
-        Some(x) => x.needs(),
-        None => false,
-    }
-}
-
-/// Whether a value of a continuous assignment waits to be written.
-#[inline(always)]
-fn is_pending<Q: EventQueue<Due>>(run: &RunState<Q>, assign: usize) -> bool
-    ensures { result ≡ executions.is_enabled (state_of run.now) (Move.Propagate assign) }
-{
-    match run.watched.events.assigns.get(assign) {
-        Some(x) => x.pending().is_some(),
-        None => false,
     }
 }
 
@@ -121,7 +99,7 @@ fn evaluate_group<Q: EventQueue<Due>>(
             return Ok(taken);
         };
         if needs(run, assign) {
-            if evaluate_member(run, forms, assign)? {
+            if evaluate_alone(run, forms, assign)? {
                 differs = true;
             }
             taken += 1;

@@ -1,19 +1,19 @@
 -- A run after moves.
-use Rattle.std.proofs.Common.{◌≡◌, ℕ, ◌+◌, ◌<◌, Bool, true, false, Option, List, [], ◌∷◌, ◌++◌, if◌then◌else◌, refl, sym, ◌∙◌, ap, subst, arith}
+use Rattle.std.proofs.Common.{◌≡◌, ℕ, ◌+◌, ◌<◌, Bool, true, false, Option, List, [], ◌∷◌, ◌++◌, refl, sym, ◌∙◌, ap, subst, arith}
 use Rattle.std.specs.declared.alloc.Global.{Global}
 use Rattle.std.specs.declared.vec.Vec.{Vec}
 use Rattle.std.specs.Io.KnownBytes.{Appends}
 use Rattle.vs_design.specs.Parts.{Parts}
 use Rattle.vs_process.specs.declared.moves.Move.{Move}
 use Rattle.vs_process.specs.declared.moves.Move.TheVariants.{Step, EndSlot}
-use Rattle.vs_process.specs.Executions.{apply, is_enabled, move_lines}
+use Rattle.vs_process.specs.Executions.{apply, move_lines}
 use Rattle.vs_process.specs.States.{State}
 use Rattle.vs_run_wakes.specs.vs_run_processes.specs.Taken.{AreTaken, step_text}
 use Rattle.vs_run_steps.specs.declared.run.RunState.{RunState}
-use Rattle.vs_run_steps.specs.Runs.{Agrees, IsRun, IsRunOf, Plan, marks_of, plan_of, state_of}
+use Rattle.vs_run_steps.specs.Runs.{Agrees, IsRunOf, Plan, marks_of, plan_of, state_of}
 use Rattle.vs_run_steps.proofs.RunsLemmas.{plan_in, plan_out}
 use Rattle.vs_run_steps.proofs.TakingLemmas.{part_none}
-use Rattle.vs_run_assigns.specs.vs_run_tables.specs.declared.queue.Queue.{Queue}
+use Rattle.vs_run_assigns.specs.vs_run_active.specs.declared.queue.Queue.{Queue}
 use Rattle.vs_run_steps.specs.vs_run_turns.specs.Prints.{lines_text}
 use Rattle.vs_run_steps.specs.vs_run_turns.specs.Taken.{TakenPart}
 use Rattle.vs_run_steps.specs.vs_run_turns.specs.Turns.{AreMade, IsReached, LeftTurned, is_silent}

@@ -7,7 +7,8 @@ mod state;
 
 pub use active::run_active;
 pub use moves::{leave, make_event};
-pub use state::{Region, is_active, is_going, is_inside, is_pending, lost_event, next_region};
+pub use state::{Region, is_active, is_going, is_inside, lost_event, next_region};
 pub use vs_run_assigns;
+pub use vs_run_assigns::is_pending;
 pub use vs_run_listed;
 pub use vs_run_wakes;

@@ -17,8 +17,8 @@ ghost use Rattle.vs_vcd_writing.specs.Sinks.{AppendsPart, failed_after};
 
 use crate::state::Region;
 use std::alloc::AllocError;
-use vs_run_assigns::vs_run_tables::Events;
-use vs_run_assigns::{Forms, evaluate, evaluate_chosen, propagate, run_group};
+use vs_run_assigns::vs_run_active::Events;
+use vs_run_assigns::{Forms, evaluate, evaluate_alone, propagate, run_group};
 use vs_run_listed::Event;
 use vs_run_steps::RunState;
 use vs_run_updates::vs_time_wheel::EventQueue;
@@ -178,7 +178,7 @@ pub fn make_event<Q: EventQueue<Due>, L: Sink>(
             Ok(())
         }
         Event::Evaluate(assign) => {
-            evaluate_chosen(run, forms, assign)?;
+            let _waits = evaluate_alone(run, forms, assign)?;
             Ok(())
         }
         Event::Propagate(assign) => {

@@ -10,7 +10,7 @@ ghost use Rattle.vs_run_steps.specs.Runs.{IsRunOf, state_of};
 ghost use Rattle.vs_run_updates.specs.Active.{is_active};
 ghost use Rattle.vs_run_wakes.specs.Touches.{is_left};
 
-use vs_run_assigns::is_group_active;
+use vs_run_assigns::{is_group_active, is_pending, needs};
 use vs_run_listed::Event;
 use vs_run_steps::RunState;
 use vs_run_updates::Due;
@@ -34,28 +34,6 @@ pub fn is_going<Q: EventQueue<Due>>(run: &RunState<Q>, process: usize) -> bool
 {
     match run.watched.events.processes.get(process) {
         Some(x) => x.is_going(),
-        None => false,
-    }
-}
-
-/// Whether a continuous assignment has to be evaluated.
-#[inline(always)]
-fn needs<Q: EventQueue<Due>>(run: &RunState<Q>, assign: usize) -> bool
-    ensures { result ≡ executions.is_enabled (state_of run.now) (moves.Evaluate assign) }
-{
-    match run.watched.events.assigns.get(assign) {
-        Some(x) => x.needs(),
-        None => false,
-    }
-}
-
-/// Whether a continuous assignment has a value that waits to be written.
-#[inline(always)]
-pub fn is_pending<Q: EventQueue<Due>>(run: &RunState<Q>, assign: usize) -> bool
-    ensures { result ≡ executions.is_enabled (state_of run.now) (moves.Propagate assign) }
-{
-    match run.watched.events.assigns.get(assign) {
-        Some(x) => x.pending().is_some(),
         None => false,
     }
 }
@@ -103,10 +81,8 @@ fn event_of<Q: EventQueue<Due>>(run: &RunState<Q>, number: usize) -> Option<Even
         }
         return None;
     }
-    match assign_event(run, number) {
-        Some(event) => Some(event),
-        None => None,
-    }
+    let event = assign_event(run, number)?;
+    Some(event)
 }
 
 /// Takes the next active event out of the queue, where there is one, and what stands before it.
@@ -166,15 +142,14 @@ fn sought_assign<Q: EventQueue<Due>>(run: &RunState<Q>) -> Option<Event>
     ensures { MatchOption result (list_any is_left (state_of run.now).assigns ≡ false) (λ event. IsChoice run.now event) }
 {
     for assign in 0..run.watched.events.assigns.len() {
-        match assign_event(run, assign) {
-            Some(event) => return Some(event),
-            None => {}
+        if let Some(event) = assign_event(run, assign) {
+            return Some(event);
         }
     }
     None
 }
 
-/// The same, where its count says that there may be one.
+/// The same, where their count says that there is one.
 #[inline(always)]
 fn going_event<Q: EventQueue<Due>>(run: &RunState<Q>) -> Option<Event>
     ensures { MatchOption result (list_any is_going (state_of run.now).places ≡ false) (λ event. IsChoice run.now event) }
@@ -185,6 +160,7 @@ fn going_event<Q: EventQueue<Due>>(run: &RunState<Q>) -> Option<Event>
     sought_step(run)
 }
 
+/// The event of a continuous assignment that is active, where their count says that there is one.
 #[inline(always)]
 fn left_event<Q: EventQueue<Due>>(run: &RunState<Q>) -> Option<Event>
     ensures { MatchOption result (list_any is_left (state_of run.now).assigns ≡ false) (λ event. IsChoice run.now event) }
@@ -203,10 +179,8 @@ fn update_event<Q: EventQueue<Due>>(run: &RunState<Q>) -> Option<Event>
     if !run.regions.has_active() {
         return None;
     }
-    match run.regions.oldest() {
-        Some(number) => Some(Event::Make(number)),
-        None => None,
-    }
+    let number = run.regions.oldest()?;
+    Some(Event::Make(number))
 }
 
 /// An active event, where there is one.
@@ -214,18 +188,13 @@ fn update_event<Q: EventQueue<Due>>(run: &RunState<Q>) -> Option<Event>
 pub fn lost_event<Q: EventQueue<Due>>(run: &RunState<Q>) -> Option<Event>
     ensures { MatchOption result (executions.is_busy (state_of run.now) ≡ false) (λ event. IsChoice run.now event) }
 {
-    match going_event(run) {
-        Some(event) => return Some(event),
-        None => {}
+    if let Some(event) = going_event(run) {
+        return Some(event);
     }
-    match left_event(run) {
-        Some(event) => return Some(event),
-        None => {}
+    if let Some(event) = left_event(run) {
+        return Some(event);
     }
-    match update_event(run) {
-        Some(event) => Some(event),
-        None => None,
-    }
+    update_event(run)
 }
 
 /// Whether an event is active; of that of a group it says no, since a policy chooses one move.

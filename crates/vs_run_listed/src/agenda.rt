@@ -5,8 +5,8 @@
 use crate::entries::{AgendaEntry, Entries};
 use crate::event::Event;
 use std::alloc::{AllocError, Global};
+use vs_run_active::Queue;
 use vs_run_policies::Pick;
-use vs_run_tables::Queue;
 use vs_run_updates::vs_time_wheel::EventQueue;
 use vs_run_updates::{Due, Regions};
 

@@ -3,11 +3,10 @@
 
 mod choosing;
 mod run;
-mod scripts;
 mod slot;
 mod start;
 
 pub use run::Run;
-pub use scripts::{codes_of, scripts_of};
 pub use vs_run_events::vs_run_listed::Event;
+pub use vs_run_start::{codes_of, scripts_of};
 pub use vs_run_steps::vs_run_turns;

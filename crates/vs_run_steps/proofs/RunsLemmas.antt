@@ -41,9 +41,9 @@ use Rattle.vs_run_processes.proofs.TakenLemmas.{set_there}
 use Rattle.vs_run_processes.proofs.TimelinesLemmas.{kept_but, kept_inactive, kept_other, kept_sleeping, same_bag}
 use Rattle.vs_run_writes.specs.vs_run_tables.specs.declared.watchers.ListedTerm.{ListedTerm}
 use Rattle.vs_run_writes.specs.vs_run_tables.specs.declared.tables.Tables.{Tables}
-use Rattle.vs_run_writes.specs.vs_run_tables.specs.Waiting.{IsWaiting, places_of}
-use Rattle.vs_run_writes.specs.vs_run_tables.specs.Wakes.{AreWatched}
-use Rattle.vs_run_writes.specs.vs_run_tables.proofs.WatchedLemmas.{watched_put}
+use Rattle.vs_run_writes.specs.vs_run_active.specs.Waiting.{IsWaiting, places_of}
+use Rattle.vs_run_writes.specs.vs_run_active.specs.Wakes.{AreWatched}
+use Rattle.vs_run_writes.specs.vs_run_active.proofs.WatchedLemmas.{watched_put}
 use Rattle.vs_run_updates.specs.Regions.{Waiting}
 use Rattle.vs_run_updates.specs.Updates.{Listed}
 use Rattle.vs_run_writes.specs.vs_run_wakes.specs.Changes.{MarkChanges}

@@ -41,7 +41,7 @@ use Rattle.vs_run_processes.specs.Taken.{left_by, placed, text_of_line}
 use Rattle.vs_run_processes.proofs.TakenLemmas.{left_call, left_finish, left_line, left_nothing, left_update, left_write}
 use Rattle.std.proofs.lemmas.Option.{slice_get-map}
 use Rattle.vs_run_writes.specs.vs_run_tables.specs.declared.watchers.ListedTerm.{ListedTerm}
-use Rattle.vs_run_writes.specs.vs_run_tables.specs.Waiting.{places_of}
+use Rattle.vs_run_writes.specs.vs_run_active.specs.Waiting.{places_of}
 use Rattle.vs_run_steps.specs.declared.run.RunState.{RunState}
 use Rattle.vs_run_steps.specs.declared.step.Went.{Went}
 use Rattle.vs_run_steps.specs.declared.step.Went.TheVariants.{On, Rests}

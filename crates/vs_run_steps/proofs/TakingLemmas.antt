@@ -29,7 +29,7 @@ use Rattle.vs_run_processes.proofs.GoneLemmas.{gone_more}
 use Rattle.vs_run_processes.proofs.StandingsLemmas.{active_told, going_more}
 use Rattle.vs_run_processes.proofs.TakenLemmas.{gait_twice, set_there, taken_more, taken_none}
 use Rattle.vs_run_writes.specs.vs_run_tables.specs.declared.watchers.ListedTerm.{ListedTerm}
-use Rattle.vs_run_writes.specs.vs_run_tables.specs.Waiting.{places_of}
+use Rattle.vs_run_writes.specs.vs_run_active.specs.Waiting.{places_of}
 use Rattle.vs_run_turns.specs.Taken.{TakenPart}
 use Rattle.vs_run_turns.proofs.Appending.{append_more, append_none, part_all}
 use Rattle.vs_run_turns.proofs.TakenLemmas.{known_after, known_last}

@@ -12,9 +12,9 @@ use Rattle.vs_run_processes.specs.declared.process.Process.{Process}
 use Rattle.vs_run_processes.specs.Standings.{GoneOn}
 use Rattle.vs_run_processes.specs.Timelines.{AreKept}
 use Rattle.vs_run_writes.specs.vs_run_tables.specs.declared.watchers.ListedTerm.{ListedTerm}
-use Rattle.vs_run_writes.specs.vs_run_tables.specs.Waiting.{places_of}
+use Rattle.vs_run_writes.specs.vs_run_active.specs.Waiting.{places_of}
 use Rattle.vs_run_writes.specs.vs_run_tables.specs.Waking.{terms_at}
-use Rattle.vs_run_writes.specs.vs_run_tables.specs.Wakes.{AreWatched}
+use Rattle.vs_run_writes.specs.vs_run_active.specs.Wakes.{AreWatched}
 use Rattle.vs_run_turns.specs.Turns.{IsReached}
 use Rattle.vs_run_writes.specs.vs_run_wakes.specs.Changes.{MarkChanges}
 use Rattle.vs_run_steps.specs.declared.run.RunState.{RunState}

@@ -1,13 +1,6 @@
-mod EdgesExist
-mod GroupsLemmas
-mod LeftLemmas
+pub mod GroupsLemmas
 mod ListsLemmas
-mod MasksTell
-mod RowsLemmas
-mod TablesLemmas
+pub mod RowsLemmas
+pub mod TablesLemmas
 mod TermsLemmas
-mod WakesLemmas
-mod WakingLemmas
-mod WalksLemmas
-pub mod WatchedLemmas
 mod WordsLemmas

@@ -1,8 +1,8 @@
 -- The watchers of each word of an array.
-use Rattle.std.proofs.Common.{◌≡◌, ◌≢◌, ℕ, zero, suc, ◌+◌, ◌<◌, ◌≤◌, ◌==◌, ◌||◌, not, Bool, true, false, if◌then◌else◌, Some, List, [], ◌∷◌, ◌++◌, take, length, get_or, slice_get, bit_and, inl, inr, refl, sym, ◌∙◌, ap, ap₂, subst, append-nil, arith}
+use Rattle.std.proofs.Common.{◌≡◌, ◌≢◌, ℕ, zero, suc, ◌+◌, ◌<◌, ◌≤◌, ◌==◌, ◌||◌, Bool, true, false, if◌then◌else◌, Some, List, [], ◌∷◌, ◌++◌, take, length, get_or, slice_get, inl, inr, refl, sym, ◌∙◌, ap, ap₂, subst, append-nil, arith}
 use Rattle.std.specs.declared.vec.Vec.{Vec}
 use Rattle.std.specs.declared.alloc.Global.{Global}
-use Rattle.std.proofs.lemmas.Bool.{and_right, cases_Bool, eqb-true, eq-eqb, false_from_ne_true, false≢true}
+use Rattle.std.proofs.lemmas.Bool.{cases_Bool, eqb-true, eq-eqb, false_from_ne_true, false≢true}
 use Rattle.std.proofs.lemmas.List.{length-map, take_more}
 use Rattle.std.proofs.lemmas.Option.{none-some, same_Some}
 use Rattle.vs_design.specs.declared.design.Assign.{Assign}
@@ -10,20 +10,16 @@ use Rattle.vs_design.specs.Stores.{changed_at}
 use Rattle.vs_design.specs.Tables.{empty_rows, rows}
 use Rattle.vs_design.proofs.Stores.{length-changed_at}
 use Rattle.vs_edges.specs.Masks.{every_word}
-use Rattle.vs_run_processes.specs.vs_process.specs.States.{AssignState}
 use Rattle.vs_run_tables.specs.declared.groups.Groups.{Groups}
 use Rattle.vs_run_tables.specs.declared.rows.Row.{Row}
 use Rattle.vs_run_tables.specs.declared.watchers.ListedTerm.{ListedTerm}
 use Rattle.vs_run_tables.specs.declared.watchers.Watcher.{Watcher}
-use Rattle.vs_run_tables.specs.Groups.{spelled, spelled_one}
 use Rattle.vs_run_tables.specs.Rows.{row_at, row_watchers, AreRows, Fits, RowAdded}
-use Rattle.vs_run_tables.specs.Wakes.{has_one, woken_watched}
 use Rattle.vs_run_tables.specs.Watchers.{between}
 use Rattle.vs_run_tables.specs.Words.{AreByWord, AreSeeing, NotedIn, changed_before, seeing, sees_word}
 use Rattle.vs_run_tables.proofs.ListsLemmas.{get_other, get_same, none_in_empty}
 use Rattle.vs_run_tables.proofs.RowsLemmas.{row_tells}
 use Rattle.vs_run_tables.proofs.TablesLemmas.{old_or_new, row_is}
-use Rattle.vs_run_tables.proofs.WakesLemmas.{none_spelled, woken_watched-append}
 
 -- ---- watchers that see a word
 
@@ -44,31 +40,6 @@ one_twice word w seen false is h = h
 pub seeing_twice : (word : ℕ) (ws : List Watcher) → seeing word (seeing word ws) ≡ seeing word ws
 seeing_twice word [] = refl
 seeing_twice word (w ∷ ws) = one_twice word w (seeing word ws) (sees_word word w) refl (seeing_twice word ws)
-
-one_seen : (word bits : ℕ) (meant : ℕ → List ℕ) (w : Watcher) (seen ws : List Watcher) (xs : List AssignState) (b : Bool) → sees_word word w ≡ b →
-    ((ys : List AssignState) → woken_watched (has_one word bits) (spelled meant seen) ys ≡ woken_watched (has_one word bits) (spelled meant ws) ys) →
-    woken_watched (has_one word bits) (spelled meant (if b then w ∷ seen else seen)) xs ≡ woken_watched (has_one word bits) (spelled meant (w ∷ ws)) xs
-one_seen word bits meant w seen ws xs true is h =
-    woken_watched-append (has_one word bits) (spelled_one meant w) (spelled meant seen) xs
-    ∙ h (woken_watched (has_one word bits) (spelled_one meant w) xs)
-    ∙ sym (woken_watched-append (has_one word bits) (spelled_one meant w) (spelled meant ws) xs)
-one_seen word bits meant w seen ws xs false is h =
-    h xs
-    ∙ ap (woken_watched (has_one word bits) (spelled meant ws))
-    (none_spelled word bits w (meant w.number) xs (and_right (not (bit_and w.mask.bits bits == 0)) (sees_word word w) is))
-    ∙ sym (woken_watched-append (has_one word bits) (spelled_one meant w) (spelled meant ws) xs)
-
--- those that don't see a word wake nothing at it
-seen_wake : (word bits : ℕ) (meant : ℕ → List ℕ) (ws : List Watcher) (xs : List AssignState) →
-    woken_watched (has_one word bits) (spelled meant (seeing word ws)) xs ≡ woken_watched (has_one word bits) (spelled meant ws) xs
-seen_wake word bits meant [] xs = refl
-seen_wake word bits meant (w ∷ ws) xs = one_seen word bits meant w (seeing word ws) ws xs (sees_word word w) refl (λ ys. seen_wake word bits meant ws ys)
-
--- watchers of which the same see a word wake the same at it
-pub same_wake : (word bits : ℕ) (meant : ℕ → List ℕ) (us ws : List Watcher) (xs : List AssignState) → seeing word us ≡ seeing word ws →
-    woken_watched (has_one word bits) (spelled meant us) xs ≡ woken_watched (has_one word bits) (spelled meant ws) xs
-same_wake word bits meant us ws xs h =
-    sym (seen_wake word bits meant us xs) ∙ ap (λ (l : List Watcher). woken_watched (has_one word bits) (spelled meant l) xs) h ∙ seen_wake word bits meant ws xs
 
 -- ---- lists with one watcher more
 

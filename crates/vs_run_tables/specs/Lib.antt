@@ -1,12 +1,7 @@
 pub mod Groups
-pub mod Left
 pub mod Lists
 pub mod Rows
 pub mod Terms
-pub mod Waiting
-pub mod Wakes
 pub mod Waking
-pub mod Walks
 pub mod Watchers
 pub mod Words
-pub use Rattle.vs_run_processes.specs.vs_process

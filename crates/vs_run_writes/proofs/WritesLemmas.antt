@@ -17,14 +17,14 @@ use Rattle.vs_edges.proofs.StoresLemmas.{put_size}
 use Rattle.vs_flatcode.specs.declared.changes.Change.{Change}
 use Rattle.vs_flatcode.specs.Changes.{changed_part, changed_word, changed_words}
 use Rattle.vs_flatcode.specs.Places.{Place}
-use Rattle.vs_run_tables.specs.vs_process.specs.States.{AssignState, State, wakened, written}
+use Rattle.vs_run_active.specs.vs_process.specs.States.{AssignState, State, wakened, written}
 use Rattle.vs_run_wakes.specs.vs_run_processes.specs.declared.process.Process.{Process}
 use Rattle.vs_run_tables.specs.declared.tables.Tables.{Tables}
 use Rattle.vs_run_tables.specs.declared.watchers.ListedTerm.{ListedTerm}
 use Rattle.vs_run_wakes.specs.vs_run_processes.specs.Standings.{GoneOn}
-use Rattle.vs_run_tables.specs.Waiting.{places_of}
+use Rattle.vs_run_active.specs.Waiting.{places_of}
 use Rattle.vs_run_wakes.specs.vs_run_processes.proofs.GoneLemmas.{gone_more, gone_none}
-use Rattle.vs_run_tables.specs.Wakes.{AreWatched, Wakes}
+use Rattle.vs_run_active.specs.Wakes.{AreWatched, Wakes}
 use Rattle.vs_run_wakes.specs.Changes.{MarkChanges}
 use Rattle.vs_run_wakes.specs.Touches.{woken_changes}
 use Rattle.vs_run_wakes.specs.Waits.{triggered_changes}

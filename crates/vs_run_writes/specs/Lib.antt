@@ -1,3 +1,4 @@
 pub mod Writes
+pub use Rattle.vs_run_active
 pub use Rattle.vs_run_tables
 pub use Rattle.vs_run_wakes

@@ -5,5 +5,6 @@
 mod marks;
 mod writes;
 
+pub use vs_run_active;
 pub use vs_run_tables;
 pub use writes::Watched;

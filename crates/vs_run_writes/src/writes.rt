@@ -16,7 +16,8 @@ use vs_design::vs_logic4::Vec4;
 use vs_design::{Store, Write};
 use vs_edges::WordChange;
 use vs_flatcode::{Change, Spot, make};
-use vs_run_tables::{Events, Tables};
+use vs_run_active::Events;
+use vs_run_tables::Tables;
 
 /// The store, the tables of who watches its signals, what is active, and the marks of the signals that were written.
 #[derive(Drop)]
@@ -93,11 +94,12 @@ impl<'a> Watched<'a> {
             self.old.events.assigns self.old.events.processes self.new.events.assigns self.new.events.processes) }
     {
         for change in changes {
-            self.events.wake_each(
+            self.events.wake_word(
                 &self.tables,
                 change.signal,
                 change.word,
                 change_of(change.before, change.behind),
+                true,
             )?;
         }
         Ok(())

@@ -1,8 +1,8 @@
-use Rattle.std.proofs.Common.{◌≡◌, ◌+◌, ◌∙◌, refl, sym, subst, arith}
+use Rattle.std.proofs.Common.{◌+◌, refl, sym, subst, arith}
 use Rattle.vs_process.specs.States.{State}
 use Rattle.vs_run_steps.specs.Runs.{state_of}
 use Rattle.vs_run_steps.specs.vs_run_turns.specs.Turns.{AreMade}
-use Rattle.vs_run_steps.specs.vs_run_turns.proofs.MadeLemmas.{made_stands, made_then}
+use Rattle.vs_run_steps.specs.vs_run_turns.proofs.MadeLemmas.{made_then}
 use Rattle.vs_run_wakes.proofs.MarkingLemmas.{changes_more, changes_none}
 use Rattle.vs_run_events.proofs.RunLemmas.{own_run, run_of_own}
 use Rattle.vs_run_events.proofs.active.make_updates.Goals as goal

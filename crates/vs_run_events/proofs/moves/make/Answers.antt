@@ -1,4 +1,4 @@
-use Rattle.std.proofs.Common.{◌≡◌, List, true, refl, sym, subst}
+use Rattle.std.proofs.Common.{List, true, refl, sym, subst}
 use Rattle.vs_design.specs.declared.signal.Signal.{Signal}
 use Rattle.vs_process.specs.vs_flatcode.specs.Spots.{IsSpotIn}
 use Rattle.vs_run_steps.specs.Runs.{state_of}

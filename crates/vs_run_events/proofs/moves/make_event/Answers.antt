@@ -18,8 +18,8 @@ step-requires-clause-run g c = own_run c.args.forms.now c.args.run.now c.require
 pub step-requires-clause-active : goal.step-requires-clause-active
 step-requires-clause-active g c = subst (IsActive c.args.run.now) c.in-Step.is c.requires.active
 
-pub evaluate_chosen-requires-clause-active : goal.evaluate_chosen-requires-clause-active
-evaluate_chosen-requires-clause-active g c = (subst (IsActive c.args.run.now) c.in-Evaluate.is c.requires.active).1
+pub evaluate_alone-requires-clause-active : goal.evaluate_alone-requires-clause-active
+evaluate_alone-requires-clause-active g c = (subst (IsActive c.args.run.now) c.in-Evaluate.is c.requires.active).1
 
 pub propagate-requires-clause-active : goal.propagate-requires-clause-active
 propagate-requires-clause-active g c = (subst (IsActive c.args.run.now) c.in-Propagate.is c.requires.active).1
@@ -57,9 +57,9 @@ pub returns-in_ok-step-in-Step-clause-made : goal.returns-in_ok-step-in-Step-cla
 returns-in_ok-step-in-Step-clause-made g c =
     subst (λ (x : Event). state_of c.step.new.run ≡ apply (move_of c.args.run.now x) (state_of c.args.run.now)) (sym c.in-Step.is) c.in_ok-step-in-Step.ensures.made
 
-pub returns-in_ok-evaluate_chosen-in-Evaluate-clause-made : goal.returns-in_ok-evaluate_chosen-in-Evaluate-clause-made
-returns-in_ok-evaluate_chosen-in-Evaluate-clause-made g c =
-    subst (λ (x : Event). state_of c.evaluate_chosen.new.run ≡ apply (move_of c.args.run.now x) (state_of c.args.run.now)) (sym c.in-Evaluate.is) c.in_ok-evaluate_chosen-in-Evaluate.ensures.made
+pub returns-in_ok-_waits-in-Evaluate-clause-made : goal.returns-in_ok-_waits-in-Evaluate-clause-made
+returns-in_ok-_waits-in-Evaluate-clause-made g c =
+    subst (λ (x : Event). state_of c.evaluate_alone.new.run ≡ apply (move_of c.args.run.now x) (state_of c.args.run.now)) (sym c.in-Evaluate.is) c.in_ok-_waits-in-Evaluate.ensures.made
 
 pub returns-in_ok-propagate-in-Propagate-clause-made : goal.returns-in_ok-propagate-in-Propagate-clause-made
 returns-in_ok-propagate-in-Propagate-clause-made g c =
@@ -69,13 +69,13 @@ pub returns-in_ok-make_update-in-Make-clause-made : goal.returns-in_ok-make_upda
 returns-in_ok-make_update-in-Make-clause-made g c =
     subst (λ (x : Event). state_of c.make_update.new.run ≡ apply (move_of c.args.run.now x) (state_of c.args.run.now)) (sym c.in-Make.is) c.in_ok-make_update-in-Make.ensures.made
 
-pub returns-in_ok-evaluate_chosen-in-Evaluate-clause-printed : goal.returns-in_ok-evaluate_chosen-in-Evaluate-clause-printed
-returns-in_ok-evaluate_chosen-in-Evaluate-clause-printed g c =
+pub returns-in_ok-_waits-in-Evaluate-clause-printed : goal.returns-in_ok-_waits-in-Evaluate-clause-printed
+returns-in_ok-_waits-in-Evaluate-clause-printed g c =
     subst (λ (x : Event). Appends (g.L.Sink.bytes c.args.lines.now) (g.L.Sink.bytes c.args.lines.now) (lines_text (move_lines (move_of c.args.run.now x) (state_of c.args.run.now)))) (sym c.in-Evaluate.is)
     (prints_nothing (state_of c.args.run.now) (Evaluate c.in-Evaluate.assign) (g.L.Sink.bytes c.args.lines.now) refl)
 
-pub returns-in_err-evaluate_chosen-in-Evaluate-clause-part : goal.returns-in_err-evaluate_chosen-in-Evaluate-clause-part
-returns-in_err-evaluate_chosen-in-Evaluate-clause-part g c = on_err _ (prints_part (state_of c.args.run.now) (move_of c.args.run.now c.args.event) (g.L.Sink.bytes c.args.lines.now))
+pub returns-in_err-_waits-in-Evaluate-clause-part : goal.returns-in_err-_waits-in-Evaluate-clause-part
+returns-in_err-_waits-in-Evaluate-clause-part g c = on_err _ (prints_part (state_of c.args.run.now) (move_of c.args.run.now c.args.event) (g.L.Sink.bytes c.args.lines.now))
 
 pub returns-in_ok-propagate-in-Propagate-clause-printed : goal.returns-in_ok-propagate-in-Propagate-clause-printed
 returns-in_ok-propagate-in-Propagate-clause-printed g c =

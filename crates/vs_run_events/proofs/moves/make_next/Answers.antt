@@ -1,4 +1,4 @@
-use Rattle.std.proofs.Common.{◌≡◌, ap, sym, subst}
+use Rattle.std.proofs.Common.{ap, sym, subst}
 use Rattle.vs_run_steps.specs.Runs.{IsRunOf, plan_of, state_of}
 use Rattle.vs_run_steps.proofs.RunsLemmas.{plan_in}
 use Rattle.vs_run_updates.specs.Regions.{Waiting}

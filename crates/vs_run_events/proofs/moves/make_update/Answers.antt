@@ -1,4 +1,4 @@
-use Rattle.std.proofs.Common.{◌≡◌, ◌∙◌, sym}
+use Rattle.std.proofs.Common.{◌∙◌, sym}
 use Rattle.std.proofs.lemmas.Bool.{false≢true}
 use Rattle.vs_process.specs.declared.moves.Move.TheVariants.{Make}
 use Rattle.vs_run_steps.specs.Runs.{plan_of, state_of}

@@ -1,4 +1,4 @@
-use Rattle.std.proofs.Common.{◌≡◌, Bool, List, refl, subst, arith}
+use Rattle.std.proofs.Common.{Bool, List, refl, subst, arith}
 use Rattle.vs_process.proofs.Results.{on_err}
 use Rattle.vs_run_steps.specs.Runs.{state_of}
 use Rattle.vs_run_steps.proofs.RunsLemmas.{plan_in, plan_out}

@@ -9,7 +9,7 @@ loop-assign-init g c = λ j below. absurd (omega (arith, below))
 
 pub loop-assign-preserved : goal.loop-assign-preserved
 loop-assign-preserved g c =
-    below_more (λ (j : ℕ). if_some is_left (slice_get c.args.run.now.watched.events.assigns j) ≡ false) c.loop-assign.assign c.loop-assign.invariant c.in-None.ensures
+    below_more (λ (j : ℕ). if_some is_left (slice_get c.args.run.now.watched.events.assigns j) ≡ false) c.loop-assign.assign c.loop-assign.invariant c.in_default.ensures
 
 pub returns : goal.returns
 returns g c =

@@ -6,4 +6,4 @@ use Rattle.vs_run_tables.proofs.words.lists_of.Goals as goal
 pub loop-watcher-preserved : goal.loop-watcher-preserved
 loop-watcher-preserved c =
     seen_more c.args.watchers.now c.loop-watcher.watcher-index _ _ (rows c.loop-watcher.lists.items) (rows c.note.new.lists.items) c.loop-watcher-test.true refl
-    c.loop-watcher.invariant c.in_ok-many.ensures
+    c.loop-watcher.invariant c.in_ok-note.ensures

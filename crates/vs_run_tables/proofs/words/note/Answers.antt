@@ -23,5 +23,5 @@ loop-word-preserved c =
 pub returns : goal.returns
 returns c =
     let long : length (rows c.args.lists.now.items) ≡ length c.args.lists.now.items = length-map c.args.lists.now.items (λ (row : Vec Watcher Global). row.items) in
-    let all : length (rows c.args.lists.now.items) ≤ c.loop-word.word = omega (arith, long, c.len-words.ensures, c.args.lists.now.ok.0, c.loop-word-test.false) in
+    let all : length (rows c.args.lists.now.items) ≤ c.loop-word.word = omega (arith, long, c.len-word-end.ensures, c.args.lists.now.ok.0, c.loop-word-test.false) in
     noted_every c.args.watcher c.loop-word.word (rows c.args.lists.now.items) (rows c.loop-word.lists.items) c.if-watcher-ne18446744073709551615.false all c.loop-word.invariant

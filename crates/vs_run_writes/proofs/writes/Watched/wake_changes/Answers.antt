@@ -2,7 +2,7 @@ use Rattle.std.proofs.Common.{◌≡◌, ◌+◌, List, ◌∷◌, drop, length,
 use Rattle.std.proofs.lemmas.List.{drop_all}
 use Rattle.vs_flatcode.specs.declared.changes.Change.{Change}
 use Rattle.vs_run_tables.specs.declared.tables.Tables.{Tables}
-use Rattle.vs_run_tables.specs.Wakes.{Wakes}
+use Rattle.vs_run_active.specs.Wakes.{Wakes}
 use Rattle.vs_run_wakes.proofs.ChangesLemmas.{next_change}
 use Rattle.vs_run_writes.proofs.WritesLemmas.{left_at_first, left_at_next, next_named, none_left}
 use Rattle.vs_run_writes.proofs.writes.Watched.wake_changes.Goals as goal
@@ -25,8 +25,8 @@ change_of-requires c =
     in
     (next_named (length c.loop-change.self.tables.rows.items) (drop i changes) (drop (i + 1) changes) c.change-item.result next c.loop-change.invariant.named).0.2
 
-pub wake_each-requires-clause-signal : goal.wake_each-requires-clause-signal
-wake_each-requires-clause-signal c =
+pub wake_word-requires-clause-signal : goal.wake_word-requires-clause-signal
+wake_word-requires-clause-signal c =
     let changes : List Change = c.args.changes.now.items in
     let i = c.loop-change.change-index in
     let next : drop i changes ≡ c.change-item.result ∷ drop (i + 1) changes =
@@ -34,8 +34,8 @@ wake_each-requires-clause-signal c =
     in
     (next_named (length c.loop-change.self.tables.rows.items) (drop i changes) (drop (i + 1) changes) c.change-item.result next c.loop-change.invariant.named).0.0
 
-pub wake_each-requires-clause-word : goal.wake_each-requires-clause-word
-wake_each-requires-clause-word c =
+pub wake_word-requires-clause-word : goal.wake_word-requires-clause-word
+wake_word-requires-clause-word c =
     let changes : List Change = c.args.changes.now.items in
     let i = c.loop-change.change-index in
     let next : drop i changes ≡ c.change-item.result ∷ drop (i + 1) changes =
@@ -58,9 +58,9 @@ loop-change-preserved c =
       marks = c.loop-change.invariant.marks;
       left =
           left_at_next c.args.self.now.tables changes (drop i changes) (drop (i + 1) changes) change c.change_of.result c.args.self.now.events.assigns c.loop-change.self.events.assigns
-          c.wake_each.new.self.assigns c.args.self.now.events.processes c.loop-change.self.events.processes c.wake_each.new.self.processes next c.loop-change.invariant.left
-          (subst (λ (t : Tables). Wakes t change.signal change.word c.change_of.result c.loop-change.self.events.assigns c.loop-change.self.events.processes c.wake_each.new.self.assigns
-          c.wake_each.new.self.processes) c.loop-change.invariant.tables c.in_ok-wake_each.ensures)
+          c.wake_word.new.self.assigns c.args.self.now.events.processes c.loop-change.self.events.processes c.wake_word.new.self.processes next c.loop-change.invariant.left
+          (subst (λ (t : Tables). Wakes t change.signal change.word c.change_of.result c.loop-change.self.events.assigns c.loop-change.self.events.processes c.wake_word.new.self.assigns
+          c.wake_word.new.self.processes) c.loop-change.invariant.tables c.in_ok-wake_word.ensures)
           c.change_of.ensures;
     }
 

@@ -1,0 +1,10 @@
+use Rattle.std.proofs.Common.{◌∙◌}
+use Rattle.vs_run_processes.specs.Standings.{roused_in}
+use Rattle.vs_run_active.proofs.LeftLemmas.{changed_none, changed_put}
+use Rattle.vs_run_active.proofs.processes.Processes.rouse.Goals as goal
+
+pub returns-in_default : goal.returns-in_default
+returns-in_default c = changed_none roused_in c.args.self.now c.args.process c.in_default.ensures
+
+pub returns : goal.returns
+returns c = c.put.ensures ∙ changed_put roused_in c.args.self.now c.args.process c.in-Some.x.now c.rouse.new.self c.in-Some.ensures c.rouse.ensures

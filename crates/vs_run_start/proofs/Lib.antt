@@ -1,0 +1,2 @@
+mod ScriptLemmas
+mod StartLemmas

@@ -1,8 +1,0 @@
-use Rattle.std.proofs.Common.{nat_lt, ap, ◌∙◌}
-use Rattle.std.specs.List.{list_any}
-use Rattle.vs_run_processes.proofs.ListedLemmas.{count_any}
-use Rattle.vs_run_processes.specs.Standings.{is_active}
-use Rattle.vs_run_tables.proofs.processes.Processes.has_going.Goals as goal
-
-pub returns : goal.returns
-returns c = ap (nat_lt 0) c.self.invariant ∙ count_any is_active c.self.inside.items.items ∙ ap (list_any is_active) c.self.view_is
