@@ -86,9 +86,9 @@ fn count_steps<'a, Q: EventQueue<Due>, P: Pick>(
         if run.is_over() || run.time() >= END_OF_TIME {
             break;
         }
-        let taken = run.take_chosen(policy, &mut vcd, &mut lines)?;
+        run.take_steps(policy, 1, &mut vcd, &mut lines)?;
         if left <= COUNTED
-            && let Some(event) = taken
+            && let Some(event) = run.chosen()
         {
             last.add(event);
         }

@@ -169,6 +169,7 @@ pub fn evaluate<Q: EventQueue<Due>>(
     ensures some { IfOk result (λ made. 0 < made) }
     ensures within { IfOk result (λ made. made ≤ limit) }
     ensures made { IfOk result (λ made. AreMade made (state_of run.old) (state_of run.new)) }
+    ensures one { IfOk result (λ made. made ≡ 1 → state_of run.new ≡ executions.apply (Move.Evaluate assign) (state_of run.old)) }
     ensures marked { OnOk result (MarkChanges (marks_of run.old) (marks_of run.new) (state_of run.old).store (state_of run.new).store) }
 {
     let at_once = limit > 1 && run.watched.events.queue.is_empty();
@@ -184,7 +185,7 @@ pub fn evaluate<Q: EventQueue<Due>>(
 
 /// The evaluation of a continuous assignment alone, which isn't listed: whether its value waits to be written.
 #[inline(always)]
-pub fn evaluate_alone<Q: EventQueue<Due>>(
+pub(crate) fn evaluate_alone<Q: EventQueue<Due>>(
     run: &mut RunState<Q>,
     forms: &Forms,
     assign: usize,

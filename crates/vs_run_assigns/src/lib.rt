@@ -6,7 +6,7 @@ mod evaluation;
 mod forms;
 mod groups;
 
-pub use assigns::{evaluate, evaluate_alone, is_pending, needs, propagate};
+pub use assigns::{evaluate, is_pending, needs, propagate};
 pub use forms::Forms;
 pub use groups::{is_group_active, run_group};
 pub use vs_run_active;

@@ -1,5 +1,5 @@
 -- A run after moves.
-use Rattle.std.proofs.Common.{◌≡◌, ℕ, ◌+◌, ◌<◌, Bool, true, false, Option, List, [], ◌∷◌, ◌++◌, refl, sym, ◌∙◌, ap, subst, arith}
+use Rattle.std.proofs.Common.{◌≡◌, ℕ, zero, suc, ◌<◌, Bool, true, false, Option, List, [], ◌∷◌, ◌++◌, refl, sym, ◌∙◌, ap, subst, arith}
 use Rattle.std.specs.declared.alloc.Global.{Global}
 use Rattle.std.specs.declared.vec.Vec.{Vec}
 use Rattle.std.specs.Io.KnownBytes.{Appends}
@@ -16,9 +16,8 @@ use Rattle.vs_run_steps.proofs.TakingLemmas.{part_none}
 use Rattle.vs_run_assigns.specs.vs_run_active.specs.declared.queue.Queue.{Queue}
 use Rattle.vs_run_steps.specs.vs_run_turns.specs.Prints.{lines_text}
 use Rattle.vs_run_steps.specs.vs_run_turns.specs.Taken.{TakenPart}
-use Rattle.vs_run_steps.specs.vs_run_turns.specs.Turns.{AreMade, IsReached, LeftTurned, is_silent}
+use Rattle.vs_run_steps.specs.vs_run_turns.specs.Turns.{AreMade, IsReached, is_silent}
 use Rattle.vs_run_steps.specs.vs_run_turns.proofs.Appending.{append_none, part_more}
-use Rattle.vs_run_steps.specs.vs_run_turns.proofs.EventLemmas.{left_made, left_more}
 use Rattle.vs_run_steps.specs.vs_run_turns.proofs.MadeLemmas.{made_reached}
 use Rattle.vs_run_steps.specs.vs_run_turns.proofs.MoveLemmas.{silent_lines}
 use Rattle.vs_run_steps.specs.vs_run_turns.proofs.PrintsLemmas.{step_prints}
@@ -27,7 +26,7 @@ use Rattle.vs_run_wakes.proofs.MarkingLemmas.{changes_more, changes_none}
 use Rattle.vs_vcd_writing.specs.Sinks.{AppendsPart}
 use Rattle.vs_run_listed.specs.declared.event.Event.{Event}
 use Rattle.vs_run_listed.specs.declared.event.Event.TheVariants as e
-use Rattle.vs_run_events.specs.Running.{IsSingle, move_of}
+use Rattle.vs_run_events.specs.Running.{IsActive, IsMade, IsSingle, move_of}
 
 -- ---- a run of its design
 
@@ -87,6 +86,15 @@ marks_run d r marks h =
       },
     )
 
+-- an event is active in the same run
+pub still_active : {Q : Type 0} (r t : RunState Q) → t ≡ r → (event : Event) → IsActive r event → IsActive t event
+still_active {Q} r t same event h = subst (λ (x : RunState Q). IsActive x event) (sym same) h
+
+-- a number that isn't 0
+pub positive : (n : ℕ) → (n ≡ 0 → ⊥) → 0 < n
+positive zero h = absurd (h refl)
+positive (suc n) h = omega arith
+
 -- ---- marks
 
 -- what was marked of two runs, one after another; between them nothing changes
@@ -112,10 +120,14 @@ event_inner r (e.Evaluate j) single h = cc
 event_inner r (e.Propagate j) single h = cc
 event_inner r (e.Group g) single h = absurd single
 event_inner r (e.Make k) single h = cc
+event_inner r e.Updates single h = absurd single
 
 -- nothing, where it is an evaluation or an update
-pub prints_nothing : (s : State) (m : Move) (known : Option (List ℕ)) → is_silent m ≡ true → Appends known known (lines_text (move_lines m s))
+prints_nothing : (s : State) (m : Move) (known : Option (List ℕ)) → is_silent m ≡ true → Appends known known (lines_text (move_lines m s))
 prints_nothing s m known silent = subst (λ l. Appends known known (lines_text l)) (sym (silent_lines s m silent)) (append_none known)
+
+pub silent_made : (s t : State) (m : Move) (known : Option (List ℕ)) → is_silent m ≡ true → t ≡ apply m s → IsMade m s t known known
+silent_made s t m known silent made = record { made = made; printed = prints_nothing s m known silent }
 
 -- and nothing is a beginning of anything
 pub prints_part : (s : State) (m : Move) (known : Option (List ℕ)) → AppendsPart known known (lines_text (move_lines m s))
@@ -140,9 +152,3 @@ step_part i s old new h =
     let first : Appends old h.mid [] = subst (Appends old h.mid) all.1 h.printed in
     let part : AppendsPart h.mid new (step_text s i) = subst (λ (r : State). AppendsPart h.mid new (step_text r i)) all.0 h.part in
     subst (AppendsPart old new) (sym (step_prints s i)) (part_more old h.mid new [] (step_text s i) first part)
-
--- updates after events
-pub left_updates : {steps left : ℕ} {blocks : List Bool} {s t : State} {old mid : Option (List ℕ)} → LeftTurned steps left blocks s t old mid → 0 < left → (updated n : ℕ) (u : State) → n + updated ≡ left →
-    AreMade n t u → LeftTurned steps updated blocks s u old mid
-left_updates {steps} {left} {blocks} {s} {t} {old} {mid} h some updated n u count made =
-    left_more h some updated u mid (left_made blocks left updated n t u mid h.2.going count made)

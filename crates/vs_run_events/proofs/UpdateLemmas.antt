@@ -1,7 +1,8 @@
 -- Nonblocking updates that are made.
-use Rattle.std.proofs.Common.{◌≡◌, ℕ, Bool, true, false, Option, Some, None, List, [], get_or, option_map, slice_get, refl, sym, ◌∙◌, ap, ap₂, subst}
+use Rattle.std.proofs.Common.{◌≡◌, ℕ, Bool, true, false, Option, Some, None, List, [], ◌∷◌, get_or, option_map, slice_get, refl, sym, ◌∙◌, ap, ap₂, subst}
 use Rattle.std.specs.Prelude.{IfSome, slice_set}
-use Rattle.std.proofs.lemmas.Bool.{false≢true, true≢false}
+use Rattle.std.specs.List.{list_any}
+use Rattle.std.proofs.lemmas.Bool.{and_parts, false≢true, true≢false}
 use Rattle.std.proofs.lemmas.Option.{none-some, same_Some}
 use Rattle.vs_design.specs.Parts.{Parts}
 use Rattle.vs_design.specs.Writes.{Write}
@@ -9,6 +10,7 @@ use Rattle.vs_run_updates.specs.vs_time_wheel.proofs.Bags.{SameBag-from_eq}
 use Rattle.vs_process.specs.declared.moves.Move.TheVariants.{Make}
 use Rattle.vs_process.specs.Executions.{apply, if_some, is_first}
 use Rattle.vs_process.specs.States.{State, Update, without, written}
+use Rattle.vs_process.proofs.Lists.{none_at}
 use Rattle.vs_run_steps.specs.declared.run.RunState.{RunState}
 use Rattle.vs_run_steps.specs.Runs.{Agrees, Keeps, state_of}
 use Rattle.vs_run_steps.proofs.RunsLemmas.{keeps_regions}
@@ -18,10 +20,12 @@ use Rattle.vs_run_steps.specs.vs_run_turns.proofs.AssignLemmas.{updated}
 use Rattle.vs_run_steps.specs.vs_run_turns.proofs.MadeLemmas.{made_one}
 use Rattle.vs_run_updates.specs.declared.update.Update as declared
 use Rattle.vs_run_updates.specs.declared.update.Update.TheVariants as u
-use Rattle.vs_run_updates.specs.Active.{place_of_active}
+use Rattle.vs_run_updates.specs.Active.{is_active, place_of_active}
 use Rattle.vs_run_updates.specs.Regions.{Waiting, place_of_number, without_oldest}
-use Rattle.vs_run_updates.specs.Updates.{bits_write, left_of, what_of}
+use Rattle.vs_run_updates.specs.Updates.{bits_write, is_there, left_of, what_of}
+use Rattle.vs_run_listed.specs.declared.event.Event.TheVariants as e
 use Rattle.vs_run_events.specs.Making.{WritesUpdate}
+use Rattle.vs_run_events.specs.Running.{IsActive}
 
 -- ---- one that is taken out of the list, and written
 
@@ -77,6 +81,23 @@ pub next_none : {Q : Type 0} (r : RunState Q) (v : Waiting) (x : declared.Update
 next_none r v (u.Bits b) t made rest writes none_so = absurd (true≢false (sym writes.0 ∙ none_so))
 next_none r v (u.Any n) t made rest writes none_so = absurd (true≢false (sym writes.0 ∙ none_so))
 next_none r v u.Gone t made rest writes none_so = writes.1 ∙ without_state r v r.regions.updates (ap (λ (w : Waiting). w.updates) rest) (ap (λ (w : Waiting). w.time) rest)
+
+-- where the updates are an event the oldest one isn't gone
+pub first_made : {Q : Type 0} (r : RunState Q) (v : Waiting) (x : declared.Update) (t : State) (made : Bool) → r.regions.listed.active ≡ left_of v.listed.writes x ∷ v.listed.active →
+    WritesUpdate x v.listed.writes (state_of (record r { regions = v })) t made → IsActive r e.Updates → made ≡ true
+first_made r v (u.Bits b) t made what writes active = writes.0
+first_made r v (u.Any n) t made what writes active = writes.0
+first_made r v u.Gone t made what writes active =
+    absurd (false≢true (sym (ap (λ (l : List (Option Write)). is_there (slice_get l 0)) what) ∙ active.0))
+
+-- and one is active
+some_there : (us : List Update) (k : ℕ) (o : Option Update) → slice_get us k ≡ o → if_some (is_first us k) o ≡ true → list_any is_active us ≡ false → ⊥
+some_there us k None there first none = absurd (false≢true first)
+some_there us k (Some x) there first none = false≢true (sym (none_at is_active us k x there none) ∙ (and_parts x.active _ first).0)
+
+pub some_active : {Q : Type 0} (r : RunState Q) → IsActive r e.Updates → list_any is_active r.regions.updates ≡ false → ⊥
+some_active r active none =
+    let k : ℕ = place_of_number 0 r.regions in some_there r.regions.updates k (slice_get r.regions.updates k) refl active.1 none
 
 -- ---- the one of a number
 

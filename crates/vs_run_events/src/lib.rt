@@ -1,14 +1,11 @@
 //! The events of a run: which is next, and the moves that it makes (IEEE 1364-2005, clause 11).
 #![tactic(auto)]
 
-mod active;
 mod moves;
 mod state;
 
-pub use active::run_active;
-pub use moves::{leave, make_event};
-pub use state::{Region, is_active, is_going, is_inside, lost_event, next_region};
+pub use moves::{leave, run_event};
+pub use state::{Region, first_event, is_active, is_going, is_inside, lost_event, next_region};
 pub use vs_run_assigns;
-pub use vs_run_assigns::is_pending;
 pub use vs_run_listed;
 pub use vs_run_wakes;

@@ -1,11 +1,9 @@
 //! The moves of events.
-ghost use Rattle.std.specs.Io.KnownBytes.{Appends};
 ghost use Rattle.std.specs.Prelude.{◌≡◌, ◌<◌, ◌≤◌, ◌^◌, false, true, Bool, Some, List, IfOk, OnOk, OnErr};
 ghost use Rattle.vs_process.specs.Executions as executions;
-ghost use Rattle.vs_process.specs.States as states;
 ghost use Rattle.vs_run_events.specs.Leaving.{changed_each};
 ghost use Rattle.vs_run_events.specs.Making.{WritesUpdate};
-ghost use Rattle.vs_run_events.specs.Running.{IsActive, IsSingle, move_of, region_move};
+ghost use Rattle.vs_run_events.specs.Running.{IsActive, IsMade, IsSingle, move_of, region_move};
 ghost use Rattle.vs_run_wakes.specs.vs_run_processes.specs.Standings as standings;
 ghost use Rattle.vs_run_steps.specs.Runs.{Agrees, IsRunOf, Keeps, marks_of, plan_of, state_of};
 ghost use Rattle.vs_run_steps.specs.vs_run_turns.specs.Prints.{lines_text};
@@ -18,7 +16,7 @@ ghost use Rattle.vs_vcd_writing.specs.Sinks.{AppendsPart, failed_after};
 use crate::state::Region;
 use std::alloc::AllocError;
 use vs_run_assigns::vs_run_active::Events;
-use vs_run_assigns::{Forms, evaluate, evaluate_alone, propagate, run_group};
+use vs_run_assigns::{Forms, evaluate, propagate, run_group};
 use vs_run_listed::Event;
 use vs_run_steps::RunState;
 use vs_run_updates::vs_time_wheel::EventQueue;
@@ -66,11 +64,12 @@ fn make_update<Q: EventQueue<Due>>(run: &mut RunState<Q>, number: usize) -> Resu
 
 /// Makes the oldest activated update, where there is one: whether there is.
 #[inline(always)]
-pub fn make_next<Q: EventQueue<Due>>(run: &mut RunState<Q>) -> Result<bool, AllocError>
+fn make_next<Q: EventQueue<Due>>(run: &mut RunState<Q>) -> Result<bool, AllocError>
     requires { IsRunOf run.old.design.now run.old }
     ensures run { OnOk result (IsRunOf run.old.design.now run.new) }
     ensures none { IfOk result (λ made. made ≡ false → state_of run.new ≡ state_of run.old) }
     ensures made { IfOk result (λ made. made ≡ true → AreMade 1 (state_of run.old) (state_of run.new)) }
+    ensures active { IfOk result (λ made. IsActive run.old Event.Updates → made ≡ true) }
     ensures marked { OnOk result (MarkChanges (marks_of run.old) (marks_of run.new) (state_of run.old).store (state_of run.new).store) }
 {
     let Some(update) = run.regions.next() else {
@@ -78,6 +77,29 @@ pub fn make_next<Q: EventQueue<Due>>(run: &mut RunState<Q>) -> Result<bool, Allo
     };
     let made = make(run, update)?;
     Ok(made)
+}
+
+/// Makes the activated updates, the oldest first and at most so many: how many.
+#[inline(always)]
+fn make_updates<Q: EventQueue<Due>>(run: &mut RunState<Q>, limit: u64) -> Result<u64, AllocError>
+    requires limit { 0 < limit }
+    requires run { IsRunOf run.old.design.now run.old }
+    requires active { IsActive run.old Event.Updates }
+    ensures run { OnOk result (IsRunOf run.old.design.now run.new) }
+    ensures some { IfOk result (λ taken. 0 < taken) }
+    ensures within { IfOk result (λ taken. taken ≤ limit) }
+    ensures made { IfOk result (λ taken. AreMade taken (state_of run.old) (state_of run.new)) }
+    ensures marked { OnOk result (MarkChanges (marks_of run.old) (marks_of run.new) (state_of run.old).store (state_of run.new).store) }
+{
+    let mut taken = 0;
+    while taken < limit {
+        let made = make_next(run)?;
+        if !made {
+            return Ok(taken);
+        }
+        taken += 1;
+    }
+    Ok(taken)
 }
 
 /// Makes the moves of an active event, at most so many: how many.
@@ -100,6 +122,10 @@ pub fn run_event<Q: EventQueue<Due>, L: Sink>(
         (L.bytes lines.old) (L.bytes lines.new)) }
     ensures err { OnErr result ((blocks : List Bool) → EventTurnedPart limit blocks (state_of run.old)
         (L.bytes lines.old) (L.bytes lines.new)) }
+    ensures one { IfOk result (λ taken. taken ≡ 1 → IsSingle event → IsMade (move_of run.old event) (state_of run.old) (state_of run.new)
+        (L.bytes lines.old) (L.bytes lines.new)) }
+    ensures part { OnErr result (limit ≡ 1 → AppendsPart (L.bytes lines.old) (L.bytes lines.new)
+        (lines_text (executions.move_lines (move_of run.old event) (state_of run.old)))) }
     ensures marked { OnOk result (MarkChanges (marks_of run.old) (marks_of run.new) (state_of run.old).store (state_of run.new).store) }
     ensures failures { L.failed lines.new ≡ failed_after (is_write_fault result) (L.failed lines.old) }
 {
@@ -124,71 +150,9 @@ pub fn run_event<Q: EventQueue<Due>, L: Sink>(
             make_update(run, number)?;
             Ok(1)
         }
-    }
-}
-
-/// Takes one step of an active process.
-#[inline(always)]
-fn step<Q: EventQueue<Due>, L: Sink>(
-    run: &mut RunState<Q>,
-    process: usize,
-    lines: &mut L,
-) -> Result<(), WriterFault>
-    requires run { IsRunOf run.old.design.now run.old }
-    requires early { (state_of run.old).time < 2 ^ 62 }
-    requires active { IsActive run.old (Event.Step process) }
-    ensures run { OnOk result (IsRunOf run.old.design.now run.new) }
-    ensures made { OnOk result (state_of run.new
-        ≡ executions.apply (move_of run.old (Event.Step process)) (state_of run.old)) }
-    ensures marked { OnOk result (MarkChanges (marks_of run.old) (marks_of run.new) (state_of run.old).store (state_of run.new).store) }
-    ensures printed { OnOk result (Appends (L.bytes lines.old) (L.bytes lines.new)
-        (lines_text (executions.move_lines (move_of run.old (Event.Step process)) (state_of run.old)))) }
-    ensures part { OnErr result (AppendsPart (L.bytes lines.old) (L.bytes lines.new)
-        (lines_text (executions.move_lines (move_of run.old (Event.Step process)) (state_of run.old)))) }
-    ensures failures { L.failed lines.new ≡ failed_after (is_write_fault result) (L.failed lines.old) }
-{
-    let _taken = run.run_process(process, 1, lines)?;
-    Ok(())
-}
-
-/// Makes the one move of an active event, which a policy has chosen.
-#[inline(never)]
-pub fn make_event<Q: EventQueue<Due>, L: Sink>(
-    run: &mut RunState<Q>,
-    forms: &Forms,
-    event: Event,
-    lines: &mut L,
-) -> Result<(), WriterFault>
-    requires run { IsRunOf forms.now run.old }
-    requires early { (state_of run.old).time < 2 ^ 62 }
-    requires active { IsActive run.old event }
-    requires single { IsSingle event }
-    ensures run { OnOk result (IsRunOf forms.now run.new) }
-    ensures made { OnOk result (state_of run.new ≡ executions.apply (move_of run.old event) (state_of run.old)) }
-    ensures marked { OnOk result (MarkChanges (marks_of run.old) (marks_of run.new) (state_of run.old).store (state_of run.new).store) }
-    ensures printed { OnOk result (Appends (L.bytes lines.old) (L.bytes lines.new)
-        (lines_text (executions.move_lines (move_of run.old event) (state_of run.old)))) }
-    ensures part { OnErr result (AppendsPart (L.bytes lines.old) (L.bytes lines.new)
-        (lines_text (executions.move_lines (move_of run.old event) (state_of run.old)))) }
-    ensures failures { L.failed lines.new ≡ failed_after (is_write_fault result) (L.failed lines.old) }
-{
-    match event {
-        Event::Step(process) => {
-            step(run, process, lines)?;
-            Ok(())
-        }
-        Event::Evaluate(assign) => {
-            let _waits = evaluate_alone(run, forms, assign)?;
-            Ok(())
-        }
-        Event::Propagate(assign) => {
-            propagate(run, forms, assign)?;
-            Ok(())
-        }
-        Event::Group(_) => Ok(()),
-        Event::Make(number) => {
-            make_update(run, number)?;
-            Ok(())
+        Event::Updates => {
+            let made = make_updates(run, limit)?;
+            Ok(made)
         }
     }
 }

@@ -1,5 +1,5 @@
 //! What is active in a run.
-ghost use Rattle.std.specs.Prelude.{◌≡◌, false, true, slice_get, IfSome, MatchOption};
+ghost use Rattle.std.specs.Prelude.{◌≡◌, false, true, slice_get, IfNone, IfSome, MatchOption};
 ghost use Rattle.std.specs.List.{list_any};
 ghost use Rattle.vs_design.specs.Parts.{Parts};
 ghost use Rattle.vs_process.specs.vs_flatcode.specs.Places.{is_going, is_inside};
@@ -85,21 +85,17 @@ fn event_of<Q: EventQueue<Due>>(run: &RunState<Q>, number: usize) -> Option<Even
     Some(event)
 }
 
-/// Takes the next active event out of the queue, where there is one, and what stands before it.
+/// Takes the next number of an active event out of the queue, where there is one, and what stands before it.
 #[inline(never)]
-fn later_event<Q: EventQueue<Due>>(run: &mut RunState<Q>) -> Option<Event>
+fn later_number<Q: EventQueue<Due>>(run: &mut RunState<Q>) -> Option<usize>
     ensures state { state_of run.new ≡ state_of run.old }
     ensures marks { run.new.watched.marks ≡ run.old.watched.marks }
     ensures run { (design : Parts) → IsRunOf design run.old → IsRunOf design run.new }
-    ensures active { IfSome result (λ event. IsActive run.new event) }
 {
     for _ in 0..run.watched.events.queue.len() {
-        let Some(number) = run.watched.events.queue.pop() else {
-            return None;
-        };
-        let event = event_of(run, number);
-        if event.is_some() {
-            return event;
+        let number = run.watched.events.queue.pop()?;
+        if event_of(run, number).is_some() {
+            return Some(number);
         }
     }
     None
@@ -107,20 +103,19 @@ fn later_event<Q: EventQueue<Due>>(run: &mut RunState<Q>) -> Option<Event>
 
 /// Takes the next active event out of the queue, where there is one.
 #[inline(always)]
-pub fn next_event<Q: EventQueue<Due>>(run: &mut RunState<Q>) -> Option<Event>
+fn queued_event<Q: EventQueue<Due>>(run: &mut RunState<Q>) -> Option<Event>
     ensures state { state_of run.new ≡ state_of run.old }
     ensures marks { run.new.watched.marks ≡ run.old.watched.marks }
     ensures run { (design : Parts) → IsRunOf design run.old → IsRunOf design run.new }
     ensures active { IfSome result (λ event. IsActive run.new event) }
 {
-    let Some(number) = run.watched.events.queue.pop() else {
-        return None;
-    };
+    let number = run.watched.events.queue.pop()?;
     let event = event_of(run, number);
     if event.is_some() {
         return event;
     }
-    later_event(run)
+    let later = later_number(run)?;
+    event_of(run, later)
 }
 
 /// The event of an active process, where there is one. It looks for it among all.
@@ -171,6 +166,19 @@ fn left_event<Q: EventQueue<Due>>(run: &RunState<Q>) -> Option<Event>
     sought_assign(run)
 }
 
+/// The event of an active process, or of a continuous assignment that is active, where their counts say that there is one.
+#[inline(always)]
+fn counted_event<Q: EventQueue<Due>>(run: &RunState<Q>) -> Option<Event>
+    ensures { MatchOption result ((list_any is_going (state_of run.now).places ≡ false) × (list_any is_left (state_of run.now).assigns ≡ false))
+        (λ event. IsChoice run.now event) }
+{
+    let going = going_event(run);
+    if going.is_some() {
+        return going;
+    }
+    left_event(run)
+}
+
 /// The event of an activated update, where there is one.
 #[inline(always)]
 fn update_event<Q: EventQueue<Due>>(run: &RunState<Q>) -> Option<Event>
@@ -183,21 +191,54 @@ fn update_event<Q: EventQueue<Due>>(run: &RunState<Q>) -> Option<Event>
     Some(Event::Make(number))
 }
 
-/// An active event, where there is one.
+/// The event of all activated updates, where there are any.
+#[inline(always)]
+fn updates_event<Q: EventQueue<Due>>(run: &RunState<Q>) -> Option<Event>
+    ensures { MatchOption result (list_any is_active (state_of run.now).updates ≡ false) (λ event. IsActive run.now event) }
+{
+    if !run.regions.has_active() {
+        return None;
+    }
+    if run.regions.is_first(0) {
+        return Some(Event::Updates);
+    }
+    let event = update_event(run)?;
+    Some(event)
+}
+
+/// An active event, where there is one, of one move.
 #[inline(always)]
 pub fn lost_event<Q: EventQueue<Due>>(run: &RunState<Q>) -> Option<Event>
     ensures { MatchOption result (executions.is_busy (state_of run.now) ≡ false) (λ event. IsChoice run.now event) }
 {
-    if let Some(event) = going_event(run) {
-        return Some(event);
-    }
-    if let Some(event) = left_event(run) {
-        return Some(event);
+    let counted = counted_event(run);
+    if counted.is_some() {
+        return counted;
     }
     update_event(run)
 }
 
-/// Whether an event is active; of that of a group it says no, since a policy chooses one move.
+/// The first active event, where there is one: the next one of the queue, else one that was lost from it, else the activated updates.
+#[inline(always)]
+pub fn first_event<Q: EventQueue<Due>>(run: &mut RunState<Q>) -> Option<Event>
+    ensures state { state_of run.new ≡ state_of run.old }
+    ensures marks { run.new.watched.marks ≡ run.old.watched.marks }
+    ensures run { (design : Parts) → IsRunOf design run.old → IsRunOf design run.new }
+    ensures active { IfSome result (λ event. IsActive run.new event) }
+    ensures idle { IfNone result (executions.is_busy (state_of run.new) ≡ false) }
+{
+    let queued = queued_event(run);
+    if queued.is_some() {
+        return queued;
+    }
+    let counted = counted_event(run);
+    if counted.is_some() {
+        return counted;
+    }
+    updates_event(run)
+}
+
+/// Whether an event is active; of those of several moves it says no, since a policy chooses one move.
 #[inline(always)]
 pub fn is_active<Q: EventQueue<Due>>(run: &RunState<Q>, event: Event) -> bool
     ensures { result ≡ true → IsChoice run.now event }
@@ -206,7 +247,7 @@ pub fn is_active<Q: EventQueue<Due>>(run: &RunState<Q>, event: Event) -> bool
         Event::Step(process) => is_going(run, process),
         Event::Evaluate(assign) => needs(run, assign),
         Event::Propagate(assign) => is_pending(run, assign),
-        Event::Group(_) => false,
+        Event::Group(_) | Event::Updates => false,
         Event::Make(number) => run.regions.is_first(number),
     }
 }

@@ -336,34 +336,31 @@ impl Agenda {
         Ok(())
     }
 
-    /// Brings the list up to date after a move, what it has woken being listed already: an event that is no longer enabled leaves it. An event stays
-    /// where its process is still active, and an evaluation where its value waits to be written.
+    /// Brings the list up to date after the move of an event: what it has woken enters at the end, and the event leaves, unless its process goes on.
+    ///
+    /// An evaluation writes nothing, so that it wakes nothing: where its value waits to be written, it stands in the queue alone.
     pub fn follow(
         &mut self,
         event: Event,
         index: Option<usize>,
-        stays: bool,
+        goes_on: bool,
+        queue: &mut Queue,
+        first_process: usize,
     ) -> Result<(), AllocError> {
         self.last = index;
-        match event {
-            Event::Step(_) => {
-                if !stays {
-                    self.remove(index);
-                }
-                Ok(())
-            }
-            Event::Evaluate(assign) => self.follow_evaluation(assign, index, stays),
-            Event::Propagate(assign) => {
-                self.remove(index);
-                self.set_proposed(assign, None);
-                Ok(())
-            }
-            Event::Make(_) => {
-                self.remove(index);
-                Ok(())
-            }
-            Event::Group(_) => Ok(()),
+        if let Event::Evaluate(assign) = event {
+            let waits = queue.pop().is_some();
+            return self.follow_evaluation(assign, index, waits);
         }
+        self.add_woken(queue, first_process)?;
+        if goes_on {
+            return Ok(());
+        }
+        self.remove(index);
+        if let Event::Propagate(assign) = event {
+            self.set_proposed(assign, None);
+        }
+        Ok(())
     }
 
     /// Brings the list up to date after an evaluation: its event leaves, and the update enters at the end, or leaves, with the value that waits.

@@ -13,4 +13,6 @@ pub enum Event {
     Group(usize),
     /// An activated nonblocking update, by its number among these.
     Make(usize),
+    /// The activated nonblocking updates, the oldest first.
+    Updates,
 }

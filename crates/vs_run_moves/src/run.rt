@@ -11,7 +11,7 @@ ghost use Rattle.vs_vcd_writing.specs.Text.{vcd_end};
 use std::alloc::Global;
 use std::marker::Model;
 use vs_run_events::vs_run_assigns::Forms;
-use vs_run_events::vs_run_listed::Agenda;
+use vs_run_events::vs_run_listed::{Agenda, Event};
 use vs_run_steps::RunState;
 use vs_run_steps::vs_run_turns::Recorder;
 use vs_run_updates::Due;
@@ -32,6 +32,8 @@ pub struct Run<'a, Q: EventQueue<Due>> {
     /// The list of a policy that chooses, and the place of what was chosen in it.
     pub(crate) agenda: Agenda,
     pub(crate) picked: Option<usize>,
+    /// The event that it chose last; none where none was active.
+    pub(crate) chosen: Option<Event>,
     pub(crate) recorder: Recorder,
 }
 
@@ -46,6 +48,7 @@ impl<'a, Q: EventQueue<Due> + Drop> Drop for Run<'a, Q> {
             chooses: _,
             agenda: _,
             picked: _,
+            chosen: _,
             recorder: _,
         } = self;
     }
@@ -98,6 +101,11 @@ impl<'a, Q: EventQueue<Due>> Run<'a, Q> {
         self.running.finishing
     }
 
+    /// The event that a policy chose for the last move; none where none was active.
+    pub fn chosen(&self) -> Option<Event> {
+        self.chosen
+    }
+
     /// Writes the end of the dump, at a time in ticks.
     pub fn finish<V: Sink>(self, vcd: &mut V, time: u64) -> Result<(), WriterFault>
     where
@@ -115,6 +123,7 @@ impl<'a, Q: EventQueue<Due>> Run<'a, Q> {
             chooses: _,
             agenda: _,
             picked: _,
+            chosen: _,
             recorder,
         } = self;
         recorder.finish(vcd, time)

@@ -1,17 +1,17 @@
 //! The moves of a slot.
 ghost use Rattle.std.specs.Io.KnownBytes.{Appends};
-ghost use Rattle.std.specs.Prelude.{ℕ, ◌≡◌, ◌<◌, ◌≤◌, ◌^◌, ◌++◌, false, true, None, List, Option, length, map, IfOk, OnOk, OnErr};
+ghost use Rattle.std.specs.Prelude.{◌≡◌, ◌<◌, ◌≤◌, ◌^◌, false, true, None, Option, length, map, IfOk, OnOk, OnErr, IfNone, IfSome};
+ghost use Rattle.vs_run_processes.specs.vs_process.specs.Blocks.{is_step_of_any};
 ghost use Rattle.vs_run_processes.specs.vs_process.specs.Executions as executions;
 ghost use Rattle.vs_run_processes.specs.vs_process.specs.declared.moves.Move.TheVariants as moves;
 ghost use Rattle.vs_design.specs.Parts.{Parts};
-ghost use Rattle.vs_design.specs.Traces.{Slot};
-ghost use Rattle.vs_run_moves.specs.Standing.{IsKept, IsStanding, point_of};
+ghost use Rattle.vs_run_events.specs.Running.{IsActive, IsSingle, move_of};
+ghost use Rattle.vs_run_moves.specs.Standing.{HasMoved, HasMovedPart, IsRecorded, IsRecordedPart, IsStanding, point_of};
 ghost use Rattle.vs_run_steps.specs.Runs.{IsRunOf, marks_of, running_of, state_of};
 ghost use Rattle.vs_run_steps.specs.vs_run_turns.specs.Failures.{OneFailed};
 ghost use Rattle.vs_run_steps.specs.vs_run_turns.specs.Prints.{lines_text};
-ghost use Rattle.vs_run_steps.specs.vs_run_turns.specs.Recording.{CoversNoted, HasNoted};
-ghost use Rattle.vs_run_steps.specs.vs_run_turns.specs.Slots.{AppendsSlots, AppendsSlotsPart};
-ghost use Rattle.vs_run_steps.specs.vs_run_turns.specs.Turns.{AllTurnedPart, EventTurnedPart, LeftTurned, RunsTo, Turned, TurnedPart};
+ghost use Rattle.vs_run_steps.specs.vs_run_turns.specs.Recording.{CoversNoted};
+ghost use Rattle.vs_run_steps.specs.vs_run_turns.specs.Turns.{AllTurnedPart, RunsTo, Turned, TurnedPart};
 ghost use Rattle.vs_vcd_writing.specs.Progress.{is_write_fault};
 ghost use Rattle.vs_vcd_writing.specs.Sinks.{AppendsPart, failed_after};
 
@@ -19,8 +19,9 @@ use crate::run::Run;
 use std::alloc::{AllocError, Global};
 use vs_design::Store;
 use vs_flatcode::vs_strobe::full_line;
+use vs_run_events::vs_run_listed::Event;
 use vs_run_events::vs_run_wakes::clear;
-use vs_run_events::{Region, leave, next_region, run_active};
+use vs_run_events::{Region, first_event, leave, next_region, run_event};
 use vs_run_policies::Pick;
 use vs_run_steps::vs_run_turns::Recorder;
 use vs_run_steps::{Called, RunState};
@@ -82,14 +83,9 @@ fn write_slot<Q: EventQueue<Due>, V: Sink>(
     requires covers { CoversNoted (marks_of running.old) recorder.old (state_of running.old).store }
     ensures state { state_of running.new ≡ state_of running.old }
     ensures run { (d : Parts) → IsRunOf d running.old → IsRunOf d running.new }
-    ensures recording { OnOk result ((d : Parts) → IsKept d (running_of running.old) recorder.old → IsKept d
-        (running_of running.new) recorder.new) }
-    ensures written { OnOk result ((d : Parts) (before : List Slot) → HasNoted recorder.old (V.bytes vcd.old) d before
-        → HasNoted recorder.new (V.bytes vcd.new) d (before ++ executions.ended_slot moves.EndSlot (state_of running.old))) }
-    ensures bytes { OnOk result ((d : Parts) (before : List Slot) → HasNoted recorder.old (V.bytes vcd.old) d before
-        → AppendsSlots (V.bytes vcd.old) (V.bytes vcd.new) d before (executions.ended_slot moves.EndSlot (state_of running.old))) }
-    ensures part { OnErr result ((d : Parts) (before : List Slot) → HasNoted recorder.old (V.bytes vcd.old) d before
-        → AppendsSlotsPart (V.bytes vcd.old) (V.bytes vcd.new) d before (executions.ended_slot moves.EndSlot (state_of running.old))) }
+    ensures recorded { OnOk result (IsRecorded (running_of running.old) (running_of running.new) recorder.old recorder.new
+        (V.bytes vcd.old) (V.bytes vcd.new)) }
+    ensures part { OnErr result (IsRecordedPart (state_of running.old) recorder.old (V.bytes vcd.old) (V.bytes vcd.new)) }
     ensures failures { V.failed vcd.new ≡ failed_after (is_write_fault result) (V.failed vcd.old) }
 {
     let time = running.regions.time();
@@ -110,14 +106,9 @@ fn record_slot<Q: EventQueue<Due>, V: Sink>(
     requires covers { CoversNoted (marks_of running.old) recorder.old (state_of running.old).store }
     ensures state { state_of running.new ≡ state_of running.old }
     ensures run { (d : Parts) → IsRunOf d running.old → IsRunOf d running.new }
-    ensures recording { OnOk result ((d : Parts) → IsKept d (running_of running.old) recorder.old → IsKept d
-        (running_of running.new) recorder.new) }
-    ensures written { OnOk result ((d : Parts) (before : List Slot) → HasNoted recorder.old (V.bytes vcd.old) d before
-        → HasNoted recorder.new (V.bytes vcd.new) d (before ++ executions.ended_slot moves.EndSlot (state_of running.old))) }
-    ensures bytes { OnOk result ((d : Parts) (before : List Slot) → HasNoted recorder.old (V.bytes vcd.old) d before
-        → AppendsSlots (V.bytes vcd.old) (V.bytes vcd.new) d before (executions.ended_slot moves.EndSlot (state_of running.old))) }
-    ensures part { OnErr result ((d : Parts) (before : List Slot) → HasNoted recorder.old (V.bytes vcd.old) d before
-        → AppendsSlotsPart (V.bytes vcd.old) (V.bytes vcd.new) d before (executions.ended_slot moves.EndSlot (state_of running.old))) }
+    ensures recorded { OnOk result (IsRecorded (running_of running.old) (running_of running.new) recorder.old recorder.new
+        (V.bytes vcd.old) (V.bytes vcd.new)) }
+    ensures part { OnErr result (IsRecordedPart (state_of running.old) recorder.old (V.bytes vcd.old) (V.bytes vcd.new)) }
     ensures failures { V.failed vcd.new ≡ failed_after (is_write_fault result) (V.failed vcd.old) }
 {
     if !recorder.is_writing() {
@@ -138,14 +129,9 @@ fn note<Q: EventQueue<Due>, V: Sink, L: Sink>(
     requires covers { CoversNoted (marks_of running.old) recorder.old (state_of running.old).store }
     ensures state { state_of running.new ≡ state_of running.old }
     ensures run { (d : Parts) → IsRunOf d running.old → IsRunOf d running.new }
-    ensures recording { OnOk result ((d : Parts) → IsKept d (running_of running.old) recorder.old → IsKept d
-        (running_of running.new) recorder.new) }
-    ensures written { OnOk result ((d : Parts) (before : List Slot) → HasNoted recorder.old (V.bytes vcd.old) d before
-        → HasNoted recorder.new (V.bytes vcd.new) d (before ++ executions.ended_slot moves.EndSlot (state_of running.old))) }
-    ensures bytes { OnOk result ((d : Parts) (before : List Slot) → HasNoted recorder.old (V.bytes vcd.old) d before
-        → AppendsSlots (V.bytes vcd.old) (V.bytes vcd.new) d before (executions.ended_slot moves.EndSlot (state_of running.old))) }
-    ensures part { OnErr result ((d : Parts) (before : List Slot) → HasNoted recorder.old (V.bytes vcd.old) d before
-        → AppendsSlotsPart (V.bytes vcd.old) (V.bytes vcd.new) d before (executions.ended_slot moves.EndSlot (state_of running.old))) }
+    ensures recorded { OnOk result (IsRecorded (running_of running.old) (running_of running.new) recorder.old recorder.new
+        (V.bytes vcd.old) (V.bytes vcd.new)) }
+    ensures part { OnErr result (IsRecordedPart (state_of running.old) recorder.old (V.bytes vcd.old) (V.bytes vcd.new)) }
     ensures lines { OnOk result (Appends (L.bytes lines.old) (L.bytes lines.new) (lines_text
         (executions.strobe_lines (state_of running.old)))) }
     ensures lines_part { OnErr result (AppendsPart (L.bytes lines.old) (L.bytes lines.new) (lines_text
@@ -240,66 +226,140 @@ impl<'a, Q: EventQueue<Due>> Run<'a, Q> {
         }
     }
 
-    /// Makes the moves of active events, at most so many, until none is active: how many are left of these.
+    /// The same; where a policy chooses, what this has woken enters the list.
     #[inline(always)]
-    fn run_events<L: Sink>(&mut self, steps: u64, lines: &mut L) -> Result<u64, WriterFault>
+    fn end_region<V: Sink, L: Sink>(
+        &mut self,
+        chooses: bool,
+        vcd: &mut V,
+        lines: &mut L,
+    ) -> Result<bool, WriterFault>
         requires run { IsStanding self.old }
         requires going { (state_of self.old.running).over ≡ false }
         requires early { (state_of self.old.running).time < 2 ^ 62 }
+        requires idle { executions.is_busy (state_of self.old.running) ≡ false }
         requires none { self.old.inside ≡ None }
         ensures run { OnOk result (IsStanding self.new) }
-        ensures same { self.new ≡ record self.old { running = self.new.running } }
-        ensures ok { IfOk result (λ left. LeftTurned steps left self.old.blocks (state_of self.old.running) (state_of self.new.running)
-            (L.bytes lines.old) (L.bytes lines.new)) }
-        ensures idle { IfOk result (λ left. 0 < left → executions.is_busy (state_of self.new.running) ≡ false) }
-        ensures err { OnErr result (EventTurnedPart steps self.old.blocks (state_of self.old.running)
-            (L.bytes lines.old) (L.bytes lines.new)) }
-        ensures failures { L.failed lines.new ≡ failed_after (is_write_fault result) (L.failed lines.old) }
+        ensures same { OnOk result (self.new ≡ record self.old { running = self.new.running; writer = self.new.writer }) }
+        ensures ok { OnOk result (Turned self.old.blocks (point_of self.old None (V.bytes vcd.old) (L.bytes lines.old))
+            (point_of self.new None (V.bytes vcd.new) (L.bytes lines.new))) }
+        ensures goes_on { IfOk result (λ goes. goes ≡ true → ((state_of self.new.running).over ≡ false)
+            × ((state_of self.new.running).time ≡ (state_of self.old.running).time)) }
+        ensures err { OnErr result (TurnedPart (point_of self.old None (V.bytes vcd.old) (L.bytes lines.old))
+            (V.bytes vcd.new) (L.bytes lines.new)) }
+        ensures failures { OneFailed (is_write_fault result) (V.failed vcd.old) (V.failed vcd.new)
+            (L.failed lines.old) (L.failed lines.new) }
     {
-        let left = run_active(&mut self.running, &self.forms, steps, lines)?;
-        Ok(left)
+        let goes_on = self.leave_region(vcd, lines)?;
+        if chooses {
+            self.list_woken()?;
+        }
+        Ok(goes_on)
     }
 
-    /// The moves of a slot where the first event is always chosen, at least one and at most so many, until the slot ends: how many are left.
+    /// The next active event, where there is one: the one that a policy chooses, else the first.
     #[inline(always)]
-    fn run_first<V: Sink, L: Sink>(
+    fn next<P: Pick>(&mut self, chooses: bool, policy: &mut P) -> Option<Event>
+        requires run { IsStanding self.old }
+        requires chooses { self.old.chooses ≡ chooses }
+        ensures run { IsStanding self.new }
+        ensures same { self.new ≡ record self.old { running = self.new.running } }
+        ensures state { state_of self.new.running ≡ state_of self.old.running }
+        ensures active { IfSome result (λ event. IsActive self.new.running event) }
+        ensures single { IfSome result (λ event. chooses ≡ true → IsSingle event) }
+        ensures free { IfSome result (λ event. is_step_of_any self.new.inside (move_of self.new.running event) ≡ true) }
+        ensures idle { IfNone result ((executions.is_busy (state_of self.new.running) ≡ false) × (self.new.inside ≡ None)) }
+    {
+        if chooses {
+            return self.choose(policy);
+        }
+        first_event(&mut self.running)
+    }
+
+    /// Makes the moves of an active event, at most so many, and one where a policy chooses: how many.
+    #[inline(always)]
+    fn make<L: Sink>(
         &mut self,
+        chooses: bool,
+        event: Event,
+        limit: u64,
+        lines: &mut L,
+    ) -> Result<u64, WriterFault>
+        requires run { IsStanding self.old }
+        requires chooses { self.old.chooses ≡ chooses }
+        requires limit { 0 < limit }
+        requires going { (state_of self.old.running).over ≡ false }
+        requires early { (state_of self.old.running).time < 2 ^ 62 }
+        requires active { IsActive self.old.running event }
+        requires single { chooses ≡ true → IsSingle event }
+        requires free { is_step_of_any self.old.inside (move_of self.old.running event) ≡ true }
+        ensures run { OnOk result (IsStanding self.new) }
+        ensures same { OnOk result (self.new ≡ record self.old { running = self.new.running; inside = self.new.inside }) }
+        ensures some { IfOk result (λ taken. 0 < taken) }
+        ensures ok { IfOk result (λ taken. HasMoved limit taken self.old self.new (L.bytes lines.old) (L.bytes lines.new)) }
+        ensures err { OnErr result (HasMovedPart limit self.old (L.bytes lines.old) (L.bytes lines.new)) }
+        ensures failures { L.failed lines.new ≡ failed_after (is_write_fault result) (L.failed lines.old) }
+    {
+        if chooses {
+            run_event(&mut self.running, &self.forms, event, 1, lines)?;
+            self.inside = self.inside_after(event);
+            self.follow(event)?;
+            return Ok(1);
+        }
+        let taken = run_event(&mut self.running, &self.forms, event, limit, lines)?;
+        Ok(taken)
+    }
+
+    /// The next moves, at least one and at most so many, until the slot ends: how many are left of these.
+    #[inline(always)]
+    fn take_moves<P: Pick, V: Sink, L: Sink>(
+        &mut self,
+        chooses: bool,
+        policy: &mut P,
         steps: u64,
         vcd: &mut V,
         lines: &mut L,
     ) -> Result<u64, WriterFault>
         requires run { IsStanding self.old }
+        requires chooses { self.old.chooses ≡ chooses }
         requires steps { 0 < steps }
         requires going { (state_of self.old.running).over ≡ false }
         requires early { (state_of self.old.running).time < 2 ^ 62 }
-        requires none { self.old.inside ≡ None }
         ensures run { OnOk result (IsStanding self.new) }
-        ensures same { self.new ≡ record self.old { running = self.new.running; writer = self.new.writer } }
+        ensures same { OnOk result
+            (self.new ≡ record self.old { running = self.new.running; inside = self.new.inside; writer = self.new.writer }) }
         ensures some { IfOk result (λ left. left < steps) }
-        ensures ok { IfOk result (λ left. RunsTo steps left self.old.blocks (point_of self.old None
-            (V.bytes vcd.old) (L.bytes lines.old)) None
+        ensures ok { IfOk result (λ left. RunsTo steps left self.old.blocks (point_of self.old self.old.inside
+            (V.bytes vcd.old) (L.bytes lines.old)) self.new.inside
             (λ now. point_of self.new now (V.bytes vcd.new) (L.bytes lines.new))) }
-        ensures err { OnErr result (AllTurnedPart steps self.old.blocks (point_of self.old None (V.bytes vcd.old) (L.bytes lines.old))
+        ensures err { OnErr result (AllTurnedPart steps self.old.blocks (point_of self.old self.old.inside
+            (V.bytes vcd.old) (L.bytes lines.old))
             (V.bytes vcd.new) (L.bytes lines.new)) }
         ensures failures { OneFailed (is_write_fault result) (V.failed vcd.old) (V.failed vcd.new)
             (L.failed lines.old) (L.failed lines.new) }
     {
         let mut left = steps;
         loop {
-            let rest = self.run_events(left, lines)?;
-            if rest == 0 {
-                return Ok(0);
-            }
-            let goes_on = self.leave_region(vcd, lines)?;
-            left = rest - 1;
-            if left == 0 || !goes_on {
-                return Ok(left);
+            match self.next(chooses, policy) {
+                Some(event) => {
+                    let taken = self.make(chooses, event, left, lines)?;
+                    left -= taken;
+                    if left == 0 {
+                        return Ok(0);
+                    }
+                }
+                None => {
+                    let goes_on = self.end_region(chooses, vcd, lines)?;
+                    left -= 1;
+                    if left == 0 || !goes_on {
+                        return Ok(left);
+                    }
+                }
             }
         }
     }
 
-    /// The next moves, at least one and at most so many: where the first event is always chosen those of the slot, else the one that is chosen. The
-    /// answer is how many are left.
+    /// The next moves, at least one and at most so many, until the slot ends: how many are left of these.
     #[inline(always)]
     pub fn take_steps<P: Pick, V: Sink, L: Sink>(
         &mut self,
@@ -326,10 +386,9 @@ impl<'a, Q: EventQueue<Due>> Run<'a, Q> {
             (L.failed lines.old) (L.failed lines.new) }
     {
         if self.chooses {
-            self.take_chosen(policy, vcd, lines)?;
-            return Ok(steps - 1);
+            self.take_moves(true, policy, steps, vcd, lines)
+        } else {
+            self.take_moves(false, policy, steps, vcd, lines)
         }
-        let left = self.run_first(steps, vcd, lines)?;
-        Ok(left)
     }
 }

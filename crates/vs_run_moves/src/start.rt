@@ -118,6 +118,7 @@ impl<'a, Q: EventQueue<Due>> Run<'a, Q> {
             chooses,
             agenda,
             picked: None,
+            chosen: None,
             recorder,
         })
     }

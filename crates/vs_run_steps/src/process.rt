@@ -1,5 +1,5 @@
 //! The steps of a process in a run, one after another, until it waits or is at its end (IEEE 1364-2005, clauses 9 and 11.3).
-ghost use Rattle.std.specs.Prelude.{ℕ, ◌≡◌, ◌<◌, ◌≤◌, ◌^◌, true, false, Some, List, slice_get, IfOk, IfSome, OnOk, OnErr};
+ghost use Rattle.std.specs.Prelude.{◌≡◌, ◌<◌, ◌≤◌, ◌^◌, true, false, Some, slice_get, IfOk, OnOk, OnErr};
 ghost use Rattle.vs_flatcode.specs.Places.{is_going};
 ghost use Rattle.vs_flatcode.specs.Scripts.{todo_on};
 ghost use Rattle.vs_run_processes.specs.vs_process.specs.Executions as executions;

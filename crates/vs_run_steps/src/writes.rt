@@ -1,5 +1,5 @@
 //! Writes in a run, and its nonblocking updates (IEEE 1364-2005, clauses 9.2 and 11.2).
-ghost use Rattle.std.specs.Prelude.{◌≡◌, ◌<◌, ◌^◌, [], Some, List, length, get_or, OnOk};
+ghost use Rattle.std.specs.Prelude.{◌≡◌, ◌<◌, ◌^◌, [], Some, length, get_or, OnOk};
 ghost use Rattle.vs_design.specs.vs_logic4.specs.Planes.{ArePlanes, digits_of_planes};
 ghost use Rattle.vs_flatcode.specs.Spots.{IsSpotIn, spot_write};
 ghost use Rattle.vs_flatcode.specs.Steps.{assignment};

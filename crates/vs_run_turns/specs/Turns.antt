@@ -99,10 +99,6 @@ abbrev pub EventTurnedPart : ℕ → List Bool → State → Option (List ℕ) �
 EventTurnedPart limit blocks s old new =
     (writer : Option Progress) (vcd : Option (List ℕ)) → AllTurnedPart limit blocks (point None s writer vcd old) vcd new
 
--- of at most so many so many are left
-abbrev pub LeftTurned : ℕ → ℕ → List Bool → State → State → Option (List ℕ) → Option (List ℕ) → Type 0
-LeftTurned steps left blocks s t old new = (taken : ℕ) × (taken + left ≡ steps) × EventTurned steps taken blocks s t old new
-
 -- a step of the block that has left its control can be taken, where there is one
 abbrev pub GoesOn : Option ℕ → State → Type 0
 GoesOn inside s = (process : ℕ) → inside ≡ Some process → is_enabled s (Step process) ≡ true

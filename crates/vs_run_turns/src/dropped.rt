@@ -1,5 +1,5 @@
 //! A sink that drops what it takes.
-ghost use Rattle.std.specs.Prelude.{ℕ, List, None};
+ghost use Rattle.std.specs.Prelude.{None};
 
 use std::io;
 use vs_vcd_writing::Sink;

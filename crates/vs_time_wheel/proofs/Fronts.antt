@@ -48,13 +48,12 @@ least_time-snoc (e ∷ es) time x = ap (sooner e.time) (least_time-snoc es time 
 pub SameBag-behind : {E : Type 0} (c a b : List (Timed E)) → SameBag a b → SameBag (c ++ a) (c ++ b)
 SameBag-behind c a b s = record { at_each = λ t. events_at-append t c a ∙ ap (λ l. events_at t c ++ l) (s.at_each t) ∙ sym (events_at-append t c b) }
 
--- an event that is due before all others of a bag is its newest, too
-pub ahead_is_newest : {E : Type 0} (time : ℕ) (x : E) (least : Option ℕ) (b : List (Timed E)) → least ≡ least_time b → IsAhead time least →
-    SameBag (record { time = time; event = x } ∷ b) (b ++ record { time = time; event = x } ∷ [])
-ahead_is_newest time x least b e h = record {
+-- an event at whose time no other one is due is the newest
+pub newest_of : {E : Type 0} (time : ℕ) (x : E) (b : List (Timed E)) → events_at time b ≡ [] → SameBag (record { time = time; event = x } ∷ b) (b ++ record { time = time; event = x } ∷ [])
+newest_of time x b alone = record {
   at_each = λ t. elim (cases_eq time t) [
     | inl here ↦
-        let none : events_at t b ≡ [] = none_up_to time least b e h t (omega arith) in
+        let none : events_at t b ≡ [] = subst (λ u. events_at u b ≡ []) here alone in
         events_at-here t (record { time = time; event = x }) b here ∙ ap (λ l. x ∷ l) none
         ∙ sym (events_at-append t b (record { time = time; event = x } ∷ []) ∙ ap (λ l. l ++ events_at t (record { time = time; event = x } ∷ [])) none ∙ events_at-here t (record { time = time; event = x }) [] here)
     | inr apart ↦
@@ -62,6 +61,11 @@ ahead_is_newest time x least b e h = record {
         ∙ sym (events_at-append t b (record { time = time; event = x } ∷ []) ∙ ap (λ l. events_at t b ++ l) (events_at-apart t (record { time = time; event = x }) [] apart))
   ];
 }
+
+-- so is one that is due before all others
+pub ahead_is_newest : {E : Type 0} (time : ℕ) (x : E) (least : Option ℕ) (b : List (Timed E)) → least ≡ least_time b → IsAhead time least →
+    SameBag (record { time = time; event = x } ∷ b) (b ++ record { time = time; event = x } ∷ [])
+ahead_is_newest time x least b e h = newest_of time x b (none_up_to time least b e h time (omega arith))
 
 -- ---- the oldest of a time
 -- an event in front that isn't due leaves the oldest to the others
@@ -80,7 +84,7 @@ oldest_at-front time f b h = cond-true (nat_eq f.time time) _ _ (eq-eqb f.time t
 pub without_oldest-front : {E : Type 0} (time : ℕ) (f : Timed E) (b : List (Timed E)) → f.time ≡ time → without_oldest time (f ∷ b) ≡ b
 without_oldest-front time f b h = cond-true (nat_eq f.time time) _ _ (eq-eqb f.time time h)
 
-at_most_of : (t time : ℕ) (o : Option ℕ) → ForSome (sooner t o) (λ next. time ≤ next) → ForSome o (λ next. time ≤ next)
+pub at_most_of : (t time : ℕ) (o : Option ℕ) → ForSome (sooner t o) (λ next. time ≤ next) → ForSome o (λ next. time ≤ next)
 at_most_of t time None h = λ next e. absurd (let k : None ≡ Some next = e in cc)
 at_most_of t time (Some u) h = λ next e. let k : Some u ≡ Some next = e in let f : u ≡ next = cc in let m : time ≤ min t u = h (min t u) refl in omega arith
 

@@ -1,5 +1,6 @@
 pub mod Bags
 pub mod Fronts
+pub mod Listed
 pub mod Replayed
 pub mod Flags
 pub mod Slots

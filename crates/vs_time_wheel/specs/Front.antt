@@ -1,7 +1,7 @@
 -- An event in front of the others of a queue.
 use Rattle.std.specs.Prelude.{◌≡◌, ℕ, ◌<◌, ◌≤◌, List, [], ◌∷◌, ◌++◌, Option, None, Some}
 use Rattle.vs_time_wheel.specs.declared.timing.Timed.{Timed}
-use Rattle.vs_time_wheel.specs.Bag.{IsFrom, SameBag, least_time}
+use Rattle.vs_time_wheel.specs.Bag.{IsFrom, SameBag}
 use Rattle.vs_time_wheel.specs.Queue.{Queue}
 
 -- the event in front, if there is one
@@ -19,9 +19,8 @@ abbrev pub IsDue : {E : Type 0} → ℕ → Option (Timed E) → Type 0
 IsDue time None = ⊥
 IsDue time (Some first) = first.time ≡ time
 
--- a wheel is in order: the least time of the others is known, their clock isn't past the time now, and no event is due before that
-pub record IsInFront {E : Type 0} (first : Option (Timed E)) (least : Option ℕ) (others : Queue E) (now : ℕ) : Type 0 where
-  pub least_other : least ≡ least_time others.bag
+-- a wheel is in order: the clock of the others isn't past the time now, and no event is due before that
+pub record IsInFront {E : Type 0} (first : Option (Timed E)) (others : Queue E) (now : ℕ) : Type 0 where
   pub not_over : others.clock ≤ now
   pub from_now : IsFrom now (front first ++ others.bag)
 

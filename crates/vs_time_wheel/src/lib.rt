@@ -1,8 +1,8 @@
 //! Event queues: bags of timed events, the oldest first at equal times.
 //!
 //! `EventQueue` is the law, which code above is proved against once. `ListQueue` is a plain list in the order
-//! of scheduling. `Wheel` has one event in front, and for the others 256 slots of linked nodes for the times from now on
-//! and an ordered map for the later ones.
+//! of scheduling. `Wheel` has one event in front and some more in a short list, and for the others 256 slots of linked nodes
+//! for the times from now on and an ordered map for the later ones.
 #![tactic(auto)]
 
 mod blocks;
@@ -15,6 +15,7 @@ mod nodes;
 mod pool;
 mod rotation;
 mod timing;
+mod upcoming;
 mod wheel_queue;
 
 pub use calls::{QueueAnswer, QueueCall, replay, same_answers};

@@ -3,7 +3,7 @@ use Rattle.vs_run_steps.specs.Runs.{IsRunOf, plan_of, state_of}
 use Rattle.vs_run_steps.proofs.RunsLemmas.{plan_in}
 use Rattle.vs_run_updates.specs.Regions.{Waiting}
 use Rattle.vs_run_events.proofs.RunLemmas.{either_run}
-use Rattle.vs_run_events.proofs.UpdateLemmas.{next_keeps, next_made, next_none}
+use Rattle.vs_run_events.proofs.UpdateLemmas.{first_made, next_keeps, next_made, next_none, some_active}
 use Rattle.vs_run_events.proofs.moves.make_next.Goals as goal
 
 pub make-requires-clause-agrees : goal.make-requires-clause-agrees
@@ -36,3 +36,9 @@ returns-clause-run g c =
 
 pub returns-clause-marked : goal.returns-clause-marked
 returns-clause-marked g c = c.in_ok-made.ensures.keeps.marked
+
+pub returns-in_default-clause-active : goal.returns-in_default-clause-active
+returns-in_default-clause-active g c = λ active. absurd (some_active c.args.run.now active c.in_default.ensures.none)
+
+pub returns-clause-active : goal.returns-clause-active
+returns-clause-active g c = first_made c.args.run.now c.next.new.self c.in-Some.update (state_of c.make.new.run) c.in_ok-made.made c.in-Some.ensures.what c.in_ok-made.ensures.written

@@ -1,4 +1,4 @@
-use Rattle.std.proofs.Common.{◌≡◌, ◌∙◌, ℕ, List, map, refl, rules, sym, ap, ap₂, subst}
+use Rattle.std.proofs.Common.{◌≡◌, ℕ, List, map, refl, rules, subst}
 use Rattle.std.specs.Io.KnownBytes.{Appends}
 use Rattle.vs_design.specs.Parts.{Parts}
 use Rattle.vs_design.specs.Traces.{Slot}
@@ -32,7 +32,7 @@ pub returns-in_err-print_some-clause-part : goal.returns-in_err-print_some-claus
 returns-in_err-print_some-clause-part g c =
     let whole : (d : Parts) (before : List Slot) → HasNoted c.args.recorder.now (g.V.Sink.bytes c.args.vcd.now) d before →
     AppendsSlotsPart (g.V.Sink.bytes c.args.vcd.now) (g.V.Sink.bytes c.record_slot.new.vcd) d before (ended_slot EndSlot (state_of c.args.running.now)) =
-    λ d before h. slots_whole (g.V.Sink.bytes c.args.vcd.now) (g.V.Sink.bytes c.record_slot.new.vcd) d before (ended_slot EndSlot (state_of c.args.running.now)) (c.in_ok-record_slot.ensures.bytes d before h)
+    λ d before h. slots_whole (g.V.Sink.bytes c.args.vcd.now) (g.V.Sink.bytes c.record_slot.new.vcd) d before (ended_slot EndSlot (state_of c.args.running.now)) (c.in_ok-record_slot.ensures.recorded.bytes d before h)
     in
     on_err _ whole
 

@@ -5,10 +5,11 @@ use Rattle.vs_run_steps.specs.Runs.{state_of}
 use Rattle.vs_run_moves.proofs.MarkingLemmas.{unnoted, unnoted_bytes}
 use Rattle.vs_run_moves.proofs.slot.record_slot.Goals as goal
 
-pub returns-then-not-is_writing-clause-written : goal.returns-then-not-is_writing-clause-written
-returns-then-not-is_writing-clause-written g c = λ d before h.
-    unnoted c.args.recorder.now (g.V.Sink.bytes c.args.vcd.now) d before (before ++ ended_slot EndSlot (state_of c.args.running.now)) (sym c.is_writing.ensures ∙ c.if-not-is_writing.true) h
-
-pub returns-then-not-is_writing-clause-bytes : goal.returns-then-not-is_writing-clause-bytes
-returns-then-not-is_writing-clause-bytes g c = λ d before h.
-    unnoted_bytes c.args.recorder.now (g.V.Sink.bytes c.args.vcd.now) d before (state_of c.args.running.now) (sym c.is_writing.ensures ∙ c.if-not-is_writing.true) h
+pub returns-then-not-is_writing-clause-recorded : goal.returns-then-not-is_writing-clause-recorded
+returns-then-not-is_writing-clause-recorded g c = record {
+  recording = λ d h. h;
+  written = λ d before h.
+      unnoted c.args.recorder.now (g.V.Sink.bytes c.args.vcd.now) d before (before ++ ended_slot EndSlot (state_of c.args.running.now)) (sym c.is_writing.ensures ∙ c.if-not-is_writing.true) h;
+  bytes = λ d before h.
+      unnoted_bytes c.args.recorder.now (g.V.Sink.bytes c.args.vcd.now) d before (state_of c.args.running.now) (sym c.is_writing.ensures ∙ c.if-not-is_writing.true) h;
+}

@@ -32,7 +32,7 @@ returns-in_err-leave-clause-err g c =
     let enabled : is_enabled (state_of c.self.inside.running) EndSlot ≡ true = ap (λ (x : Standing). is_enabled (state_of x.running) EndSlot) c.self.view_is ∙ c.requires.enabled in
     let whole : (d : Parts) (before : List Slot) → HasNoted c.self.inside.recorder (g.V.Sink.bytes c.args.vcd.now) d before →
     AppendsSlotsPart (g.V.Sink.bytes c.args.vcd.now) (g.V.Sink.bytes c.note.new.vcd) d before (ended_slot EndSlot (state_of c.self.inside.running)) =
-    λ d before h. slots_whole _ _ d before _ (c.in_ok-note.ensures.bytes d before h)
+    λ d before h. slots_whole _ _ d before _ (c.in_ok-note.ensures.recorded.bytes d before h)
     in
     on_err _
     (subst (λ (x : Standing). TurnedPart (point_of x None (g.V.Sink.bytes c.args.vcd.now) (g.L.Sink.bytes c.args.lines.now)) (g.V.Sink.bytes c.note.new.vcd) (g.L.Sink.bytes c.note.new.lines)) c.self.view_is
@@ -47,14 +47,14 @@ returns-clause-ok g c =
     (λ (x : Standing). Turned x.blocks (point_of x None (g.V.Sink.bytes c.args.vcd.now) (g.L.Sink.bytes c.args.lines.now))
     (point None (state_of c.leave.new.run) c.note.new.recorder (g.V.Sink.bytes c.note.new.vcd) (g.L.Sink.bytes c.note.new.lines))) c.self.view_is
     (ended_turned c.self.inside.blocks.items (state_of c.self.inside.running) (state_of c.leave.new.run) c.self.inside.recorder c.note.new.recorder (g.V.Sink.bytes c.args.vcd.now) (g.V.Sink.bytes c.note.new.vcd)
-    (g.L.Sink.bytes c.args.lines.now) (g.L.Sink.bytes c.note.new.lines) enabled made c.in_ok-note.ensures.written c.in_ok-note.ensures.bytes c.in_ok-note.ensures.lines)
+    (g.L.Sink.bytes c.args.lines.now) (g.L.Sink.bytes c.note.new.lines) enabled made c.in_ok-note.ensures.recorded.written c.in_ok-note.ensures.recorded.bytes c.in_ok-note.ensures.lines)
 
 pub returns-clause-run : goal.returns-clause-run
 returns-clause-run g c =
     let here = subst IsStanding (sym c.self.view_is) c.requires.run in
     record {
       run = run_of_own c.self.inside.forms c.note.new.running c.leave.new.run (c.note.ensures.run c.self.inside.forms here.run) c.in_ok-leave.ensures.run;
-      recording = kept_on c.self.inside.forms (running_of c.note.new.running) (running_of c.leave.new.run) c.note.new.recorder (c.in_ok-note.ensures.recording c.self.inside.forms here.recording)
+      recording = kept_on c.self.inside.forms (running_of c.note.new.running) (running_of c.leave.new.run) c.note.new.recorder (c.in_ok-note.ensures.recorded.recording c.self.inside.forms here.recording)
           (marks_still c.note.new.running c.leave.new.run c.in_ok-leave.ensures.marks (ap (λ (s : State). s.store) c.in_ok-leave.ensures.made));
       goes_on = λ i is. absurd (none_goes c.self.inside.inside (ap (λ (x : Standing). x.inside) c.self.view_is ∙ c.requires.none) i is);
       first = here.first;
