@@ -169,7 +169,8 @@ fn left_event<Q: EventQueue<Due>>(run: &RunState<Q>) -> Option<Event>
 /// The event of an active process, or of a continuous assignment that is active, where their counts say that there is one.
 #[inline(always)]
 fn counted_event<Q: EventQueue<Due>>(run: &RunState<Q>) -> Option<Event>
-    ensures { MatchOption result ((list_any is_going (state_of run.now).places ≡ false) × (list_any is_left (state_of run.now).assigns ≡ false))
+    ensures { MatchOption result
+        ((list_any is_going (state_of run.now).places ≡ false) × (list_any is_left (state_of run.now).assigns ≡ false))
         (λ event. IsChoice run.now event) }
 {
     let going = going_event(run);
