@@ -80,7 +80,7 @@ fn make_next<Q: EventQueue<Due>>(run: &mut RunState<Q>) -> Result<bool, AllocErr
 }
 
 /// Makes the activated updates, the oldest first and at most so many: how many.
-#[inline(always)]
+#[inline(never)]
 fn make_updates<Q: EventQueue<Due>>(run: &mut RunState<Q>, limit: u64) -> Result<u64, AllocError>
     requires limit { 0 < limit }
     requires run { IsRunOf run.old.design.now run.old }
