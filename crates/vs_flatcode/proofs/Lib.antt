@@ -3,7 +3,6 @@ pub mod ControlLemmas
 pub mod Drafts
 pub mod Follows
 pub mod Heads
-pub mod Holding
 pub mod Links
 pub mod Lists
 pub mod Numbers

@@ -168,18 +168,9 @@ pub(crate) fn drive<Q: EventQueue<Due>>(
     ensures driven { OnOk result (IsDriven forms.now assign digits (state_of run.old) (state_of run.new)) }
     ensures keeps { OnOk result (Keeps plan.design plan.terms run.old run.new) }
 {
-    let Some(form) = forms.get(assign) else {
+    let Some(spot) = forms.place(assign) else {
         return drive_any(run, forms, assign, digits);
     };
-    match form {
-        Form::Copy(spot, _) => {
-            run.write(spot, digits)?;
-            Ok(())
-        }
-        Form::Fixed(spot, _) => {
-            run.write(spot, digits)?;
-            Ok(())
-        }
-        Form::Other => drive_any(run, forms, assign, digits),
-    }
+    run.write(spot, digits)?;
+    Ok(())
 }

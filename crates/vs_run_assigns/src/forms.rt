@@ -127,6 +127,19 @@ impl<'a> Forms<'a> {
         self.items.get(assign)
     }
 
+    /// The fixed place of one, where it has one.
+    #[inline(always)]
+    pub(crate) fn place(&self, assign: usize) -> Option<&Spot>
+        ensures { IfSome result (λ spot. (a : design_assign.Assign) → slice_get self.now.assigns assign ≡ Some a
+            → IsPlaceOf self.now.signals a.target spot.now) }
+    {
+        let form = self.get(assign)?;
+        match form {
+            Form::Copy(spot, _) | Form::Fixed(spot, _) => Some(spot),
+            Form::Other => None,
+        }
+    }
+
     /// Of each whether it is a copy.
     pub fn copies(&self, alloc: Global) -> Result<Vec<bool>, AllocError> {
         let mut copies = Vec::new(alloc);

@@ -336,18 +336,17 @@ impl<'a, Q: EventQueue<Due>> Run<'a, Q> {
         Ok(taken)
     }
 
-    /// The next moves, at least one and at most so many, until the slot ends: how many are left of these.
-    #[inline(always)]
-    fn take_moves<P: Pick, V: Sink, L: Sink>(
+    /// The next moves, at least one and at most so many, until the slot ends: how many are left of these. It is compiled once for the policies that
+    /// choose and once for those that take the first event.
+    fn take_moves<const CHOOSES: bool, P: Pick, V: Sink, L: Sink>(
         &mut self,
-        chooses: bool,
         policy: &mut P,
         steps: u64,
         vcd: &mut V,
         lines: &mut L,
     ) -> Result<u64, WriterFault>
         requires run { IsStanding self.old }
-        requires chooses { self.old.chooses ≡ chooses }
+        requires chooses { self.old.chooses ≡ CHOOSES }
         requires steps { 0 < steps }
         requires going { (state_of self.old.running).over ≡ false }
         requires early { (state_of self.old.running).time < 2 ^ 62 }
@@ -366,16 +365,16 @@ impl<'a, Q: EventQueue<Due>> Run<'a, Q> {
     {
         let mut left = steps;
         loop {
-            match self.next(chooses, policy) {
+            match self.next(CHOOSES, policy) {
                 Some(event) => {
-                    let taken = self.make(chooses, event, left, lines)?;
+                    let taken = self.make(CHOOSES, event, left, lines)?;
                     left -= taken;
                     if left == 0 {
                         return Ok(0);
                     }
                 }
                 None => {
-                    let goes_on = self.end_region(chooses, vcd, lines)?;
+                    let goes_on = self.end_region(CHOOSES, vcd, lines)?;
                     left -= 1;
                     if left == 0 || !goes_on {
                         return Ok(left);
@@ -412,9 +411,9 @@ impl<'a, Q: EventQueue<Due>> Run<'a, Q> {
             (L.failed lines.old) (L.failed lines.new) }
     {
         if self.chooses {
-            self.take_moves(true, policy, steps, vcd, lines)
+            self.take_moves::<true, P, V, L>(policy, steps, vcd, lines)
         } else {
-            self.take_moves(false, policy, steps, vcd, lines)
+            self.take_moves::<false, P, V, L>(policy, steps, vcd, lines)
         }
     }
 }
