@@ -226,3 +226,8 @@ block_kept d c i n list q read same within is reads_are number is_block b h =
 pub all_kept : (rs : List BitRange) (P : BitRange → Type 0) (i : ℕ) → length rs ≤ i → ((k : ℕ) (r : BitRange) → k < i → get_or rs k r ≡ r → P r) →
     (IsTrue true ↔ ((r : BitRange) → Contains rs r → P r))
 all_kept rs P i past all = (λ y r c. all c.0 r (omega (arith, c.1, past)) c.2, λ f. refl)
+
+-- ranges that are the same, each once
+pub same_reads : (d : Parts) (c : Claims) (x : Driver) (read once : List BitRange) (b : Bool) → ((r : BitRange) → (Contains once r ↔ Contains read r)) →
+    (IsTrue b ↔ KeepsReads d c x once) → (IsTrue b ↔ KeepsReads d c x read)
+same_reads d c x read once b same h = (λ t r k. h.0 t r ((same r).1 k), λ all. h.1 (λ r k. all r ((same r).0 k)))

@@ -9,8 +9,8 @@ use crate::order::keeps_range;
 use std::alloc::{AllocError, Global};
 use vs_cert_facts::Facts;
 use vs_design::{BitRange, reads};
-use vs_slots_cones::Cones;
 use vs_slots_cones::vs_slots_paths::text_reads;
+use vs_slots_cones::{Cones, distinct};
 
 // Whether a driver, by its number, keeps the rule K4 where it reads these ranges.
 fn keeps_reads<'a>(
@@ -34,9 +34,25 @@ fn keeps_reads<'a>(
     Ok(true)
 }
 
+// The same, each range once.
+fn keeps_once<'a>(
+    alloc: Global,
+    facts: &Facts,
+    cones: &Cones<'a>,
+    reader: usize,
+    read: Vec<BitRange>,
+) -> Result<bool, AllocError>
+    requires { IsWiringOf facts.now.design facts.now.claims cones.now }
+    ensures { IfOk result (λ b. (IsTrue b ↔
+        KeepsReads facts.entry.now.design facts.entry.now.claims (driver_at facts.entry.now.design reader) read.items)) }
+{
+    let once = distinct(read);
+    keeps_reads(alloc, facts, cones, reader, &once)
+}
+
 /// Whether a continuous assignment keeps the rule K4, by what drivers write: each range that it reads is of a net or of a source, or drivers write
-/// each bit of it; and the drivers that write a bit of it stand before it in the order. For each range that it reads it takes as long as there are
-/// ranges that drivers write of its signal.
+/// each bit of it; and the drivers that write a bit of it stand before it in the order. For each range that it reads, once, it takes as long as there
+/// are ranges that drivers write of its signal.
 pub fn keeps_assign_order<'a>(
     alloc: Global,
     facts: &Facts,
@@ -51,7 +67,7 @@ pub fn keeps_assign_order<'a>(
         return Ok(true);
     }
     let read = reads(alloc, &assigns[j].source)?;
-    let keeps = keeps_reads(alloc, facts, cones, j, &read)?;
+    let keeps = keeps_once(alloc, facts, cones, j, read)?;
     Ok(keeps)
 }
 
@@ -74,6 +90,6 @@ pub fn keeps_process_order<'a>(
         return Ok(true);
     }
     let read = text_reads(alloc, &processes[i].body)?;
-    let keeps = keeps_reads(alloc, facts, cones, design.assigns().len() + i, &read)?;
+    let keeps = keeps_once(alloc, facts, cones, design.assigns().len() + i, read)?;
     Ok(keeps)
 }

@@ -25,7 +25,7 @@ use Rattle.vs_certified.specs.Certified.{StandsFor, is_whole}
 use Rattle.vs_certified.proofs.LinesLemmas.{lines_alike}
 use Rattle.vs_certified.proofs.TraceLemmas.{shown_same, text_same}
 
-legal_at : (grain : Grain) (d : Parts) (moves : List Move) → Legal Statement d moves → Legal Block d moves → Legal grain d moves
+pub legal_at : (grain : Grain) (d : Parts) (moves : List Move) → Legal Statement d moves → Legal Block d moves → Legal grain d moves
 legal_at Statement d moves statement block = statement
 legal_at Block d moves statement block = block
 

@@ -1,3 +1,3 @@
-mod CertifiedLemmas
-mod LinesLemmas
-mod TraceLemmas
+pub mod CertifiedLemmas
+pub mod LinesLemmas
+pub mod TraceLemmas

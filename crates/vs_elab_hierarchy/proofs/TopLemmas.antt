@@ -1,7 +1,6 @@
 -- The top of a source, and the scopes that its scopes are told of.
 use Rattle.std.proofs.Common.{◌≡◌, ℕ, suc, ◌+◌, ◌<◌, Bool, false, List, [], ◌∷◌, Some, None, length, get_or, refl, ap, sym, subst, ◌∙◌, arith, true≢false}
 use Rattle.std.proofs.Math.ListN.{set}
-use Rattle.std.specs.Option.{option_map}
 use Rattle.std.proofs.lemmas.Option.{none-some, same_Some, slice_get-get_or}
 use Rattle.vs_syntax.specs.declared.tree.Module.{Module}
 use Rattle.vs_scopes.specs.vs_width_selects.specs.declared.faults.WidthReason.{WidthReason}
@@ -32,7 +31,6 @@ use Rattle.vs_elab_hierarchy.specs.passes.Opens.{IsReady, OpensInside, OpensInsi
 use Rattle.vs_elab_hierarchy.proofs.FaultLemmas.{own_told}
 use Rattle.vs_elab_hierarchy.proofs.SourceLemmas.{top_ready, top_made, opening_told}
 use Rattle.vs_elab_hierarchy.proofs.BlockLemmas.{adds_none, adds_one}
-use Rattle.vs_elab_entered.proofs.EnterLemmas.{found_none as nothing_found, found_some as module_found}
 
 -- ---- a module by its name
 

@@ -1,5 +1,5 @@
 //! The scopes inside a scope, in design order.
-ghost use Rattle.std.specs.Prelude.{◌≡◌, ◌<◌, List, Some, length, map, slice_get, MatchResult};
+ghost use Rattle.std.specs.Prelude.{◌≡◌, ◌<◌, ◌+◌, ◌-◌, ◌*◌, ◌^◌, List, Some, [], ◌∷◌, ◌++◌, length, map, slice_get, MatchResult, OnOk};
 ghost use Rattle.vs_syntax.specs.declared.tree.Module.{Module as Tree};
 ghost use Rattle.vs_elab_listed.specs.vs_elab_generate.specs.Reads.{read_inner};
 ghost use Rattle.vs_scopes.specs.Scopes.{Scope};
@@ -7,6 +7,7 @@ ghost use Rattle.vs_scopes.specs.passes.Answers.{IsRefusal, Told};
 ghost use Rattle.vs_elab_listed.specs.Opened.{AreOpened, AreSeated};
 ghost use Rattle.vs_elab_listed.specs.ScopeFaults.{HasConstructFault};
 ghost use Rattle.vs_elab_hierarchy.specs.passes.Opens.{FindsInner, HasInner, HasInnerNot, IsReady, OpensInside, OpensInsideNot};
+ghost use Rattle.vs_elab_hierarchy.specs.passes.InHand.{Asked, InHand};
 
 use std::alloc::Global;
 use vs_design::Entry;
@@ -31,7 +32,6 @@ fn construct_fault(alloc: Global, list: &[ListedScope], place: usize, fault: Bod
 }
 
 /// What opens scopes in the one at a place, in the order of the text (IEEE 1364-2005, clauses 9.8.3, 12.1.2 and 12.4).
-#[inline(never)]
 fn found_at<'s>(
     alloc: Global,
     list: &[ListedScope<'s>],
@@ -51,9 +51,7 @@ fn found_at<'s>(
     }
 }
 
-/// The same, where no generate block has the name of an implicit net (IEEE 1364-2005, clauses 4.5 and 12.4.3). It stands apart, so that a
-/// level of scopes takes little stack.
-#[inline(never)]
+/// The same, where no generate block has the name of an implicit net (IEEE 1364-2005, clauses 4.5 and 12.4.3).
 fn inner_at<'s>(
     alloc: Global,
     list: &[ListedScope<'s>],
@@ -69,7 +67,54 @@ fn inner_at<'s>(
     Ok(inner)
 }
 
-/// Lists the scopes inside the scope at a place, which is the last one, down to so many levels, and closes it in the outline.
+/// A scope whose inner scopes are opened in turn: its place in the list, what opens scopes in it, and how many of these are opened.
+#[derive(Drop)]
+struct Opening<'s> {
+    place: usize,
+    inner: Vec<Inner<'s>>,
+    opened: usize,
+}
+
+/// Opens the next scope inside one, which then waits below it; or closes the one in the outline, where all inside it are opened.
+fn open_next<'s>(
+    alloc: Global,
+    modules: &Names<'s, NamedModule<'s>>,
+    scope: Opening<'s>,
+    stack: &mut Vec<Opening<'s>>,
+    list: &mut Vec<ListedScope<'s>>,
+    plan: &mut Numbering,
+) -> Result<(), ElabFault>
+    requires { (a : Asked) × InHand a modules.now (stack.old.items ++ scope ∷ []) list.old.items plan.old }
+    ensures in_hand { (a : Asked) → InHand a modules.now (stack.old.items ++ scope.entry ∷ []) list.old.items plan.old →
+        MatchResult result (λ _. InHand a modules.now stack.new.items list.new.items plan.new) (Told (OpensInsideNot a.depth_left a.ms a.s)) }
+    ensures less { OnOk result (2 * (2 ^ 64 - length list.new.items) + length stack.new.items <
+        2 * (2 ^ 64 - length list.old.items) + length stack.old.items + 1) }
+{
+    match scope.inner.get(scope.opened) {
+        None => {
+            plan.outline.push(Entry::Leave)?;
+            Ok(())
+        }
+        Some(one) => {
+            let next = add(alloc, modules, scope.place, one, list, plan)?;
+            let inner = inner_at(alloc, list, next)?;
+            stack.push(Opening {
+                place: scope.place,
+                inner: scope.inner,
+                opened: scope.opened + 1,
+            })?;
+            stack.push(Opening {
+                place: next,
+                inner,
+                opened: 0,
+            })?;
+            Ok(())
+        }
+    }
+}
+
+/// Lists the scopes inside the scope at a place, which is the last one, down to so many levels, and closes it in the outline. The scopes that are being
+/// opened stand in a list: instances and blocks nest up to 16,449 deep, more than a thread's stack holds.
 pub fn open_inside<'s>(
     alloc: Global,
     modules: &Names<'s, NamedModule<'s>>,
@@ -85,11 +130,16 @@ pub fn open_inside<'s>(
         MatchResult result (λ _. OpensInside depth_left ms ss s place list.old.items list.new.items plan.old plan.new)
         (Told (OpensInsideNot depth_left ms s)) }
 {
+    let _ = depth_left;
     let inner = inner_at(alloc, list, place)?;
-    for one in &inner {
-        let next = add(alloc, modules, place, one, list, plan)?;
-        open_inside(alloc, modules, depth_left - 1, next, list, plan)?;
+    let mut stack = Vec::new(alloc);
+    stack.push(Opening {
+        place,
+        inner,
+        opened: 0,
+    })?;
+    while let Some(scope) = stack.pop() {
+        open_next(alloc, modules, scope, &mut stack, list, plan)?;
     }
-    plan.outline.push(Entry::Leave)?;
     Ok(())
 }

@@ -7,7 +7,8 @@ use vs_explain_certificate::put_name_in;
 use vs_explain_certificate::vs_certificate::{
     CertFault, Certificate, ClaimedGrain, Version, from_json,
 };
-use vs_explain_rules::{Taken, explain_broken, explain_steps};
+use vs_explain_limit::{Taken, explain_steps};
+use vs_explain_rules::explain_broken;
 use vs_explain_steps::last_steps;
 use vs_explain_text::vs_explain_outline::{Page, SourceText};
 use vs_explain_text::vs_parser::{ParseFault, parse};
@@ -76,7 +77,7 @@ fn is_named(design: &Design, name: &[u8]) -> bool {
 }
 
 /// The text that explains why a design breaks a rule of certificates: the rule of this number, at this place of the design. Bytes that are no certificate
-/// claim nothing: so it can be told why none was made. A name that the design lacks has its place in the certificate.
+/// claim nothing. A name that the design lacks has its place in the certificate.
 pub fn explain_rule(
     alloc: Global,
     source: &[u8],

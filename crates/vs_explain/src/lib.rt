@@ -6,10 +6,11 @@
 
 mod certificates;
 mod judged;
+mod pieces;
 mod scopes;
 mod sources;
 
 pub use certificates::explain_certificate;
 pub use judged::{explain_limit, explain_rule};
-pub use sources::explain;
+pub use sources::{explain, explain_after};
 pub use vs_simulate;

@@ -9,8 +9,41 @@ use vs_explain_outline::Page;
 /// The most bytes of a certificate: 16 MiB.
 const LENGTH_LIMIT: usize = 16777216;
 
+/// How many bytes of a line are shown.
+const SHOWN: usize = 60;
+
 /// What is said in the end of a certificate that is to be made once more.
 const ANEW: &str = "Make the certificate anew: `vsim certify`.\n";
+
+/// How a certificate is put in front of a source.
+const IN_FRONT: &str =
+    "Put a certificate in front of the source: `vsim certify --top t <t.v >t.cert`, then `cat t.cert t.v | vsim check --top t`.\n";
+
+/// Whether a line is one of a source rather than a certificate: it has visible bytes, and no brace or bracket in front.
+fn looks_like_source(line: &[u8]) -> bool {
+    let visible = line.iter().find(|byte| !byte.is_ascii_whitespace());
+    match visible {
+        Some(byte) => byte.is_ascii_alphabetic() || matches!(*byte, b'/' | b'`' | b'('),
+        None => false,
+    }
+}
+
+/// Says that no certificate stands in front of a source that is refused, where the line in front looks like one of the source. What is said of the source
+/// comes after it, with lines that are counted from the second one.
+pub fn put_forgotten(page: &mut Page, certificate: &[u8]) {
+    if !looks_like_source(certificate) {
+        return;
+    }
+    page.put("The first line of the input is taken for the certificate, but it is Verilog: ");
+    page.put_name(
+        certificate
+            .get(..SHOWN.min(certificate.len()))
+            .unwrap_or(&[]),
+    );
+    page.put(".\n");
+    page.put(IN_FRONT);
+    page.put("Read without that line, the source is refused at ");
+}
 
 /// Puts a line and a column of a certificate, its line, and a mark under the place.
 fn put_at(page: &mut Page, certificate: &[u8], place: usize) {
@@ -23,13 +56,16 @@ fn put_reason(page: &mut Page, certificate: &[u8], at: Break) {
     if certificate.is_empty() {
         return page.put("This line is empty, and a certificate is wanted.\n");
     }
+    if looks_like_source(certificate) {
+        return page.put("This is Verilog, and a certificate is wanted on the first line.\n");
+    }
     let is_text = certificate.get(at.place) == Some(&b'"');
     page.put(match (at.reason, is_text) {
         (Reason::NoUtf8, _) => "This byte isn't UTF-8.\n",
         (Reason::Ended, _) =>
             "The certificate ends here, too early: a brace or a bracket is still open, or a value is missing.\n",
         (Reason::Misplaced, true) =>
-            "This text can't stand here, isn't closed, or has a backslash or a byte that no text has.\n",
+            "This string can't stand here, isn't closed, or has a backslash or a byte that no string has.\n",
         (Reason::Misplaced, false) => "What begins here can't stand here in JSON.\n",
         (Reason::NoName, _) =>
             "Here the name of a member with a colon after it is wanted, or the end of the object.\n",
@@ -55,9 +91,10 @@ fn put_no_json(page: &mut Page, certificate: &[u8]) {
     };
     put_at(page, certificate, at.place);
     put_reason(page, certificate, at);
-    page.put(
-        "A certificate is a JSON text on the first line, from `{` to `}`; the source comes after it.\n",
-    );
+    if looks_like_source(certificate) {
+        return page.put(IN_FRONT);
+    }
+    page.put("A certificate is one line of JSON, from `{` to `}`; the source comes after it.\n");
 }
 
 /// Puts the members that an object lacks.

@@ -1,11 +1,11 @@
-//! Texts of `$display` and `$strobe`.
+//! Format strings of `$display` and `$strobe`.
 
 use crate::names::regions_of;
 use vs_explain_outline::{LandmarkKind, Page, SourceText, is_marked};
 use vs_strobe::FormatReason;
 use vs_syntax::vs_lexer::{Kind, Mark, Token};
 
-/// What a text asks for.
+/// What a format string asks for.
 #[derive(Clone, Copy)]
 struct Asked {
     /// How many arguments its directives take.
@@ -22,7 +22,7 @@ fn takes_argument(letter: u8) -> bool {
     )
 }
 
-/// What a text asks for.
+/// What a format string asks for.
 fn asked_by(bytes: &[u8]) -> Asked {
     let mut taken = 0usize;
     let mut is_bad = false;
@@ -49,7 +49,7 @@ fn asked_by(bytes: &[u8]) -> Asked {
     }
 }
 
-/// How many arguments stand after the text of a call whose name is this token.
+/// How many arguments stand after the format string of a call whose name is this token.
 fn arguments_at(tokens: &[Token], call: usize) -> usize {
     let mut depth = 0usize;
     let mut commas = 0usize;
@@ -82,22 +82,43 @@ fn has_fault(asked: Asked, given: usize, why: FormatReason) -> bool {
     }
 }
 
+/// Puts how many arguments there are.
+fn put_arguments(page: &mut Page, count: usize) {
+    match count {
+        0 => page.put("no argument"),
+        1 => page.put("1 argument"),
+        _ => {
+            page.put_shown(count);
+            page.put(" arguments");
+        }
+    }
+}
+
 /// Says what is wrong with a call.
 fn put_fault(page: &mut Page, asked: Asked, given: usize, why: FormatReason) {
     if why == FormatReason::BadDirective {
         page.put(
-            "A `%` of this text has no directive after it. Write `%%` for a percent sign; a width other than 0 isn't read.\n",
+            "A `%` of this string has no directive after it. Write `%%` for a percent sign. The directives are `%b`, `%o`, `%h`, `%d`, `%t`, `%c`, `%s` and `%m`, without a width or with the width 0.\n",
         );
         return;
     }
-    page.put("The directives of this text take ");
-    page.put_shown(asked.taken);
-    page.put(" arguments, and ");
-    page.put_shown(given);
-    page.put(" stand after it.\n");
+    page.put("The directives of this string take ");
+    put_arguments(page, asked.taken);
+    page.put(", and ");
+    put_arguments(page, given);
+    page.put(if given <= 1 {
+        " stands after it. "
+    } else {
+        " stand after it. "
+    });
+    page.put(if asked.taken < given {
+        "Add a directive such as `%b`, or leave an argument out.\n"
+    } else {
+        "Add an argument, or leave a directive out.\n"
+    });
 }
 
-/// The text of a call whose name is this token.
+/// The format string of a call whose name is this token.
 fn text_of<'t, 's>(text: &'t SourceText<'s>, call: usize) -> Option<&'t Token<'s>> {
     match text.tokens.get(call.saturating_add(2)) {
         Some(token) if token.kind == Kind::Text => Some(token),
@@ -105,7 +126,7 @@ fn text_of<'t, 's>(text: &'t SourceText<'s>, call: usize) -> Option<&'t Token<'s
     }
 }
 
-/// The text of a call has a bad directive, or its directives don't fit its arguments.
+/// The format string of a call has a bad directive, or its directives don't fit its arguments.
 pub(crate) fn bad_format(page: &mut Page, text: &SourceText, why: FormatReason, path: &[u8]) {
     let marked = regions_of(page, text, path);
     for landmark in &text.outline.landmarks {

@@ -1,43 +1,70 @@
 //! Expressions and assignments without a meaning.
 
-use crate::declared::{Visible, has_range, is_array, is_mark, is_net, is_variable};
+use crate::declared::{Visible, has_range, is_array, is_mark, is_net, is_variable, word_of};
 use crate::limits::literal_range;
 use crate::names::{put_region, regions_of, unknown_name};
+use crate::places::{constant_part, open_range, stands_in, wide_part};
 use vs_explain_outline::{
-    DeclaredKind, Landmark, LandmarkKind, Page, SourceText, UseRole, is_marked,
+    DeclaredKind, Landmark, LandmarkKind, Page, Piece, SourceText, UseRole, is_marked,
 };
 use vs_scopes::vs_width_selects::WidthReason;
-use vs_syntax::vs_lexer::Mark;
+use vs_syntax::vs_lexer::{Mark, Word};
 
 /// The most bits of a value.
 const WIDTH_LIMIT: u64 = 64;
 
-/// An expression, an assignment or a delay has no meaning.
-pub(crate) fn no_meaning(page: &mut Page, text: &SourceText, why: WidthReason, path: &[u8]) {
+/// An expression, an assignment or a delay has no meaning: in this piece of the source, where it is known.
+pub(crate) fn no_meaning(
+    page: &mut Page,
+    text: &SourceText,
+    why: WidthReason,
+    path: &[u8],
+    piece: Option<Piece>,
+) {
     match why {
         WidthReason::Unknown => unknown_name(page, text, path),
-        WidthReason::TooWide => too_wide(page, text, path),
-        WidthReason::NotConstant => not_constant(page, text, path),
-        WidthReason::WrongKind => wrong_kind(page, text, path),
+        WidthReason::TooWide => too_wide(page, text, path, piece),
+        WidthReason::NotConstant => not_constant(page, text, path, piece),
+        WidthReason::WrongKind => wrong_kind(page, text, path, piece),
     }
 }
 
-fn too_wide(page: &mut Page, text: &SourceText, path: &[u8]) {
-    let marked = regions_of(page, text, path);
+/// Puts a range of two numbers in marked regions that is too wide. Whether there is one.
+fn put_wide_range(page: &mut Page, text: &SourceText, marked: &[bool]) -> bool {
     for landmark in &text.outline.landmarks {
-        if landmark.kind == LandmarkKind::Constant && is_marked(&marked, landmark.region) {
+        if landmark.kind == LandmarkKind::Constant && is_marked(marked, landmark.region) {
             if let Some(bits) = literal_range(text, landmark.token) {
                 if bits > WIDTH_LIMIT {
                     page.put_place(text.bytes, text.place_at(landmark.token));
                     page.put("This range has ");
                     page.put_shown(bits);
                     page.put(" bits, and a signal has at most 64. Cut it into parts.\n");
-                    return;
+                    return true;
                 }
             }
         }
     }
-    if put_region(page, text, path) {
+    false
+}
+
+fn too_wide(page: &mut Page, text: &SourceText, path: &[u8], piece: Option<Piece>) {
+    if let Some(piece) = piece {
+        let (token, words) = wide_part(text, &piece);
+        page.put_place(text.bytes, text.place_at(token));
+        page.put(words);
+        page.put(" has more than 64 bits. Cut it into parts, in signals of their own.\n");
+        return;
+    }
+    let marked = regions_of(page, text, path);
+    if put_wide_range(page, text, &marked) {
+        return;
+    }
+    if let Some(token) = open_range(text, &marked) {
+        page.put_place(text.bytes, text.place_at(token));
+        page.put(
+            "This range, or another range or a parameter of its scope, has more than 64 bits, the most of a value. Cut it into parts.\n",
+        );
+    } else if put_region(page, text, path) {
         page.put(
             "In the scope that begins here a range, a concatenation, a replication or a part-select has more than 64 bits. Cut it into parts.\n",
         );
@@ -88,11 +115,12 @@ fn wrong_use(text: &SourceText, used: &Landmark, declared: &Landmark) -> Option<
     None
 }
 
-/// Puts the first use in a region whose kind is wrong. Whether there is one.
-fn put_wrong_use(page: &mut Page, text: &SourceText, region: usize) -> bool {
+/// Puts the first use in a region, or in a piece of it, whose kind is wrong. Whether there is one.
+fn put_wrong_use(page: &mut Page, text: &SourceText, region: usize, piece: Option<Piece>) -> bool {
     let visible = Visible::seen_from(page, text, region);
     for used in &text.outline.landmarks {
-        if used.region == region && matches!(used.kind, LandmarkKind::Used(_)) {
+        let is_use = matches!(used.kind, LandmarkKind::Used(_)) && stands_in(used, piece);
+        if used.region == region && is_use {
             let name = text.name_at(used.token);
             if let Some(declared) = visible.declaration(text, name) {
                 if let Some(words) = wrong_use(text, used, &declared) {
@@ -115,10 +143,19 @@ fn put_declared(page: &mut Page, text: &SourceText, declared: &Landmark) {
     page.put(",");
 }
 
-fn wrong_kind(page: &mut Page, text: &SourceText, path: &[u8]) {
+fn wrong_kind(page: &mut Page, text: &SourceText, path: &[u8], piece: Option<Piece>) {
+    if let Some(piece) = piece {
+        if !put_wrong_use(page, text, piece.region, Some(piece)) {
+            page.put_place(text.bytes, text.place_at(piece.first));
+            page.put(
+                "Here a name is of the wrong kind: a net that a process assigns to, a variable that `assign` drives, an array without an index, or a select of what has no range.\n",
+            );
+        }
+        return;
+    }
     let marked = regions_of(page, text, path);
     for region in 0..text.outline.regions.len() {
-        if is_marked(&marked, region) && put_wrong_use(page, text, region) {
+        if is_marked(&marked, region) && put_wrong_use(page, text, region, None) {
             return;
         }
     }
@@ -129,14 +166,28 @@ fn wrong_kind(page: &mut Page, text: &SourceText, path: &[u8]) {
     }
 }
 
-/// Puts the first signal of a region where a constant is wanted. Whether there is one.
-fn put_signal(page: &mut Page, text: &SourceText, region: usize) -> bool {
+/// Whether a used name that is a signal stands where it can't.
+fn is_misplaced(text: &SourceText, used: &Landmark) -> bool {
+    if wants_constant(text, used.token) {
+        return true;
+    }
+    let is_value = matches!(
+        word_of(text, used.token),
+        Some((Word::Parameter, _)) | Some((Word::Localparam, _))
+    );
+    is_value && used.kind == LandmarkKind::Used(UseRole::Read)
+}
+
+/// Puts the first signal of a region, or of a piece of it, where a constant is wanted. Whether there is one.
+fn put_signal(page: &mut Page, text: &SourceText, region: usize, piece: Option<Piece>) -> bool {
     let visible = Visible::seen_from(page, text, region);
     for used in &text.outline.landmarks {
-        if used.region == region && wants_constant(text, used.token) {
+        let is_use = matches!(used.kind, LandmarkKind::Used(_)) && stands_in(used, piece);
+        if used.region == region && is_use {
             let name = text.name_at(used.token);
             if let Some(declared) = visible.declaration(text, name) {
-                if is_net(declared.kind) || is_variable(declared.kind) {
+                let is_signal = is_net(declared.kind) || is_variable(declared.kind);
+                if is_signal && is_misplaced(text, used) {
                     page.put_place(text.bytes, text.place_at(used.token));
                     page.put_name(name);
                     put_declared(page, text, &declared);
@@ -151,14 +202,27 @@ fn put_signal(page: &mut Page, text: &SourceText, region: usize) -> bool {
     false
 }
 
-fn not_constant(page: &mut Page, text: &SourceText, path: &[u8]) {
+fn not_constant(page: &mut Page, text: &SourceText, path: &[u8], piece: Option<Piece>) {
+    if let Some(piece) = piece {
+        if !put_signal(page, text, piece.region, Some(piece)) {
+            let (token, words) = constant_part(text, &piece);
+            page.put_place(text.bytes, text.place_at(token));
+            page.put(words);
+        }
+        return;
+    }
     let marked = regions_of(page, text, path);
     for region in 0..text.outline.regions.len() {
-        if is_marked(&marked, region) && put_signal(page, text, region) {
+        if is_marked(&marked, region) && put_signal(page, text, region, None) {
             return;
         }
     }
-    if put_region(page, text, path) {
+    if let Some(token) = open_range(text, &marked) {
+        page.put_place(text.bytes, text.place_at(token));
+        page.put(
+            "The bounds of this range, or another constant of its scope, aren't constant, have an x or z digit, or are out of bounds.\n",
+        );
+    } else if put_region(page, text, path) {
         page.put(
             "In the scope that begins here something has to be a constant in its bounds and isn't: a range, a delay, a width, a count or a parameter.\n",
         );

@@ -90,14 +90,14 @@ pub(crate) fn limit_passed(page: &mut Page, text: &SourceText, path: &[u8]) {
             );
         } else {
             page.put(
-                "There are more than 16,384 instances, or a limit is passed inside this one: 65,536 signals of a design, 65,536 words of an array, 65,536 turns of all generate loops.\n",
+                "There are more than 16,384 instances, or a limit is passed inside this one: 65,536 signals of a design, 65,536 words of an array, 65,536 iterations of all generate loops.\n",
             );
         }
         return;
     }
     if put_region(page, text, path) {
         page.put(
-            "In the scope that begins here a limit is passed: 65,536 signals of a design, 65,536 words of an array, 65,536 turns of all generate loops, or delays below 4611686018427387904 ticks.\n",
+            "In the scope that begins here a limit is passed: 65,536 signals of a design, 65,536 words of an array, 65,536 iterations of all generate loops, or delays below 4611686018427387904 ticks.\n",
         );
     }
 }
@@ -125,7 +125,7 @@ pub(crate) fn endless(page: &mut Page, text: &SourceText, path: &[u8]) {
     if let Some(landmark) = first_loop(text, &marked) {
         page.put_place(text.bytes, text.place_at(landmark.token));
         page.put(
-            "This generate loop, or another one of the same scope, goes on after 65,536 turns. Mend its condition or its step.\n",
+            "This generate loop, or another one of the same scope, goes on after 65,536 iterations. Let its condition become false: its step has to change the genvar towards it.\n",
         );
     }
 }

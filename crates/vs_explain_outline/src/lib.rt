@@ -1,6 +1,7 @@
 //! Where the parts of a source stand: lines and columns, the names that it declares and uses, its processes and its assignments.
 #![tactic(auto)]
 
+mod frames;
 mod outline;
 mod page;
 mod paths;
@@ -8,7 +9,9 @@ mod places;
 mod scan;
 mod source;
 
-pub use outline::{DeclaredKind, Landmark, LandmarkKind, Outline, Region, RegionKind, UseRole};
+pub use outline::{
+    DeclaredKind, Landmark, LandmarkKind, Outline, Piece, PieceKind, Region, RegionKind, UseRole,
+};
 pub use page::Page;
 pub use paths::{PathPart, first_part, last_name, ordinal_of, scope_of};
 pub use places::{Spot, spot_of};

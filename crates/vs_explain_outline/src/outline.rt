@@ -93,11 +93,41 @@ pub struct Landmark {
     pub of: usize,
 }
 
-/// The regions and the landmarks of a source, each in the order of the text.
+/// What a piece of a source is.
+#[derive(Clone, Copy, PartialEq, Eq)]
+pub enum PieceKind {
+    /// A statement without others in it, with its semicolon.
+    Statement,
+    /// What comes before a statement: a condition, an event control or a delay, up to its last parenthesis; or the call of a system task.
+    Header,
+    /// The expressions of an item of a `case`.
+    Label,
+    /// What comes after the `=` of an `assign`, or of the declaration of a net or a variable.
+    Value,
+    /// The connections of an instance.
+    Connections,
+}
+
+/// A piece of the text that declares nothing.
+#[derive(Clone, Copy)]
+pub struct Piece {
+    /// What it is.
+    pub kind: PieceKind,
+    /// The innermost region in which it stands.
+    pub region: usize,
+    /// Its first token.
+    pub first: usize,
+    /// Its last token.
+    pub last: usize,
+}
+
+/// The regions, the landmarks and the pieces of a source, each in the order of the text.
 #[derive(Drop)]
 pub struct Outline {
     /// The regions.
     pub regions: Vec<Region>,
     /// The landmarks.
     pub landmarks: Vec<Landmark>,
+    /// The pieces.
+    pub pieces: Vec<Piece>,
 }

@@ -3,52 +3,12 @@
 //! The walk keeps the frames that are open, and what the tokens up to the end of an item are. It trusts the grammar: of tokens that derive no source it makes
 //! some outline, whose landmarks are tokens all the same.
 
-use crate::outline::{DeclaredKind, Landmark, LandmarkKind, Outline, Region, RegionKind, UseRole};
+use crate::frames::{Frame, FrameKind, Mode, declared_by, is_mark, is_word};
+use crate::outline::{
+    DeclaredKind, Landmark, LandmarkKind, Outline, Piece, PieceKind, Region, RegionKind, UseRole,
+};
 use std::alloc::{AllocError, Global};
 use vs_lexer::{Kind, Mark, Token, Word};
-
-/// What an open frame is.
-#[derive(Clone, Copy, PartialEq, Eq)]
-enum FrameKind {
-    /// Items up to an `endmodule` or an `end`.
-    Items,
-    /// One item without `begin`, with a region of its own.
-    Single,
-    /// A generate loop, up to the end of what it generates.
-    Loop,
-    /// A generate `if`, up to its `else`.
-    Branch,
-    /// What stands after the `else` of a generate `if`.
-    Otherwise,
-    /// Statements between `begin` and `end`, or the items of a `case`.
-    Statements,
-}
-
-/// An open frame.
-#[derive(Clone, Copy)]
-struct Frame {
-    kind: FrameKind,
-    /// The region in which names stand there.
-    region: usize,
-    /// Of items how many generate constructs there were; of a construct its number.
-    count: usize,
-    /// The token with which it begins.
-    token: usize,
-}
-
-/// What the next token belongs to.
-#[derive(Clone, Copy, PartialEq, Eq)]
-enum Mode {
-    Outside,
-    Header,
-    Items,
-    Declaration(DeclaredKind, bool),
-    Assigns,
-    Instances(usize),
-    Condition,
-    Content,
-    Process,
-}
 
 /// A walk.
 #[derive(Drop)]
@@ -66,6 +26,9 @@ struct Walk {
     /// The last declared name, and what names in a header are.
     name: usize,
     kind: DeclaredKind,
+    /// The first token of a statement, a value or connections, and how many `?` in it wait for their `:`.
+    piece: usize,
+    questions: usize,
     /// Of a process: open frames, `if` without its `else` outside of these, names of a left side, locals, a dump.
     nested: usize,
     choices: usize,
@@ -75,40 +38,13 @@ struct Walk {
     in_dump: bool,
 }
 
-/// Whether a token is this word.
-fn is_word(tokens: &[Token], index: usize, word: Word) -> bool {
-    match tokens.get(index) {
-        Some(token) => token.kind == Kind::Word(word),
-        None => false,
-    }
-}
-
-/// Whether a token is this mark.
-fn is_mark(tokens: &[Token], index: usize, mark: Mark) -> bool {
-    match tokens.get(index) {
-        Some(token) => token.kind == Kind::Mark(mark),
-        None => false,
-    }
-}
-
-/// What an item declares that begins with this word: the kind of its names, and whether a value makes a process of it.
-fn declared_by(word: Word) -> Option<(DeclaredKind, bool)> {
-    match word {
-        Word::Input | Word::Output => Some((DeclaredKind::NetPort, false)),
-        Word::Wire => Some((DeclaredKind::Net, false)),
-        Word::Reg | Word::Integer => Some((DeclaredKind::Variable, true)),
-        Word::Parameter | Word::Localparam => Some((DeclaredKind::Constant, false)),
-        Word::Genvar => Some((DeclaredKind::Genvar, false)),
-        _ => None,
-    }
-}
-
 impl Walk {
     fn new(alloc: Global) -> Walk {
         Walk {
             outline: Outline {
                 regions: Vec::new(alloc),
                 landmarks: Vec::new(alloc),
+                pieces: Vec::new(alloc),
             },
             frames: Vec::new(alloc),
             mode: Mode::Outside,
@@ -118,6 +54,8 @@ impl Walk {
             in_value: false,
             name: 0,
             kind: DeclaredKind::NetPort,
+            piece: 0,
+            questions: 0,
             nested: 0,
             choices: 0,
             left_from: 0,
@@ -148,6 +86,22 @@ impl Walk {
 
     fn mark(&mut self, kind: LandmarkKind, token: usize) -> Result<(), AllocError> {
         self.mark_of(kind, token, token)
+    }
+
+    /// A piece ends before a token, where it has one.
+    fn end_piece(&mut self, kind: PieceKind, end: usize) -> Result<(), AllocError> {
+        let first = self.piece;
+        if first < end {
+            let region = self.region();
+            self.outline.pieces.push(Piece {
+                kind,
+                region,
+                first,
+                last: end.saturating_sub(1),
+            })?;
+        }
+        self.piece = end;
+        Ok(())
     }
 
     fn push(
@@ -334,7 +288,7 @@ impl Walk {
                 self.mode = Mode::Process;
                 self.nested = 0;
                 self.choices = 0;
-                self.begin_statement();
+                self.begin_statement(index);
                 self.mark(LandmarkKind::Process, index)
             }
             Word::For => self.begin_construct(FrameKind::Loop, index),
@@ -389,11 +343,13 @@ impl Walk {
                 self.mark(LandmarkKind::Constant, index)
             }
             Kind::Mark(Mark::Comma) if self.depth == 0 => {
+                self.end_value(kind, index)?;
                 self.in_value = false;
                 Ok(())
             }
-            Kind::Mark(Mark::Assign) if self.depth == 0 => self.begin_value(kind, runs),
+            Kind::Mark(Mark::Assign) if self.depth == 0 => self.begin_value(kind, runs, index),
             Kind::Mark(Mark::Semicolon) if self.depth == 0 => {
+                self.end_value(kind, index)?;
                 self.complete(tokens, index);
                 Ok(())
             }
@@ -401,9 +357,23 @@ impl Walk {
         }
     }
 
+    /// The end of a value in a declaration, where there is one, and it is none of a parameter.
+    fn end_value(&mut self, kind: DeclaredKind, index: usize) -> Result<(), AllocError> {
+        if self.in_value && kind != DeclaredKind::Constant {
+            return self.end_piece(PieceKind::Value, index);
+        }
+        Ok(())
+    }
+
     /// The `=` of a declaration.
-    fn begin_value(&mut self, kind: DeclaredKind, runs: bool) -> Result<(), AllocError> {
+    fn begin_value(
+        &mut self,
+        kind: DeclaredKind,
+        runs: bool,
+        index: usize,
+    ) -> Result<(), AllocError> {
         self.in_value = true;
+        self.piece = index.saturating_add(1);
         if runs {
             return self.mark(LandmarkKind::Process, self.name);
         }
@@ -433,13 +403,16 @@ impl Walk {
             }
             Kind::Mark(Mark::Assign) if self.depth == 0 => {
                 self.in_left = false;
+                self.piece = index.saturating_add(1);
                 Ok(())
             }
             Kind::Mark(Mark::Comma) if self.depth == 0 && !self.in_left => {
+                self.end_piece(PieceKind::Value, index)?;
                 self.in_left = true;
                 self.mark(LandmarkKind::Assign, index.saturating_add(1))
             }
             Kind::Mark(Mark::Semicolon) if self.depth == 0 => {
+                self.end_piece(PieceKind::Value, index)?;
                 self.complete(tokens, index);
                 Ok(())
             }
@@ -466,7 +439,14 @@ impl Walk {
                 self.in_value = true;
                 Ok(())
             }
+            Kind::Mark(Mark::Open) if self.depth == 1 => {
+                self.piece = index.saturating_add(1);
+                Ok(())
+            }
             Kind::Mark(Mark::Close) if self.depth == 0 => {
+                if !self.in_value {
+                    self.end_piece(PieceKind::Connections, index)?;
+                }
                 self.in_value = false;
                 Ok(())
             }
@@ -543,8 +523,10 @@ impl Walk {
         self.open(kind, frame, None, index)
     }
 
-    /// What comes next may be a left side.
-    fn begin_statement(&mut self) {
+    /// What comes after a token may be a left side.
+    fn begin_statement(&mut self, index: usize) {
+        self.piece = index.saturating_add(1);
+        self.questions = 0;
         self.left_from = self.outline.landmarks.len();
         self.in_left = true;
         self.in_dump = false;
@@ -575,7 +557,7 @@ impl Walk {
     /// The last token of a statement, which may be the last one of its process.
     fn end_statement(&mut self, tokens: &[Token], index: usize) {
         self.leave_left();
-        self.begin_statement();
+        self.begin_statement(index);
         if self.nested > 0 {
             return;
         }
@@ -603,7 +585,7 @@ impl Walk {
             let region = self.region();
             self.push(FrameKind::Statements, region, 0, index)?;
         }
-        self.begin_statement();
+        self.begin_statement(self.next.saturating_sub(1).max(index));
         Ok(())
     }
 
@@ -627,7 +609,7 @@ impl Walk {
                 Ok(())
             }
             Word::Default => {
-                self.begin_statement();
+                self.begin_statement(index);
                 let of = match self.frames.last() {
                     Some(frame) => frame.token,
                     None => index,
@@ -635,24 +617,24 @@ impl Walk {
                 self.mark_of(LandmarkKind::Default, index, of)
             }
             _ => {
-                self.short_word_in_process(word);
+                self.short_word_in_process(word, index);
                 Ok(())
             }
         }
     }
 
     /// A word in a process that opens and closes nothing.
-    fn short_word_in_process(&mut self, word: Word) {
+    fn short_word_in_process(&mut self, word: Word, index: usize) {
         match word {
             Word::If if self.nested == 0 => self.choices = self.choices.saturating_add(1),
             Word::Else => {
                 if self.nested == 0 {
                     self.choices = self.choices.saturating_sub(1);
                 }
-                self.begin_statement();
+                self.begin_statement(index);
             }
             Word::Reg | Word::Integer => self.in_locals = true,
-            Word::Forever => self.begin_statement(),
+            Word::Forever => self.begin_statement(index),
             _ => {}
         }
     }
@@ -664,24 +646,41 @@ impl Walk {
         mark: Mark,
         index: usize,
     ) -> Result<(), AllocError> {
+        let next = index.saturating_add(1);
         match mark {
             Mark::Semicolon if self.depth == 0 && self.in_locals => {
                 self.in_locals = false;
-                self.begin_statement();
+                self.begin_statement(index);
             }
-            Mark::Semicolon if self.depth == 0 => self.end_statement(tokens, index),
+            Mark::Semicolon if self.depth == 0 => {
+                self.end_piece(PieceKind::Statement, next)?;
+                self.end_statement(tokens, index);
+            }
             Mark::Assign | Mark::LessEqual if self.depth == 0 && self.in_left => self.end_left(),
-            Mark::Colon if self.depth == 0 => {
-                self.leave_left();
-                self.begin_statement();
+            Mark::Question if self.depth == 0 => {
+                self.questions = self.questions.saturating_add(1);
             }
+            Mark::Colon if self.depth == 0 => return self.colon_in_process(index),
             Mark::Close if self.depth == 0 && self.in_left => {
+                self.end_piece(PieceKind::Header, next)?;
                 self.leave_left();
-                self.begin_statement();
+                self.begin_statement(index);
             }
             Mark::Hash => return self.mark(LandmarkKind::Constant, index),
             _ => {}
         }
+        Ok(())
+    }
+
+    /// A colon in a process: that of a `? :`, or of an item of a `case`.
+    fn colon_in_process(&mut self, index: usize) -> Result<(), AllocError> {
+        self.leave_left();
+        if self.questions > 0 {
+            self.questions = self.questions.saturating_sub(1);
+            return Ok(());
+        }
+        self.end_piece(PieceKind::Label, index)?;
+        self.begin_statement(index);
         Ok(())
     }
 

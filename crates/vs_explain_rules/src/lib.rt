@@ -1,14 +1,20 @@
-//! What is said of a rule of certificates that a design breaks, and of a run that took its most steps.
+//! What is said of a rule of certificates that a design breaks.
 #![tactic(auto)]
 
-mod claims;
-mod limit;
-mod places;
-mod races;
-mod remedies;
-mod rules;
-mod slots;
-mod uses;
+mod awaiting;
+mod blocks;
+mod broken;
+mod claimed;
+mod coverage;
+mod cycles;
+mod first_slot;
+mod loops;
+mod named;
+mod sentences;
+mod starts;
+mod story;
+mod ways;
+mod writers;
+mod writes;
 
-pub use limit::{Taken, explain_steps};
-pub use rules::explain_broken;
+pub use broken::explain_broken;

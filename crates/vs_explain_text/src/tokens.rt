@@ -1,20 +1,41 @@
 //! What is wrong with the tokens of a source.
 
+use crate::literals::{bad_number, large_number};
 use vs_explain_outline::Page;
 use vs_syntax::vs_lexer::Refusal;
 
 /// The most bytes that a source has: 4 MiB.
 const SOURCE_LIMIT: usize = 4194304;
 
-/// Directives that preprocessors read.
-const PREPROCESSED: [&[u8]; 6] = [
+/// Directives for a preprocessor.
+const PREPROCESSED: [&[u8]; 9] = [
     b"`define",
     b"`undef",
+    b"`undefineall",
     b"`ifdef",
     b"`ifndef",
     b"`include",
     b"`elsif",
+    b"`else",
+    b"`endif",
 ];
+
+/// Directives that say nothing about what a design does here.
+const DROPPED: [&[u8]; 10] = [
+    b"`begin_keywords",
+    b"`celldefine",
+    b"`end_keywords",
+    b"`endcelldefine",
+    b"`line",
+    b"`nounconnected_drive",
+    b"`pragma",
+    b"`protect",
+    b"`resetall",
+    b"`unconnected_drive",
+];
+
+/// What is put before a file in UTF-8 by some editors.
+const BYTE_ORDER_MARK: &[u8] = b"\xef\xbb\xbf";
 
 /// Says what is wrong with a source at a place, why its tokens are refused.
 pub fn explain_tokens(page: &mut Page, source: &[u8], why: Refusal, place: usize) {
@@ -23,10 +44,8 @@ pub fn explain_tokens(page: &mut Page, source: &[u8], why: Refusal, place: usize
     match why {
         Refusal::BadByte => bad_byte(page, rest),
         Refusal::Unclosed => unclosed(page, rest),
-        Refusal::BadLiteral => bad_literal(page, rest),
-        Refusal::TooLarge => page.put(
-            "This number is too large. One without a size has at most 32 bits, and a size is 1 to 64: write `64'd5000000000`.\n",
-        ),
+        Refusal::BadLiteral => bad_literal(page, source.get(..place).unwrap_or(&[]), rest),
+        Refusal::TooLarge => large_number(page, rest),
         Refusal::BadDirective => bad_directive(page, rest),
         Refusal::TooLong => too_long(page, source, place),
     }
@@ -36,6 +55,12 @@ fn bad_byte(page: &mut Page, rest: &[u8]) {
     let Some(byte) = rest.first() else {
         return;
     };
+    if rest.starts_with(BYTE_ORDER_MARK) {
+        page.put(
+            "A byte order mark stands here: save the file as UTF-8 without one, or cut it off, as `tail -c +4 bad.v >good.v` does.\n",
+        );
+        return;
+    }
     if byte.is_ascii_graphic() {
         page.put("What begins here has a byte that can't stand in it.\n");
         return;
@@ -44,7 +69,7 @@ fn bad_byte(page: &mut Page, rest: &[u8]) {
     page.put_shown(*byte);
     page.put(" begins no token. ");
     if *byte >= 128 {
-        page.put("Letters and quotes that aren't ASCII stand in comments and texts alone.\n");
+        page.put("Letters and quotes that aren't ASCII stand in comments and strings alone.\n");
     } else {
         page.put(
             "Of the control bytes only tab, form feed and the ends of lines may stand here.\n",
@@ -55,24 +80,21 @@ fn bad_byte(page: &mut Page, rest: &[u8]) {
 fn unclosed(page: &mut Page, rest: &[u8]) {
     match rest.first() {
         Some(b'"') => page.put(
-            "This text isn't closed: a text ends with a `\"` on the line on which it begins.\n",
+            "This string isn't closed: a string ends with a `\"` on the line on which it begins.\n",
         ),
         Some(b'(') => page.put("This attribute isn't closed: write `*)` at its end.\n"),
         _ => page.put("This comment isn't closed: write `*/` at its end.\n"),
     }
 }
 
-fn bad_literal(page: &mut Page, rest: &[u8]) {
+fn bad_literal(page: &mut Page, before: &[u8], rest: &[u8]) {
     if rest.first() == Some(&b'"') {
         page.put(
-            "A backslash of this text stands before what it can't: write `\\n`, `\\t`, `\\\\`, `\\\"` or one to three octal digits up to 377.\n",
+            "A backslash of this string stands before what it can't: write `\\n`, `\\t`, `\\\\`, `\\\"` or one to three octal digits up to 377.\n",
         );
         return;
     }
-    page.put("This number isn't well formed. ");
-    page.put(
-        "It is decimal digits, or a size, `'`, one of `b o d h`, and digits of that base, x or z; no letter and no point comes directly after it.\n",
-    );
+    bad_number(page, before, rest);
 }
 
 /// The letters and digits with which bytes begin, and the byte before them.
@@ -108,13 +130,18 @@ fn bad_directive(page: &mut Page, rest: &[u8]) {
         page.put("What comes after it is `wire` or `none`.\n");
         return;
     }
-    page.put("The directive ");
+    let is_dropped = is_among(&DROPPED, word);
+    page.put(if is_dropped || is_among(&PREPROCESSED, word) {
+        "The directive "
+    } else {
+        "The macro "
+    });
     page.put_bytes(word);
     page.put(" isn't read. ");
-    if is_among(&PREPROCESSED, word) {
-        page.put("Run a preprocessor first, as `iverilog -E -o plain.v bad.v`.\n");
+    if is_dropped {
+        page.put("Leave it out.\n");
     } else {
-        page.put("Leave it out, or run a preprocessor first, as `iverilog -E -o plain.v bad.v`.\n");
+        page.put("Run a preprocessor first, as `iverilog -E -o plain.v bad.v`.\n");
     }
 }
 

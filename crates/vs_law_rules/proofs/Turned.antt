@@ -31,22 +31,18 @@ use Rattle.vs_process.specs.vs_eval.specs.Values.{target_value, value_of, value_
 use Rattle.vs_flatcode.specs.Steps.{assignment}
 use Rattle.vs_law_threads.specs.Edges.{one_bit}
 use Rattle.vs_rules.proofs.Points.{mod_sum}
-use Rattle.vs_rules.specs.Constants.{IsBare, itself, inside, IsKnown, IsInverse, IsInverseLayer, IsNameLayer, IsWholeLayer, IsWholeTarget, TurnsForever}
+use Rattle.vs_rules.specs.Constants.{IsBare, itself, inside, IsKnown, IsInverse, IsInverseLayer, IsWholeTarget, TurnsForever}
 use Rattle.vs_rules.specs.Constants as k
 use Rattle.vs_rules.specs.Rules.{IsOneBit}
 use Rattle.vs_law_rules.proofs.Links.{put_one, whole_value, one_resized, one_selected, same_signal}
 
 -- ---- `~u`
 
-name_whole : (d : Parts) (v : ℕ) (x : Typed-F Typed) → IsNameLayer d v x → IsWholeLayer d v x
-name_whole d v (t.Signal o) h = h
-name_whole d v _ h = absurd h
-
 inverse_value : (d : Parts) (v : ℕ) (e : Typed) (store : Store) (time : ℕ) (z : Digit) → IsInverse d v e → IsOneBit d v → slice_get store v ≡ Some (one_bit z) → value_of e store time ≡ not_digit z ∷ []
 inverse_value d v e store time z h one is = by_layer (out-Typed e) h (fold_out-Typed (List Digit) (value_step store time) e)
   where
     by_layer : (x : Typed-F Typed) → IsInverseLayer d v x → value_of e store time ≡ value_step store time (map-Typed Typed (List Digit) (λ y. value_of y store time) x) → value_of e store time ≡ not_digit z ∷ []
-    by_layer (t.Unary u.Not x) w step = step ∙ ap (unary u.Not) (whole_value d v x.value store time z (name_whole d v (out-Typed x.value) w) one is)
+    by_layer (t.Unary u.Not x) w step = step ∙ ap (unary u.Not) (whole_value d v x.value store time z w one is)
     by_layer _ w step = absurd w
 
 -- the turn gives the bit the other digit

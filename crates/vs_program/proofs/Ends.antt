@@ -114,7 +114,7 @@ module _ (old mid new : Option (List ℕ)) (kept : Keeps mid new) where
   written_kept bytes certificate (Run q) (Ran o) h = wrote_kept q.text bytes q o h
   written_kept bytes certificate (RunCertified q) (Ran o) h = wrote_certified_kept q.text bytes certificate q o h
   written_kept bytes certificate (Check top) (Judged v) h = record { judged = h.judged; written = Appends-kept old mid new _ h.written kept }
-  written_kept bytes certificate (Certify top grain) (Proposed p) h = record { proposed = h.proposed; written = Appends-kept old mid new _ h.written kept }
+  written_kept bytes certificate (Certify top grain) (Proposed p) h = record { proposed = h.proposed; reads_back = h.reads_back; written = Appends-kept old mid new _ h.written kept }
   written_kept bytes certificate (Elab top) Listed h = record { design = h.design; defined = h.defined; written = Appends-kept old mid new _ h.written kept }
   written_kept bytes certificate call done h = absurd h
 

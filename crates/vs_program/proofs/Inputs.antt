@@ -5,7 +5,7 @@ use Rattle.std.specs.Prelude.{Option, Some, None, option_map, IfSome}
 use Rattle.vs_program.specs.Inputs.{IsKept, after_line, first_line, has_line_feed}
 
 -- what was read of an input that ends after so many bytes
-pub kept_of : (known : Option (List ℕ)) (items : List ℕ) → IfSome (option_map (take 4194305) known) (λ xs. items ≡ [] ++ xs) → IsKept known items
+pub kept_of : (known : Option (List ℕ)) (items : List ℕ) → IfSome (option_map (take 8388609) known) (λ xs. items ≡ [] ++ xs) → IsKept known items
 kept_of None items h = tt
 kept_of (Some bytes) items h = h
 

@@ -2,4 +2,5 @@ mod Buffers
 mod Ends
 mod Fails
 mod Inputs
+mod Proposing
 mod Reading

@@ -25,7 +25,7 @@ all_read None left k h end = tt
 all_read (Some xs) None k h end = absurd h.consumed
 all_read (Some xs) (Some ys) k h end =
     let same : xs ≡ h.seen = h.consumed ∙ ap (λ (l : List ℕ). h.seen ++ l) end ∙ append-nil h.seen in
-    (h.kept.certificate ∙ ap (λ (l : List ℕ). take 16777217 (first_line l)) (sym same), h.kept.source ∙ ap (λ (l : List ℕ). take 4194305 (after_line l)) (sym same))
+    (h.kept.certificate ∙ ap (λ (l : List ℕ). take 16777217 (first_line l)) (sym same), h.kept.source ∙ ap (λ (l : List ℕ). take 8388609 (after_line l)) (sym same))
 
 -- ---- a byte more is kept
 
@@ -35,12 +35,12 @@ on_ok (Err e) f h = tt
 
 -- of the source, of the line of the certificate, or of neither, where it is the line feed that ends that
 pub more_source : (seen : List ℕ) (b : ℕ) (old new : input.Kept) → HasKept seen old → old.line_ended ≡ true → new.certificate ≡ old.certificate → new.line_ended ≡ old.line_ended
-    → new.source.items ≡ take 4194305 (after_line seen ++ b ∷ []) → HasKept (seen ++ b ∷ []) new
+    → new.source.items ≡ take 8388609 (after_line seen ++ b ∷ []) → HasKept (seen ++ b ∷ []) new
 more_source seen b old new h ended same still more =
     let fed = fed_after seen b (sym h.ended ∙ ended) in
     record {
       certificate = ap (λ v. v.items) same ∙ h.certificate ∙ ap (take 16777217) (sym fed.0);
-      source = more ∙ ap (take 4194305) (sym fed.1);
+      source = more ∙ ap (take 8388609) (sym fed.1);
       ended = still ∙ ended ∙ sym fed.2;
     }
 
@@ -50,7 +50,7 @@ more_certificate seen b old new h goes other same still more =
     let fed = fed_first seen b (sym h.ended ∙ goes) (ne_eqb b 10 other) in
     record {
       certificate = more ∙ ap (take 16777217) (sym fed.0);
-      source = ap (λ v. v.items) same ∙ h.source ∙ ap (take 4194305) (sym fed.1);
+      source = ap (λ v. v.items) same ∙ h.source ∙ ap (take 8388609) (sym fed.1);
       ended = still ∙ goes ∙ sym fed.2;
     }
 
@@ -61,6 +61,6 @@ line_ends seen b old new h goes is certificate source ended =
     let fed = fed_end seen b (sym h.ended ∙ goes) feed in
     record {
       certificate = ap (λ v. v.items) certificate ∙ h.certificate ∙ ap (take 16777217) (sym fed.0);
-      source = ap (λ v. v.items) source ∙ h.source ∙ ap (take 4194305) (sym fed.1);
+      source = ap (λ v. v.items) source ∙ h.source ∙ ap (take 8388609) (sym fed.1);
       ended = ended ∙ sym fed.2;
     }

@@ -3,6 +3,7 @@ use Rattle.std.specs.Prelude.{ℕ, ◌≡◌, ◌⊎◌, true, false, Option, No
 use Rattle.std.specs.Io.KnownBytes.{Appends, Keeps, append_known}
 use Rattle.clap.specs.declared.error.kind.ErrorKind.{ErrorKind}
 use Rattle.vs_certificate.specs.declared.members.ClaimedGrain.{ClaimedGrain}
+use Rattle.vs_certificate.specs.declared.fault.CertFault.TheVariants.{NotJson}
 use Rattle.vs_design.specs.Parts.{Parts}
 use Rattle.vs_certified.specs.vs_vcd_writing.specs.Sinks.{AppendsPart}
 use Rattle.vs_certified.specs.vs_kernel.specs.declared.outcome.Outcome.{Outcome}
@@ -14,7 +15,7 @@ use Rattle.vs_explain.specs.vs_simulate.specs.Listing.{IsListed, HasBegunListing
 use Rattle.vs_certified.specs.Certified.{IsCertifiedRun, HasBegunCertifiedRun, CertifyingFails, is_before_run}
 use Rattle.vs_certified.specs.Judged.{IsJudged}
 use Rattle.vs_certified.specs.declared.fault.CertifiedFault.{CertifiedFault}
-use Rattle.vs_certified.specs.declared.fault.CertifiedFault.TheVariants.{Simulation, Rejected}
+use Rattle.vs_certified.specs.declared.fault.CertifiedFault.TheVariants.{Simulation, Certificate, Rejected}
 use Rattle.vs_program_words.specs.declared.words.Call as asked
 use Rattle.vs_program_words.specs.declared.words.Request.{Request}
 use Rattle.vs_program_words.specs.declared.words.Subcommand.{Subcommand}
@@ -26,7 +27,7 @@ use Rattle.vs_program.specs.declared.doing.Done.TheVariants.{Ran, Judged, Propos
 use Rattle.vs_program_words.specs.Asks.{HaveFault, WordsAsk, WordsAskForBoth}
 use Rattle.vs_program.specs.Inputs.{AreKept, IsKept}
 use Rattle.vs_program.specs.Statuses.{outcome_status, proposal_status, refusal_status, verdict_status, words_status}
-use Rattle.vs_program.specs.Texts.{proposal_line, verdict_line}
+use Rattle.vs_program.specs.Texts.{IsTooLong, ReadsBack, proposal_line, verdict_line}
 
 -- ---- what a call wrote
 
@@ -53,9 +54,10 @@ pub record IsProposed (bytes top : List ℕ) (grain : ClaimedGrain) (p : Proposa
   pub defined : Defines bytes top design
   pub proposal : IsProposal design grain p
 
--- the line of what is proposed was written
+-- the line of what is proposed was written; the text of a certificate is one that is read again
 pub record WroteProposal (bytes top : List ℕ) (grain : ClaimedGrain) (p : Proposal) (old new : Option (List ℕ)) : Type 0 where
   pub proposed : IsProposed bytes top grain p
+  pub reads_back : ReadsBack p
   pub written : Appends old new (proposal_line p)
 
 -- what a call wrote to the writer, with the bytes of the source and those of the certificate
@@ -115,18 +117,30 @@ abbrev pub SourceFails : List ℕ → List ℕ → CertifiedFault → Type 0
 SourceFails bytes top (Simulation fault) = SimulationFails bytes top fault
 SourceFails bytes top _ = ⊥
 
+-- a certificate is made for the design that bytes and a top define, and its text is too long to be read again
+pub record IsMadeTooLong (bytes top : List ℕ) (grain : ClaimedGrain) : Type 0 where
+  pub proposal : Proposal
+  pub proposed : IsProposed bytes top grain proposal
+  pub long : IsTooLong proposal
+
+-- what a fault says where a certificate is to be made: the source is refused, or the certificate that is made, for its length
+abbrev pub MakingFails : List ℕ → List ℕ → ClaimedGrain → CertifiedFault → Type 0
+MakingFails bytes top grain (Simulation fault) = SimulationFails bytes top fault
+MakingFails bytes top grain (Certificate NotJson) = IsMadeTooLong bytes top grain
+MakingFails bytes top grain _ = ⊥
+
 -- what a fault says where a verdict is asked for, which a no is none of
 abbrev pub CheckingFails : List ℕ → List ℕ → List ℕ → CertifiedFault → Type 0
 CheckingFails bytes top certificate (Rejected number place) = ⊥
 CheckingFails bytes top certificate fault = CertifyingFails bytes top certificate fault
 
--- what a fault says of a call: the source is refused, or then the certificate where the call takes one, or then the design where it is to run; and what
--- is written fails for memory or a write alone
+-- what a fault says of a call: the source is refused, or then the certificate where the call takes or makes one, or then the design where it is to run;
+-- and what is written fails for memory or a write alone
 abbrev pub CallFails : List ℕ → List ℕ → Subcommand → CertifiedFault → Type 0
 CallFails bytes certificate (Run q) fault = SourceFails bytes q.top.now fault
 CallFails bytes certificate (RunCertified q) fault = CertifyingFails bytes q.top.now certificate fault
 CallFails bytes certificate (Check top) fault = CheckingFails bytes top.now certificate fault
-CallFails bytes certificate (Certify top grain) fault = SourceFails bytes top.now fault
+CallFails bytes certificate (Certify top grain) fault = MakingFails bytes top.now grain fault
 CallFails bytes certificate (Elab top) fault = SourceFails bytes top.now fault
 
 -- what a call that gave a fault leaves at the writer: where it is refused, all is as it was; else a beginning of its text, but for bytes at its end

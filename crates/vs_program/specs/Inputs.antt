@@ -1,10 +1,10 @@
 -- What the program reads of its input.
 use Rattle.std.specs.Prelude.{ℕ, ◌≡◌, ◌==◌, ◌||◌, Bool, false, Option, Some, None, List, [], ◌∷◌, take, if◌then◌else◌}
 
--- the bytes that are kept of an input: where its bytes are known, the first 4,194,305 of them (profile)
+-- the bytes that are kept of an input: where its bytes are known, the first 8,388,609 of them (profile)
 abbrev pub IsKept : Option (List ℕ) → List ℕ → Type 0
 IsKept None kept = Unit {0}
-IsKept (Some bytes) kept = kept ≡ take 4194305 bytes
+IsKept (Some bytes) kept = kept ≡ take 8388609 bytes
 
 -- the first line: the bytes before the first line feed, all of them where there is none
 abbrev pub first_line : List ℕ → List ℕ
@@ -22,7 +22,7 @@ has_line_feed [] = false
 has_line_feed (x ∷ xs) = x == 10 || has_line_feed xs
 
 -- the bytes that are kept of an input that begins with a certificate: where its bytes are known, the first 16,777,217 of its first line, and the first
--- 4,194,305 of what follows it (profile)
+-- 8,388,609 of what follows it (profile)
 abbrev pub AreKept : Option (List ℕ) → List ℕ → List ℕ → Type 0
 AreKept None certificate source = Unit {0}
-AreKept (Some bytes) certificate source = (certificate ≡ take 16777217 (first_line bytes)) × (source ≡ take 4194305 (after_line bytes))
+AreKept (Some bytes) certificate source = (certificate ≡ take 16777217 (first_line bytes)) × (source ≡ take 8388609 (after_line bytes))

@@ -86,4 +86,4 @@ verdict_status (No number place) = 1
 -- the status of a proposal
 abbrev pub proposal_status : Proposal → ℕ
 proposal_status (Made certificate) = 0
-proposal_status (NotMade number place) = 1
+proposal_status (NotMade refusal) = 1

@@ -1,5 +1,5 @@
 -- The texts that the program prints (profile).
-use Rattle.std.specs.Prelude.{ℕ, List, [], ◌∷◌, ◌++◌, codes, decimal}
+use Rattle.std.specs.Prelude.{ℕ, ◌<◌, List, length, [], ◌∷◌, ◌++◌, codes, decimal}
 use Rattle.std.specs.List.{flat_map}
 use Rattle.serde_json.specs.Written.{compact_text}
 use Rattle.vs_certificate.specs.JsonValue.{value_of}
@@ -47,4 +47,14 @@ verdict_line (No number place) = codes "no " ++ rule_text number place.items ++ 
 -- the line of a proposal: the certificate's compact text, or why none was made
 abbrev pub proposal_line : Proposal → List ℕ
 proposal_line (Made c) = compact_text (value_of c) ++ 10 ∷ []
-proposal_line (NotMade number place) = codes "not made " ++ rule_text number place.items ++ 10 ∷ []
+proposal_line (NotMade r) = codes "not made " ++ rule_text r.number r.place.items ++ 10 ∷ []
+
+-- a certificate is made whose text is longer than the text of one that is read
+abbrev pub IsTooLong : Proposal → Type 0
+IsTooLong (Made c) = certificates.max_len < length (compact_text (value_of c))
+IsTooLong (NotMade r) = ⊥
+
+-- the text of a certificate that is made passes each test of a certificate's text, and reads as that certificate
+abbrev pub ReadsBack : Proposal → Type 0
+ReadsBack (Made c) = certificates.Passes (compact_text (value_of c)) (value_of c)
+ReadsBack (NotMade r) = Unit {0}

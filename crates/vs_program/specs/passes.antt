@@ -1,2 +1,3 @@
+pub mod Proposing
 pub mod Reading
 pub mod Telling

@@ -7,6 +7,7 @@ ghost use Rattle.vs_program.specs.Ends.{Ends, EndsCall, IsFinished, IsKeptFor, d
 ghost use Rattle.vs_program.specs.Statuses.{refusal_status};
 
 use crate::buffered::{Buffered, ROOM};
+use crate::cut::{is_open_at_cut, too_long};
 use crate::doing::{Done, do_call};
 use crate::explaining::{explain_done, explain_fault};
 use crate::input::{InputFault, Kept, read_both, read_source};
@@ -21,7 +22,7 @@ use vs_program_words::{Call, Subcommand, read_words};
 
 /// Does what the words ask for; they begin with the program's own name. The source is read from `input`, in front of it the line of a certificate where
 /// the words ask for one, the text that was asked for goes to `out`, and a refusal to `err`. The answer is the exit status, and `out` with what it was
-/// given: 0 done, a yes or help, 1 refused, a no or not made, 2 step limit, 3 memory or a device's fault, 64 command line.
+/// given: 0 done, a yes or help, 1 refused, a no or not made, 2 step limit, 3 out of memory, read error or write error, 64 wrong arguments.
 pub fn program<R: Read + Drop, O: Write + Drop, E: Write + Drop>(
     alloc: Global,
     words: &[&str],
@@ -105,8 +106,24 @@ fn finish<O: Write, E: Write>(
     }
 }
 
-// Tells of a fault, and what it means where that is asked for.
+// Tells of a fault, and what it means where that is asked for. A source that goes on behind an open piece is told to be too long.
 fn tell_call<E: Write>(
+    alloc: Global,
+    call: &Call,
+    kept: &Kept,
+    fault: &CertifiedFault,
+    err: &mut E,
+) -> u8
+    ensures { (result ≡ refusal_status fault.now) ⊎ (result ≡ 3) }
+{
+    if is_open_at_cut(&kept.source, fault) {
+        return tell_whole(alloc, call, kept, &too_long(), err);
+    }
+    tell_whole(alloc, call, kept, fault, err)
+}
+
+// Tells of a fault of all that was given.
+fn tell_whole<E: Write>(
     alloc: Global,
     call: &Call,
     kept: &Kept,

@@ -6,12 +6,12 @@ ghost use Rattle.vs_explain.specs.vs_simulate.specs.Honesty.{SimulationFails, is
 ghost use Rattle.vs_explain.specs.vs_simulate.specs.declared.fault.SimFault.TheVariants.{Run};
 ghost use Rattle.vs_certified.specs.vs_kernel.specs.declared.outcome.RunFault.TheVariants.{Write};
 ghost use Rattle.vs_certified.specs.vs_vcd_writing.specs.Sinks.{AppendsPart};
-ghost use Rattle.vs_program.specs.Ends.{CallFails, CheckingFails, HasWritten, Wrote, WroteCertified, WroteProposal, WroteVerdict};
+ghost use Rattle.vs_program.specs.Ends.{CallFails, CheckingFails, MakingFails, HasWritten, Wrote, WroteCertified, WroteProposal, WroteVerdict};
 ghost use Rattle.vs_program.specs.Ends.{HasBegunCertifiedText, HasBegunProposal, HasBegunText, HasBegunVerdict, HasBegunWriting};
 
-use crate::texts::{proposal_line, verdict_line};
+use crate::texts::{is_too_long, proposal_line, verdict_line};
 use std::alloc::Global;
-use vs_certificate::ClaimedGrain;
+use vs_certificate::{CertFault, ClaimedGrain, written_reads_back};
 use vs_certified::vs_cert_check::Verdict;
 use vs_certified::vs_kernel::{Outcome, RunFault};
 use vs_certified::vs_vcd_writing::{Sink, WriteFault, write_all};
@@ -162,23 +162,28 @@ fn tell_verdict<'s, S: Sink>(
     Ok(verdict)
 }
 
-// Proposes a certificate; its line, or that of why there is none, goes to the sink.
+// Proposes a certificate; its line, or that of why there is none, goes to the sink. One whose text is longer than one that is read is refused.
+#[tactic(auto, using(crate::proofs::Proposing::reads_back))]
 fn tell_proposal<'s, S: Sink>(
     alloc: Global,
     top: &str,
     grain: ClaimedGrain,
     source: &'s [u8],
     shown: &mut S,
-) -> Result<Proposal, SimFault<'s>>
+) -> Result<Proposal, CertifiedFault<'s>>
     ensures ok { IfOk result (λ p. WroteProposal source.entry.now top.now grain p (S.bytes shown.old) (S.bytes shown.new)) }
-    ensures err { IfErr result (λ fault. SimulationFails source.entry.now top.now fault) }
-    ensures refused { IfErr result (λ fault. is_refusal fault ≡ true → shown.new ≡ shown.old) }
-    ensures begun { IfErr result (λ fault. is_refusal fault ≡ false →
+    ensures err { IfErr result (λ fault. MakingFails source.entry.now top.now grain fault) }
+    ensures refused { IfErr result (λ fault. is_before_run fault ≡ true → shown.new ≡ shown.old) }
+    ensures begun { IfErr result (λ fault. is_before_run fault ≡ false →
         HasBegunProposal source.entry.now top.now grain (S.bytes shown.old) (S.bytes shown.new)) }
 {
+    written_reads_back();
     let design = design_of(alloc, source, top.as_bytes())?;
     let proposal = propose(alloc, &design, grain)?;
     let line = proposal_line(alloc, &proposal)?;
+    if is_too_long(&proposal, &line) {
+        return Err(CertifiedFault::Certificate(CertFault::NotJson));
+    }
     show(shown, &line)?;
     Ok(proposal)
 }

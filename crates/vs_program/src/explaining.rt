@@ -4,12 +4,13 @@ use crate::doing::Done;
 use crate::input::Kept;
 use std::alloc::{AllocError, Global};
 use std::io::Write;
+use vs_certificate::{CertFault, to_json};
 use vs_certified::CertifiedFault;
 use vs_certified::vs_cert_check::Verdict;
 use vs_certified::vs_kernel::Outcome;
-use vs_explain::{explain, explain_certificate, explain_limit, explain_rule};
+use vs_explain::{explain, explain_after, explain_certificate, explain_limit, explain_rule};
 use vs_program_words::{Order, Request, Subcommand};
-use vs_propose::Proposal;
+use vs_propose::{Proposal, Refusal};
 
 // The top that a call asks for.
 fn top_of<'a>(call: Subcommand<'a>) -> &'a [u8] {
@@ -31,6 +32,29 @@ fn request_of<'a>(call: Subcommand<'a>) -> Option<Request<'a>> {
     }
 }
 
+/// What it means that a certificate is refused which was made.
+const TOO_LONG: &[u8] =
+    b"A certificate was made, but its text has more than 16 MiB, and `vsim check` reads none of more: so it isn't written.\n\
+It has the whole path of each signal, process and driver. Shorter names of instances and signals, or fewer levels of instances, make it shorter.\n";
+
+// What a fault of a certificate means: of one that is given, or of one that was made.
+fn certificate_meaning(
+    alloc: Global,
+    call: Subcommand,
+    kept: &Kept,
+    cause: CertFault,
+) -> Result<Vec<u8>, AllocError> {
+    match call {
+        Subcommand::Certify(_, _) => Vec::from_slice(alloc, TOO_LONG),
+        _ => explain_certificate(alloc, &kept.certificate, cause),
+    }
+}
+
+// Whether a call takes a certificate in front of its source.
+fn takes_certificate(call: Subcommand) -> bool {
+    matches!(call, Subcommand::RunCertified(_) | Subcommand::Check(_))
+}
+
 // What a fault means.
 fn fault_meaning(
     alloc: Global,
@@ -40,8 +64,11 @@ fn fault_meaning(
 ) -> Result<Vec<u8>, AllocError> {
     let top = top_of(call);
     match fault {
+        CertifiedFault::Simulation(cause) if takes_certificate(call) => {
+            explain_after(alloc, &kept.certificate, &kept.source, top, cause)
+        }
         CertifiedFault::Simulation(cause) => explain(alloc, &kept.source, top, cause),
-        CertifiedFault::Certificate(cause) => explain_certificate(alloc, &kept.certificate, *cause),
+        CertifiedFault::Certificate(cause) => certificate_meaning(alloc, call, kept, *cause),
         CertifiedFault::Rejected(number, place) => {
             explain_rule(alloc, &kept.source, top, &kept.certificate, *number, place)
         }
@@ -68,6 +95,24 @@ fn limit_meaning(
     }
 }
 
+// What it means that no certificate was made.
+fn refusal_meaning(
+    alloc: Global,
+    top: &[u8],
+    kept: &Kept,
+    refusal: &Refusal,
+) -> Result<Vec<u8>, AllocError> {
+    let certificate = to_json(alloc, &refusal.certificate)?;
+    explain_rule(
+        alloc,
+        &kept.source,
+        top,
+        &certificate,
+        refusal.number,
+        &refusal.place,
+    )
+}
+
 // What a no means, or that no certificate was made, or the step limit; nothing, where a call was done in full.
 fn done_meaning(
     alloc: Global,
@@ -81,9 +126,7 @@ fn done_meaning(
         Done::Judged(Verdict::No(number, place)) => {
             explain_rule(alloc, &kept.source, top, &kept.certificate, *number, place)
         }
-        Done::Proposed(Proposal::NotMade(number, place)) => {
-            explain_rule(alloc, &kept.source, top, &kept.certificate, *number, place)
-        }
+        Done::Proposed(Proposal::NotMade(refusal)) => refusal_meaning(alloc, top, kept, refusal),
         _ => Ok(Vec::new(alloc)),
     }
 }

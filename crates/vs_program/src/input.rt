@@ -6,8 +6,9 @@ ghost use Rattle.vs_program.specs.passes.Reading.{HasKept};
 use std::alloc::{AllocError, Global};
 use std::io::{self, BufReader, ErrorKind, Read};
 
-/// How many bytes of a source are kept at most: one more than a source may have (4 MiB).
-const SOURCE_LIMIT: u64 = 4194305;
+/// How many bytes of a source are kept at most: more than twice as many as a source may have (4 MiB), so that what begins within these is kept whole,
+/// unless it is as long itself.
+pub(crate) const SOURCE_LIMIT: u64 = 8388609;
 
 /// How many bytes of a certificate are kept at most: one more than a certificate may have (16 MiB).
 const CERTIFICATE_LIMIT: u64 = 16777217;
@@ -85,7 +86,7 @@ impl Kept {
     }
 }
 
-/// Reads an input to its end, and answers its first 4,194,305 bytes: a source that has more is refused by its length alone.
+/// Reads an input to its end, and answers its first 8,388,609 bytes: a source that has more is refused by its length alone.
 pub(crate) fn read_source<R: Read + Drop>(alloc: Global, input: R) -> Result<Kept, InputFault>
     ensures kept { IfOk result (λ kept. IsKept (R.remaining input) kept.source.items) }
 {
@@ -101,7 +102,7 @@ pub(crate) fn read_source<R: Read + Drop>(alloc: Global, input: R) -> Result<Kep
     })
 }
 
-/// Reads an input to its end, and answers the first 16,777,217 bytes of its first line, and the first 4,194,305 bytes of what follows it: a certificate
+/// Reads an input to its end, and answers the first 16,777,217 bytes of its first line, and the first 8,388,609 bytes of what follows it: a certificate
 /// or a source that has more is refused by its length alone.
 pub(crate) fn read_both<R: Read + Drop>(alloc: Global, input: R) -> Result<Kept, InputFault>
     ensures kept { IfOk result (λ kept. AreKept (R.remaining input) kept.certificate.items kept.source.items) }

@@ -3,6 +3,7 @@
 
 mod buffered;
 mod command;
+mod cut;
 mod doing;
 mod explaining;
 mod input;

@@ -31,7 +31,7 @@ pub(crate) fn tell<E: Write>(err: &mut E, text: &[u8], status: u8) -> u8
     status
 }
 
-/// Tells why the words of a call can't be read: 3 for want of memory or a device's fault, 64 for a word that is no text in UTF-8.
+/// Tells why the arguments of a call can't be read: 3 for a lack of memory or a read error, 64 for an argument that isn't UTF-8.
 pub fn refuse_start<E: Write + Drop>(error: &io::Error, mut err: E) -> u8
     ensures { result ≡ start_status (error_kind error.now) }
 {
@@ -101,7 +101,7 @@ pub(crate) fn tell_done<E: Write>(done: &Done, err: &mut E) -> u8
             LIMITED
         }
         Done::Judged(Verdict::No(_, _)) => REFUSED,
-        Done::Proposed(Proposal::NotMade(_, _)) => REFUSED,
+        Done::Proposed(Proposal::NotMade(_)) => REFUSED,
         _ => DONE,
     }
 }

@@ -1,8 +1,9 @@
 //! What the program tells: texts and exit statuses.
-ghost use Rattle.std.specs.Prelude.{◌≡◌, ◌++◌, [], ◌∷◌, IfOk, OnOk};
+ghost use Rattle.std.specs.Prelude.{◌≡◌, ◌++◌, [], ◌∷◌, true, false, IfOk, OnOk};
 ghost use Rattle.clap.specs.Words.{kind_of};
 ghost use Rattle.vs_program.specs.Statuses.{fault_status, refusal_status, words_status};
-ghost use Rattle.vs_program.specs.Texts.{fault_text, proposal_line, refusal_text, rule_text, verdict_line};
+ghost use Rattle.vs_program.specs.Texts.{IsTooLong, fault_text, proposal_line, refusal_text, rule_text, verdict_line};
+ghost use Rattle.vs_program.specs.passes.Proposing.{IsShort};
 
 use clap::Error;
 use clap::error::ErrorKind;
@@ -24,10 +25,13 @@ pub(crate) const DONE: u8 = 0;
 pub(crate) const REFUSED: u8 = 1;
 /// The step limit.
 pub(crate) const LIMITED: u8 = 2;
-/// Memory ran out, or a device failed.
+/// Out of memory, a read error or a write error.
 pub(crate) const FAILED: u8 = 3;
 /// A fault of the command line.
 pub(crate) const MISUSED: u8 = 64;
+
+/// The most bytes that the text of a certificate may have (16 MiB).
+const CERTIFICATE_LIMIT: usize = 16_777_216;
 
 /// The text that the program prints of a fault, after `vsim: `: its number and its place, or what failed.
 pub fn fault_text(alloc: Global, fault: &SimFault) -> Result<Vec<u8>, AllocError>
@@ -96,7 +100,21 @@ pub(crate) fn proposal_line(alloc: Global, proposal: &Proposal) -> Result<Vec<u8
             line.push(b'\n')?;
             Ok(line)
         }
-        Proposal::NotMade(number, place) => rule_line(alloc, b"not made ", *number, place),
+        Proposal::NotMade(refusal) => {
+            rule_line(alloc, b"not made ", refusal.number, &refusal.place)
+        }
+    }
+}
+
+/// Whether this line of a proposal has a certificate, and one whose text is longer than the text of one that is read.
+pub(crate) fn is_too_long(proposal: &Proposal, line: &[u8]) -> bool
+    requires { line.now ≡ proposal_line proposal.now }
+    ensures long { result ≡ true → IsTooLong proposal.now }
+    ensures short { result ≡ false → IsShort proposal.now }
+{
+    match proposal {
+        Proposal::Made(_) => line.len() > CERTIFICATE_LIMIT + 1,
+        Proposal::NotMade(_) => false,
     }
 }
 

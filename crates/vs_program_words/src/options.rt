@@ -11,40 +11,41 @@ use std::alloc::{AllocError, Global};
 const VERSION: &str = "0.1.0\nrattle-kit-13f logic dac8208d650f15bf";
 
 /// What stands below the list of the subcommands.
-const AFTER: &str = "A design is read from standard input, as in
+const AFTER: &str = "A source is read from standard input, as in
 
   vsim run --top tb --until 100 <tb.v
   vsim certify --top tb <tb.v >tb.cert
   cat tb.cert tb.v | vsim run --top tb --until 100 --cert
 
 Exit status: 0 done, 1 refused (or `no`, or `not made`), 2 step limit,
-3 memory or a device's fault, 64 command line.";
+3 out of memory, read error or write error, 64 wrong arguments.";
 
 /// What stands below the options of `run`.
-const AFTER_RUN: &str = "--out lines prints what `$display` and `$strobe` print, a line each;
---out vcd prints the value change dump of all signals that are no arrays.
+const AFTER_RUN: &str = "--out lines writes the log: what `$display` and `$strobe` print;
+--out vcd writes the value change dump of all signals that are no arrays.
 
 Example: vsim run --top tb --until 100 --out vcd <tb.v >tb.vcd
 
-Exit status: 0 done, 1 refused, 2 step limit, 3 memory or a device's fault,
-64 command line.";
+Exit status: 0 done, 1 refused, 2 step limit, 3 out of memory, read error or
+write error, 64 wrong arguments.";
 
 /// What stands below the options of `check`.
 const AFTER_CHECK: &str = "Example: cat tb.cert tb.v | vsim check --top tb
 
-Exit status: 0 yes, 1 no or refused, 3 memory or a device's fault,
-64 command line.";
+Exit status: 0 yes, 1 no or refused, 3 out of memory, read error or
+write error, 64 wrong arguments.";
 
 /// What stands below the options of `certify`.
 const AFTER_CERTIFY: &str = "Example: vsim certify --top tb <tb.v >tb.cert
 
-Exit status: 0 done, 1 not made or refused, 3 memory or a device's fault,
-64 command line.";
+Exit status: 0 done, 1 not made or refused, 3 out of memory, read error or
+write error, 64 wrong arguments.";
 
 /// What stands below the options of `elab`.
 const AFTER_ELAB: &str = "Example: vsim elab --top tb <tb.v
 
-Exit status: 0 done, 1 refused, 3 memory or a device's fault, 64 command line.";
+Exit status: 0 done, 1 refused, 3 out of memory, read error or write error,
+64 wrong arguments.";
 
 static ORDERS: [&str; 2] = ["fifo", "lifo"];
 
@@ -84,12 +85,12 @@ fn number<'a>(alloc: Global, name: &'a str, help: &'a str) -> Arg<'a>
         .value_parser(clap::value_parser!(u64).range(0..=4611686018427387903))
 }
 
-// The option with the moment.
+// The option with the time up to which a design runs.
 fn until<'a>(alloc: Global) -> Arg<'a>
     ensures option { rule_of result ≡ until_option }
     ensures local { result.global ≡ false }
 {
-    number(alloc, "until", "The moment up to which it runs, in ticks").required(true)
+    number(alloc, "until", "The time up to which it runs, in ticks").required(true)
 }
 
 // The option with the step limit.
@@ -163,7 +164,7 @@ fn elab_command<'a>(alloc: Global) -> Result<Command<'a>, AllocError>
     command_of(
         alloc,
         "elab",
-        "Lists the signals, assignments and processes of a design that standard input has",
+        "Lists the signals, assignments and processes of the design on standard input",
         AFTER_ELAB,
         options,
     )
@@ -177,7 +178,7 @@ fn check_command<'a>(alloc: Global) -> Result<Command<'a>, AllocError>
     command_of(
         alloc,
         "check",
-        "Checks a certificate, the first line of standard input, of the design that the rest has",
+        "Checks a certificate, on the first line of standard input, of the design after it",
         AFTER_CHECK,
         options,
     )
@@ -198,7 +199,7 @@ fn certify_command<'a>(alloc: Global, grains: &'a [&'a str]) -> Result<Command<'
     command_of(
         alloc,
         "certify",
-        "Makes a certificate of a design that standard input has",
+        "Makes a certificate of the design on standard input",
         AFTER_CERTIFY,
         options,
     )
@@ -216,11 +217,17 @@ fn run_list<'a>(
     let policy = choice(
         alloc,
         "policy",
-        "Which enabled item is next",
+        "Which enabled event is next",
         orders,
         "fifo",
     );
-    let out = choice(alloc, "out", "The text to write", texts, "lines");
+    let out = choice(
+        alloc,
+        "out",
+        "What to write: the log, or the dump",
+        texts,
+        "lines",
+    );
     let cert = flag(
         alloc,
         "cert",
@@ -250,7 +257,7 @@ fn run_command<'a>(
     command_of(
         alloc,
         "run",
-        "Runs a design that standard input has",
+        "Runs the design on standard input",
         AFTER_RUN,
         options,
     )
@@ -272,7 +279,7 @@ fn bare_command<'a>(alloc: Global) -> Command<'a>
     ensures { app_of result ≡ bare_options }
 {
     Command::new(alloc, "vsim")
-        .about("Simulates a Verilog design, and checks that its run is no choice of the simulator")
+        .about("Simulates a Verilog design, and checks that it doesn't depend on the simulator")
         .version(VERSION)
         .after_help(AFTER)
         .subcommand_required(true)

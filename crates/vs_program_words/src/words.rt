@@ -35,7 +35,7 @@ pub enum Order {
 pub struct Request<'a> {
     /// The top module's name.
     pub top: &'a str,
-    /// The moment up to which the design runs.
+    /// The time up to which the design runs.
     pub until: Ticks,
     /// The most steps that the run may take; there are fewer of them than of ticks.
     pub steps: Ticks,

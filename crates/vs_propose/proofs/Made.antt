@@ -35,9 +35,9 @@ made d grain c v same sound verdict is = record {
 }
 
 pub refused : (d : Parts) (grain : ClaimedGrain) (c : Certificate) (v : Verdict) (number : ℕ) (place : Vec ℕ Global) → c.grain ≡ grain → IsSound (value_of c) →
-    IsVerdict d (claims_of c) (verdict_view v) → HasNumber v → v ≡ verdicts.No number place → IsRefused d grain number place.items
+    IsVerdict d (claims_of c) (verdict_view v) → HasNumber v → v ≡ verdicts.No number place →
+    IsRefused d grain (record { certificate = c; number = number; place = place })
 refused d grain c v number place same sound verdict numbered is = record {
-  certificate = c;
   grain_is = same;
   sound = sound;
   numbered = subst HasNumber is numbered;

@@ -1,5 +1,5 @@
 -- What is proposed for a design.
-use Rattle.std.specs.Prelude.{ℕ, ◌-◌, ◌≡◌, ◌≤◌, true, Option, Some, None, List}
+use Rattle.std.specs.Prelude.{◌-◌, ◌≡◌, ◌≤◌, true, Option, Some, None}
 use Rattle.vs_cert_check.specs.Verdicts.{rule_of}
 use Rattle.vs_certificate.specs.declared.members.Certificate.{Certificate}
 use Rattle.vs_certificate.specs.declared.members.ClaimedGrain.{ClaimedGrain}
@@ -10,6 +10,7 @@ use Rattle.vs_design.specs.Parts.{Parts}
 use Rattle.vs_cert_check.specs.vs_rules.specs.Certificates.{claims_of}
 use Rattle.vs_cert_check.specs.vs_rules.specs.Verdict.{Disciplined, IsVerdict, no_verdict}
 use Rattle.vs_propose.specs.declared.proposal.Proposal.{Proposal}
+use Rattle.vs_propose.specs.declared.proposal.Refusal.{Refusal}
 use Rattle.vs_propose.specs.declared.proposal.Proposal.TheVariants.{Made, NotMade}
 
 -- a certificate of this grain of which no test of its form and limits fails, under which the design keeps all rules
@@ -19,19 +20,18 @@ pub record IsMade (d : Parts) (grain : ClaimedGrain) (c : Certificate) : Type 0 
   pub own_kinds : has_own_kinds c ≡ true
   pub kept : Disciplined d (claims_of c)
 
--- under some certificate of this grain, of which no such test fails, the rule of this number, from 1 to 11, is the least that the design breaks, and
--- this is the name of the first subject that breaks it
-pub record IsRefused (d : Parts) (grain : ClaimedGrain) (number : ℕ) (place : List ℕ) : Type 0 where
-  pub certificate : Certificate
-  pub grain_is : certificate.grain ≡ grain
-  pub sound : IsSound (value_of certificate)
-  pub numbered : (1 ≤ number) × (number ≤ 11)
-  pub verdict : IsVerdict d (claims_of certificate) (no_verdict (rule_of (number - 1)) place)
+-- under its certificate, which has this grain and of which no such test fails, the rule of its number, from 1 to 11, is the least that the design
+-- breaks, and its place is the name of the first subject that breaks it
+pub record IsRefused (d : Parts) (grain : ClaimedGrain) (r : Refusal) : Type 0 where
+  pub grain_is : r.certificate.grain ≡ grain
+  pub sound : IsSound (value_of r.certificate)
+  pub numbered : (1 ≤ r.number) × (r.number ≤ 11)
+  pub verdict : IsVerdict d (claims_of r.certificate) (no_verdict (rule_of (r.number - 1)) r.place.items)
 
 -- what is proposed is true of the design
 abbrev pub IsProposal : Parts → ClaimedGrain → Proposal → Type 0
 IsProposal d grain (Made c) = IsMade d grain c
-IsProposal d grain (NotMade number place) = IsRefused d grain number place.items
+IsProposal d grain (NotMade r) = IsRefused d grain r
 
 -- the same of what may be there
 abbrev pub MayBeProposal : Parts → ClaimedGrain → Option Proposal → Type 0
@@ -41,7 +41,7 @@ MayBeProposal d grain (Some p) = IsProposal d grain p
 -- it is a certificate that is proposed
 abbrev pub AnswersMade : Proposal → Type 0
 AnswersMade (Made c) = Unit {0}
-AnswersMade (NotMade number place) = ⊥
+AnswersMade (NotMade r) = ⊥
 
 -- the same of what may be there
 abbrev pub HasMade : Option Proposal → Type 0

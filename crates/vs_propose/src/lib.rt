@@ -4,5 +4,5 @@
 mod proposal;
 mod search;
 
-pub use proposal::Proposal;
+pub use proposal::{Proposal, Refusal};
 pub use search::propose;

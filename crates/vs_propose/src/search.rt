@@ -8,7 +8,7 @@ ghost use Rattle.vs_cert_check.specs.vs_rules.specs.Certificates.{claims_of};
 ghost use Rattle.vs_cert_check.specs.vs_rules.specs.Verdict.{Disciplined, IsVerdict};
 ghost use Rattle.vs_propose.specs.Proposals.{IsMade, IsProposal, MayBeProposal, AnswersMade, HasMade};
 
-use crate::proposal::Proposal;
+use crate::proposal::{Proposal, Refusal};
 use std::alloc::{AllocError, Global};
 use vs_cert_check::vs_rules::tested_are_certificates;
 use vs_cert_check::{Verdict, check};
@@ -35,7 +35,11 @@ fn proposal_of(
     let _ = grain;
     match verdict {
         Verdict::Yes => Proposal::Made(certificate),
-        Verdict::No(number, place) => Proposal::NotMade(number, place),
+        Verdict::No(number, place) => Proposal::NotMade(Refusal {
+            certificate,
+            number,
+            place,
+        }),
     }
 }
 
@@ -108,14 +112,15 @@ fn tried_without_claims(
 fn rank(proposal: &Proposal) -> u8 {
     match proposal {
         Proposal::Made(_) => u8::MAX,
-        Proposal::NotMade(number, _) => *number,
+        Proposal::NotMade(refusal) => refusal.number,
     }
 }
 
-// Whether another modulus may give a better proposal: the rules K7 to K9 alone speak of residues.
+// Whether another modulus may give a better proposal. The rules K7 to K9 alone speak of residues, and a plan breaks K8 by each modulus or by none:
+// its lists have the residues at which its delays can end.
 fn may_improve(proposal: &Proposal) -> bool {
     let number = rank(proposal);
-    7 <= number && number <= 9
+    number == 7 || number == 9
 }
 
 // The better one of two proposals, the first of two that are as good as each other.
@@ -166,7 +171,7 @@ fn searched(alloc: Global, design: &Design, grain: ClaimedGrain) -> Result<Propo
     ensures { IfOk result (IsProposal design.now grain) }
 {
     let plan = plan_of(alloc, design)?;
-    let moduli = moduli_of(alloc, &plan.texts)?;
+    let moduli = moduli_of(alloc, design, &plan)?;
     match best_of(alloc, design, &plan, grain, &moduli)? {
         Some(best) => Ok(best),
         None => tried_without_claims(alloc, design, grain),
@@ -207,11 +212,12 @@ fn settled(
 }
 
 /// A certificate of a grain for a design, where one is found: `Made` with one under which the design keeps all rules K1 to K11, of which no test of
-/// C2 to C4 fails; else the verdict on the best one that was tried. Of a design without processes it finds one wherever there is one: wherever its
-/// names, and an order of its continuous assignments, keep the rules K1 and K4 under some certificate of which no such test fails. (Such a
-/// certificate has at most 65,536 signals, and as many continuous assignments.) Of other designs it need not find one where there is one. It makes a
-/// plan of who writes each signal and how, of what runs each process and of an order in which drivers settle, and tries it by moduli that the delays
-/// of the texts suggest, at most 40 of them: each takes as long as one verdict.
+/// C2 to C4 fails; else the best one that was tried, with the verdict on it. Of a design without processes it finds one wherever there is one:
+/// wherever its names, and an order of its continuous assignments, keep the rules K1 and K4 under some certificate of which no such test fails. (Such
+/// a certificate has at most 65,536 signals, and as many continuous assignments.) Of other designs it need not find one where there is one. It makes
+/// a plan of who writes each signal and how, of what runs each process and of an order in which drivers settle, and tries it by moduli, as long as
+/// these are what holds it back: each takes as long as one verdict. At most 40 are suggested by the delays of the texts; up to 200 more are tried of
+/// a small design, and of a large one as many as look at half a million places of texts, signals and continuous assignments in all.
 pub fn propose(alloc: Global, design: &Design, grain: ClaimedGrain) -> Result<Proposal, AllocError>
     ensures is { IfOk result (IsProposal design.now grain) }
     ensures complete { CanSettle design.now → IfOk result AnswersMade }

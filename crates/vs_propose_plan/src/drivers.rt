@@ -1,7 +1,7 @@
 //! An order in which drivers settle.
 
 use std::alloc::{AllocError, Global};
-use vs_design::{Assign, BitRange, Design, SignalKind, Statement, reads, writes};
+use vs_design::{Assign, BitRange, Design, SignalKind, Statement, event_terms, reads, writes};
 use vs_law_writes::statement_writes;
 use vs_propose_assigns::vs_propose_order::sorted;
 use vs_propose_assigns::vs_slots_ranges::share;
@@ -96,17 +96,45 @@ fn written_by(alloc: Global, driver: Option<Driver>) -> Result<Vec<BitRange>, Al
     }
 }
 
-// What it reads.
-fn read_by(alloc: Global, driver: Option<Driver>) -> Result<Vec<BitRange>, AllocError> {
+/// What a driver needs of others.
+#[derive(Clone, Copy, PartialEq, Eq)]
+pub(crate) enum Needs {
+    /// What it reads.
+    Reads,
+    /// What it reads, and what its control names.
+    ReadsAndWaits,
+}
+
+// What a combinational block needs.
+fn needed_by_block(
+    alloc: Global,
+    body: &Statement,
+    needs: Needs,
+) -> Result<Vec<BitRange>, AllocError> {
+    let mut needed = text_reads(alloc, body)?;
+    if needs == Needs::ReadsAndWaits {
+        for term in event_terms(alloc, body)? {
+            needed.push(term.range)?;
+        }
+    }
+    Ok(needed)
+}
+
+// What a driver needs, where there is one.
+fn needed_by(
+    alloc: Global,
+    driver: Option<Driver>,
+    needs: Needs,
+) -> Result<Vec<BitRange>, AllocError> {
     match driver {
         None => Ok(Vec::new(alloc)),
         Some(Driver::Assign(assign)) => reads(alloc, &assign.source),
-        Some(Driver::Block(body)) => text_reads(alloc, body),
+        Some(Driver::Block(body)) => needed_by_block(alloc, body, needs),
     }
 }
 
-/// Whether a process is a combinational block.
-pub(crate) fn is_block(texts: &[TextFacts], i: usize) -> bool {
+// Whether a process is a combinational block.
+fn is_block(texts: &[TextFacts], i: usize) -> bool {
     match texts.get(i) {
         None => false,
         Some(text) => text.kind == TextKind::Block,
@@ -156,24 +184,25 @@ fn put_needed(
     Ok(())
 }
 
-// For each driver those that write a bit that it reads.
-fn needs_of(
+/// For each driver those that write a bit which it needs.
+pub(crate) fn drivers_needed(
     alloc: Global,
     design: &Design,
     texts: &[TextFacts],
+    needs: Needs,
 ) -> Result<Vec<Vec<usize>>, AllocError> {
     let table = table_of(alloc, design, texts)?;
-    let mut needs = Vec::new(alloc);
+    let mut rows = Vec::new(alloc);
     for driver in 0..count_of(design) {
-        let mut needed = Vec::new(alloc);
-        for range in read_by(alloc, driver_at(design, texts, driver))? {
-            if let Some(row) = table.get(range.signal) {
-                put_needed(design, row, driver, range, &mut needed)?;
+        let mut row = Vec::new(alloc);
+        for range in needed_by(alloc, driver_at(design, texts, driver), needs)? {
+            if let Some(written) = table.get(range.signal) {
+                put_needed(design, written, driver, range, &mut row)?;
             }
         }
-        needs.push(needed)?;
+        rows.push(row)?;
     }
-    Ok(needs)
+    Ok(rows)
 }
 
 // Puts a driver at the end of an order, where it doesn't stand there.
@@ -192,20 +221,20 @@ fn put_once(
     Ok(())
 }
 
-/// The drivers of a design, each after those that write a bit which it reads; those that can't be ordered so come last.
+/// The drivers of a design, each after those that it needs; those that can't be ordered so come last.
 pub(crate) fn driver_order(
     alloc: Global,
     design: &Design,
     texts: &[TextFacts],
+    needed: &[Vec<usize>],
 ) -> Result<Vec<usize>, AllocError> {
-    let needs = needs_of(alloc, design, texts)?;
-    let placed = sorted(alloc, &needs)?;
-    let mut marks = vec![in alloc; false; needs.len()]?;
+    let placed = sorted(alloc, needed)?;
+    let mut marks = vec![in alloc; false; needed.len()]?;
     let mut order = Vec::new(alloc);
     for driver in &placed {
         put_once(design, texts, &mut order, &mut marks, *driver)?;
     }
-    for driver in 0..needs.len() {
+    for driver in 0..needed.len() {
         put_once(design, texts, &mut order, &mut marks, driver)?;
     }
     Ok(order)

@@ -1,16 +1,24 @@
 //! By what residues may be counted.
 
+use crate::plans::{EdgePlan, Plan};
 use std::alloc::{AllocError, Global};
+use vs_design::Design;
 use vs_propose_texts::{TextFacts, common_divisor};
 
 /// The greatest modulus of a certificate.
 const MAX_MODULUS: u64 = 1 << 32;
 
-/// How many multiples of the least modulus are tried.
+/// How many multiples of a turn are tried.
 const MULTIPLES: u64 = 16;
 
-/// How many moduli are tried.
-const MAX_TRIES: usize = 40;
+/// How many moduli are tried that the delays of texts suggest.
+const MAX_SUGGESTED: usize = 40;
+
+/// All moduli up to this one are tried where a design is small.
+const MAX_SMALL: u64 = 200;
+
+/// How many places and signals the verdicts by small moduli may take in all.
+const MAX_SIZE: u64 = 1 << 19;
 
 // The least common multiple; none above the greatest modulus.
 fn common_multiple(a: u64, b: u64) -> Option<u64> {
@@ -29,19 +37,56 @@ fn common_multiple(a: u64, b: u64) -> Option<u64> {
 // Puts a modulus at a list's end, where it is one and isn't there.
 fn put(moduli: &mut Vec<u64>, modulus: Option<u64>) -> Result<(), AllocError> {
     if let Some(m) = modulus {
-        if 0 < m && m <= MAX_MODULUS && moduli.len() < MAX_TRIES && !moduli.contains(&m) {
+        if 0 < m && m <= MAX_MODULUS && !moduli.contains(&m) {
             moduli.push(m)?;
         }
     }
     Ok(())
 }
 
+// Puts one that the delays of texts suggest, unless there are enough of them.
+fn suggest(moduli: &mut Vec<u64>, modulus: Option<u64>) -> Result<(), AllocError> {
+    if moduli.len() < MAX_SUGGESTED {
+        put(moduli, modulus)?;
+    }
+    Ok(())
+}
+
+// For each of so many signals whether a signal of an edge term copies it.
+fn root_marks(alloc: Global, signals: usize, edges: &[EdgePlan]) -> Result<Vec<bool>, AllocError> {
+    let mut marks = vec![in alloc; false; signals]?;
+    for edge in edges {
+        if let Some(mark) = marks.get_mut(edge.root) {
+            *mark = true;
+        }
+    }
+    Ok(marks)
+}
+
+// Whether a text writes a signal that is marked.
+fn writes_marked(text: &TextFacts, marks: &[bool]) -> bool {
+    text.writes.iter().any(|write| match marks.get(write.signal) {
+        None => false,
+        Some(mark) => *mark,
+    })
+}
+
+// The time of a turn of a text; of two, where it turns a signal that is marked over: after one turn that has its other edge.
+fn period_of(text: &TextFacts, marks: &[bool]) -> u64 {
+    if text.timing.turns_over && writes_marked(text, marks) {
+        text.timing.period.saturating_mul(2)
+    } else {
+        text.timing.period
+    }
+}
+
 // What all turns of the texts are multiples of in time: 1 where there are none.
-fn turn_of(texts: &[TextFacts]) -> Option<u64> {
+fn turn_of(texts: &[TextFacts], marks: &[bool]) -> Option<u64> {
     let mut turn = 1;
     for text in texts {
-        if text.timing.period > 0 {
-            turn = common_multiple(turn, text.timing.period)?;
+        let period = period_of(text, marks);
+        if period > 0 {
+            turn = common_multiple(turn, period)?;
         }
     }
     Some(turn)
@@ -64,25 +109,70 @@ fn multiple_above(turn: u64, time: u64) -> Option<u64> {
     (time / turn).checked_add(1)?.checked_mul(turn)
 }
 
-// Puts multiples of the turn, the least first.
-fn put_multiples(moduli: &mut Vec<u64>, turn: u64, last: u64) -> Result<(), AllocError> {
-    put(moduli, Some(turn))?;
-    put(moduli, multiple_above(turn, last))?;
+// Suggests a turn, and its multiples.
+fn suggest_multiples(
+    moduli: &mut Vec<u64>,
+    turn: Option<u64>,
+    last: u64,
+) -> Result<(), AllocError> {
+    let Some(turn) = turn else {
+        return Ok(());
+    };
+    suggest(moduli, Some(turn))?;
+    suggest(moduli, multiple_above(turn, last))?;
     for k in 2..=MULTIPLES {
-        put(moduli, turn.checked_mul(k))?;
+        suggest(moduli, turn.checked_mul(k))?;
     }
     Ok(())
 }
 
-/// The moduli that are to be tried, in order: multiples of the time in which all texts are where they were, then of the turns of single ones.
-pub fn moduli_of(alloc: Global, texts: &[TextFacts]) -> Result<Vec<u64>, AllocError> {
-    let mut moduli = Vec::new(alloc);
-    if let Some(turn) = turn_of(texts) {
-        put_multiples(&mut moduli, turn, last_of(texts))?;
-    }
+// Suggests the turns of single texts.
+fn suggest_periods(
+    moduli: &mut Vec<u64>,
+    texts: &[TextFacts],
+    marks: &[bool],
+) -> Result<(), AllocError> {
     for text in texts {
-        put(&mut moduli, Some(text.timing.period))?;
+        suggest(moduli, Some(period_of(text, marks)))?;
+        suggest(moduli, Some(text.timing.period))?;
     }
+    Ok(())
+}
+
+// How many places and signals a verdict on a certificate of a plan looks at.
+fn size_of(design: &Design, texts: &[TextFacts]) -> u64 {
+    let mut size = (design.signals().len() as u64).saturating_add(design.assigns().len() as u64);
+    for text in texts {
+        size = size.saturating_add(text.places as u64);
+    }
+    size
+}
+
+// How many small moduli are tried for a design of this size.
+fn small_moduli(size: u64) -> u64 {
+    if size == 0 {
+        MAX_SMALL
+    } else {
+        (MAX_SIZE / size).min(MAX_SMALL)
+    }
+}
+
+/// The moduli that are to be tried, in order. First come at most 40 that the delays suggest: multiples of the time after which all texts are where
+/// they were, and signals of edge terms as they were; then of the time of their turns alone; then the turns of single ones. Then come those from 1 to
+/// 200, or fewer for a large design: verdicts by them look at half a million places of texts, signals and continuous assignments in all.
+pub fn moduli_of(alloc: Global, design: &Design, plan: &Plan) -> Result<Vec<u64>, AllocError> {
+    let marks = root_marks(alloc, design.signals().len(), &plan.edges)?;
+    let texts = plan.texts.as_slice();
+    let last = last_of(texts);
+    let mut moduli = Vec::new(alloc);
+    suggest(&mut moduli, turn_of(texts, &marks))?;
+    suggest(&mut moduli, turn_of(texts, &[]))?;
+    suggest_multiples(&mut moduli, turn_of(texts, &marks), last)?;
+    suggest_multiples(&mut moduli, turn_of(texts, &[]), last)?;
+    suggest_periods(&mut moduli, texts, &marks)?;
     put(&mut moduli, Some(1))?;
+    for modulus in 2..=small_moduli(size_of(design, texts)) {
+        put(&mut moduli, Some(modulus))?;
+    }
     Ok(moduli)
 }

@@ -1,7 +1,7 @@
 //! What is to be claimed of a design, but for residues.
 
 use crate::copied::edge_plans;
-use crate::drivers::driver_order;
+use crate::drivers::{Needs, driver_order, drivers_needed};
 use crate::modes::signal_plans;
 use crate::starts::kind_plans;
 use crate::writers::writers_of;
@@ -83,7 +83,8 @@ pub fn plan_of(alloc: Global, design: &Design) -> Result<Plan, AllocError> {
     let texts = texts_of(alloc, design)?;
     let writers = writers_of(alloc, &texts, design.signals().len())?;
     let signals = signal_plans(alloc, design, &texts, &writers)?;
-    let order = driver_order(alloc, design, &texts)?;
+    let needed = drivers_needed(alloc, design, &texts, Needs::Reads)?;
+    let order = driver_order(alloc, design, &texts, &needed)?;
     let kinds = kind_plans(alloc, design, &texts, &signals, &order)?;
     let edges = edge_plans(alloc, design, &order)?;
     Ok(Plan {

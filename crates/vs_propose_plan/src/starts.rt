@@ -1,11 +1,11 @@
 //! Why a combinational block that never ran has the outputs that a run would give it.
 
 use crate::copied::roots_of;
-use crate::drivers::is_block;
+use crate::drivers::{Needs, driver_order, drivers_needed};
 use crate::plans::{KindPlan, SignalPlan};
 use std::alloc::{AllocError, Global};
 use vs_certificate::{SignalMode, Start};
-use vs_design::{BitRange, Design, EventTerm, event_terms};
+use vs_design::{BitRange, Design, EventTerm, Statement, event_terms};
 use vs_law_writes::statement_writes;
 use vs_propose_texts::{TextFacts, TextKind, Trial};
 
@@ -56,55 +56,13 @@ fn may_start(texts: &[TextFacts], signals: &[SignalPlan], v: usize) -> bool {
     }
 }
 
-// The start of a block with these terms, which writes these ranges.
-fn start_of(
-    alloc: Global,
-    trial: &mut Trial,
-    signals: &[SignalPlan],
-    starters: &[bool],
-    i: usize,
-    written: &[BitRange],
-    terms: &[EventTerm],
-) -> Result<Start, AllocError> {
-    if waits_for_sources(signals, written, terms) {
-        return Ok(Start::Sources);
+// What is claimed of a process that is no driver; of a block, before its start is known, that it is cold.
+fn kind_plan(text: &TextFacts) -> KindPlan {
+    match text.kind {
+        TextKind::Block => KindPlan::Block(Start::Cold),
+        TextKind::Edge => KindPlan::Edge,
+        TextKind::Delay => KindPlan::Delay,
     }
-    if trial.stays_cold(alloc, i, written)? {
-        return Ok(Start::Cold);
-    }
-    let starts = terms.iter().any(|term| match starters.get(term.range.signal) {
-        None => false,
-        Some(mark) => *mark,
-    });
-    Ok(if starts { Start::Starter } else { Start::Cold })
-}
-
-// What is to be claimed of a process.
-fn kind_plan(
-    alloc: Global,
-    design: &Design,
-    trial: &mut Trial,
-    texts: &[TextFacts],
-    signals: &[SignalPlan],
-    starters: &[bool],
-    i: usize,
-) -> Result<KindPlan, AllocError> {
-    if is_block(texts, i) {
-        let Some(process) = design.processes().get(i) else {
-            return Ok(KindPlan::Delay);
-        };
-        let terms = event_terms(alloc, &process.body)?;
-        let written = statement_writes(alloc, &process.body)?;
-        let start = start_of(alloc, trial, signals, starters, i, &written, &terms)?;
-        return Ok(KindPlan::Block(start));
-    }
-    Ok(match texts.get(i) {
-        None => KindPlan::Delay,
-        Some(text) => match text.kind {
-            TextKind::Edge => KindPlan::Edge,
-            TextKind::Block | TextKind::Delay => KindPlan::Delay,
-        },
-    })
 }
 
 // For each signal whether it is, or copies, a variable that may be sure to change in the first slot.
@@ -123,7 +81,89 @@ fn starters_of(
     Ok(marks)
 }
 
-/// What is to be claimed of each process.
+// Whether the mark of a number is set.
+fn is_marked(marks: &[bool], k: usize) -> bool {
+    match marks.get(k) {
+        None => false,
+        Some(mark) => *mark,
+    }
+}
+
+// Blocks whose starts are found one after another, each after the drivers that it needs.
+#[derive(Drop)]
+struct Starts<'a> {
+    design: &'a Design,
+    signals: &'a [SignalPlan],
+    trial: Trial<'a>,
+    // For each signal whether it is, or copies, a variable that may be sure to change in the first slot.
+    starters: Vec<bool>,
+    // For each driver whether it, or one that it needs, is a block of start `starter`.
+    behind: Vec<bool>,
+    kinds: Vec<KindPlan>,
+}
+
+impl<'a> Starts<'a> {
+    // The start of a block, by whether a driver that it needs is behind one of start `starter`. No block behind such a one may be cold.
+    fn start_of(
+        &mut self,
+        alloc: Global,
+        i: usize,
+        body: &Statement,
+        is_behind: bool,
+    ) -> Result<Start, AllocError> {
+        let terms = event_terms(alloc, body)?;
+        let written = statement_writes(alloc, body)?;
+        if waits_for_sources(self.signals, &written, &terms) {
+            return Ok(Start::Sources);
+        }
+        if !is_behind && self.trial.stays_cold(alloc, i, &written)? {
+            return Ok(Start::Cold);
+        }
+        let starts = terms
+            .iter()
+            .any(|term| is_marked(&self.starters, term.range.signal));
+        Ok(if starts { Start::Starter } else { Start::Cold })
+    }
+
+    // Finds the start of a process, where it is a block, and whether it is of start `starter`.
+    fn find_block_start(
+        &mut self,
+        alloc: Global,
+        i: usize,
+        is_behind: bool,
+    ) -> Result<bool, AllocError> {
+        let design = self.design;
+        let Some(process) = design.processes().get(i) else {
+            return Ok(false);
+        };
+        let start = self.start_of(alloc, i, &process.body, is_behind)?;
+        if let Some(kind) = self.kinds.get_mut(i) {
+            *kind = KindPlan::Block(start);
+        }
+        Ok(matches!(start, Start::Starter))
+    }
+
+    // Finds the start of a driver, where it is a block, once those of the drivers that it needs are found.
+    fn find_start(
+        &mut self,
+        alloc: Global,
+        driver: usize,
+        needed: &[usize],
+    ) -> Result<(), AllocError> {
+        let assigns = self.design.assigns().len();
+        let mut is_behind = needed.iter().any(|other| is_marked(&self.behind, *other));
+        if driver >= assigns && self.find_block_start(alloc, driver - assigns, is_behind)? {
+            is_behind = true;
+        }
+        if let Some(mark) = self.behind.get_mut(driver) {
+            *mark = is_behind;
+        }
+        Ok(())
+    }
+}
+
+/// What is to be claimed of each process. The starts of blocks are found in an order in which each stands after the drivers whose bits it reads or
+/// waits for: `sources` and `cold` where they hold, and else `starter` where the control allows it.
 pub(crate) fn kind_plans(
     alloc: Global,
     design: &Design,
@@ -131,12 +171,26 @@ pub(crate) fn kind_plans(
     signals: &[SignalPlan],
     order: &[usize],
 ) -> Result<Vec<KindPlan>, AllocError> {
-    let mut trial = Trial::new(alloc, design, order)?;
-    let starters = starters_of(alloc, design, texts, signals, order)?;
     let mut kinds = Vec::new(alloc);
-    for i in 0..texts.len() {
-        let kind = kind_plan(alloc, design, &mut trial, texts, signals, &starters, i)?;
-        kinds.push(kind)?;
+    for text in texts {
+        kinds.push(kind_plan(text))?;
     }
-    Ok(kinds)
+    if !texts.iter().any(|text| text.kind == TextKind::Block) {
+        return Ok(kinds);
+    }
+    let needed = drivers_needed(alloc, design, texts, Needs::ReadsAndWaits)?;
+    let mut starts = Starts {
+        design,
+        signals,
+        trial: Trial::new(alloc, design, order)?,
+        starters: starters_of(alloc, design, texts, signals, order)?,
+        behind: vec![in alloc; false; needed.len()]?,
+        kinds,
+    };
+    for driver in driver_order(alloc, design, texts, &needed)? {
+        if let Some(row) = needed.get(driver) {
+            starts.find_start(alloc, driver, row)?;
+        }
+    }
+    Ok(starts.kinds)
 }

@@ -20,6 +20,8 @@ pub struct TextFacts {
     pub writes: Vec<SignalWrite>,
     /// How long it takes.
     pub timing: Timing,
+    /// How many places it has.
+    pub places: usize,
 }
 
 // How a text comes to each place; to none where there are too many ways.
@@ -52,6 +54,7 @@ fn facts_on(
         kind: kind_by(design, i, map),
         writes,
         timing,
+        places: map.stops.len(),
     })
 }
 

@@ -9,8 +9,10 @@ use vs_process::vs_flatcode::{Stop, TextMap};
 /// How long a text takes, in ticks.
 #[derive(Clone, Copy)]
 pub struct Timing {
-    /// What the turns of its loops are multiples of, twice that where it turns a signal over; 0 where it has no turns that take time.
+    /// What the turns of its loops are multiples of; 0 where it has no turns that take time.
     pub period: u64,
+    /// Whether it turns a signal over, which then is as before after two turns.
+    pub turns_over: bool,
     /// A time that each of its places has been come to by.
     pub last: u64,
 }
@@ -134,13 +136,9 @@ pub(crate) fn timing_of(alloc: Global, map: &TextMap) -> Result<Timing, AllocErr
         };
         walk.go(map, place)?;
     }
-    let period = if any_turns_over(&map.stops) {
-        walk.period.saturating_mul(2)
-    } else {
-        walk.period
-    };
     Ok(Timing {
-        period,
+        period: walk.period,
+        turns_over: any_turns_over(&map.stops),
         last: walk.last,
     })
 }

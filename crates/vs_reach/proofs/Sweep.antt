@@ -16,17 +16,17 @@ pub record Sweep (nexts : ℕ → List ℕ) (seeds : List ℕ) (marks : List Boo
   pub begun : (k : ℕ) → k < length marks → Contains seeds k → Marked marks k ⊎ Contains todo k
   pub closed : (a b : ℕ) → Marked marks a → Contains (nexts a) b → b < length marks → Marked marks b ⊎ Contains todo b
 
-none_in : (k : ℕ) → Contains [] k → ⊥
+pub none_in : (k : ℕ) → Contains [] k → ⊥
 none_in k h = omega (arith, h.1)
 
 -- an element of a list with one more at its end
-last_or : (rest : List ℕ) (k b : ℕ) → Contains (rest ++ k ∷ []) b → Contains rest b ⊎ (b ≡ k)
+pub last_or : (rest : List ℕ) (k b : ℕ) → Contains (rest ++ k ∷ []) b → Contains rest b ⊎ (b ≡ k)
 last_or rest k b h = elim (Contains-append_cases rest (k ∷ []) b h) [ inl a ↦ inl a | inr c ↦ inr (one k b c) ] where
   one : (k b : ℕ) → Contains (k ∷ []) b → b ≡ k
   one k b (zero, l, e) = sym e
   one k b (suc n, l, e) = absurd (omega (arith, l))
 
-last_in : (rest : List ℕ) (k : ℕ) → Contains (rest ++ k ∷ []) k
+pub last_in : (rest : List ℕ) (k : ℕ) → Contains (rest ++ k ∷ []) k
 last_in rest k = Contains-append_right rest (k ∷ []) k (0, omega arith, refl)
 
 -- what is reached is below the bound
@@ -42,7 +42,7 @@ complete nexts seeds marks s first inside _ (goes_on a b h e) =
     elim (s.closed a b (complete nexts seeds marks s first inside a h) e (inside a b e)) [ inl m ↦ m | inr t ↦ absurd (none_in b t) ]
 
 -- a marked node is below the bound
-marked_within : (marks : List Bool) (k : ℕ) → Marked marks k → k < length marks
+pub marked_within : (marks : List Bool) (k : ℕ) → Marked marks k → k < length marks
 marked_within [] k h = absurd (grind (arith, h))
 marked_within (m ∷ marks) zero h = omega arith
 marked_within (m ∷ marks) (suc k) h = omega (arith, marked_within marks k h)
@@ -64,21 +64,21 @@ dropped nexts seeds marks todo rest k is done s = record {
   ]
 
 -- marks stay, and what is marked anew is the node
-set_cases : (marks : List Bool) (k b : ℕ) → Marked (set marks k true) b → Marked marks b ⊎ (b ≡ k)
+pub set_cases : (marks : List Bool) (k b : ℕ) → Marked (set marks k true) b → Marked marks b ⊎ (b ≡ k)
 set_cases [] k b h = inl h
 set_cases (m ∷ marks) zero zero h = inr refl
 set_cases (m ∷ marks) zero (suc b) h = inl h
 set_cases (m ∷ marks) (suc k) zero h = inl h
 set_cases (m ∷ marks) (suc k) (suc b) h = elim (set_cases marks k b h) [ inl i ↦ inl i | inr e ↦ inr (ap suc e) ]
 
-set_keeps : (marks : List Bool) (k b : ℕ) → Marked marks b → Marked (set marks k true) b
+pub set_keeps : (marks : List Bool) (k b : ℕ) → Marked marks b → Marked (set marks k true) b
 set_keeps [] k b h = h
 set_keeps (m ∷ marks) zero zero h = refl
 set_keeps (m ∷ marks) zero (suc b) h = h
 set_keeps (m ∷ marks) (suc k) zero h = h
 set_keeps (m ∷ marks) (suc k) (suc b) h = set_keeps marks k b h
 
-set_marks : (marks : List Bool) (k : ℕ) → k < length marks → Marked (set marks k true) k
+pub set_marks : (marks : List Bool) (k : ℕ) → k < length marks → Marked (set marks k true) k
 set_marks marks k h = get_or-set_same marks k true false h
 
 -- a node that wasn't marked is marked, and its successors stand in the list

@@ -2,7 +2,7 @@
 ghost use Rattle.std.specs.Prelude.{ℕ, ◌≡◌, ◌<◌, ◌++◌, List, length, IfOk, OnOk};
 ghost use Rattle.std.specs.List.{Contains};
 ghost use Rattle.std.specs.Bool.{OnTrue, OnFalse};
-ghost use Rattle.vs_reach.specs.Reached.{AreReached, IsMarkedNow, WasMarked};
+ghost use Rattle.vs_reach.specs.Reached.{AreReached, AreMarkedNow, IsMarkedNow, WasMarked};
 
 use std::alloc::{AllocError, Global};
 
@@ -36,18 +36,33 @@ fn mark(marks: &mut Vec<bool>, node: usize) -> bool
     }
 }
 
-/// The nodes that a walk from one of the seeds leads to.
+// Marks nodes, and puts those that weren't marked before at a list's end.
+fn mark_all(marks: &mut Vec<bool>, nodes: &[usize], todo: &mut Vec<usize>) -> Result<(), AllocError>
+    ensures { OnOk result (AreMarkedNow nodes.now marks.old.items todo.old.items marks.new.items todo.new.items) }
+{
+    for node in nodes {
+        if mark(marks, *node) {
+            todo.push(*node)?;
+        }
+    }
+    Ok(())
+}
+
+/// The nodes that a walk from one of the seeds leads to. It takes as long as these and their edges, and as much memory as there are nodes and as the
+/// edges of one of them.
 pub fn reach<G: Graph>(alloc: Global, graph: &G, seeds: &[usize]) -> Result<Vec<bool>, AllocError>
     requires { (s : ℕ) → Contains seeds.now s → s < G.count graph.now }
     ensures len { IfOk result (λ marks. length marks.items ≡ G.count graph.now) }
     ensures exact { IfOk result (λ marks. AreReached (G.nexts graph.now) seeds.now (G.count graph.now) marks.items) }
 {
     let mut marks = vec![in alloc; false; graph.count()]?;
-    let mut todo = Vec::from_slice(alloc, seeds)?;
+    let mut todo = Vec::new(alloc);
+    let mut nexts = Vec::new(alloc);
+    mark_all(&mut marks, seeds, &mut todo)?;
     while let Some(node) = todo.pop() {
-        if mark(&mut marks, node) {
-            graph.put_nexts(node, &mut todo)?;
-        }
+        nexts.clear();
+        graph.put_nexts(node, &mut nexts)?;
+        mark_all(&mut marks, &nexts, &mut todo)?;
     }
     Ok(marks)
 }

@@ -59,6 +59,26 @@ fn readers(rt: HostRuntime) -> Result<(), Fail> {
     Ok(())
 }
 
+// A piece that begins in the first 4 MiB of a longer source and ends behind them is no fault, also where it ends behind what is kept of the source.
+#[test]
+fn pieces_past_the_limit(rt: HostRuntime) -> Result<(), Fail> {
+    for (count, piece) in [
+        (4194300, b"/* x */".as_slice()),
+        (4194303, b"(* a *)".as_slice()),
+        (4194302, b"\"abcdefgh\"".as_slice()),
+        (4194303, b"4'b1".as_slice()),
+    ] {
+        let mut source = spaces(rt.alloc(), count)?;
+        source.extend_from_slice(piece)?;
+        is_read(&rt, rt.alloc(), &source, false, 1, "vsim: L6 at 4194304\n")?;
+    }
+    let mut source = Vec::from_slice(rt.alloc(), b"/*")?;
+    source.extend_from_slice(&spaces(rt.alloc(), 8388700)?)?;
+    source.extend_from_slice(b"*/")?;
+    is_read(&rt, rt.alloc(), &source, false, 1, "vsim: L6 at 4194304\n")?;
+    Ok(())
+}
+
 // A writer that takes so many bytes of what a call writes holds these, and the status tells whether they are all.
 fn is_cut(
     rt: &impl Abort,

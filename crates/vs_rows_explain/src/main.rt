@@ -4,7 +4,7 @@
 use std::alloc::{AllocError, Global};
 use std::io;
 use vs_certificate::from_json;
-use vs_explain::{explain, explain_certificate, explain_limit, explain_rule};
+use vs_explain::{explain, explain_after, explain_certificate, explain_limit, explain_rule};
 use vs_row_files::{Answers, Text, compare_files, first_and_rest};
 use vs_simulate::list_design;
 use vs_vcd_writing::Counted;
@@ -19,6 +19,22 @@ fn refused(alloc: Global, top: &str, source: &str) -> Result<Vec<u8>, AllocError
     match list_design(alloc, source.as_bytes(), top.as_bytes(), &mut lines) {
         Ok(()) => Ok(Vec::new(alloc)),
         Err(fault) => explain(alloc, source.as_bytes(), top.as_bytes(), &fault),
+    }
+}
+
+/// What is said of a source that is refused after the line of a certificate; nothing of one that isn't.
+fn refused_after(alloc: Global, top: &str, question: &str) -> Result<Vec<u8>, AllocError> {
+    let (certificate, source) = first_and_rest(question, "\n");
+    let mut lines = Counted::new(Vec::new(alloc));
+    match list_design(alloc, source.as_bytes(), top.as_bytes(), &mut lines) {
+        Ok(()) => Ok(Vec::new(alloc)),
+        Err(fault) => explain_after(
+            alloc,
+            certificate.as_bytes(),
+            source.as_bytes(),
+            top.as_bytes(),
+            &fault,
+        ),
     }
 }
 
@@ -67,6 +83,7 @@ impl Answers for Explains {
             "rule" => broken(alloc, rest, question),
             "certificate" => malformed(alloc, question),
             "limit" => limited(alloc, rest, question),
+            "after" => refused_after(alloc, rest, question),
             _ => refused(alloc, rest, question),
         };
         text.put_made(explained);

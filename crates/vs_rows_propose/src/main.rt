@@ -59,11 +59,11 @@ fn put_proposal(design: &Design, grain: ClaimedGrain, text: &mut Text) -> Result
                 b"lost"
             });
         }
-        Proposal::NotMade(number, place) => {
+        Proposal::NotMade(refusal) => {
             text.put(b"not made K");
-            text.put_shown(number);
+            text.put_shown(refusal.number);
             text.put(b" at ");
-            text.put(&place);
+            text.put(&refusal.place);
         }
     }
     Ok(())

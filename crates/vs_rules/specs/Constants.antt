@@ -136,14 +136,9 @@ IsWholeLayer d v _ = ⊥
 abbrev pub IsWhole : Parts → ℕ → Typed → Type 0
 IsWhole d v e = IsWholeLayer d v (out-Typed e)
 
--- its name alone
-abbrev pub IsNameLayer : Parts → ℕ → Typed-F Typed → Type 0
-IsNameLayer d v (t.Signal o) = IsWholeName d v o
-IsNameLayer d v _ = ⊥
-
--- `~u`
+-- `~u`, of the whole of u
 abbrev pub IsInverseLayer : Parts → ℕ → Typed-F Typed → Type 0
-IsInverseLayer d v (t.Unary u.Not x) = IsNameLayer d v (out-Typed x.value)
+IsInverseLayer d v (t.Unary u.Not x) = IsWhole d v x.value
 IsInverseLayer d v _ = ⊥
 
 abbrev pub IsInverse : Parts → ℕ → Typed → Type 0

@@ -1,4 +1,1 @@
-mod EndLemmas
 mod NameLemmas
-mod RangeLemmas
-mod ReadLemmas

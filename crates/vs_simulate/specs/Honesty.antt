@@ -11,10 +11,10 @@ use Rattle.vs_elaborate.specs.vs_scopes.specs.declared.faults.ElabFault.{ElabFau
 use Rattle.vs_design.specs.Parts.{Parts}
 use Rattle.vs_elaborate.specs.DesignOf.{DesignOf}
 use Rattle.vs_elaborate.specs.Faults.{Faults}
-use Rattle.vs_run_dumps.specs.vs_kernel.specs.Runs.{RanTo, HasBegun}
-use Rattle.vs_run_dumps.specs.vs_kernel.specs.Shows.{ShowsSlotEnds}
-use Rattle.vs_run_dumps.specs.vs_kernel.specs.declared.outcome.Outcome.{Outcome}
-use Rattle.vs_run_dumps.specs.vs_kernel.specs.declared.outcome.RunFault.TheVariants as run
+use Rattle.vs_kernel.specs.Runs.{RanTo, HasBegun}
+use Rattle.vs_kernel.specs.Shows.{ShowsSlotEnds}
+use Rattle.vs_kernel.specs.declared.outcome.Outcome.{Outcome}
+use Rattle.vs_kernel.specs.declared.outcome.RunFault.TheVariants as run
 use Rattle.vs_simulate.specs.declared.fault.SimFault.{SimFault}
 use Rattle.vs_simulate.specs.declared.fault.SimFault.TheVariants.{Lex, Parse, Elab, Run, Memory}
 

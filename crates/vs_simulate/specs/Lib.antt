@@ -1,3 +1,2 @@
 pub mod Honesty
 pub mod Listing
-pub mod ReadBack

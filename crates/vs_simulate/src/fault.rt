@@ -4,9 +4,9 @@ ghost use Rattle.vs_simulate.specs.declared.fault.SimFault.TheVariants.{Lex, Par
 
 use std::alloc::AllocError;
 use vs_elaborate::ElabFault;
+use vs_kernel::RunFault;
 use vs_lexer::LexFault;
 use vs_parser::ParseFault;
-use vs_run_dumps::vs_kernel::RunFault;
 
 /// Why a simulation gave no outcome.
 #[derive(Drop)]

@@ -4,7 +4,6 @@
 mod fault;
 mod laws;
 mod listing;
-mod ranges;
 mod simulation;
 
 pub use fault::SimFault;

@@ -1,29 +1,23 @@
 //! One simulation.
 ghost use Rattle.std.specs.Prelude.{◌≡◌, ◌<◌, ◌^◌, true, false, IfOk, IfErr, OnErr, MatchResult};
-ghost use Rattle.vs_run_dumps.specs.vs_kernel.specs.Faults.{FaultAt, OneFailed, is_write as is_run_write};
-ghost use Rattle.vs_run_dumps.specs.vs_kernel.specs.Runs.{RanTo, HasBegun};
-ghost use Rattle.vs_run_dumps.specs.vs_kernel.specs.declared.kernel.Status.TheVariants.{Ready};
+ghost use Rattle.vs_kernel.specs.Faults.{FaultAt, OneFailed, is_write as is_run_write};
+ghost use Rattle.vs_kernel.specs.Runs.{RanTo, HasBegun};
+ghost use Rattle.vs_kernel.specs.declared.kernel.Status.TheVariants.{Ready};
 ghost use Rattle.vs_run_updates.specs.vs_process.specs.Permitted.{NeverStuck};
 ghost use Rattle.vs_simulate.specs.Honesty.{Defines, DefinesNone, IsRun, HasBegunRun, SimulationFails, is_refusal, is_write};
-ghost use Rattle.vs_simulate.specs.ReadBack.{IsReadBack};
 
 use crate::fault::SimFault;
 use crate::laws::names_of_one_line;
-use crate::ranges::bounds_are_short;
 use std::alloc::Global;
 use vs_design::Design;
-use vs_elab_outlines::outlines_of_texts_are_in_order;
 use vs_elaborate::elaborate;
+use vs_kernel::{Fifo, Kernel, Lifo, Listed, Outcome, Pick, RunFault, dumps_show_slot_ends};
 use vs_lexer::lex;
 use vs_parser::parse;
-use vs_run_dumps::vs_kernel::{
-    Fifo, Kernel, Lifo, Listed, Outcome, Pick, RunFault, dumps_show_slot_ends,
-};
-use vs_run_dumps::{complete_runs_end_slots, run_dumps_are_read};
 use vs_run_updates::Due;
 use vs_run_updates::vs_process::never_stuck;
 use vs_run_updates::vs_time_wheel::Wheel;
-use vs_vcd_lines::vs_vcd_writing::Sink;
+use vs_vcd_writing::Sink;
 
 /// Which enabled item is next.
 #[derive(Clone, Copy)]
@@ -111,8 +105,8 @@ pub fn run_design<V: Sink, L: Sink>(
 ///
 /// Where it answers an outcome, the run is an execution of the design that the source defines, and the dump is that execution's: it shows, of each
 /// signal that is no array, at each time, the value at the end of the last slot at or before that time; and the lines are those that its steps make, in
-/// their order, those of `$strobe` at the end of their slot. The dump reads back, by `read` of `vs_vcd`, to these values at these times. Where the
-/// source is refused, nothing is written.
+/// their order, those of `$strobe` at the end of their slot. Where the source is refused, nothing is written. That the dump reads back
+/// to these values at these times is a law of `vs_read_back`.
 pub fn simulate<'s, V: Sink, L: Sink>(
     alloc: Global,
     source: &'s [u8],
@@ -127,8 +121,6 @@ pub fn simulate<'s, V: Sink, L: Sink>(
     requires steps { steps < 2 ^ 62 }
     ensures honest { IfOk result (λ outcome.
         IsRun source.entry.now top.now until steps outcome (V.bytes vcd.old) (V.bytes vcd.new) (L.bytes lines.old) (L.bytes lines.new)) }
-    ensures read_back { IfOk result (λ outcome.
-        IsReadBack source.entry.now top.now until steps outcome (V.bytes vcd.old) (V.bytes vcd.new) (L.bytes lines.old) (L.bytes lines.new)) }
     ensures fault { IfErr result (λ fault. SimulationFails source.entry.now top.now fault) }
     ensures refused { IfErr result (λ fault. is_refusal fault ≡ true → (vcd.new ≡ vcd.old) × (lines.new ≡ lines.old)) }
     ensures begun { IfErr result (λ fault. is_refusal fault ≡ false →
@@ -140,11 +132,7 @@ pub fn simulate<'s, V: Sink, L: Sink>(
     never_stuck();
     dumps_show_slot_ends();
     names_of_one_line();
-    outlines_of_texts_are_in_order();
-    run_dumps_are_read();
-    complete_runs_end_slots();
     let design = design_of(alloc, source, top)?;
-    bounds_are_short(design.signals());
     let outcome = run_design(alloc, &design, policy, until, steps, vcd, lines)?;
     Ok(outcome)
 }

@@ -7,3 +7,4 @@ mod Rows
 mod Tables
 pub mod WalkLemmas
 mod WireLemmas
+mod DistinctLemmas

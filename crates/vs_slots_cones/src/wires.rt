@@ -7,6 +7,7 @@ ghost use Rattle.vs_slots_cones.specs.Walks.{AreNeeds};
 ghost use Rattle.vs_slots_cones.specs.Wires.{drivers, WritesAt, NeedsAt};
 
 use crate::names::push_ranges;
+use crate::once::distinct;
 use std::alloc::{AllocError, Global};
 use std::marker::Model;
 use vs_design::{BitRange, Design, reads, writes};
@@ -56,8 +57,8 @@ impl<'a> Wires<'a> {
         }
     }
 
-    /// What the driver of a number writes.
-    pub(crate) fn written(&self, alloc: Global, n: usize) -> Result<Vec<BitRange>, AllocError>
+    // What the driver of a number writes.
+    fn written(&self, alloc: Global, n: usize) -> Result<Vec<BitRange>, AllocError>
         ensures { IfOk result (λ rs. (r : BitRange) → (Contains rs.items r ↔ WritesAt self.now n r)) }
     {
         let assigns = self.design.assigns();
@@ -73,6 +74,14 @@ impl<'a> Wires<'a> {
             return Ok(Vec::new(alloc));
         }
         statement_writes(alloc, &processes[i].body)
+    }
+
+    /// The same, each range once.
+    pub(crate) fn written_once(&self, alloc: Global, n: usize) -> Result<Vec<BitRange>, AllocError>
+        ensures { IfOk result (λ rs. (r : BitRange) → (Contains rs.items r ↔ WritesAt self.now n r)) }
+    {
+        let ranges = self.written(alloc, n)?;
+        Ok(distinct(ranges))
     }
 
     // What a process of kind comb reads and waits for.
@@ -103,13 +112,22 @@ impl<'a> Wires<'a> {
         self.block_needs(alloc, i)
     }
 
-    /// For each driver what it reads and waits for.
+    // The same, each range once.
+    fn needed_once(&self, alloc: Global, n: usize) -> Result<Vec<BitRange>, AllocError>
+        requires { n < drivers self.now.design }
+        ensures { IfOk result (λ rs. (r : BitRange) → (Contains rs.items r ↔ NeedsAt self.now n r)) }
+    {
+        let ranges = self.needed(alloc, n)?;
+        Ok(distinct(ranges))
+    }
+
+    /// For each driver what it reads and waits for, each range once.
     pub(crate) fn needs(&self, alloc: Global) -> Result<Vec<Vec<BitRange>>, AllocError>
         ensures { IfOk result (λ table. AreNeeds self.now table.items) }
     {
         let mut table = Vec::new(alloc);
         for n in 0..self.count() {
-            let ranges = self.needed(alloc, n)?;
+            let ranges = self.needed_once(alloc, n)?;
             table.push(ranges)?;
         }
         Ok(table)

@@ -57,13 +57,13 @@ fn empty_table(alloc: Global, count: usize) -> Result<Vec<Vec<Written>>, AllocEr
     Ok(table)
 }
 
-/// For each signal of a design the ranges of it that drivers write.
+/// For each signal of a design the ranges of it that drivers write, each range of a driver once.
 pub(crate) fn writers_of(alloc: Global, wires: &Wires) -> Result<Vec<Vec<Written>>, AllocError>
     ensures { IfOk result (λ table. AreWriters wires.now table.items) }
 {
     let mut table = empty_table(alloc, wires.design.signals().len())?;
     for n in 0..wires.count() {
-        let ranges = wires.written(alloc, n)?;
+        let ranges = wires.written_once(alloc, n)?;
         note_all(&mut table, n, &ranges)?;
     }
     Ok(table)

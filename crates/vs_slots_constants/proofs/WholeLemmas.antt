@@ -10,12 +10,13 @@ use Rattle.vs_design.specs.declared.expression.Operand.{Operand}
 use Rattle.vs_design.specs.declared.expression.Slice.{Slice}
 use Rattle.vs_design.specs.declared.expression.Typed.{Typed, Typed-F}
 use Rattle.vs_design.specs.declared.expression.Typed.TheOpen as t
+use Rattle.vs_design.specs.declared.expression.Typed.TheViews.{out-Typed}
 use Rattle.vs_design.specs.declared.statement.Aim.{Aim}
 use Rattle.vs_design.specs.declared.statement.Aim.TheVariants.{Fixed, Chosen}
 use Rattle.vs_design.specs.declared.statement.Target.{Target}
 use Rattle.vs_design.specs.Parts.{Parts}
-use Rattle.vs_rules.specs.Constants.{IsWholeSlice, IsWholeName, IsWholeSelect, IsWholeLayer, IsNameLayer, IsInverseLayer, IsWholeTarget}
-use Rattle.vs_slots_constants.specs.Wholes.{is_absent, is_plain, is_zero, whole_slice, whole_name, whole_select, whole_layer, name_layer, inverse_layer, whole_parts}
+use Rattle.vs_rules.specs.Constants.{IsWholeSlice, IsWholeName, IsWholeSelect, IsWholeLayer, IsInverseLayer, IsWholeTarget}
+use Rattle.vs_slots_constants.specs.Wholes.{is_absent, is_plain, is_zero, whole_slice, whole_name, whole_select, whole_layer, inverse_layer, whole_parts}
 
 -- ---- choices
 
@@ -130,12 +131,8 @@ layer_is d v (t.Slice s) = slice_is d s v
 layer_is d v (t.Resized size x) = select_is d v size.width _
 layer_is d v _ = (λ h. absurd h, λ h. cc)
 
-named_is : (d : Parts) (v : ℕ) (x : Typed-F Typed) → (IsNameLayer d v x ↔ name_layer d x ≡ Some v)
-named_is d v (t.Signal o) = name_is d o v
-named_is d v _ = (λ h. absurd h, λ h. cc)
-
 pub inverse_is : (d : Parts) (v : ℕ) (x : Typed-F Typed) → (IsInverseLayer d v x ↔ inverse_layer d x ≡ Some v)
-inverse_is d v (t.Unary u.Not x) = named_is d v _
+inverse_is d v (t.Unary u.Not x) = layer_is d v (out-Typed x.value)
 inverse_is d v _ = (λ h. absurd h, λ h. cc)
 
 parts_back : (d : Parts) (v : ℕ) (aims : List Aim) → whole_parts d aims ≡ Some v → (s : Slice) × (aims ≡ Fixed s ∷ []) × IsWholeSlice d v s

@@ -46,16 +46,11 @@ whole_layer d (t.Slice s) = whole_slice d s
 whole_layer d (t.Resized size x) = whole_select d size.width (out-Typed x.value)
 whole_layer d _ = None
 
--- the signal whose name alone an expression is
-abbrev pub name_layer : Parts → Typed-F Typed → Option ℕ
-name_layer d (t.Signal o) = whole_name d o
-name_layer d _ = None
-
 abbrev pub inverse_under : Parts → Unary → Typed → Option ℕ
-inverse_under d u.Not e = name_layer d (out-Typed e)
+inverse_under d u.Not e = whole_layer d (out-Typed e)
 inverse_under d _ e = None
 
--- the signal `u` of which an expression is `~u`
+-- the signal `u` of which an expression is `~u`, of its whole
 abbrev pub inverse_layer : Parts → Typed-F Typed → Option ℕ
 inverse_layer d (t.Unary op x) = inverse_under d op x.value
 inverse_layer d _ = None

@@ -2,7 +2,7 @@
 ghost use Rattle.std.specs.Prelude.{ℕ, ◌≡◌, ◌↔◌, Some, slice_get, IsTrue};
 ghost use Rattle.vs_design.specs.declared.expression.Typed.TheViews.{out-Typed};
 ghost use Rattle.vs_rules.specs.Constants.{IsWhole, IsInverse, IsWholeTarget};
-ghost use Rattle.vs_slots_constants.specs.Wholes.{is_plain, whole_name, whole_slice, whole_select, whole_layer, name_layer, inverse_layer, whole_parts};
+ghost use Rattle.vs_slots_constants.specs.Wholes.{is_plain, whole_name, whole_slice, whole_select, whole_layer, inverse_layer, whole_parts};
 
 use vs_design::vs_logic4::Unary;
 use vs_design::{Aim, Design, Operand, Slice, Target, Typed};
@@ -73,26 +73,16 @@ pub fn whole(design: &Design, e: &Typed) -> Option<usize>
     whole_layer(design, e)
 }
 
-// The signal whose name alone an expression is.
-fn name_layer(design: &Design, e: &Typed) -> Option<usize>
-    ensures { result ≡ name_layer design.now (out-Typed e.now) }
-{
-    match e {
-        Typed::Signal(o) => whole_name(design, *o),
-        _ => None,
-    }
-}
-
 pub(crate) fn inverse_layer(design: &Design, e: &Typed) -> Option<usize>
     ensures { result ≡ inverse_layer design.now (out-Typed e.now) }
 {
     match e {
-        Typed::Unary(Unary::Not, x) => name_layer(design, x),
+        Typed::Unary(Unary::Not, x) => whole_layer(design, x),
         _ => None,
     }
 }
 
-/// The signal `u` of which an expression is `~u` (IEEE 1364-2005, clause 5.1.10).
+/// The signal `u` of which an expression is `~u`, by its name or by a select of all its bits (IEEE 1364-2005, clause 5.1.10).
 pub fn inverse(design: &Design, e: &Typed) -> Option<usize>
     ensures { (v : ℕ) → (IsInverse design.now v e.now ↔ result ≡ Some v) }
 {

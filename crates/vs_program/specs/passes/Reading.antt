@@ -7,7 +7,7 @@ use Rattle.vs_program.specs.declared.input.Kept as input
 -- what is kept of the bytes that have been read
 pub record HasKept (seen : List ℕ) (k : input.Kept) : Type 0 where
   pub certificate : k.certificate.items ≡ take 16777217 (first_line seen)
-  pub source : k.source.items ≡ take 4194305 (after_line seen)
+  pub source : k.source.items ≡ take 8388609 (after_line seen)
   pub ended : k.line_ended ≡ has_line_feed seen
 
 -- what is kept of an input, of whose bytes some are left

@@ -6,7 +6,7 @@ use Rattle.vs_cert_order.proofs.rule.keeps_assign_order.Goals as goal
 pub returns : goal.returns
 returns c = record {
   exact =
-      assign_kept c.args.facts.now.design c.args.facts.now.claims c.args.j c.assigns-assigns.result.now c.index-assigns-j.result c.deref.result.now
+      assign_kept c.args.facts.now.design c.args.facts.now.claims c.args.j c.assigns-assigns.result.now c.index-assigns-j.result c.in_ok-read.read.items
       (c.assigns-assigns.ensures ∙ ap (λ (d : Parts). d.assigns) c.design.ensures) (omega arith) c.index-assigns-j.is
-      (c.deref.ensures.value ∙ c.in_ok-read.ensures) c.in_ok-keeps.keeps c.in_ok-keeps.ensures;
+      c.in_ok-read.ensures c.in_ok-keeps.keeps c.in_ok-keeps.ensures;
 }

@@ -1,13 +1,13 @@
 use Rattle.std.proofs.Common.{◌≡◌, ◌+◌, length}
-use Rattle.vs_reach.specs.Owed.{owed}
-use Rattle.vs_reach.proofs.Sweep.{Sweep}
+use Rattle.vs_reach.specs.Reached.{unmarked}
+use Rattle.vs_reach.proofs.Spread.{Spread}
 use Rattle.vs_reach.proofs.walks.reach.Given as goal
 
 abbrev pub invariant-loop-node : goal.invariant-loop-node
 invariant-loop-node g l = record {
   long : length l.marks.items ≡ g.G.Graph.count l.graph;
-  sweep : Sweep (g.G.Graph.nexts l.graph) l.seeds l.marks.items l.todo.items;
+  spread : Spread (g.G.Graph.nexts l.graph) l.seeds l.marks.items l.todo.items;
 }
 
 abbrev pub decreases-loop-node : goal.decreases-loop-node
-decreases-loop-node g l = length l.todo.items + owed (g.G.Graph.nexts l.graph) 0 l.marks.items
+decreases-loop-node g l = length l.todo.items + unmarked l.marks.items

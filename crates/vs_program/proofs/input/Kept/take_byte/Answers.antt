@@ -8,7 +8,7 @@ pub returns-then-self : goal.returns-then-self
 returns-then-self c = λ seen h.
     let old = c.args.self.now in
     let new : input.Kept = record { certificate = old.certificate; source = c.keep.new.text; line_ended = old.line_ended } in
-    on_ok {P = c.keep.new.text.items ≡ take 4194305 (after_line seen ++ c.args.byte ∷ [])} c.keep.result
+    on_ok {P = c.keep.new.text.items ≡ take 8388609 (after_line seen ++ c.args.byte ∷ [])} c.keep.result
     (λ more. more_source seen c.args.byte old new h c.if-self.true refl refl more) (c.keep.ensures (after_line seen) h.source)
 
 pub returns-then-byte-eq10 : goal.returns-then-byte-eq10

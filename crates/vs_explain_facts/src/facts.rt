@@ -1,0 +1,327 @@
+//! What the parts of a design do to its signals.
+
+use crate::copies::sources_of;
+use crate::points::{Point, signals_of};
+use crate::texts::{TextFacts, TextKind, text_of};
+use std::alloc::{AllocError, Global};
+use vs_design::{Assign, Design, ProcessKind, SignalKind, reads, writes};
+
+/// What the parts of a design do to its signals.
+#[derive(Drop)]
+pub struct Facts<'d> {
+    /// The design.
+    pub design: &'d Design,
+    /// What the text of each process does.
+    pub texts: Vec<TextFacts<'d>>,
+    /// For each signal the processes that write it, rising.
+    pub writers: Vec<Vec<usize>>,
+    /// For each signal the continuous assignments that drive it, rising.
+    pub drivers: Vec<Vec<usize>>,
+    /// For each signal the one that it copies.
+    sources: Vec<Option<usize>>,
+    /// For each signal the combinational block that writes it.
+    blocks: Vec<Option<usize>>,
+}
+
+/// So many empty lists.
+fn empty_lists(alloc: Global, count: usize) -> Result<Vec<Vec<usize>>, AllocError> {
+    let mut lists = Vec::new(alloc);
+    for _ in 0..count {
+        lists.push(Vec::new(alloc))?;
+    }
+    Ok(lists)
+}
+
+/// Puts a number at the end of the list of a signal, where it isn't there.
+fn note(lists: &mut [Vec<usize>], signal: usize, number: usize) -> Result<(), AllocError> {
+    if let Some(list) = lists.get_mut(signal) {
+        if list.last() != Some(&number) {
+            list.push(number)?;
+        }
+    }
+    Ok(())
+}
+
+/// For each signal the processes that write it.
+fn writers_of(
+    alloc: Global,
+    count: usize,
+    texts: &[TextFacts],
+) -> Result<Vec<Vec<usize>>, AllocError> {
+    let mut writers = empty_lists(alloc, count)?;
+    for (number, text) in texts.iter().enumerate() {
+        for point in &text.points {
+            for signal in &point.writes {
+                note(&mut writers, *signal, number)?;
+            }
+        }
+    }
+    Ok(writers)
+}
+
+/// The signals that an assignment reads.
+pub fn read_by(alloc: Global, assign: &Assign) -> Result<Vec<usize>, AllocError> {
+    signals_of(alloc, &reads(alloc, &assign.source)?)
+}
+
+/// The signals that an assignment drives.
+pub fn driven_by(alloc: Global, assign: &Assign) -> Result<Vec<usize>, AllocError> {
+    signals_of(alloc, &writes(alloc, &assign.target)?)
+}
+
+/// For each signal the continuous assignments that drive it.
+fn drivers_of(alloc: Global, design: &Design) -> Result<Vec<Vec<usize>>, AllocError> {
+    let mut drivers = empty_lists(alloc, design.signals().len())?;
+    for (number, assign) in design.assigns().iter().enumerate() {
+        for signal in driven_by(alloc, assign)? {
+            note(&mut drivers, signal, number)?;
+        }
+    }
+    Ok(drivers)
+}
+
+/// For each signal the first combinational block that writes it.
+fn blocks_of(
+    alloc: Global,
+    writers: &[Vec<usize>],
+    texts: &[TextFacts],
+) -> Result<Vec<Option<usize>>, AllocError> {
+    let mut blocks = Vec::new(alloc);
+    for list in writers {
+        let mut block = None;
+        for number in list {
+            if let Some(text) = texts.get(*number) {
+                if block.is_none() && text.kind == TextKind::Block {
+                    block = Some(*number);
+                }
+            }
+        }
+        blocks.push(block)?;
+    }
+    Ok(blocks)
+}
+
+/// The signals on which some depend, by way of assignments and combinational blocks.
+#[derive(Drop)]
+pub struct Cone {
+    /// Which signals these are, those that it begins with among them.
+    pub signals: Vec<bool>,
+    /// They, in the order in which a walk comes to them: those that it begins with first.
+    pub order: Vec<usize>,
+    /// For each signal the one that depends on it by which the walk came there; of those that it begins with themselves.
+    from: Vec<usize>,
+    /// Through which assignments and blocks the walk has gone.
+    assigns: Vec<bool>,
+    blocks: Vec<bool>,
+}
+
+/// Sets a mark. Whether it was not set.
+fn set(marks: &mut [bool], place: usize) -> bool {
+    match marks.get_mut(place) {
+        Some(mark) => {
+            let is_new = !*mark;
+            *mark = true;
+            is_new
+        }
+        None => false,
+    }
+}
+
+impl Cone {
+    /// Comes to a signal.
+    fn come(&mut self, signal: usize, from: usize) -> Result<(), AllocError> {
+        if set(&mut self.signals, signal) {
+            if let Some(entry) = self.from.get_mut(signal) {
+                *entry = from;
+            }
+            self.order.push(signal)?;
+        }
+        Ok(())
+    }
+
+    /// Comes to signals.
+    fn come_all(&mut self, signals: &[usize], from: usize) -> Result<(), AllocError> {
+        for signal in signals {
+            self.come(*signal, from)?;
+        }
+        Ok(())
+    }
+
+    /// Goes through the assignments that drive a signal.
+    fn go_assigns(
+        &mut self,
+        alloc: Global,
+        facts: &Facts,
+        signal: usize,
+    ) -> Result<(), AllocError> {
+        for number in facts.drivers_of(signal) {
+            if set(&mut self.assigns, *number) {
+                if let Some(assign) = facts.design.assigns().get(*number) {
+                    self.come_all(&read_by(alloc, assign)?, signal)?;
+                }
+            }
+        }
+        Ok(())
+    }
+
+    /// Goes through the block that writes a signal.
+    fn go_block(&mut self, facts: &Facts, signal: usize) -> Result<(), AllocError> {
+        let Some(number) = facts.block_of(signal) else {
+            return Ok(());
+        };
+        if !set(&mut self.blocks, number) {
+            return Ok(());
+        }
+        let Some(text) = facts.texts.get(number) else {
+            return Ok(());
+        };
+        for term in &text.terms {
+            self.come(term.term.range.signal, signal)?;
+        }
+        for point in &text.points {
+            self.come_all(&point.reads, signal)?;
+        }
+        Ok(())
+    }
+
+    /// The signal that the walk began with by which it came to one.
+    pub fn top(&self, signal: usize) -> usize {
+        let mut top = signal;
+        for _ in 0..self.order.len() {
+            match self.from.get(top) {
+                Some(from) if *from != top => top = *from,
+                _ => return top,
+            }
+        }
+        top
+    }
+}
+
+impl<'d> Facts<'d> {
+    /// The facts of a design. They take as long as it is.
+    pub fn of(alloc: Global, design: &'d Design) -> Result<Facts<'d>, AllocError> {
+        let mut texts = Vec::new(alloc);
+        for process in design.processes() {
+            texts.push(text_of(alloc, process)?)?;
+        }
+        let writers = writers_of(alloc, design.signals().len(), &texts)?;
+        let drivers = drivers_of(alloc, design)?;
+        let sources = sources_of(alloc, design, &drivers)?;
+        let blocks = blocks_of(alloc, &writers, &texts)?;
+        Ok(Facts {
+            design,
+            texts,
+            writers,
+            drivers,
+            sources,
+            blocks,
+        })
+    }
+
+    /// The processes that write a signal.
+    pub fn writers_of(&self, signal: usize) -> &[usize] {
+        match self.writers.get(signal) {
+            Some(list) => list,
+            None => &[],
+        }
+    }
+
+    /// The continuous assignments that drive a signal.
+    pub fn drivers_of(&self, signal: usize) -> &[usize] {
+        match self.drivers.get(signal) {
+            Some(list) => list,
+            None => &[],
+        }
+    }
+
+    /// The combinational block that writes a signal.
+    pub fn block_of(&self, signal: usize) -> Option<usize> {
+        match self.blocks.get(signal) {
+            Some(block) => *block,
+            None => None,
+        }
+    }
+
+    /// The signal that a net copies, itself or by way of other nets; the signal itself where it copies none.
+    pub fn root(&self, signal: usize) -> usize {
+        let mut root = signal;
+        for _ in 0..self.sources.len() {
+            match self.sources.get(root) {
+                Some(Some(source)) => root = *source,
+                _ => return root,
+            }
+        }
+        root
+    }
+
+    /// Whether a signal is a net.
+    pub fn is_net(&self, signal: usize) -> bool {
+        match self.design.signals().get(signal) {
+            Some(signal) => signal.kind == SignalKind::Wire,
+            None => false,
+        }
+    }
+
+    /// The path of a signal.
+    pub fn path(&self, signal: usize) -> &'d [u8] {
+        match self.design.signals().get(signal) {
+            Some(signal) => &signal.path,
+            None => &[],
+        }
+    }
+
+    /// The signals on which these depend.
+    pub fn cone(&self, alloc: Global, from: &[usize]) -> Result<Cone, AllocError> {
+        let mut cone = Cone {
+            signals: vec![in alloc; false; self.design.signals().len()]?,
+            order: Vec::new(alloc),
+            from: vec![in alloc; 0; self.design.signals().len()]?,
+            assigns: vec![in alloc; false; self.design.assigns().len()]?,
+            blocks: vec![in alloc; false; self.texts.len()]?,
+        };
+        for signal in from {
+            cone.come(*signal, *signal)?;
+        }
+        for next in 0..self.design.signals().len() {
+            let Some(signal) = cone.order.get(next).copied() else {
+                break;
+            };
+            cone.go_assigns(alloc, self, signal)?;
+            cone.go_block(self, signal)?;
+        }
+        Ok(cone)
+    }
+
+    /// The number of the signal of a path.
+    pub fn signal_named(&self, path: &[u8]) -> Option<usize> {
+        for (number, signal) in self.design.signals().iter().enumerate() {
+            if signal.path.as_slice() == path {
+                return Some(number);
+            }
+        }
+        None
+    }
+
+    /// The number of the process of a name.
+    pub fn process_named(&self, name: &[u8]) -> Option<usize> {
+        for (number, process) in self.design.processes().iter().enumerate() {
+            if process.name.as_slice() == name {
+                return Some(number);
+            }
+        }
+        None
+    }
+
+    /// Whether a process is no `always`.
+    pub fn is_initial(&self, process: usize) -> bool {
+        match self.design.processes().get(process) {
+            Some(process) => process.kind == ProcessKind::Initial,
+            None => false,
+        }
+    }
+
+    /// A statement of a process.
+    pub fn point(&self, process: usize, number: usize) -> Option<&Point<'d>> {
+        self.texts.get(process)?.points.get(number)
+    }
+}

@@ -1,0 +1,67 @@
+//! What is said of a cause: what is wrong, and what mends it.
+
+use crate::sentences::sentence_of;
+use vs_explain_facts::Question;
+use vs_explain_outline::Page;
+use vs_explain_places::put_statement;
+
+/// A cause in a sentence, and what mends it in one; `%` stands for the name of a signal.
+#[derive(Clone, Copy)]
+pub(crate) struct Story {
+    /// What is wrong.
+    pub(crate) cause: &'static str,
+    /// What mends it.
+    pub(crate) remedy: &'static str,
+}
+
+/// A statement of a process, by the numbers of both.
+#[derive(Clone, Copy, PartialEq, Eq)]
+pub(crate) struct Place {
+    pub(crate) process: usize,
+    pub(crate) number: usize,
+}
+
+/// Puts words, with a name in place of each `%`.
+fn put_words(page: &mut Page, words: &str, name: &[u8]) {
+    let bytes = words.as_bytes();
+    let mut from = 0usize;
+    for (index, byte) in bytes.iter().enumerate() {
+        if *byte == b'%' {
+            page.put_bytes(bytes.get(from..index).unwrap_or(&[]));
+            page.put_bytes(name);
+            from = index.saturating_add(1);
+        }
+    }
+    page.put_bytes(bytes.get(from..).unwrap_or(&[]));
+    page.put("\n");
+}
+
+/// Puts the rule, what is wrong, and what mends it.
+pub(crate) fn put_story(page: &mut Page, number: u8, story: Story, name: &[u8]) {
+    page.put(sentence_of(number));
+    page.put("\n");
+    put_words(page, story.cause, name);
+    put_words(page, story.remedy, name);
+}
+
+/// Puts the line of a statement with a mark under it.
+pub(crate) fn put_place(page: &mut Page, asked: &Question, place: Place) {
+    if let Some(process) = asked.design.processes().get(place.process) {
+        put_statement(page, asked.text, process, place.number);
+    }
+}
+
+/// Puts the line of a statement, where there is one.
+pub(crate) fn put_maybe(page: &mut Page, asked: &Question, place: Option<Place>) {
+    if let Some(place) = place {
+        put_place(page, asked, place);
+    }
+}
+
+/// The name of a signal as it is declared.
+pub(crate) fn name_of<'q>(asked: &Question<'q>, signal: usize) -> &'q [u8] {
+    match asked.design.signals().get(signal) {
+        Some(signal) => &signal.name,
+        None => &[],
+    }
+}

@@ -1,0 +1,44 @@
+//! Classes of bytes.
+ghost use Rattle.std.specs.Prelude.{◌≡◌};
+ghost use Rattle.vs_lex_tokens.specs.Bytes.{starts_name};
+ghost use Rattle.vs_prep_pieces.specs.Classes.{in_class};
+
+/// A class of bytes.
+#[derive(Clone, Copy)]
+pub enum Class {
+    /// White space, line feeds among it.
+    White,
+    /// White space that stands on a line.
+    Blank,
+    /// What stands on a line: each byte but the line feed.
+    Line,
+    /// What an escaped name goes on with.
+    Escaped,
+    /// What a name goes on with.
+    Name,
+    /// What the digits behind a base go on with.
+    Digits,
+}
+
+impl Class {
+    /// Whether the byte is of this class.
+    pub fn has(self, byte: u8) -> bool
+        ensures { result ≡ in_class self byte }
+    {
+        match self {
+            Class::White => vs_lex_tokens::is_white(byte),
+            Class::Blank => byte != b'\n' && vs_lex_tokens::is_white(byte),
+            Class::Line => byte != b'\n',
+            Class::Escaped => vs_lex_tokens::ByteClass::Escaped.has(byte),
+            Class::Name => vs_lex_tokens::ByteClass::Name.has(byte),
+            Class::Digits => byte == b'?' || vs_lex_tokens::ByteClass::Name.has(byte),
+        }
+    }
+}
+
+/// Whether the byte begins a name.
+pub fn starts_name(byte: u8) -> bool
+    ensures { result ≡ starts_name byte }
+{
+    vs_lex_tokens::starts_name(byte)
+}

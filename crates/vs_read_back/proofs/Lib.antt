@@ -1,0 +1,3 @@
+pub mod EndLemmas
+mod RangeLemmas
+mod ReadLemmas
