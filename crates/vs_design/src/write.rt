@@ -2,7 +2,6 @@
 ghost use Rattle.std.specs.Prelude.{◌≡◌, ◌∷◌, ◌++◌, [], OnOk};
 ghost use Rattle.vs_design.specs.Writes.{names, shares};
 
-use smallvec::SmallVec;
 use std::alloc::{AllocError, Global};
 use std::marker::Model;
 use vs_logic4::Vec4;
@@ -33,18 +32,26 @@ impl Default for Part {
     }
 }
 
+/// The parts of a write: one, which takes no memory, or a list.
+#[derive(Drop)]
+enum PartList {
+    One([Part; 1]),
+    Many(Vec<Part>),
+}
+
 /// One assignment's write, evaluated. A contract sees the list of its parts, of which the lowest is the first. One part takes no memory.
 #[derive(Drop)]
 pub struct Write {
-    parts: SmallVec<Part, 1>,
+    parts: PartList,
+    alloc: Global,
 }
 
 impl Model for Write {
-    ghost use Rattle.vs_design.specs.Writes.{Write};
+    ghost use Rattle.vs_design.specs.Writes.{Write, parts_of};
 
     ghost Value = { Write };
 
-    ghost view = { λ w. w.parts.items };
+    ghost view = { λ w. parts_of w.parts };
 }
 
 impl Write {
@@ -53,7 +60,8 @@ impl Write {
         ensures { result ≡ [] }
     {
         Write {
-            parts: SmallVec::new(alloc),
+            parts: PartList::Many(Vec::new(alloc)),
+            alloc,
         }
     }
 
@@ -63,7 +71,8 @@ impl Write {
         ensures { result ≡ part ∷ [] }
     {
         Write {
-            parts: SmallVec::from_buf(alloc, [part]),
+            parts: PartList::One([part]),
+            alloc,
         }
     }
 
@@ -72,15 +81,30 @@ impl Write {
     pub fn push(&mut self, part: Part) -> Result<(), AllocError>
         ensures { OnOk result (self.new ≡ self.old ++ part ∷ []) }
     {
-        self.parts.push(part)?;
-        Ok(())
+        match &mut self.parts {
+            PartList::One(one) => {
+                let first = one[0];
+                let mut list = Vec::new(self.alloc);
+                list.push(first)?;
+                list.push(part)?;
+                self.parts = PartList::Many(list);
+                Ok(())
+            }
+            PartList::Many(list) => {
+                list.push(part)?;
+                Ok(())
+            }
+        }
     }
 
     /// Its parts, the lowest first.
     pub fn parts(&self) -> &[Part]
         ensures { result.now ≡ self.now }
     {
-        self.parts.as_slice()
+        match &self.parts {
+            PartList::One(part) => part,
+            PartList::Many(list) => list,
+        }
     }
 
     /// Whether a part of it names a signal, be its digits in range or not.

@@ -6,7 +6,7 @@ mod ItselfLemmas
 mod LayerLemmas
 mod OneLineLemmas
 mod OneLineTextLemmas
-mod PairLemmas
+pub mod PairLemmas
 mod SameDesignLemmas
 mod SameEventLemmas
 mod SameInnerLemmas
@@ -15,7 +15,7 @@ mod SameParameterLemmas
 mod SamePieceLemmas
 mod SamePortLemmas
 mod SameScopeLemmas
-mod SameStatementLemmas
+pub mod SameStatementLemmas
 mod SameTargetLemmas
 mod SameTypedLemmas
 mod TokenLemmas

@@ -1,5 +1,6 @@
 -- Assignments of sources that say the same are one in a design.
 use Rattle.std.proofs.Common.{◌≡◌, ℕ, ◌+◌, Bool, false, List, [], ◌∷◌, ◌++◌, pos, map, max, refl, ap, ap₂, sym, subst, ◌∙◌}
+use Rattle.std.specs.List.{AllZip}
 use Rattle.vs_logic4.specs.declared.digit.Digit.{Digit}
 use Rattle.vs_logic4.specs.Parts.{selected}
 use Rattle.vs_syntax.specs.declared.tree.Expr.{Expr}
@@ -23,7 +24,7 @@ use Rattle.vs_elab_operands.specs.vs_widths.specs.Expressions.{meant}
 use Rattle.vs_elab_operands.specs.vs_widths.specs.Typing.{IsTypedAs}
 use Rattle.vs_elab_operands.specs.Members.{Assignee, places, named_signal}
 use Rattle.vs_elab_operands.specs.Statements.{assigned_to, IsSource, IsAssignment}
-use Rattle.vs_elab_laws.specs.Same.{SameTyped, SameTarget, SameSides}
+use Rattle.vs_elab_laws.specs.Same.{SameTyped, SameAim, SameTarget, SameSides}
 use Rattle.vs_elab_laws.proofs.SameTypedLemmas.{same_meant, same_aimed, one_typed}
 
 -- a size and a sign that were found
@@ -61,9 +62,22 @@ module _ (how : AssignmentKind) (env : Environment) where
       ap₂ (λ x y. x ∷ y) (p.part given store time ∙ sym (q.part given store time) ∙ ap (λ w. part_at b (selected (pos place) w digits) store time) width)
       (one_parts (place + aim_width a) ns aims bims digits store time ps qs ∙ ap (λ w. parts_from (place + w) bims digits store time) width)
 
+  one_aim : (n : Named) (a b : Aim) → IsPlace how env n a → IsPlace how env n b → SameAim a b
+  one_aim n a b p q = record {
+    width = ap found_width (sym p.found ∙ q.found);
+    fixed = p.fixed ∙ sym q.fixed;
+    range = p.range ∙ sym q.range;
+    part = λ digits store time. p.part digits store time ∙ sym (q.part digits store time);
+  }
+
+  one_places : (ns : List Named) (aims bims : List Aim) → Each (IsPlace how env) ns aims → Each (IsPlace how env) ns bims → AllZip SameAim aims bims
+  one_places _ _ _ each_none each_none = tt
+  one_places _ _ _ (each_more n a ns aims p ps) (each_more _ b _ bims q qs) = (one_aim n a b p q, one_places ns aims bims ps qs)
+
   pub one_target : (m : Aimed) (t t' : Target) → IsTarget how env m t → IsTarget how env m t' → SameTarget t t'
   one_target m t t' h k = record {
     width = ap found_width (sym h.found ∙ k.found);
+    places = one_places m.places t.parts.items t'.parts.items h.places k.places;
     ranges = h.ranges ∙ sym k.ranges;
     indices = one_indices m.places t.parts.items t'.parts.items h.places k.places;
     write = λ digits store time. one_parts 0 m.places t.parts.items t'.parts.items digits store time h.places k.places;

@@ -195,4 +195,5 @@ one_typed m w g y y' h k = record {
   size = h.size ∙ sym k.size;
   value = λ store time. h.value store time ∙ sym (k.value store time);
   ranges = h.ranges ∙ sym k.ranges;
+  layer = h.layer ∙ sym k.layer;
 }

@@ -7,6 +7,7 @@ use Rattle.std.specs.declared.alloc.Global.{Global}
 use Rattle.vs_logic4.specs.declared.case.CaseKind.{CaseKind}
 use Rattle.vs_logic4.specs.declared.digit.Digit.{Digit}
 use Rattle.vs_design.specs.declared.expression.Typed.{Typed}
+use Rattle.vs_design.specs.declared.statement.Aim.{Aim}
 use Rattle.vs_design.specs.declared.statement.EventTerm.{EventTerm}
 use Rattle.vs_design.specs.declared.statement.Target.{Target}
 use Rattle.vs_design.specs.declared.statement.Ticks.{Ticks}
@@ -21,21 +22,33 @@ use Rattle.vs_design.specs.declared.design.Entry.{Entry}
 use Rattle.vs_design.specs.declared.design.Entry.TheVariants.{Enter, Declare, Leave}
 use Rattle.vs_design.specs.Parts.{Parts}
 use Rattle.vs_design.specs.Stores.{Store}
-use Rattle.vs_design.specs.Uses.{reads, writes, target_reads}
-use Rattle.vs_design.specs.WellFormed.{size_of, numbers}
+use Rattle.vs_design.specs.Uses.{reads, writes, aim_range, target_reads}
+use Rattle.vs_design.specs.WellFormed.{size_of, aim_width, numbers}
 use Rattle.vs_width_selects.specs.vs_eval.specs.Values.{value_of}
-use Rattle.vs_width_selects.specs.vs_eval.specs.Targets.{assigned}
+use Rattle.vs_width_selects.specs.vs_eval.specs.Targets.{part_at, assigned}
+use Rattle.vs_width_selects.specs.Layers.{layer_of}
+use Rattle.vs_elab_operands.specs.vs_widths.specs.Aiming.{is_fixed}
 use Rattle.vs_elab_operands.specs.vs_elab_listed.specs.Outlines.{declared}
 
--- The expressions say the same: one size, one value in every store, and the same ranges read (clauses 5.4 and 5.5).
+-- The expressions say the same: one size, one value in every store, the same ranges read (clauses 5.4 and 5.5), and the same outermost.
 pub record SameTyped (x x' : Typed) : Type 0 where
   pub size : size_of x ≡ size_of x'
   pub value : (store : Store) (time : ℕ) → value_of x store time ≡ value_of x' store time
   pub ranges : reads x ≡ reads x'
+  pub layer : layer_of x ≡ layer_of x'
 
--- The targets say the same: one size, the same ranges written, the same read by indices, and one write in every store (clauses 6.1 and 9.2).
+-- The places of targets say the same: one size, constant indices in both or in neither, and one part of a write in every store (clause 9.2).
+pub record SameAim (a a' : Aim) : Type 0 where
+  pub width : aim_width a ≡ aim_width a'
+  pub fixed : is_fixed a ≡ is_fixed a'
+  pub range : aim_range a ≡ aim_range a'
+  pub part : (digits : List Digit) (store : Store) (time : ℕ) → part_at a digits store time ≡ part_at a' digits store time
+
+-- The targets say the same: one size, the same places and ranges written, the same read by indices, and one write in every store (clauses 6.1
+-- and 9.2).
 pub record SameTarget (t t' : Target) : Type 0 where
   pub width : t.width ≡ t'.width
+  pub places : AllZip SameAim t.parts.items t'.parts.items
   pub ranges : writes t ≡ writes t'
   pub indices : target_reads t ≡ target_reads t'
   pub write : (digits : List Digit) (store : Store) (time : ℕ) → assigned t digits store time ≡ assigned t' digits store time

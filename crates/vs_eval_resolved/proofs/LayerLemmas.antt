@@ -10,6 +10,7 @@ use Rattle.vs_design.specs.vs_logic4.specs.Extensions.{length-resized}
 use Rattle.vs_design.specs.vs_logic4.specs.Lengths.{length-replication}
 use Rattle.vs_design.specs.vs_logic4.specs.Operators.{unary}
 use Rattle.vs_design.specs.vs_logic4.specs.Parts.{replication}
+use Rattle.vs_design.specs.vs_logic4.specs.Vectors.{resized}
 use Rattle.vs_design.specs.declared.expression.Count.{Count}
 use Rattle.vs_design.specs.declared.expression.Excerpt.{Excerpt}
 use Rattle.vs_design.specs.declared.expression.Extension.{Extension}
@@ -96,3 +97,11 @@ module _ (signals : List Signal) (e : Typed) where
   pub resized_long : (size : Extension) (x : Box Typed Global) → e ≡ t.Resized size x → AreSized signals (λ store time. value_of e store time) size.width
   resized_long size x is = λ store time _.
       ap length (value_layer e store time (layer.Resized size x) (t.rolls-Resized size x ∙ sym is)) ∙ length-resized size.signed size.width (value_of x.value store time)
+
+  pub resized_meant : (size : Extension) (x : Box Typed Global) (y : Typed) (node : Node) (width : ℕ) → e ≡ t.Resized size x → y ≡ x.value →
+      Means signals (λ store time. resized size.signed size.width (value_of y store time)) node width → IsMeant signals e node width
+  resized_meant size x y node width is y_is m =
+      means_as signals (λ store time. resized size.signed size.width (value_of y store time)) (λ store time. value_of e store time) node width
+      (λ store time.
+      ap (λ (z : Typed). resized size.signed size.width (value_of z store time)) y_is
+      ∙ sym (value_layer e store time (layer.Resized size x) (t.rolls-Resized size x ∙ sym is))) m

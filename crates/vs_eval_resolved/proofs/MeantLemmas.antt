@@ -73,6 +73,27 @@ module _ (signals : List Signal) (values : Values) (x node : Node) (size : Size)
         ∙ ap (λ ds. planes_of (unary operator ds)) (own_digits size.width (values store time) (m.sized store time is));
   }
 
+-- an operand that has its meaning, brought to another size
+pub resized_means : (signals : List Signal) (values : Values) (x node : Node) (from to : ℕ) (signed : Bool) →
+    ((store : Store) (time : ℕ) → planes_in node store time ≡ planes_of (resized signed to (digits_of from (planes_in x store time)))) → Means signals values x from →
+    Means signals (λ store time. resized signed to (values store time)) node to
+resized_means signals values x node from to signed made m = record {
+  sized = λ store time _. length-resized signed to (values store time);
+  same = λ store time is.
+      made store time
+      ∙ ap (λ p. planes_of (resized signed to (digits_of from p))) (m.same store time is)
+      ∙ ap (λ ds. planes_of (resized signed to ds)) (own_digits from (values store time) (m.sized store time is));
+}
+
+-- the same of one that has its planes at the other size too
+pub kept_means : (signals : List Signal) (values : Values) (x : Node) (from to : ℕ) (signed : Bool) →
+    ((ds : List Digit) → length ds ≡ from → planes_of ds ≡ planes_of (resized signed to ds)) → Means signals values x from →
+    Means signals (λ store time. resized signed to (values store time)) x to
+kept_means signals values x from to signed keeps m = record {
+  sized = λ store time _. length-resized signed to (values store time);
+  same = λ store time is. m.same store time is ∙ keeps (values store time) (m.sized store time is);
+}
+
 -- what a link gives of planes is that of the values on its sides
 pub linked_planes : (sides : Sides) (link : Link) (left right : List Digit) → sides.operator ≡ link.operator → sides.signed ≡ link.signed →
     resized false sides.left left ≡ left_side (sizing_of link.operator) link.width left →

@@ -7,6 +7,7 @@ use Rattle.vs_design.specs.vs_logic4.specs.Comparisons.{truth}
 use Rattle.vs_design.specs.vs_logic4.specs.declared.operators.Unary.{Unary}
 use Rattle.vs_design.specs.Stores.{Store}
 use Rattle.vs_eval_resolved.specs.declared.node.Array.{Array}
+use Rattle.vs_eval_resolved.specs.declared.node.Change.{Change}
 use Rattle.vs_eval_resolved.specs.declared.node.Field.{Field}
 use Rattle.vs_eval_resolved.specs.declared.node.Node.{Node, Node-F}
 use Rattle.vs_eval_resolved.specs.declared.node.Node.TheOpen as f
@@ -16,7 +17,7 @@ use Rattle.vs_eval_resolved.specs.declared.node.Node.TheFolds.{fold-roll-Node, m
 use Rattle.vs_eval_resolved.specs.declared.node.Planes.{Planes}
 use Rattle.vs_eval_resolved.specs.declared.node.Sides.{Sides}
 use Rattle.vs_eval_resolved.specs.declared.node.Size.{Size}
-use Rattle.vs_eval_resolved.specs.Nodes.{planes_step, planes_in, word_planes, field_planes, element_planes, bit_planes, unary_planes, combined, chained, chosen}
+use Rattle.vs_eval_resolved.specs.Nodes.{planes_step, planes_in, word_planes, field_planes, element_planes, bit_planes, unary_planes, combined, chained, chosen, changed_planes}
 use Rattle.vs_eval_resolved.specs.PlanesOf.{digits_of}
 
 -- the planes of a resolved expression are what its outermost layer gives
@@ -54,3 +55,6 @@ module _ (store : Store) (time : ℕ) where
   pub in_if : (size width : Size) (c x y : Box Node Global) → planes_in (v.If size width c x y) store time ≡
       chosen (truth (digits_of size.width (planes_in c.value store time))) width (planes_in x.value store time) (planes_in y.value store time)
   in_if size width c x y = node_layer (v.If size width c x y) store time (f.If size width c x y) (v.rolls-If size width c x y)
+
+  pub in_resized : (change : Change) (x : Box Node Global) → planes_in (v.Resized change x) store time ≡ changed_planes change (planes_in x.value store time)
+  in_resized change x = node_layer (v.Resized change x) store time (f.Resized change x) (v.rolls-Resized change x)

@@ -13,10 +13,10 @@ ghost use Rattle.vs_eval_resolved.specs.PlanesOf.{planes_of};
 
 use crate::copy::boxed;
 use crate::evaluate::planes;
-use crate::node::{Array, Field, Node, Sides, Size};
+use crate::node::{Array, Change, Field, Node, Sides, Size};
 use std::alloc::{AllocError, Global};
 use vs_design::vs_logic4::{Sizing, Unary, Vec4};
-use vs_design::{Axis, Count, Design, Link, Operand, Selection, Slice, Typed};
+use vs_design::{Axis, Count, Design, Extension, Link, Operand, Selection, Slice, Typed};
 use vs_eval::place_of;
 
 /// The expression resolved, where its operands have the sizes that those of every design have.
@@ -57,7 +57,10 @@ pub(crate) fn resolve(
             },
             None => Ok(None),
         },
-        Typed::Resized(size, _) => Ok(Some(other(alloc, e, size.width)?)),
+        Typed::Resized(size, x) => match resolve(alloc, design, x)? {
+            Some(x) => Ok(Some(brought(alloc, *size, x)?)),
+            None => Ok(Some(other(alloc, e, size.width)?)),
+        },
     }
 }
 
@@ -260,6 +263,35 @@ fn unary(alloc: Global, operator: Unary, x: (Node, Size)) -> Result<(Node, Size)
     let (node, size) = x;
     let node = Node::Unary(operator, size, Box::new(alloc, node)?);
     Ok((node, unary_size(operator, size)))
+}
+
+/// An operand brought to a size: at its own, and at a larger one without a sign, it has the same planes.
+fn brought(alloc: Global, to: Extension, x: (Node, Size)) -> Result<(Node, Size), AllocError>
+    ensures { IfOk result (λ r. (signals : List Signal) (values : Values) → Means signals values x.0 x.1.width
+        → Means signals (λ store time. resized to.signed to.width (values store time)) r.0 r.1.width) }
+{
+    let (node, from) = x;
+    let size = Size { width: to.width };
+    if keeps_planes(to, from) {
+        return Ok((node, size));
+    }
+    let change = Change {
+        from: from.width,
+        to: to.width,
+        signed: to.signed,
+    };
+    Ok((Node::Resized(change, Box::new(alloc, node)?), size))
+}
+
+/// Whether a value of this size has the same planes behind an extension.
+fn keeps_planes(to: Extension, from: Size) -> bool
+    ensures { result ≡ true → (ds : List Digit) → length ds ≡ from.width → planes_of ds ≡ planes_of (resized to.signed to.width ds) }
+{
+    if to.signed {
+        from.width == to.width
+    } else {
+        from.width <= to.width
+    }
 }
 
 /// The size of what an operator gives of an operand of this one.

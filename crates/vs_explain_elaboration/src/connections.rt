@@ -1,6 +1,6 @@
 //! Connections and overrides of instances.
 
-use crate::declared::{is_mark, word_of};
+use crate::declared::word_of;
 use crate::names::{instance_of, put_nearest, put_region};
 use crate::nearest::Nearest;
 use std::alloc::{AllocError, Global};
@@ -100,7 +100,7 @@ fn given_at(alloc: Global, text: &SourceText, open: usize) -> Result<Given, Allo
     let mut names = Vec::new(alloc);
     let mut commas = 0usize;
     let mut depth = 0usize;
-    let empty = is_mark(text, open.saturating_add(1), Mark::Close);
+    let empty = text.is_mark(open.saturating_add(1), Mark::Close);
     for index in open..text.tokens.len() {
         let Some(token) = text.tokens.get(index) else {
             break;

@@ -167,14 +167,6 @@ pub(crate) fn is_net(kind: LandmarkKind) -> bool {
     )
 }
 
-/// Whether a token is this mark.
-pub(crate) fn is_mark(text: &SourceText, token: usize, mark: Mark) -> bool {
-    match text.tokens.get(token) {
-        Some(token) => token.kind == Kind::Mark(mark),
-        None => false,
-    }
-}
-
 /// The word with which the declaration of a name begins, and its token.
 pub(crate) fn word_of(text: &SourceText, name: usize) -> Option<(Word, usize)> {
     for back in 1..LOOKED_BACK {
@@ -190,7 +182,7 @@ pub(crate) fn word_of(text: &SourceText, name: usize) -> Option<(Word, usize)> {
 
 /// Whether a declared name is an array.
 pub(crate) fn is_array(text: &SourceText, name: usize) -> bool {
-    is_mark(text, name.saturating_add(1), Mark::OpenBracket)
+    text.is_mark(name.saturating_add(1), Mark::OpenBracket)
 }
 
 /// Whether a declared name has a range, so that its bits can be selected.
@@ -199,8 +191,8 @@ pub(crate) fn has_range(text: &SourceText, name: usize) -> bool {
         Some((Word::Integer, _)) => true,
         Some((_, token)) => {
             let next = token.saturating_add(1);
-            is_mark(text, next, Mark::OpenBracket)
-                || is_mark(text, token.saturating_add(2), Mark::OpenBracket)
+            text.is_mark(next, Mark::OpenBracket)
+                || text.is_mark(token.saturating_add(2), Mark::OpenBracket)
         }
         None => true,
     }

@@ -1,6 +1,6 @@
 //! Expressions and assignments without a meaning.
 
-use crate::declared::{Visible, has_range, is_array, is_mark, is_net, is_variable, word_of};
+use crate::declared::{Visible, has_range, is_array, is_net, is_variable, word_of};
 use crate::limits::literal_range;
 use crate::names::{put_region, regions_of, unknown_name};
 use crate::places::{constant_part, open_range, stands_in, wide_part};
@@ -75,18 +75,17 @@ fn too_wide(page: &mut Page, text: &SourceText, path: &[u8], piece: Option<Piece
 fn wants_constant(text: &SourceText, token: usize) -> bool {
     let before = token.saturating_sub(1);
     let next = token.saturating_add(1);
-    let is_count = is_mark(text, before, Mark::OpenBrace) && is_mark(text, next, Mark::OpenBrace);
-    let is_left = is_mark(text, before, Mark::OpenBracket) && is_mark(text, next, Mark::Colon);
-    let is_right = is_mark(text, before, Mark::Colon) && is_mark(text, next, Mark::CloseBracket);
-    let is_width = is_mark(text, before, Mark::PlusColon)
-        || is_mark(text, before, Mark::MinusColon);
-    is_count || is_left || is_right || is_width || is_mark(text, before, Mark::Hash)
+    let is_count = text.is_mark(before, Mark::OpenBrace) && text.is_mark(next, Mark::OpenBrace);
+    let is_left = text.is_mark(before, Mark::OpenBracket) && text.is_mark(next, Mark::Colon);
+    let is_right = text.is_mark(before, Mark::Colon) && text.is_mark(next, Mark::CloseBracket);
+    let is_width = text.is_mark(before, Mark::PlusColon) || text.is_mark(before, Mark::MinusColon);
+    is_count || is_left || is_right || is_width || text.is_mark(before, Mark::Hash)
 }
 
 /// What is wrong with the kind of a used name: the words after it.
 fn wrong_use(text: &SourceText, used: &Landmark, declared: &Landmark) -> Option<&'static str> {
     let next = used.token.saturating_add(1);
-    let selected = is_mark(text, next, Mark::OpenBracket);
+    let selected = text.is_mark(next, Mark::OpenBracket);
     if used.kind == LandmarkKind::Used(UseRole::Written) && is_net(declared.kind) {
         return Some(
             " is a net, and a process assigns to it. Declare it as `reg`, or drive it by `assign`.\n",

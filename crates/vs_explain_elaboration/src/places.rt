@@ -1,6 +1,5 @@
 //! Places in a piece of a source that has a fault.
 
-use crate::declared::is_mark;
 use crate::limits::literal_range;
 use vs_explain_outline::{Landmark, LandmarkKind, Piece, SourceText, is_marked};
 use vs_syntax::vs_lexer::{Kind, Mark};
@@ -16,7 +15,7 @@ pub(crate) fn stands_in(landmark: &Landmark, piece: Option<Piece>) -> bool {
 /// The first token of a piece that is this mark.
 fn first_mark(text: &SourceText, piece: &Piece, mark: Mark) -> Option<usize> {
     for token in piece.first..piece.last.saturating_add(1) {
-        if is_mark(text, token, mark) {
+        if text.is_mark(token, mark) {
             return Some(token);
         }
     }
@@ -28,14 +27,14 @@ fn part_select(text: &SourceText, piece: &Piece, mark: Mark) -> Option<usize> {
     let mut depth = 0usize;
     let mut outermost = piece.first;
     for token in piece.first..piece.last.saturating_add(1) {
-        if is_mark(text, token, Mark::OpenBracket) {
+        if text.is_mark(token, Mark::OpenBracket) {
             if depth == 0 {
                 outermost = token;
             }
             depth = depth.saturating_add(1);
-        } else if is_mark(text, token, Mark::CloseBracket) {
+        } else if text.is_mark(token, Mark::CloseBracket) {
             depth = depth.saturating_sub(1);
-        } else if depth > 0 && is_mark(text, token, mark) {
+        } else if depth > 0 && text.is_mark(token, mark) {
             return Some(outermost);
         }
     }
@@ -72,9 +71,9 @@ pub(crate) fn wide_part(text: &SourceText, piece: &Piece) -> (usize, &'static st
 fn replication(text: &SourceText, piece: &Piece) -> Option<usize> {
     let mut open = None;
     for token in piece.first..piece.last.saturating_add(1) {
-        if is_mark(text, token, Mark::OpenBrace) {
-            let is_inner = open.is_some() && !is_mark(text, token.saturating_sub(1), Mark::Comma);
-            if is_inner && !is_mark(text, token.saturating_sub(1), Mark::OpenBrace) {
+        if text.is_mark(token, Mark::OpenBrace) {
+            let is_inner = open.is_some() && !text.is_mark(token.saturating_sub(1), Mark::Comma);
+            if is_inner && !text.is_mark(token.saturating_sub(1), Mark::OpenBrace) {
                 return open;
             }
             open = Some(token);

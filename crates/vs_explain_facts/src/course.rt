@@ -1,6 +1,7 @@
 //! Exact times: the processes with delays run alone, without nets, and without what waits for events.
 
 use crate::facts::Facts;
+use crate::lists::{empty_lists, note, set_mark};
 use crate::points::Point;
 use crate::texts::{TextFacts, TextKind};
 use std::alloc::{AllocError, Global};
@@ -74,25 +75,6 @@ struct Runner<'d> {
     left: usize,
 }
 
-/// Puts a time at the end of a list of times, where it isn't there.
-fn note_time(lists: &mut [Vec<u64>], place: usize, time: u64) -> Result<(), AllocError> {
-    if let Some(list) = lists.get_mut(place) {
-        if list.last() != Some(&time) {
-            list.push(time)?;
-        }
-    }
-    Ok(())
-}
-
-/// So many empty lists.
-fn empty_lists(alloc: Global, count: usize) -> Result<Vec<Vec<u64>>, AllocError> {
-    let mut lists = Vec::new(alloc);
-    for _ in 0..count {
-        lists.push(Vec::new(alloc))?;
-    }
-    Ok(lists)
-}
-
 /// The truth of an expression.
 fn truth_of(e: &Typed, store: &Store, time: u64) -> Digit {
     value(e, store, time).truth()
@@ -156,10 +138,7 @@ fn controls_in(alloc: Global, points: &[Point]) -> Result<Vec<bool>, AllocError>
             if let Some(mark) = marks.get_mut(number) {
                 *mark = next_control < point.behind;
             }
-            if matches!(
-                point.statement,
-                Statement::Delay(_, _, _) | Statement::Event(_, _, _)
-            ) {
+            if point.is_delay() || point.is_event() {
                 next_control = number;
             }
         }
@@ -206,7 +185,7 @@ impl<'d> Runner<'d> {
     /// Notes that a statement runs.
     fn note(&mut self, process: usize, place: usize, time: u64) -> Result<(), AllocError> {
         if let Some(lists) = self.course.times.get_mut(process) {
-            note_time(lists, place, time)?;
+            note(lists, place, time)?;
         }
         Ok(())
     }
@@ -241,7 +220,7 @@ impl<'d> Runner<'d> {
             } else {
                 &mut self.course.falls
             };
-            note_time(lists, signal, time)?;
+            note(lists, signal, time)?;
         }
         Ok(())
     }
@@ -422,9 +401,7 @@ fn watched_of(alloc: Global, facts: &Facts) -> Result<Vec<bool>, AllocError> {
     let mut marks = vec![in alloc; false; facts.design.signals().len()]?;
     for text in &facts.texts {
         for term in &text.terms {
-            if let Some(mark) = marks.get_mut(facts.root(term.term.range.signal)) {
-                *mark = true;
-            }
+            set_mark(&mut marks, facts.root(term.term.range.signal));
         }
     }
     Ok(marks)

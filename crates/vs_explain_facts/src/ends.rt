@@ -1,5 +1,6 @@
 //! At which residues the delays of a text can end.
 
+use crate::lists::empty_lists;
 use crate::texts::TextFacts;
 use std::alloc::{AllocError, Global};
 use vs_design::Statement;
@@ -90,12 +91,8 @@ pub fn delay_ends(
     text: &TextFacts,
     modulus: u64,
 ) -> Result<Option<Vec<(usize, Vec<u64>)>>, AllocError> {
-    let mut rows = Vec::new(alloc);
-    for _ in 0..text.points.len() {
-        rows.push(Vec::new(alloc))?;
-    }
     let mut walk = Walk {
-        rows,
+        rows: empty_lists(alloc, text.points.len())?,
         todo: Vec::new(alloc),
         is_full: false,
     };

@@ -1,10 +1,11 @@
 //! What the parts of a design do to its signals.
 
-use crate::copies::sources_of;
+use crate::lists::{empty_lists, note, set_mark};
 use crate::points::{Point, signals_of};
 use crate::texts::{TextFacts, TextKind, text_of};
 use std::alloc::{AllocError, Global};
 use vs_design::{Assign, Design, ProcessKind, SignalKind, reads, writes};
+use vs_slots_copies::Copies;
 
 /// What the parts of a design do to its signals.
 #[derive(Drop)]
@@ -14,32 +15,13 @@ pub struct Facts<'d> {
     /// What the text of each process does.
     pub texts: Vec<TextFacts<'d>>,
     /// For each signal the processes that write it, rising.
-    pub writers: Vec<Vec<usize>>,
+    writers: Vec<Vec<usize>>,
     /// For each signal the continuous assignments that drive it, rising.
-    pub drivers: Vec<Vec<usize>>,
-    /// For each signal the one that it copies.
-    sources: Vec<Option<usize>>,
+    drivers: Vec<Vec<usize>>,
+    /// Which net copies which signal.
+    copies: Copies<'d>,
     /// For each signal the combinational block that writes it.
     blocks: Vec<Option<usize>>,
-}
-
-/// So many empty lists.
-fn empty_lists(alloc: Global, count: usize) -> Result<Vec<Vec<usize>>, AllocError> {
-    let mut lists = Vec::new(alloc);
-    for _ in 0..count {
-        lists.push(Vec::new(alloc))?;
-    }
-    Ok(lists)
-}
-
-/// Puts a number at the end of the list of a signal, where it isn't there.
-fn note(lists: &mut [Vec<usize>], signal: usize, number: usize) -> Result<(), AllocError> {
-    if let Some(list) = lists.get_mut(signal) {
-        if list.last() != Some(&number) {
-            list.push(number)?;
-        }
-    }
-    Ok(())
 }
 
 /// For each signal the processes that write it.
@@ -115,22 +97,10 @@ pub struct Cone {
     blocks: Vec<bool>,
 }
 
-/// Sets a mark. Whether it was not set.
-fn set(marks: &mut [bool], place: usize) -> bool {
-    match marks.get_mut(place) {
-        Some(mark) => {
-            let is_new = !*mark;
-            *mark = true;
-            is_new
-        }
-        None => false,
-    }
-}
-
 impl Cone {
     /// Comes to a signal.
     fn come(&mut self, signal: usize, from: usize) -> Result<(), AllocError> {
-        if set(&mut self.signals, signal) {
+        if set_mark(&mut self.signals, signal) {
             if let Some(entry) = self.from.get_mut(signal) {
                 *entry = from;
             }
@@ -155,7 +125,7 @@ impl Cone {
         signal: usize,
     ) -> Result<(), AllocError> {
         for number in facts.drivers_of(signal) {
-            if set(&mut self.assigns, *number) {
+            if set_mark(&mut self.assigns, *number) {
                 if let Some(assign) = facts.design.assigns().get(*number) {
                     self.come_all(&read_by(alloc, assign)?, signal)?;
                 }
@@ -169,7 +139,7 @@ impl Cone {
         let Some(number) = facts.block_of(signal) else {
             return Ok(());
         };
-        if !set(&mut self.blocks, number) {
+        if !set_mark(&mut self.blocks, number) {
             return Ok(());
         }
         let Some(text) = facts.texts.get(number) else {
@@ -206,14 +176,14 @@ impl<'d> Facts<'d> {
         }
         let writers = writers_of(alloc, design.signals().len(), &texts)?;
         let drivers = drivers_of(alloc, design)?;
-        let sources = sources_of(alloc, design, &drivers)?;
+        let copies = Copies::of(alloc, design)?;
         let blocks = blocks_of(alloc, &writers, &texts)?;
         Ok(Facts {
             design,
             texts,
             writers,
             drivers,
-            sources,
+            copies,
             blocks,
         })
     }
@@ -245,13 +215,25 @@ impl<'d> Facts<'d> {
     /// The signal that a net copies, itself or by way of other nets; the signal itself where it copies none.
     pub fn root(&self, signal: usize) -> usize {
         let mut root = signal;
-        for _ in 0..self.sources.len() {
-            match self.sources.get(root) {
-                Some(Some(source)) => root = *source,
-                _ => return root,
+        for _ in 0..self.design.signals().len() {
+            match self.copies.source(root) {
+                Some(source) => root = source,
+                None => return root,
             }
         }
         root
+    }
+
+    /// Whether some process waits for edges, or any change, of a signal, or of a net that copies it.
+    pub fn is_root(&self, signal: usize) -> bool {
+        for text in &self.texts {
+            for term in &text.terms {
+                if self.root(term.term.range.signal) == signal {
+                    return true;
+                }
+            }
+        }
+        false
     }
 
     /// Whether a signal is a net.

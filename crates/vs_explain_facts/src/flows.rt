@@ -1,5 +1,6 @@
 //! The ways through the text of a process.
 
+use crate::lists::{empty_lists, set_mark};
 use crate::points::{Moment, Point};
 use std::alloc::{AllocError, Global};
 use vs_design::{Statement, Typed, has_control};
@@ -102,10 +103,7 @@ fn link_block(
 
 /// The ways through a body of so many statements.
 pub(crate) fn flow_of(alloc: Global, body: &Statement, count: usize) -> Result<Flow, AllocError> {
-    let mut nexts = Vec::new(alloc);
-    for _ in 0..count {
-        nexts.push(Vec::new(alloc))?;
-    }
+    let mut nexts = empty_lists(alloc, count)?;
     let start = link(&mut nexts, body, count)?;
     Ok(Flow { nexts, start })
 }
@@ -171,18 +169,6 @@ struct Walk {
     todo: Vec<(usize, Arrival)>,
 }
 
-/// Sets a mark. Whether it was not set.
-fn set(marks: &mut [bool], place: usize) -> bool {
-    match marks.get_mut(place) {
-        Some(mark) => {
-            let is_new = !*mark;
-            *mark = true;
-            is_new
-        }
-        None => false,
-    }
-}
-
 impl Walk {
     /// Comes to a statement.
     fn come(&mut self, place: usize, arrival: Arrival) -> Result<(), AllocError> {
@@ -199,11 +185,11 @@ impl Walk {
             Arrival::FirstSlot => {
                 moment.is_first = true;
                 moment.is_late = true;
-                set(&mut self.after_zero, place)
+                set_mark(&mut self.after_zero, place)
             }
             Arrival::Late => {
                 moment.is_late = true;
-                set(&mut self.after_time, place)
+                set_mark(&mut self.after_time, place)
             }
         };
         if is_new {

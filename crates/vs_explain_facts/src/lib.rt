@@ -2,11 +2,12 @@
 #![tactic(auto)]
 
 mod claims;
-mod copies;
 mod course;
 mod ends;
 mod facts;
 mod flows;
+mod lists;
+mod parts;
 mod points;
 mod question;
 mod texts;
@@ -16,6 +17,8 @@ pub use course::Course;
 pub use ends::delay_ends;
 pub use facts::{Cone, Facts, driven_by, read_by};
 pub use flows::{AS_CHECKED, Reading};
+pub use lists::set_mark;
+pub use parts::Part;
 pub use points::{Moment, Point};
 pub use question::Question;
 pub use texts::{Term, TextFacts, TextKind};

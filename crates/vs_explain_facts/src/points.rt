@@ -2,6 +2,7 @@
 
 use std::alloc::{AllocError, Global};
 use vs_design::{BitRange, Statement, Target, reads, statement_reads, writes};
+use vs_slots_copies::push_signals;
 
 /// When a statement can run, over all ways through its text.
 #[derive(Clone, Copy, PartialEq, Eq)]
@@ -69,14 +70,6 @@ pub(crate) const NEVER: Moment = Moment {
     is_first: false,
     is_late: false,
 };
-
-/// Puts the signals of ranges at a list's end.
-fn push_signals(signals: &mut Vec<usize>, ranges: &[BitRange]) -> Result<(), AllocError> {
-    for range in ranges {
-        signals.push(range.signal)?;
-    }
-    Ok(())
-}
 
 /// The signals of ranges.
 pub(crate) fn signals_of(alloc: Global, ranges: &[BitRange]) -> Result<Vec<usize>, AllocError> {

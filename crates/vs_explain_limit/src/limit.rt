@@ -2,7 +2,7 @@
 
 use std::alloc::{AllocError, Global};
 use vs_design::{Assign, Design, Statement, has_control};
-use vs_explain_facts::{driven_by, read_by};
+use vs_explain_facts::{Part, driven_by, read_by};
 use vs_explain_outline::{Page, SourceText};
 use vs_explain_places::{found, put_marked};
 
@@ -64,13 +64,6 @@ fn reads_itself(alloc: Global, assign: &Assign) -> Result<bool, AllocError> {
     Ok(false)
 }
 
-/// A process or an assignment of a design, by its number.
-#[derive(Clone, Copy)]
-enum Part {
-    Process(usize),
-    Assign(usize),
-}
-
 /// A part of a design that took steps, and how many.
 #[derive(Clone, Copy)]
 struct Taker {
@@ -124,20 +117,6 @@ fn next_taker(takers: &[Taker], last: Option<(u64, usize)>) -> Option<(usize, Ta
         }
     }
     next
-}
-
-/// The name of a part.
-fn name_of<'a>(design: &'a Design, part: Part) -> &'a [u8] {
-    match part {
-        Part::Process(number) => match design.processes().get(number) {
-            Some(process) => &process.name,
-            None => &[],
-        },
-        Part::Assign(number) => match design.assigns().get(number) {
-            Some(assign) => &assign.name,
-            None => &[],
-        },
-    }
 }
 
 /// What is said of a part whose text shows that it goes round in one slot.
@@ -203,7 +182,7 @@ fn put_takers(
             break;
         }
         before = Some((taker.steps, index));
-        put_taker(page, text, name_of(design, taker.part), taker.steps, of);
+        put_taker(page, text, taker.part.name(design), taker.steps, of);
         if let Some(sentence) = circle_of(page, design, taker.part) {
             page.put(sentence);
             told.is_circle = true;

@@ -1,10 +1,11 @@
 //! A source with its tokens and its outline, and what is looked up in it.
 
+use crate::frames::{is_mark, is_word};
 use crate::outline::{Landmark, LandmarkKind, Outline, Region, RegionKind};
 use crate::paths::{first_part, ordinal_of};
 use crate::scan::outline_of;
 use std::alloc::{AllocError, Global};
-use vs_lexer::{LexFault, Token, lex};
+use vs_lexer::{LexFault, Mark, Token, Word, lex};
 
 /// How many instances of one name are followed in a step of a path, where generate constructs have several.
 const FOLLOWED: usize = 16;
@@ -59,6 +60,16 @@ impl<'s> SourceText<'s> {
             Some(token) => token.name(),
             None => &[],
         }
+    }
+
+    /// Whether a token is this word.
+    pub fn is_word(&self, token: usize, word: Word) -> bool {
+        is_word(&self.tokens, token, word)
+    }
+
+    /// Whether a token is this mark.
+    pub fn is_mark(&self, token: usize, mark: Mark) -> bool {
+        is_mark(&self.tokens, token, mark)
     }
 
     /// The place of a token; of none the end of the source.

@@ -3,12 +3,12 @@
 use std::alloc::{AllocError, Global};
 use vs_design::{Process, Statement};
 use vs_explain_outline::SourceText;
-use vs_lexer::{Kind, Mark, Token, Word};
+use vs_lexer::{Kind, Mark, Word};
 
 /// A walk through the tokens of a process, beside its statements in a design.
 #[derive(Drop)]
 struct Walk<'t, 's> {
-    tokens: &'t [Token<'s>],
+    text: &'t SourceText<'s>,
     /// The token at which the next statement begins.
     next: usize,
     /// The token of each statement, by its number.
@@ -27,24 +27,10 @@ struct ForTokens {
 }
 
 impl<'t, 's> Walk<'t, 's> {
-    fn is_mark(&self, index: usize, mark: Mark) -> bool {
-        match self.tokens.get(index) {
-            Some(token) => token.kind == Kind::Mark(mark),
-            None => false,
-        }
-    }
-
-    fn is_word(&self, index: usize, word: Word) -> bool {
-        match self.tokens.get(index) {
-            Some(token) => token.kind == Kind::Word(word),
-            None => false,
-        }
-    }
-
     /// Behind the first mark of this kind from a token on that stands in no brackets which open there.
     fn behind(&self, from: usize, wanted: Mark) -> usize {
         let mut depth = 0usize;
-        for (index, token) in self.tokens.iter().enumerate().skip(from) {
+        for (index, token) in self.text.tokens.iter().enumerate().skip(from) {
             let Kind::Mark(mark) = token.kind else {
                 continue;
             };
@@ -59,12 +45,12 @@ impl<'t, 's> Walk<'t, 's> {
                 return index.saturating_add(1);
             }
         }
-        self.tokens.len()
+        self.text.tokens.len()
     }
 
     /// Behind a value without brackets, or brackets with one.
     fn behind_value(&self, from: usize) -> usize {
-        if self.is_mark(from, Mark::Open) {
+        if self.text.is_mark(from, Mark::Open) {
             return self.behind(from, Mark::Close);
         }
         from.saturating_add(1)
@@ -101,12 +87,12 @@ impl<'t, 's> Walk<'t, 's> {
     /// Goes on behind a label of a `case`.
     fn skip_label(&mut self) {
         let next = self.next;
-        if !self.is_word(next, Word::Default) {
+        if !self.text.is_word(next, Word::Default) {
             self.next = self.behind(next, Mark::Colon);
             return;
         }
         let behind = next.saturating_add(1);
-        self.next = if self.is_mark(behind, Mark::Colon) {
+        self.next = if self.text.is_mark(behind, Mark::Colon) {
             behind.saturating_add(1)
         } else {
             behind
@@ -116,11 +102,11 @@ impl<'t, 's> Walk<'t, 's> {
     /// Goes on behind a `begin`, its name and its declarations.
     fn skip_begin(&mut self) {
         let mut next = self.next.saturating_add(1);
-        if self.is_mark(next, Mark::Colon) {
+        if self.text.is_mark(next, Mark::Colon) {
             next = next.saturating_add(2);
         }
-        for _ in 0..self.tokens.len() {
-            if !self.is_word(next, Word::Reg) && !self.is_word(next, Word::Integer) {
+        for _ in 0..self.text.tokens.len() {
+            if !self.text.is_word(next, Word::Reg) && !self.text.is_word(next, Word::Integer) {
                 break;
             }
             next = self.behind(next, Mark::Semicolon);
@@ -131,7 +117,7 @@ impl<'t, 's> Walk<'t, 's> {
     /// Goes on behind a word, where it comes next. Whether it does.
     fn skip_word(&mut self, word: Word) -> bool {
         let next = self.next;
-        let comes = self.is_word(next, word);
+        let comes = self.text.is_word(next, word);
         if comes {
             self.next = next.saturating_add(1);
         }
@@ -195,7 +181,7 @@ fn note_statement(walk: &mut Walk, statement: &Statement) -> Result<(), AllocErr
 #[cycle(stands)]
 fn note_block(walk: &mut Walk, all: &[Statement]) -> Result<(), AllocError> {
     let next = walk.next;
-    if walk.is_word(next, Word::For) {
+    if walk.text.is_word(next, Word::For) {
         return note_for(walk, all);
     }
     walk.skip_begin();
@@ -244,7 +230,7 @@ fn note_process(walk: &mut Walk, body: &Statement) -> Result<(), AllocError> {
         return note_statement(walk, body);
     }
     let next = walk.next;
-    if !walk.is_word(next, Word::Always) {
+    if !walk.text.is_word(next, Word::Always) {
         if let Statement::Assign(number, _, _) = body {
             return walk.note(*number, next);
         }
@@ -261,7 +247,7 @@ pub fn statement_tokens(
     process: &Process,
 ) -> Result<Vec<usize>, AllocError> {
     let mut walk = Walk {
-        tokens: &text.tokens,
+        text,
         next: 0,
         found: Vec::new(alloc),
     };

@@ -7,7 +7,7 @@ use vs_design::vs_logic4::Edge;
 use vs_explain_facts::{Question, TextFacts, TextKind, delay_ends, kind_word, process_of};
 use vs_explain_outline::Page;
 use vs_explain_places::{found, put_marked};
-use vs_explain_spots::{Site, is_finish, mark_site, put_residues, put_site, text_at};
+use vs_explain_spots::{Site, is_finish, mark_site, put_residues, put_rule, put_site, text_at};
 
 /// Why a process has both kinds of wait.
 #[derive(Clone, Copy, PartialEq, Eq)]
@@ -165,7 +165,7 @@ fn put_missing(
         number: missing.number,
     };
     mark_site(page, question, site);
-    page.put(RULE);
+    put_rule(page, 8);
     put_site(page, question, site);
     page.put(" can end at ");
     put_residues(page, &[missing.residue], modulus);
@@ -184,7 +184,7 @@ fn put_missing(
 /// Puts what a certificate claims of a process that keeps its lists.
 fn put_claims(page: &mut Page, question: Question) {
     put_marked(page, question.text, question.place);
-    page.put(RULE);
+    put_rule(page, 8);
     match process_of(question.certificate, question.place) {
         Some(entry) => {
             page.put("The certificate says: kind `");
@@ -215,9 +215,6 @@ fn put_stale(page: &mut Page, question: Question, process: usize, text: &TextFac
     }
     page.put("Make the certificate anew of this source: `vsim certify`.\n");
 }
-
-/// The rule on lists.
-const RULE: &str = "K8: the lists of a process have each residue at which its delays can end. ";
 
 /// Says why a process breaks K8.
 pub fn put_delays(page: &mut Page, question: Question) {

@@ -7,8 +7,8 @@ use vs_explain_facts::{Question, TextFacts, TextKind, entry_of, mode_word, root_
 use vs_explain_outline::Page;
 use vs_explain_places::{found, put_marked, put_named};
 use vs_explain_spots::{
-    Site, mark_assign, mark_site, mark_term, put_path, put_short, put_signal, term_of, text_at,
-    turning_in, turning_of, unsized_of, waiter_of,
+    Site, mark_assign, mark_site, mark_term, put_path, put_short, put_signal, sentence_of, term_of,
+    text_at, turning_in, turning_of, unsized_of, waiter_of,
 };
 
 /// Why edges of a signal can't be awaited.
@@ -337,7 +337,7 @@ fn mark_waiter(page: &mut Page, question: Question, awaited: Awaited) {
 }
 
 /// What is said of a cause, behind the name of the signal.
-fn sentence_of(cause: Cause) -> &'static str {
+fn words_of(cause: Cause) -> &'static str {
     match cause {
         Cause::Undriven => " is driven by nothing: it never has an edge.\n",
         Cause::InvertedClock => " is an inverted clock: it is computed, and no copy of a clock.\n",
@@ -513,7 +513,7 @@ fn put_cause(page: &mut Page, question: Question, awaited: Awaited, cause: Cause
         put_signal(page, question, awaited.root);
         page.put(", which");
     }
-    page.put(sentence_of(cause));
+    page.put(words_of(cause));
     if cause == Cause::Claim {
         put_claimed_root(page, question);
     }
@@ -524,9 +524,8 @@ fn put_cause(page: &mut Page, question: Question, awaited: Awaited, cause: Cause
 pub fn put_edges(page: &mut Page, question: Question) {
     let Some(awaited) = awaited_of(question) else {
         put_marked(page, question.text, question.place);
-        page.put(
-            "K6: an edge is awaited of a variable that one process with delays writes by `=`, or of a net that copies it.\n",
-        );
+        page.put(sentence_of(6));
+        page.put("\n");
         return put_claimed_root(page, question);
     };
     let cause = cause_of(page.alloc(), question, awaited);

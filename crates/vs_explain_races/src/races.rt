@@ -8,13 +8,9 @@ use vs_explain_outline::Page;
 use vs_explain_places::{found, put_marked};
 use vs_explain_spots::{
     ClockForm, Site, common, form_of, free_before, has_clocks, longer_initial, mark_site, point_at,
-    put_path, put_residues, put_short, put_signal, put_site, put_times, residues_of, text_at,
-    turner_of, turning_in, turning_of,
+    put_path, put_residues, put_rule, put_short, put_signal, put_site, put_times, residues_of,
+    text_at, turner_of, turning_in, turning_of,
 };
-
-/// The rule.
-const RULE: &str =
-    "K9: no process reads a variable that another one can write by `=` at the same time. ";
 
 /// What a race is.
 #[derive(Clone, Copy, PartialEq, Eq)]
@@ -50,18 +46,6 @@ fn roots_of(alloc: Global, facts: &Facts, text: &TextFacts) -> Result<Vec<usize>
         roots.push(facts.root(term.term.range.signal))?;
     }
     Ok(roots)
-}
-
-/// Whether some process waits for edges of a variable, or of a net that copies it.
-fn is_root(facts: &Facts, signal: usize) -> bool {
-    for text in &facts.texts {
-        for term in &text.terms {
-            if facts.root(term.term.range.signal) == signal {
-                return true;
-            }
-        }
-    }
-    false
 }
 
 /// Whether a process waits for one of some roots.
@@ -121,7 +105,7 @@ fn cause_of(question: Question, pair: &Pair, roots: &[usize]) -> Cause {
     if roots.contains(&pair.signal) {
         return Cause::ResetAtEdge;
     }
-    if is_root(question.facts, pair.signal) {
+    if question.facts.is_root(pair.signal) {
         return Cause::ClockAsData;
     }
     if writer.kind == TextKind::Edges {
@@ -260,7 +244,7 @@ fn put_race(page: &mut Page, question: Question, course: &Course, pair: &Pair, r
     let cause = cause_of(question, pair, roots);
     mark_site(page, question, pair.read);
     mark_site(page, question, pair.write);
-    page.put(RULE);
+    put_rule(page, 9);
     put_pair(page, question, pair);
     page.put(if pair.read.process == pair.write.process {
         " in the same process, with no time between, "
@@ -408,7 +392,7 @@ fn put_formless(
         mark_site(page, question, site);
     }
     mark_site(page, question, pair.write);
-    page.put(RULE);
+    put_rule(page, 9);
     put_path(page, question, root);
     page.put(" isn't of the form of a clock, since ");
     page.put(lack_of(form));
@@ -466,7 +450,7 @@ fn put_claimed(page: &mut Page, question: Question, pair: &Pair, both: &[u64], r
         Some(site) if has_clocks(question.facts) => mark_site(page, question, site),
         _ => mark_site(page, question, pair.read),
     }
-    page.put(RULE);
+    put_rule(page, 9);
     put_pair(page, question, pair);
     page.put(" by `=`. No time was found at which both run, but by the certificate both can at ");
     put_residues(page, both, question.certificate.modulus);
@@ -482,7 +466,7 @@ fn put_claimed(page: &mut Page, question: Question, pair: &Pair, both: &[u64], r
 /// Puts a process of which no race was found.
 fn put_unknown(page: &mut Page, question: Question) {
     put_marked(page, question.text, question.place);
-    page.put(RULE);
+    put_rule(page, 9);
     page.put("It reads a variable whose writer can run at the same times by the certificate.\n");
     page.put("Write it by `<=`.\n");
 }

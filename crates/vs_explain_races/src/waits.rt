@@ -8,7 +8,7 @@ use vs_explain_outline::Page;
 use vs_explain_places::{found, put_marked};
 use vs_explain_spots::{
     ClockForm, Site, common, edge_of, form_of, has_clocks, mark_site, mark_term, push_edge,
-    put_path, put_residues, put_short, put_site, put_times, text_at, turning_of,
+    put_path, put_residues, put_rule, put_short, put_site, put_times, text_at, turning_of,
 };
 
 /// Two terms of a process whose edges come at one time.
@@ -227,7 +227,7 @@ fn put_meeting(
         }
         mark_term(page, question, process, index);
     }
-    page.put("K7: at most one edge wakes a process in a time slot. ");
+    put_rule(page, 7);
     put_edges_met(page, question, meeting);
     page.put("both come ");
     put_times(page, &meeting.times);
@@ -282,8 +282,9 @@ fn put_apart(page: &mut Page, question: Question, text: &TextFacts) {
             }
         }
     }
+    put_rule(page, 7);
     page.put(
-        "K7: at most one edge wakes a process in a time slot. No time was found at which two of these edges come, but by the certificate they can:\n",
+        "No time was found at which two of these edges come, but by the certificate they can:\n",
     );
     for term in &text.terms {
         put_term_times(page, question, term.term.edge, term.term.range.signal);

@@ -1,29 +1,28 @@
 //! Which processes wait for a signal, and where.
 
-use crate::story::Place;
 use std::alloc::{AllocError, Global};
-use vs_design::Statement;
 use vs_design::vs_logic4::Edge;
-use vs_explain_facts::{Facts, TextKind, driven_by};
+use vs_explain_facts::{Facts, TextKind, driven_by, set_mark};
+use vs_explain_spots::Site;
 
 /// The first control of a process.
-pub(crate) fn control_in(facts: &Facts, process: usize) -> Option<Place> {
+pub(crate) fn control_in(facts: &Facts, process: usize) -> Option<Site> {
     let text = facts.texts.get(process)?;
     for (number, point) in text.points.iter().enumerate() {
-        if matches!(point.statement, Statement::Event(_, _, _)) {
-            return Some(Place { process, number });
+        if point.is_event() {
+            return Some(Site { process, number });
         }
     }
     None
 }
 
 /// The first control of any process that waits for an edge of a signal, or of a net that copies it.
-pub(crate) fn edge_of(facts: &Facts, root: usize, edge: Edge) -> Option<Place> {
+pub(crate) fn edge_of(facts: &Facts, root: usize, edge: Edge) -> Option<Site> {
     for (process, text) in facts.texts.iter().enumerate() {
         for term in &text.terms {
             if term.term.edge == edge && facts.root(term.term.range.signal) == root {
                 let number = term.number as usize;
-                return Some(Place { process, number });
+                return Some(Site { process, number });
             }
         }
     }
@@ -57,11 +56,8 @@ pub(crate) fn push_new(
     passed: &mut [bool],
     signal: usize,
 ) -> Result<(), AllocError> {
-    if let Some(mark) = passed.get_mut(signal) {
-        if !*mark {
-            *mark = true;
-            list.push(signal)?;
-        }
+    if set_mark(passed, signal) {
+        list.push(signal)?;
     }
     Ok(())
 }

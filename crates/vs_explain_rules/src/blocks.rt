@@ -1,14 +1,15 @@
 //! Combinational blocks that are no function of what they wait for, in the rule K5.
 
-use crate::claimed::{put_anew, put_subject};
+use crate::awaiting::push_new;
 use crate::coverage::{Gap, GapAt, gap_of};
-use crate::story::{Place, Story, name_of, put_place, put_story};
 use std::alloc::{AllocError, Global};
 use vs_certificate::ClaimedGrain;
 use vs_design::{CallKind, Statement};
-use vs_explain_facts::{Question, TextFacts, TextKind};
+use vs_explain_facts::{Question, TextFacts, TextKind, set_mark};
 use vs_explain_outline::Page;
 use vs_explain_places::put_marked;
+use vs_explain_spots::{Site, mark_site};
+use vs_explain_writers::{Story, name_of, put_anew, put_story, put_subject};
 
 /// How many statements are looked at in all, over the outputs of a block.
 const LOOKED_AT: usize = 4_000_000;
@@ -52,20 +53,16 @@ fn foreign_of(text: &TextFacts) -> Option<Fault> {
 /// The first read of a signal that the block neither waits for nor writes.
 fn unawaited_of(
     alloc: Global,
-    asked: &Question,
+    asked: Question,
     text: &TextFacts,
 ) -> Result<Option<Fault>, AllocError> {
     let mut awaited = vec![in alloc; false; asked.design.signals().len()]?;
     for term in &text.terms {
-        if let Some(mark) = awaited.get_mut(term.term.range.signal) {
-            *mark = true;
-        }
+        set_mark(&mut awaited, term.term.range.signal);
     }
     for point in &text.points {
         for signal in &point.writes {
-            if let Some(mark) = awaited.get_mut(*signal) {
-                *mark = true;
-            }
+            set_mark(&mut awaited, *signal);
         }
     }
     for (number, point) in text.points.iter().enumerate() {
@@ -90,17 +87,12 @@ fn unawaited_of(
 }
 
 /// The outputs of a block, each once, in the order of its text.
-fn outputs_of(alloc: Global, asked: &Question, text: &TextFacts) -> Result<Vec<usize>, AllocError> {
+fn outputs_of(alloc: Global, asked: Question, text: &TextFacts) -> Result<Vec<usize>, AllocError> {
     let mut seen = vec![in alloc; false; asked.design.signals().len()]?;
     let mut outputs = Vec::new(alloc);
     for point in &text.points {
         for signal in &point.writes {
-            if let Some(mark) = seen.get_mut(*signal) {
-                if !*mark {
-                    *mark = true;
-                    outputs.push(*signal)?;
-                }
-            }
+            push_new(&mut outputs, &mut seen, *signal)?;
         }
     }
     Ok(outputs)
@@ -137,7 +129,7 @@ fn story_of(gap: Gap) -> Story {
 }
 
 /// The first output that isn't written whole.
-fn gap_in(alloc: Global, asked: &Question, text: &TextFacts) -> Result<Option<Fault>, AllocError> {
+fn gap_in(alloc: Global, asked: Question, text: &TextFacts) -> Result<Option<Fault>, AllocError> {
     let mut left = LOOKED_AT;
     for signal in outputs_of(alloc, asked, text)? {
         if left < text.points.len() {
@@ -164,11 +156,7 @@ fn gap_in(alloc: Global, asked: &Question, text: &TextFacts) -> Result<Option<Fa
 }
 
 /// The fault of a block.
-fn fault_of(
-    alloc: Global,
-    asked: &Question,
-    text: &TextFacts,
-) -> Result<Option<Fault>, AllocError> {
+fn fault_of(alloc: Global, asked: Question, text: &TextFacts) -> Result<Option<Fault>, AllocError> {
     if let Some(fault) = foreign_of(text) {
         return Ok(Some(fault));
     }
@@ -185,7 +173,7 @@ const SOME_OUTPUT: Story = Story {
 };
 
 /// Puts that a process is no block where a certificate calls it one.
-fn put_no_block(page: &mut Page, asked: &Question, text: &TextFacts) {
+fn put_no_block(page: &mut Page, asked: Question, text: &TextFacts) {
     let is_whole = asked.certificate.grain == ClaimedGrain::Block;
     if is_whole && text.kind == TextKind::Block {
         put_marked(page, asked.text, asked.place);
@@ -201,7 +189,7 @@ fn put_no_block(page: &mut Page, asked: &Question, text: &TextFacts) {
 }
 
 /// Puts why a block is no function of what it waits for.
-pub(crate) fn put_block(page: &mut Page, asked: &Question) {
+pub(crate) fn put_block(page: &mut Page, asked: Question) {
     let Some(process) = asked.facts.process_named(asked.place) else {
         return;
     };
@@ -214,7 +202,7 @@ pub(crate) fn put_block(page: &mut Page, asked: &Question) {
     match fault_of(page.alloc(), asked, text) {
         Ok(Some(fault)) => {
             let number = fault.number;
-            put_place(page, asked, Place { process, number });
+            mark_site(page, asked, Site { process, number });
             put_story(page, 5, fault.story, name_of(asked, fault.signal));
         }
         Ok(None) => put_no_block(page, asked, text),

@@ -5,13 +5,12 @@ use crate::first_slot::put_first_slot;
 use crate::loops::put_loops;
 use crate::named::put_names;
 use crate::starts::put_start;
-use crate::ways::put_ways;
-use crate::writers::put_writers;
 use vs_certificate::Certificate;
 use vs_design::Design;
 use vs_explain_facts::{Facts, Question};
 use vs_explain_outline::{Page, SourceText};
 use vs_explain_races::{put_delays, put_edges, put_reads, put_waits};
+use vs_explain_writers::{put_ways, put_writers};
 
 /// Says which rule of certificates a design breaks, where, why, and what mends it.
 pub fn explain_broken(
@@ -31,24 +30,24 @@ pub fn explain_broken(
                 facts: &facts,
                 place,
             };
-            put_rule(page, &asked, number);
+            put_rule(page, asked, number);
         }
         Err(_) => page.leave_out(),
     }
 }
 
 /// Puts why a subject breaks the rule of a number.
-fn put_rule(page: &mut Page, asked: &Question, number: u8) {
+fn put_rule(page: &mut Page, asked: Question, number: u8) {
     match number {
         1 => put_names(page, asked),
         2 => put_writers(page, asked),
         3 => put_ways(page, asked),
         4 => put_loops(page, asked),
         5 => put_block(page, asked),
-        6 => put_edges(page, *asked),
-        7 => put_waits(page, *asked),
-        8 => put_delays(page, *asked),
-        9 => put_reads(page, *asked),
+        6 => put_edges(page, asked),
+        7 => put_waits(page, asked),
+        8 => put_delays(page, asked),
+        9 => put_reads(page, asked),
         10 => put_first_slot(page, asked),
         _ => put_start(page, asked),
     }

@@ -1,82 +1,43 @@
 //! Cycles through what drives signals.
 
 use std::alloc::{AllocError, Global};
-use vs_design::{BitRange, Design, reads, statement_reads, writes};
-use vs_explain_facts::{Facts, Point};
+use vs_design::{BitRange, reads, statement_reads, writes};
+use vs_explain_facts::{Facts, Part, Point};
+use vs_slots_cones::meets;
 
 /// How long a cycle may be to be looked at statement by statement.
 const FOLLOWED: usize = 64;
 
-/// What drives bits of signals: a continuous assignment, or a combinational block.
-#[derive(Clone, Copy, PartialEq, Eq)]
-pub(crate) enum Driver {
-    Assign(usize),
-    Block(usize),
-}
-
 /// A step of a cycle: a driver, and the signal that it reads there, which the next one drives.
 #[derive(Clone, Copy)]
 pub(crate) struct Hop {
-    pub(crate) driver: Driver,
+    pub(crate) driver: Part,
     pub(crate) reads: usize,
 }
 
-/// Whether two ranges have a bit in common.
-fn share_bits(one: &BitRange, other: &BitRange) -> bool {
-    if one.signal != other.signal {
-        return false;
-    }
-    if let (Some(word), Some(its)) = (one.word, other.word) {
-        if word != its {
-            return false;
-        }
-    }
-    match (one.bits, other.bits) {
-        (Some(bits), Some(its)) => {
-            bits.low < its.low.saturating_add(its.width)
-                && its.low < bits.low.saturating_add(bits.width)
-        }
-        _ => true,
-    }
-}
-
-/// The name of a driver.
-pub(crate) fn driver_name<'d>(design: &'d Design, driver: Driver) -> &'d [u8] {
-    match driver {
-        Driver::Assign(number) => match design.assigns().get(number) {
-            Some(assign) => &assign.name,
-            None => &[],
-        },
-        Driver::Block(number) => match design.processes().get(number) {
-            Some(process) => &process.name,
-            None => &[],
-        },
-    }
-}
-
 /// The driver of a name.
-pub(crate) fn driver_named(facts: &Facts, name: &[u8]) -> Option<Driver> {
+pub(crate) fn driver_named(facts: &Facts, name: &[u8]) -> Option<Part> {
     for (number, assign) in facts.design.assigns().iter().enumerate() {
         if assign.name.as_slice() == name {
-            return Some(Driver::Assign(number));
+            return Some(Part::Assign(number));
         }
     }
     facts
         .process_named(name)
-        .map(|number| Driver::Block(number))
+        .map(|number| Part::Process(number))
 }
 
 /// What a driver reads; a block also what it waits for.
-fn read_by(alloc: Global, facts: &Facts, driver: Driver) -> Result<Vec<BitRange>, AllocError> {
+fn read_by(alloc: Global, facts: &Facts, driver: Part) -> Result<Vec<BitRange>, AllocError> {
     let design = facts.design;
     let number = match driver {
-        Driver::Assign(number) => {
+        Part::Assign(number) => {
             return match design.assigns().get(number) {
                 Some(assign) => reads(alloc, &assign.source),
                 None => Ok(Vec::new(alloc)),
             };
         }
-        Driver::Block(number) => number,
+        Part::Process(number) => number,
     };
     let Some(text) = facts.texts.get(number) else {
         return Ok(Vec::new(alloc));
@@ -92,17 +53,17 @@ fn read_by(alloc: Global, facts: &Facts, driver: Driver) -> Result<Vec<BitRange>
 fn writes_of(
     alloc: Global,
     facts: &Facts,
-    driver: Driver,
+    driver: Part,
     range: &BitRange,
 ) -> Result<bool, AllocError> {
-    let Driver::Assign(number) = driver else {
+    let Part::Assign(number) = driver else {
         return Ok(true);
     };
     let Some(assign) = facts.design.assigns().get(number) else {
         return Ok(false);
     };
     for written in &writes(alloc, &assign.target)? {
-        if share_bits(written, range) {
+        if meets(facts.design.signals(), *written, *range) {
             return Ok(true);
         }
     }
@@ -114,20 +75,20 @@ fn writes_of(
 struct Walk {
     /// For each assignment and then each process the hop from which it was come to.
     from: Vec<Option<Hop>>,
-    todo: Vec<Driver>,
+    todo: Vec<Part>,
 }
 
 /// The place of a driver among all.
-fn place_of(facts: &Facts, driver: Driver) -> usize {
+fn place_of(facts: &Facts, driver: Part) -> usize {
     match driver {
-        Driver::Assign(number) => number,
-        Driver::Block(number) => facts.design.assigns().len().saturating_add(number),
+        Part::Assign(number) => number,
+        Part::Process(number) => facts.design.assigns().len().saturating_add(number),
     }
 }
 
 impl Walk {
     /// Comes to a driver of what another one reads.
-    fn come(&mut self, facts: &Facts, driver: Driver, hop: Hop) -> Result<(), AllocError> {
+    fn come(&mut self, facts: &Facts, driver: Part, hop: Hop) -> Result<(), AllocError> {
         if let Some(from) = self.from.get_mut(place_of(facts, driver)) {
             if from.is_none() {
                 *from = Some(hop);
@@ -142,7 +103,7 @@ impl Walk {
         &mut self,
         alloc: Global,
         facts: &Facts,
-        driver: Driver,
+        driver: Part,
         range: &BitRange,
     ) -> Result<(), AllocError> {
         let hop = Hop {
@@ -150,13 +111,13 @@ impl Walk {
             reads: range.signal,
         };
         for number in facts.drivers_of(range.signal) {
-            let other = Driver::Assign(*number);
+            let other = Part::Assign(*number);
             if writes_of(alloc, facts, other, range)? {
                 self.come(facts, other, hop)?;
             }
         }
         if let Some(number) = facts.block_of(range.signal) {
-            let other = Driver::Block(number);
+            let other = Part::Process(number);
             if other != driver {
                 self.come(facts, other, hop)?;
             }
@@ -165,7 +126,7 @@ impl Walk {
     }
 
     /// The hops from a driver back to it, the last one first.
-    fn hops(&self, alloc: Global, facts: &Facts, start: Driver) -> Result<Vec<Hop>, AllocError> {
+    fn hops(&self, alloc: Global, facts: &Facts, start: Part) -> Result<Vec<Hop>, AllocError> {
         let mut hops = Vec::new(alloc);
         let mut driver = start;
         for _ in 0..self.from.len() {
@@ -184,12 +145,8 @@ impl Walk {
 }
 
 /// The hops of a cycle through a driver, which begins with it; none where there is no cycle.
-pub(crate) fn cycle_at(
-    alloc: Global,
-    facts: &Facts,
-    start: Driver,
-) -> Result<Vec<Hop>, AllocError> {
-    let count = place_of(facts, Driver::Block(facts.texts.len()));
+pub(crate) fn cycle_at(alloc: Global, facts: &Facts, start: Part) -> Result<Vec<Hop>, AllocError> {
+    let count = place_of(facts, Part::Process(facts.texts.len()));
     let mut walk = Walk {
         from: vec![in alloc; None; count]?,
         todo: Vec::new(alloc),

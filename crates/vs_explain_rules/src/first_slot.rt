@@ -1,39 +1,32 @@
 //! What happens in the first slot, in the rule K10.
 
 use crate::awaiting::{Reached, block_behind, control_in, edge_of};
-use crate::claimed::{put_anew, put_subject};
-use crate::cycles::{Driver, driver_name};
-use crate::story::{Place, Story, name_of, put_maybe, put_story};
-use crate::writes::{Wanted, bit_given, is_turned, point_at, write_of};
 use std::alloc::{AllocError, Global};
 use vs_design::Statement;
 use vs_design::vs_logic4::Edge;
-use vs_explain_facts::{Facts, Point, Question, TextKind};
+use vs_explain_facts::{Facts, Part, Point, Question, TextKind};
 use vs_explain_outline::Page;
 use vs_explain_places::{is_declaration, put_marked};
+use vs_explain_spots::Site;
+use vs_explain_writers::{
+    Story, Wanted, bit_given, is_turned, name_of, put_anew, put_maybe, put_story, put_subject,
+    write_of,
+};
 
 /// A fault of the first slot: two places, a signal, and what is said of them.
 #[derive(Clone, Copy)]
 struct Fault {
-    first: Option<Place>,
-    second: Option<Place>,
+    first: Option<Site>,
+    second: Option<Site>,
     signal: usize,
     story: Story,
 }
 
 /// The edge that the first value of a root is, where that is 0 or 1.
-fn first_edge(facts: &Facts, write: Place, signal: usize) -> Option<Edge> {
-    let point = point_at(facts, write)?;
+fn first_edge(facts: &Facts, write: Site, signal: usize) -> Option<Edge> {
+    let point = facts.point(write.process, write.number)?;
     let is_one = bit_given(point.statement, signal)?;
     Some(if is_one { Edge::Posedge } else { Edge::Negedge })
-}
-
-/// Whether a process is an `initial` that waits for edges.
-fn is_stimulus(facts: &Facts, place: Option<Place>) -> bool {
-    match place {
-        Some(place) => facts.is_initial(place.process),
-        None => false,
-    }
 }
 
 /// What is said of a clock whose first value is an edge.
@@ -69,18 +62,18 @@ fn story_of_reset(edge: Edge) -> Story {
 }
 
 /// The second write of a signal in the text of a process that can run in the first slot.
-fn second_write(facts: &Facts, signal: usize, first: Place) -> Option<Place> {
+fn second_write(facts: &Facts, signal: usize, first: Site) -> Option<Site> {
     for process in facts.writers_of(signal) {
         let Some(text) = facts.texts.get(*process) else {
             continue;
         };
         for (number, point) in text.points.iter().enumerate() {
-            let place = Place {
+            let site = Site {
                 process: *process,
                 number,
             };
-            if point.moment.is_first && point.writes_signal(signal) && place != first {
-                return Some(place);
+            if point.moment.is_first && point.writes_signal(signal) && site != first {
+                return Some(site);
             }
         }
     }
@@ -88,7 +81,7 @@ fn second_write(facts: &Facts, signal: usize, first: Place) -> Option<Place> {
 }
 
 /// The fault of a root whose first value is no constant 0 or 1, or comes twice.
-fn shapeless_root(facts: &Facts, signal: usize, first: Place) -> Option<Fault> {
+fn shapeless_root(facts: &Facts, signal: usize, first: Site) -> Option<Fault> {
     if let Some(second) = second_write(facts, signal, first) {
         return Some(Fault {
             first: Some(first),
@@ -138,7 +131,7 @@ fn root_fault(facts: &Facts, signal: usize) -> Option<Fault> {
     let edge = first_edge(facts, first, signal)?;
     let second = edge_of(facts, signal, edge)?;
     let story = if is_turned(facts, signal) {
-        story_of_clock(edge, is_stimulus(facts, Some(second)))
+        story_of_clock(edge, facts.is_initial(second.process))
     } else {
         story_of_reset(edge)
     };
@@ -218,7 +211,7 @@ fn read_fault(facts: &Facts, process: usize, with_calls: bool) -> Option<Fault> 
         }
         return Some(Fault {
             first,
-            second: Some(Place { process, number }),
+            second: Some(Site { process, number }),
             signal,
             story: story_of_read(facts, point, signal),
         });
@@ -288,7 +281,7 @@ fn is_clocked(facts: &Facts, signal: usize) -> bool {
 /// The fault of a process that writes by `=`, before anything waits, what a block waits for.
 fn start_fault(
     alloc: Global,
-    asked: &Question,
+    asked: Question,
     process: usize,
 ) -> Result<Option<Fault>, AllocError> {
     let facts = asked.facts;
@@ -307,7 +300,7 @@ fn start_fault(
                     is_clocked: is_clocked(facts, *signal),
                 };
                 return Ok(Some(Fault {
-                    first: Some(Place { process, number }),
+                    first: Some(Site { process, number }),
                     second: control_in(facts, reached.block),
                     signal: *signal,
                     story: story_of_start(facts, *signal, reached, start),
@@ -321,7 +314,7 @@ fn start_fault(
 /// The fault of a process.
 fn process_fault(
     alloc: Global,
-    asked: &Question,
+    asked: Question,
     process: usize,
 ) -> Result<Option<Fault>, AllocError> {
     if let Some(fault) = read_fault(asked.facts, process, false) {
@@ -334,7 +327,7 @@ fn process_fault(
 }
 
 /// The fault of the subject.
-fn fault_of(alloc: Global, asked: &Question) -> Result<Option<Fault>, AllocError> {
+fn fault_of(alloc: Global, asked: Question) -> Result<Option<Fault>, AllocError> {
     if let Some(signal) = asked.facts.signal_named(asked.place) {
         return Ok(root_fault(asked.facts, signal));
     }
@@ -345,16 +338,16 @@ fn fault_of(alloc: Global, asked: &Question) -> Result<Option<Fault>, AllocError
 }
 
 /// Puts where a signal gets its value: a net by its driver, where it has one.
-fn put_origin(page: &mut Page, asked: &Question, signal: usize) {
+fn put_origin(page: &mut Page, asked: Question, signal: usize) {
     let mut name = asked.facts.path(signal);
     if let Some(number) = asked.facts.drivers_of(signal).first() {
-        name = driver_name(asked.design, Driver::Assign(*number));
+        name = Part::Assign(*number).name(asked.design);
     }
     put_marked(page, asked.text, name);
 }
 
 /// Puts what happens in the first slot, and why that breaks the rule.
-pub(crate) fn put_first_slot(page: &mut Page, asked: &Question) {
+pub(crate) fn put_first_slot(page: &mut Page, asked: Question) {
     match fault_of(page.alloc(), asked) {
         Ok(Some(fault)) => {
             match fault.first {

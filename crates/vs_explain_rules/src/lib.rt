@@ -4,17 +4,11 @@
 mod awaiting;
 mod blocks;
 mod broken;
-mod claimed;
 mod coverage;
 mod cycles;
 mod first_slot;
 mod loops;
 mod named;
-mod sentences;
 mod starts;
-mod story;
-mod ways;
-mod writers;
-mod writes;
 
 pub use broken::explain_broken;

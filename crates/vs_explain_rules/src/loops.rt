@@ -1,25 +1,24 @@
 //! Drivers that hang on themselves, in the rule K4.
 
-use crate::claimed::{put_anew, put_subject};
-use crate::cycles::{Driver, Hop, cycle_at, driver_name, driver_named, is_real};
-use crate::story::{Place, Story, name_of, put_place, put_story};
-use crate::writes::bare;
+use crate::cycles::{Hop, cycle_at, driver_named, is_real};
 use std::alloc::{AllocError, Global};
 use vs_certificate::Certificate;
 use vs_design::Typed;
 use vs_design::vs_logic4::{Binary, Unary};
-use vs_explain_facts::{Facts, Question};
+use vs_explain_facts::{Facts, Part, Question};
 use vs_explain_outline::Page;
 use vs_explain_places::put_marked;
+use vs_explain_spots::{Site, mark_site, unsized_of};
+use vs_explain_writers::{Story, name_of, put_anew, put_story, put_subject};
 
 /// The right side of the assignment that a driver is, at its own size.
-fn side_of<'f>(facts: &'f Facts, driver: Driver) -> Option<&'f Typed> {
+fn side_of<'f>(facts: &'f Facts, driver: Part) -> Option<&'f Typed> {
     match driver {
-        Driver::Assign(number) => match facts.design.assigns().get(number) {
-            Some(assign) => Some(bare(&assign.source)),
+        Part::Assign(number) => match facts.design.assigns().get(number) {
+            Some(assign) => Some(unsized_of(&assign.source)),
             None => None,
         },
-        Driver::Block(_) => None,
+        Part::Process(_) => None,
     }
 }
 
@@ -95,31 +94,31 @@ fn story_of(alloc: Global, facts: &Facts, hops: &[Hop]) -> Result<Story, AllocEr
 }
 
 /// The first statement of a block that reads a signal.
-fn read_in(facts: &Facts, process: usize, signal: usize) -> Option<Place> {
+fn read_in(facts: &Facts, process: usize, signal: usize) -> Option<Site> {
     let text = facts.texts.get(process)?;
     for (number, point) in text.points.iter().enumerate() {
         if point.reads_signal(signal) {
-            return Some(Place { process, number });
+            return Some(Site { process, number });
         }
     }
     None
 }
 
 /// Puts the line of a driver with a mark under it, of a block under the statement that reads.
-fn put_hop(page: &mut Page, asked: &Question, hop: Hop) {
-    if let Driver::Block(process) = hop.driver {
-        if let Some(place) = read_in(asked.facts, process, hop.reads) {
-            return put_place(page, asked, place);
+fn put_hop(page: &mut Page, asked: Question, hop: Hop) {
+    if let Part::Process(process) = hop.driver {
+        if let Some(site) = read_in(asked.facts, process, hop.reads) {
+            return mark_site(page, asked, site);
         }
     }
-    put_marked(page, asked.text, driver_name(asked.design, hop.driver));
+    put_marked(page, asked.text, hop.driver.name(asked.design));
 }
 
 /// How many drivers of a cycle are marked.
 const TOLD: usize = 4;
 
 /// Puts a cycle.
-fn put_cycle(page: &mut Page, asked: &Question, hops: &[Hop]) {
+fn put_cycle(page: &mut Page, asked: Question, hops: &[Hop]) {
     for hop in hops.iter().take(TOLD) {
         put_hop(page, asked, *hop);
     }
@@ -142,7 +141,7 @@ fn place_in_order(certificate: &Certificate, name: &[u8]) -> usize {
 }
 
 /// Puts a driver without a cycle: one that the order has too early, or one that reads what nothing drives whole.
-fn put_no_cycle(page: &mut Page, asked: &Question) {
+fn put_no_cycle(page: &mut Page, asked: Question) {
     put_subject(page, asked, 4);
     page.put("It stands at place ");
     page.put_shown(place_in_order(asked.certificate, asked.place).saturating_add(1));
@@ -153,7 +152,7 @@ fn put_no_cycle(page: &mut Page, asked: &Question) {
 }
 
 /// Puts why a driver has no place in an order.
-pub(crate) fn put_loops(page: &mut Page, asked: &Question) {
+pub(crate) fn put_loops(page: &mut Page, asked: Question) {
     let Some(driver) = driver_named(asked.facts, asked.place) else {
         return;
     };

@@ -1,9 +1,9 @@
 //! Names that a certificate lacks, has twice, or has too many, in the rule K1.
 
-use crate::claimed::put_subject;
 use vs_certificate::Certificate;
 use vs_explain_facts::{Question, times_named};
 use vs_explain_outline::{Page, first_part};
+use vs_explain_writers::put_subject;
 
 /// The first name of a certificate, where it has one.
 fn first_name<'c>(certificate: &'c Certificate) -> &'c [u8] {
@@ -25,7 +25,7 @@ fn top_of(path: &[u8]) -> &[u8] {
 }
 
 /// The top of the first name that begins with another top than a design.
-fn other_top<'c>(asked: &Question<'c>) -> Option<&'c [u8]> {
+fn other_top<'c>(asked: Question<'c>) -> Option<&'c [u8]> {
     let own = match asked.design.signals().first() {
         Some(signal) => top_of(&signal.path),
         None => return None,
@@ -38,7 +38,7 @@ fn other_top<'c>(asked: &Question<'c>) -> Option<&'c [u8]> {
 }
 
 /// Puts how often the lists of the certificate have the name.
-fn put_times(page: &mut Page, asked: &Question) {
+fn put_times(page: &mut Page, asked: Question) {
     let [signals, processes, order, edges] = times_named(asked.certificate, asked.place);
     page.put("The certificate has this name ");
     page.put_shown(signals);
@@ -52,7 +52,7 @@ fn put_times(page: &mut Page, asked: &Question) {
 }
 
 /// Puts why the names of a certificate aren't those of the design.
-pub(crate) fn put_names(page: &mut Page, asked: &Question) {
+pub(crate) fn put_names(page: &mut Page, asked: Question) {
     put_subject(page, asked, 1);
     if let Some(top) = other_top(asked) {
         page.put("The names of the certificate begin with ");

@@ -1,21 +1,19 @@
 //! Blocks that may not have run when their inputs change first, in the rule K11.
 
 use crate::awaiting::{control_in, push_new};
-use crate::claimed::{put_anew, put_subject};
-use crate::cycles::{Driver, driver_name};
-use crate::story::{Place, Story, name_of, put_maybe, put_story};
-use crate::writes::bare;
 use std::alloc::{AllocError, Global};
 use vs_design::{Statement, Typed};
-use vs_explain_facts::{Facts, Question, TextFacts, TextKind};
+use vs_explain_facts::{Facts, Part, Question, TextFacts, TextKind, set_mark};
 use vs_explain_outline::{Page, ordinal_of};
 use vs_explain_places::put_marked;
+use vs_explain_spots::{Site, mark_site, unsized_of};
+use vs_explain_writers::{Story, name_of, put_anew, put_maybe, put_story, put_subject};
 
 /// What is marked beside the block.
 #[derive(Clone, Copy)]
 enum Beside {
     Nothing,
-    Statement(Place),
+    Statement(Site),
     Signal(usize),
     Assign(usize),
 }
@@ -34,9 +32,7 @@ fn inputs_of(alloc: Global, facts: &Facts, text: &TextFacts) -> Result<Vec<usize
     let mut inputs = Vec::new(alloc);
     for point in &text.points {
         for signal in &point.writes {
-            if let Some(mark) = seen.get_mut(*signal) {
-                *mark = true;
-            }
+            set_mark(&mut seen, *signal);
         }
     }
     for term in &text.terms {
@@ -83,7 +79,7 @@ fn chain_fault(facts: &Facts, block: usize, inputs: &[usize]) -> Option<Fault> {
         match facts.block_of(facts.root(*signal)) {
             Some(other) if other != block => {
                 let beside = match control_in(facts, other) {
-                    Some(place) => Beside::Statement(place),
+                    Some(site) => Beside::Statement(site),
                     None => Beside::Nothing,
                 };
                 return Some(Fault {
@@ -129,7 +125,7 @@ fn default_fault(facts: &Facts, process: usize, text: &TextFacts) -> Option<Faul
         }
         if has_default && labels == values_of(facts, selector.signal) {
             return Some(Fault {
-                beside: Beside::Statement(Place { process, number }),
+                beside: Beside::Statement(Site { process, number }),
                 signal: selector.signal,
                 story: Story {
                     cause: "The `case` names all values of `%`, which is x at first; its `default` would give a value then, while the block's output is x before its first run.",
@@ -142,7 +138,7 @@ fn default_fault(facts: &Facts, process: usize, text: &TextFacts) -> Option<Faul
 }
 
 /// The first write of a signal by `<=` before any control, of an `initial` that waits for edges.
-fn stimulus_of(facts: &Facts, signal: usize) -> Option<Place> {
+fn stimulus_of(facts: &Facts, signal: usize) -> Option<Site> {
     for process in facts.writers_of(signal) {
         let Some(text) = facts.texts.get(*process) else {
             continue;
@@ -152,7 +148,7 @@ fn stimulus_of(facts: &Facts, signal: usize) -> Option<Place> {
         }
         for (number, point) in text.points.iter().enumerate() {
             if point.moment.is_prologue && point.is_later() && point.writes_signal(signal) {
-                return Some(Place {
+                return Some(Site {
                     process: *process,
                     number,
                 });
@@ -166,9 +162,9 @@ fn stimulus_of(facts: &Facts, signal: usize) -> Option<Place> {
 fn stimulus_fault(facts: &Facts, inputs: &[usize]) -> Option<Fault> {
     for input in inputs {
         let signal = facts.root(*input);
-        if let Some(place) = stimulus_of(facts, signal) {
+        if let Some(site) = stimulus_of(facts, signal) {
             return Some(Fault {
-                beside: Beside::Statement(place),
+                beside: Beside::Statement(site),
                 signal,
                 story: Story {
                     cause: "`%` gets its value at time 0 by `<=`, but from a process that waits for edges; what starts a block is written by a process with delays.",
@@ -209,7 +205,7 @@ fn port_fault(facts: &Facts, inputs: &[usize]) -> Option<Fault> {
         let assign = facts.design.assigns().get(number)?;
         let is_port = matches!(ordinal_of(&assign.name), Some((_, b'i', _)));
         let story = story_of_port(if is_port {
-            Some(bare(&assign.source))
+            Some(unsized_of(&assign.source))
         } else {
             None
         });
@@ -313,22 +309,21 @@ fn fault_of(
 }
 
 /// Puts what is marked beside a block.
-fn put_beside(page: &mut Page, asked: &Question, beside: Beside) {
+fn put_beside(page: &mut Page, asked: Question, beside: Beside) {
     match beside {
         Beside::Nothing => {}
-        Beside::Statement(place) => put_maybe(page, asked, Some(place)),
+        Beside::Statement(site) => mark_site(page, asked, site),
         Beside::Signal(signal) => {
             put_marked(page, asked.text, asked.facts.path(signal));
         }
         Beside::Assign(number) => {
-            let name = driver_name(asked.design, Driver::Assign(number));
-            put_marked(page, asked.text, name);
+            put_marked(page, asked.text, Part::Assign(number).name(asked.design));
         }
     }
 }
 
 /// Puts why it isn't known that a block has run.
-pub(crate) fn put_start(page: &mut Page, asked: &Question) {
+pub(crate) fn put_start(page: &mut Page, asked: Question) {
     let facts = asked.facts;
     let block = match facts.process_named(asked.place) {
         Some(block) => block,

@@ -12,14 +12,6 @@ fn behind_colon(name: &[u8]) -> &[u8] {
     }
 }
 
-/// Whether a token is this mark.
-fn is_mark(text: &SourceText, index: usize, mark: Mark) -> bool {
-    match text.tokens.get(index) {
-        Some(token) => token.kind == Kind::Mark(mark),
-        None => false,
-    }
-}
-
 /// The number of a port among those of a module, by the token of the module's name.
 fn port_number(text: &SourceText, module: usize, port: &[u8]) -> Option<usize> {
     let region = text.module_named(text.name_at(module))?;
@@ -90,7 +82,7 @@ pub(crate) fn connection_of(
     };
     let port = behind_colon(name);
     let first = instance.token.saturating_add(2);
-    if is_mark(text, first, Mark::Dot) {
+    if text.is_mark(first, Mark::Dot) {
         return Ok(named_in(text, first, port));
     }
     Ok(match port_number(text, instance.of, port) {

@@ -4,6 +4,7 @@
 mod clocks;
 mod connections;
 mod residues;
+mod sentences;
 mod spots;
 mod times;
 
@@ -11,6 +12,7 @@ pub use clocks::{
     ClockForm, form_of, has_clocks, longer_initial, turner_of, turning_in, turning_of, unsized_of,
 };
 pub use residues::{push_edge, put_residues, residues_of};
+pub use sentences::{put_rule, sentence_of};
 pub use spots::{
     Site, is_finish, mark_assign, mark_site, mark_term, point_at, put_path, put_short, put_signal,
     put_site, term_of, text_at, waiter_of,

@@ -8,7 +8,7 @@ use vs_explain_places::{found, put_code, put_marked, put_named, put_statement, s
 use vs_lexer::{Kind, Mark, Word};
 
 /// A statement of a process, by its number.
-#[derive(Clone, Copy)]
+#[derive(Clone, Copy, PartialEq, Eq)]
 pub struct Site {
     /// The number of the process.
     pub process: usize,
@@ -23,7 +23,7 @@ pub fn text_at<'q>(question: Question<'q>, process: usize) -> Option<&'q TextFac
 
 /// The statement at a place.
 pub fn point_at<'q>(question: Question<'q>, site: Site) -> Option<&'q Point<'q>> {
-    text_at(question, site.process)?.points.get(site.number)
+    question.facts.point(site.process, site.number)
 }
 
 /// The token of a statement.

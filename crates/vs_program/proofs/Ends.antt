@@ -12,12 +12,12 @@ use Rattle.vs_certified.specs.Certified.{HasBegunCertifiedRun, IsCertifiedRun, S
 use Rattle.vs_certified.specs.declared.fault.CertifiedFault.{CertifiedFault}
 use Rattle.vs_explain.specs.vs_simulate.specs.Honesty.{IsRun, HasBegunRun}
 use Rattle.vs_program.specs.declared.doing.Done.{Done}
-use Rattle.vs_program.specs.declared.doing.Done.TheVariants.{Ran, Judged, Proposed, Listed}
+use Rattle.vs_program.specs.declared.doing.Done.TheVariants.{Ran, Judged, Proposed, Raced, Listed}
 use Rattle.vs_program_words.specs.declared.words.Request.{Request}
 use Rattle.vs_program_words.specs.declared.words.OutputText.{OutputText}
 use Rattle.vs_program_words.specs.declared.words.OutputText.TheVariants.{Lines, Dump}
 use Rattle.vs_program_words.specs.declared.words.Subcommand.{Subcommand}
-use Rattle.vs_program_words.specs.declared.words.Subcommand.TheVariants.{Run, RunCertified, Check, Certify, Elab}
+use Rattle.vs_program_words.specs.declared.words.Subcommand.TheVariants.{Run, RunCertified, Check, Certify, Race, Elab}
 use Rattle.vs_program.specs.Ends.{HasBegunCertifiedText, HasBegunText, HasBegunWriting, HasWritten, Wrote, WroteCertified}
 use Rattle.vs_program.specs.Ends.{CallFails, IsFinished, IsKeptFor, EndsCall, by_doing, by_fault, by_write, done_status}
 use Rattle.vs_program.specs.Statuses.{refusal_status}
@@ -115,6 +115,8 @@ module _ (old mid new : Option (List ℕ)) (kept : Keeps mid new) where
   written_kept bytes certificate (RunCertified q) (Ran o) h = wrote_certified_kept q.text bytes certificate q o h
   written_kept bytes certificate (Check top) (Judged v) h = record { judged = h.judged; written = Appends-kept old mid new _ h.written kept }
   written_kept bytes certificate (Certify top grain) (Proposed p) h = record { proposed = h.proposed; reads_back = h.reads_back; written = Appends-kept old mid new _ h.written kept }
+  written_kept bytes certificate (Race q) (Raced race) h =
+      record { answered = h.answered; text = h.text; told = h.told; written = Appends-kept old mid new _ h.written kept }
   written_kept bytes certificate (Elab top) Listed h = record { design = h.design; defined = h.defined; written = Appends-kept old mid new _ h.written kept }
   written_kept bytes certificate call done h = absurd h
 
@@ -136,6 +138,8 @@ module _ (old mid new : Option (List ℕ)) (kept : Keeps mid new) where
       record { verdict = h.verdict; judged = h.judged; begun = (h.begun.0, Appends-kept old mid new _ h.begun.1 kept) }
   begun_kept bytes certificate (Certify top grain) h =
       record { proposal = h.proposal; proposed = h.proposed; begun = (h.begun.0, Appends-kept old mid new _ h.begun.1 kept) }
+  begun_kept bytes certificate (Race q) h =
+      record { race = h.race; answered = h.answered; text = h.text; told = h.told; begun = (h.begun.0, Appends-kept old mid new _ h.begun.1 kept) }
   begun_kept bytes certificate (Elab top) h = record { design = h.design; defined = h.defined; begun = (h.begun.0, Appends-kept old mid new _ h.begun.1 kept) }
 
 -- ---- the ends of a call

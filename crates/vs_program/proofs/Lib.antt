@@ -4,3 +4,4 @@ mod Fails
 mod Inputs
 mod Proposing
 mod Reading
+mod Values

@@ -19,13 +19,15 @@ use Rattle.vs_certified.specs.declared.fault.CertifiedFault.TheVariants.{Simulat
 use Rattle.vs_program_words.specs.declared.words.Call as asked
 use Rattle.vs_program_words.specs.declared.words.Request.{Request}
 use Rattle.vs_program_words.specs.declared.words.Subcommand.{Subcommand}
-use Rattle.vs_program_words.specs.declared.words.Subcommand.TheVariants.{Run, RunCertified, Check, Certify, Elab}
+use Rattle.vs_program_words.specs.declared.words.Subcommand.TheVariants.{Run, RunCertified, Check, Certify, Race, Elab}
+use Rattle.vs_program_words.specs.declared.words.WordsFault.TheVariants.{Choices, OrderOfCertified}
 use Rattle.vs_program_words.specs.declared.words.OutputText.{OutputText}
 use Rattle.vs_program_words.specs.declared.words.OutputText.TheVariants.{Lines, Dump}
 use Rattle.vs_program.specs.declared.doing.Done.{Done}
-use Rattle.vs_program.specs.declared.doing.Done.TheVariants.{Ran, Judged, Proposed, Listed}
-use Rattle.vs_program_words.specs.Asks.{HaveFault, WordsAsk, WordsAskForBoth}
+use Rattle.vs_program.specs.declared.doing.Done.TheVariants.{Ran, Judged, Proposed, Raced, Listed}
+use Rattle.vs_program_words.specs.Asks.{HaveFault, WordsAsk, WordsAskInVain}
 use Rattle.vs_program.specs.Inputs.{AreKept, IsKept}
+use Rattle.vs_program.specs.Races.{HasBegunRace, WroteRace, race_status}
 use Rattle.vs_program.specs.Statuses.{outcome_status, proposal_status, refusal_status, verdict_status, words_status}
 use Rattle.vs_program.specs.Texts.{IsTooLong, ReadsBack, proposal_line, verdict_line}
 
@@ -66,6 +68,7 @@ HasWritten bytes certificate (Run q) (Ran outcome) old new = Wrote q.text bytes 
 HasWritten bytes certificate (RunCertified q) (Ran outcome) old new = WroteCertified q.text bytes certificate q outcome old new
 HasWritten bytes certificate (Check top) (Judged v) old new = WroteVerdict bytes top.now certificate v old new
 HasWritten bytes certificate (Certify top grain) (Proposed p) old new = WroteProposal bytes top.now grain p old new
+HasWritten bytes certificate (Race q) (Raced race) old new = WroteRace bytes q.top.now race old new
 HasWritten bytes certificate (Elab top) Listed old new = IsListed bytes top.now old new
 HasWritten bytes certificate call _ old new = ⊥
 
@@ -74,6 +77,7 @@ abbrev pub done_status : Done → ℕ
 done_status (Ran outcome) = outcome_status outcome
 done_status (Judged v) = verdict_status v
 done_status (Proposed p) = proposal_status p
+done_status (Raced race) = race_status race
 done_status Listed = 0
 
 -- ---- what a call wrote that failed
@@ -108,6 +112,7 @@ HasBegunWriting bytes certificate (Run q) old new = HasBegunText q.text bytes q 
 HasBegunWriting bytes certificate (RunCertified q) old new = HasBegunCertifiedText q.text bytes certificate q old new
 HasBegunWriting bytes certificate (Check top) old new = HasBegunVerdict bytes top.now certificate old new
 HasBegunWriting bytes certificate (Certify top grain) old new = HasBegunProposal bytes top.now grain old new
+HasBegunWriting bytes certificate (Race q) old new = HasBegunRace bytes q.top.now old new
 HasBegunWriting bytes certificate (Elab top) old new = HasBegunListing bytes top.now old new
 
 -- ---- why a call failed
@@ -141,6 +146,7 @@ CallFails bytes certificate (Run q) fault = SourceFails bytes q.top.now fault
 CallFails bytes certificate (RunCertified q) fault = CertifyingFails bytes q.top.now certificate fault
 CallFails bytes certificate (Check top) fault = CheckingFails bytes top.now certificate fault
 CallFails bytes certificate (Certify top grain) fault = MakingFails bytes top.now grain fault
+CallFails bytes certificate (Race q) fault = SourceFails bytes q.top.now fault
 CallFails bytes certificate (Elab top) fault = SourceFails bytes top.now fault
 
 -- what a call that gave a fault leaves at the writer: where it is refused, all is as it was; else a beginning of its text, but for bytes at its end
@@ -160,6 +166,7 @@ IsKeptFor (Run q) input certificate bytes = IsKept input bytes
 IsKeptFor (RunCertified q) input certificate bytes = AreKept input certificate bytes
 IsKeptFor (Check top) input certificate bytes = AreKept input certificate bytes
 IsKeptFor (Certify top grain) input certificate bytes = IsKept input bytes
+IsKeptFor (Race q) input certificate bytes = IsKept input bytes
 IsKeptFor (Elab top) input certificate bytes = IsKept input bytes
 
 -- how a call that was asked for ends, with the bytes kept of the input and with what the writer holds before and after it: by what it did, by its fault,
@@ -174,10 +181,12 @@ pub data EndsCall (input : Option (List ℕ)) (call : Subcommand) (old new : Opt
   by_device : Keeps old new → status ≡ 3 → EndsCall input call old new status
 
 -- how the program ends where the words ask for nothing: by the fault that they have, a call for help or for the version among them, or since they ask for
--- a certified run in the order `Lifo`, or with 3 where memory or, at help and the version, a device failed; these two alone are written to the writer
+-- a certified run in an order of its own or for choices that are none, or with 3 where memory or, at help and the version, a device failed; these two alone
+-- are written to the writer
 pub data EndsWords (words : List (List ℕ)) (old new : Option (List ℕ)) (status : ℕ) : Type 0 where
   by_kind : (k : ErrorKind) → HaveFault words k → (words_status k ≡ 0) ⊎ Keeps old new → status ≡ words_status k → EndsWords words old new status
-  by_order : WordsAskForBoth words → Keeps old new → status ≡ 64 → EndsWords words old new status
+  by_order : WordsAskInVain words OrderOfCertified → Keeps old new → status ≡ 64 → EndsWords words old new status
+  by_choices : WordsAskInVain words Choices → Keeps old new → status ≡ 64 → EndsWords words old new status
   by_memory : Keeps old new → status ≡ 3 → EndsWords words old new status
   by_help : (k : ErrorKind) → HaveFault words k → words_status k ≡ 0 → status ≡ 3 → EndsWords words old new status
 

@@ -3,6 +3,7 @@ pub use Rattle.vs_program_words.specs.Options
 pub mod Buffers
 pub mod Ends
 pub mod Inputs
+pub mod Races
 pub mod Statuses
 pub mod Texts
 pub mod passes

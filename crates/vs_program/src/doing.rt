@@ -9,6 +9,8 @@ ghost use Rattle.vs_certified.specs.vs_vcd_writing.specs.Sinks.{AppendsPart};
 ghost use Rattle.vs_program.specs.Ends.{CallFails, CheckingFails, MakingFails, HasWritten, Wrote, WroteCertified, WroteProposal, WroteVerdict};
 ghost use Rattle.vs_program.specs.Ends.{HasBegunCertifiedText, HasBegunProposal, HasBegunText, HasBegunVerdict, HasBegunWriting};
 
+use crate::choosing::read_choices;
+use crate::racing::tell_race;
 use crate::texts::{is_too_long, proposal_line, verdict_line};
 use std::alloc::Global;
 use vs_certificate::{CertFault, ClaimedGrain, written_reads_back};
@@ -19,6 +21,7 @@ use vs_certified::{CertifiedFault, certified, judge};
 use vs_explain::vs_simulate::{Policy, SimFault, design_of, list_design, simulate};
 use vs_program_words::{Order, OutputText, Request, Subcommand};
 use vs_propose::{Proposal, propose};
+use vs_race::Race;
 use vs_run_turns::Dropped;
 
 /// What a call did.
@@ -30,12 +33,17 @@ pub enum Done {
     Judged(Verdict),
     /// What is proposed was told.
     Proposed(Proposal),
+    /// A race was sought.
+    Raced(Race),
     /// A design was listed.
     Listed,
 }
 
-// The policy of an order.
-fn policy_of<'v>(order: Order) -> Policy<'v> {
+// The policy of an order, or of choices where there are some.
+fn policy_of<'v>(order: Order, choices: &'v [usize]) -> Policy<'v> {
+    if !choices.is_empty() {
+        return Policy::Listed(choices);
+    }
     match order {
         Order::Fifo => Policy::Fifo,
         Order::Lifo => Policy::Lifo,
@@ -59,7 +67,8 @@ fn run_source<'s, S: Sink>(
     let mut dropped = Dropped;
     let top = request.top.as_bytes();
     let (until, steps) = (request.until.count, request.steps.count);
-    let policy = policy_of(request.order);
+    let choices = read_choices(alloc, request.choices, steps)?;
+    let policy = policy_of(request.order, &choices);
     match request.text {
         OutputText::Dump => simulate(
             alloc,
@@ -105,6 +114,7 @@ fn run_certified<'s, S: Sink>(
         until,
         steps,
         order: _,
+        choices: _,
         text,
     } = request;
     match text {
@@ -131,8 +141,8 @@ fn run_certified<'s, S: Sink>(
     }
 }
 
-// Writes a line to the sink.
-fn show<'s, S: Sink>(shown: &mut S, line: &[u8]) -> Result<(), SimFault<'s>>
+/// Writes a line to the sink.
+pub(crate) fn show<'s, S: Sink>(shown: &mut S, line: &[u8]) -> Result<(), SimFault<'s>>
     ensures ok { OnOk result (Appends (S.bytes shown.old) (S.bytes shown.new) line.now) }
     ensures err { IfErr result (λ fault. (fault ≡ Run Write) × AppendsPart (S.bytes shown.old) (S.bytes shown.new) line.now) }
 {
@@ -219,6 +229,10 @@ pub(crate) fn do_call<'s, S: Sink>(
         Subcommand::Certify(top, grain) => {
             let proposal = tell_proposal(alloc, top, grain, source, shown)?;
             Ok(Done::Proposed(proposal))
+        }
+        Subcommand::Race(hunt) => {
+            let race = tell_race(alloc, hunt, source, shown)?;
+            Ok(Done::Raced(race))
         }
         Subcommand::Elab(top) => {
             list_design(alloc, source, top.as_bytes(), shown)?;

@@ -11,6 +11,7 @@ use vs_certified::vs_kernel::Outcome;
 use vs_explain::{explain, explain_after, explain_certificate, explain_limit, explain_rule};
 use vs_program_words::{Order, Request, Subcommand};
 use vs_propose::{Proposal, Refusal};
+use vs_race::Race;
 
 // The top that a call asks for.
 fn top_of<'a>(call: Subcommand<'a>) -> &'a [u8] {
@@ -19,6 +20,7 @@ fn top_of<'a>(call: Subcommand<'a>) -> &'a [u8] {
         Subcommand::RunCertified(request) => request.top.as_bytes(),
         Subcommand::Check(top) => top.as_bytes(),
         Subcommand::Certify(top, _) => top.as_bytes(),
+        Subcommand::Race(hunt) => hunt.top.as_bytes(),
         Subcommand::Elab(top) => top.as_bytes(),
     }
 }
@@ -83,7 +85,7 @@ fn limit_meaning(
     time: u64,
 ) -> Result<Vec<u8>, AllocError> {
     match request_of(call) {
-        Some(request) => explain_limit(
+        Some(request) if request.choices.is_empty() => explain_limit(
             alloc,
             &kept.source,
             request.top.as_bytes(),
@@ -91,7 +93,7 @@ fn limit_meaning(
             request.steps.count,
             time,
         ),
-        None => Ok(Vec::new(alloc)),
+        _ => Ok(Vec::new(alloc)),
     }
 }
 
@@ -113,6 +115,32 @@ fn refusal_meaning(
     )
 }
 
+// What it means that no certificate was made where a race was sought.
+fn race_meaning(
+    alloc: Global,
+    top: &[u8],
+    kept: &Kept,
+    race: &Race,
+) -> Result<Vec<u8>, AllocError> {
+    match race {
+        Race::Found(_, Proposal::NotMade(refusal)) => refusal_meaning(alloc, top, kept, refusal),
+        Race::NotFound(_, Proposal::NotMade(refusal)) => {
+            refusal_meaning(alloc, top, kept, refusal)
+        }
+        _ => Ok(Vec::new(alloc)),
+    }
+}
+
+// Puts the command that looks for a race behind what a broken rule means.
+fn with_race(alloc: Global, meaning: Vec<u8>, top: &[u8]) -> Result<Vec<u8>, AllocError> {
+    let mut text = Vec::new(alloc);
+    text.extend_from_slice(&meaning)?;
+    text.extend_from_slice(b"`vsim race --top ")?;
+    text.extend_from_slice(top)?;
+    text.extend_from_slice(b" --until N` looks for two orders of events that differ.\n")?;
+    Ok(text)
+}
+
 // What a no means, or that no certificate was made, or the step limit; nothing, where a call was done in full.
 fn done_meaning(
     alloc: Global,
@@ -124,9 +152,14 @@ fn done_meaning(
     match done {
         Done::Ran(Outcome::StepLimit(time)) => limit_meaning(alloc, call, kept, *time),
         Done::Judged(Verdict::No(number, place)) => {
-            explain_rule(alloc, &kept.source, top, &kept.certificate, *number, place)
+            let text = explain_rule(alloc, &kept.source, top, &kept.certificate, *number, place)?;
+            with_race(alloc, text, top)
         }
-        Done::Proposed(Proposal::NotMade(refusal)) => refusal_meaning(alloc, top, kept, refusal),
+        Done::Proposed(Proposal::NotMade(refusal)) => {
+            let text = refusal_meaning(alloc, top, kept, refusal)?;
+            with_race(alloc, text, top)
+        }
+        Done::Raced(race) => race_meaning(alloc, top, kept, race),
         _ => Ok(Vec::new(alloc)),
     }
 }

@@ -2,11 +2,13 @@
 #![tactic(auto)]
 
 mod buffered;
+mod choosing;
 mod command;
 mod cut;
 mod doing;
 mod explaining;
 mod input;
+mod racing;
 mod telling;
 mod texts;
 
@@ -17,5 +19,8 @@ pub use texts::{fault_text, words_status};
 pub use vs_elaborate;
 pub use vs_explain::vs_simulate::{Policy, SimFault, list_design, simulate};
 pub use vs_parser;
-pub use vs_program_words::{Call, Order, OutputText, Request, Subcommand, WordsFault, read_words};
+pub use vs_program_words::{
+    Call, Hunt, Order, OutputText, Request, Subcommand, WordsFault, read_words,
+};
+pub use vs_race;
 pub use vs_run_turns::Dropped;

@@ -8,6 +8,7 @@ ghost use Rattle.vs_program.specs.Statuses.{refusal_status, start_status, words_
 ghost use Rattle.vs_program.specs.passes.Telling.{TellsWords};
 
 use crate::doing::Done;
+use crate::racing::race_status;
 use crate::texts::{
     DONE, FAILED, LIMITED, MISUSED, REFUSED, refusal_status, refusal_text, words_status,
 };
@@ -57,6 +58,14 @@ pub(crate) fn tell_words<O: Write, E: Write>(
             tell(err, b"--cert runs by --policy fifo alone", MISUSED),
             out,
         ),
+        WordsFault::Choices => (
+            tell(
+                err,
+                b"--choices takes choices as 17..22=1,30..30=2",
+                MISUSED,
+            ),
+            out,
+        ),
         WordsFault::Memory => (tell(err, b"memory", FAILED), out),
     }
 }
@@ -102,6 +111,7 @@ pub(crate) fn tell_done<E: Write>(done: &Done, err: &mut E) -> u8
         }
         Done::Judged(Verdict::No(_, _)) => REFUSED,
         Done::Proposed(Proposal::NotMade(_)) => REFUSED,
+        Done::Raced(race) => race_status(race),
         _ => DONE,
     }
 }

@@ -11,14 +11,15 @@ use Rattle.clap.specs.Walk.{Row, Text, answers_to, finished, first_of, has_row, 
 use Rattle.clap.specs.Simple.{App, Shape, argument_words, built, built_leaf, entered, help_shape, inherited, label_of, marked_built, names_of, rows_at, subcommand_of, with_leaf_noted}
 use Rattle.clap.specs.Faults.{entered_fault, fault_of, level_fault}
 use Rattle.clap.proofs.ValueTestLemmas.{accepts-Accepts}
-use Rattle.vs_program_words.specs.Options.{AreOptions, Words, bare_options, certify_options, check_options, elab_options, options_of, run_options}
+use Rattle.vs_program_words.specs.Options.{AreOptions, Words, bare_options, certify_options, check_options, elab_options, options_of, race_options, run_options}
 use Rattle.vs_program_words.specs.Asks.{name_of}
 use Rattle.vs_program_words.specs.Given.{AreAllGiven, IsCount, IsFlag}
 use Rattle.vs_program_words.proofs.Rows.{IsNoHelp, RowsFit, RulesFit, default_row, leaf_fits, level_parts, required_row, row_value, subcommand_given, walk_stops}
 
 -- an option whose value is a number
 abbrev is_number : Text → Bool
-is_number id = bytes_eq id (codes "until") || bytes_eq id (codes "steps")
+is_number id =
+    bytes_eq id (codes "until") || (bytes_eq id (codes "steps") || (bytes_eq id (codes "tries") || (bytes_eq id (codes "seed") || bytes_eq id (codes "from"))))
 
 -- a flag
 abbrev is_flag : Text → Bool
@@ -135,6 +136,40 @@ check_gives word words free is e = record {
   explain = flag_given check_built check_fits words e (codes "explain") refl (defaulted check_built check_fits words e (codes "explain") refl);
 }
 
+abbrev race_built : Shape
+race_built = built_below race_options
+
+race_fits : RulesFit Passed race_built.rules
+race_fits = (
+  (refl, (refl, λ v e. ((λ n. absurd cc), (λ f. absurd cc)))),
+  (
+    (refl, (refl, λ v e. ((λ n. passed v e), (λ f. absurd cc)))),
+    (
+      (refl, (refl, λ v e. ((λ n. passed v e), (λ f. absurd cc)))),
+      (
+        (refl, (refl, λ v e. ((λ n. passed v e), (λ f. absurd cc)))),
+        (
+          (refl, (refl, λ v e. ((λ n. passed v e), (λ f. absurd cc)))),
+          ((refl, (refl, λ v e. ((λ n. passed v e), (λ f. absurd cc)))), ((refl, (refl, λ v e. ((λ n. absurd cc), (λ f. flag_passed v e)))), (tt, tt))),
+        ),
+      ),
+    ),
+  ),
+)
+
+race_gives : Gives race_built
+race_gives word words free is e = record {
+  own = record {
+    top = word_given race_built race_fits words e (codes "top") (required race_built race_fits words e (codes "top") refl);
+    until = number_given race_built race_fits words e (codes "until") refl (required race_built race_fits words e (codes "until") refl);
+    steps = number_given race_built race_fits words e (codes "steps") refl (defaulted race_built race_fits words e (codes "steps") refl);
+    tries = number_given race_built race_fits words e (codes "tries") refl (defaulted race_built race_fits words e (codes "tries") refl);
+    seed = number_given race_built race_fits words e (codes "seed") refl (defaulted race_built race_fits words e (codes "seed") refl);
+    start = number_given race_built race_fits words e (codes "from") refl (defaulted race_built race_fits words e (codes "from") refl);
+  };
+  explain = flag_given race_built race_fits words e (codes "explain") refl (defaulted race_built race_fits words e (codes "explain") refl);
+}
+
 -- a name that isn't `help` isn't that of the subcommand `help`
 abbrev help_built : Shape
 help_built = built_leaf help_shape
@@ -166,7 +201,10 @@ module _ (orders texts grains : Words) where
           (refl, (refl, λ v e. ((λ n. absurd cc), (λ f. absurd cc)))),
           (
             (refl, (refl, λ v e. ((λ n. absurd cc), (λ f. absurd cc)))),
-            ((refl, (refl, λ v e. ((λ n. absurd cc), (λ f. flag_passed v e)))), ((refl, (refl, λ v e. ((λ n. absurd cc), (λ f. flag_passed v e)))), (tt, tt))),
+            (
+              (refl, (refl, λ v e. ((λ n. absurd cc), (λ f. absurd cc)))),
+              ((refl, (refl, λ v e. ((λ n. absurd cc), (λ f. flag_passed v e)))), ((refl, (refl, λ v e. ((λ n. absurd cc), (λ f. flag_passed v e)))), (tt, tt))),
+            ),
           ),
         ),
       ),
@@ -180,6 +218,7 @@ module _ (orders texts grains : Words) where
       until = number_given run_built run_fits words e (codes "until") refl (required run_built run_fits words e (codes "until") refl);
       steps = number_given run_built run_fits words e (codes "steps") refl (defaulted run_built run_fits words e (codes "steps") refl);
       policy = word_given run_built run_fits words e (codes "policy") (defaulted run_built run_fits words e (codes "policy") refl);
+      choices = word_given run_built run_fits words e (codes "choices") (defaulted run_built run_fits words e (codes "choices") refl);
       out = word_given run_built run_fits words e (codes "out") (defaulted run_built run_fits words e (codes "out") refl);
       cert = flag_given run_built run_fits words e (codes "cert") refl (defaulted run_built run_fits words e (codes "cert") refl);
     };
@@ -210,7 +249,7 @@ module _ (orders texts grains : Words) where
   table = built (options_of orders texts grains)
 
   table_gives : AllGive table.subs
-  table_gives = (run_gives, (check_gives, (certify_gives, (elab_gives, (help_gives, tt)))))
+  table_gives = (run_gives, (check_gives, (certify_gives, (race_gives, (elab_gives, (help_gives, tt))))))
 
   found_given : (subs : List Shape) → AllGive subs → (p : Text × List Text) → bytes_eq p.0 (codes "help") ≡ false
       → is_some (option_map (λ s. rows_at s p.1) (find (λ s. answers_to p.0 (label_of s)) subs)) ≡ true

@@ -7,11 +7,13 @@ use Rattle.clap.specs.declared.error.kind.ErrorKind.{ErrorKind}
 use Rattle.clap.specs.declared.error.kind.ErrorKind.TheVariants.{OutOfMemory}
 use Rattle.vs_certificate.specs.declared.members.ClaimedGrain.{ClaimedGrain}
 use Rattle.vs_certificate.specs.declared.members.ClaimedGrain.TheVariants.{Block, Statement}
+use Rattle.vs_program_words.specs.Choices.{is_choices}
 use Rattle.vs_program_words.specs.Options.{AreOptions}
+use Rattle.vs_program_words.specs.declared.words.Hunt.{Hunt}
 use Rattle.vs_program_words.specs.declared.words.Request.{Request}
 use Rattle.vs_program_words.specs.declared.words.Call as asked
 use Rattle.vs_program_words.specs.declared.words.Subcommand.{Subcommand}
-use Rattle.vs_program_words.specs.declared.words.Subcommand.TheVariants.{Run, RunCertified, Check, Certify, Elab}
+use Rattle.vs_program_words.specs.declared.words.Subcommand.TheVariants.{Run, RunCertified, Check, Certify, Race, Elab}
 use Rattle.vs_program_words.specs.declared.words.Order.{Order}
 use Rattle.vs_program_words.specs.declared.words.Order.TheVariants.{Fifo, Lifo}
 use Rattle.vs_program_words.specs.declared.words.OutputText.{OutputText}
@@ -54,7 +56,19 @@ pub record Asks (words values : Values) (q : Request) : Type 0 where
   pub until : IsNumber (values (codes "until")) q.until.count
   pub steps : IsNumber (values (codes "steps")) q.steps.count
   pub order : q.order ≡ order_named (words (codes "policy"))
+  pub choices : words (codes "choices") ≡ Some q.choices.now
+  pub read : is_choices q.choices.now ≡ true
   pub text : q.text ≡ text_named (words (codes "out"))
+
+-- whether the value of `--choices` is one
+abbrev pub are_choices : Option (List ℕ) → Bool
+are_choices None = true
+are_choices (Some text) = is_choices text
+
+-- whether an order other than the first one is asked for, by the words of `--policy` and `--choices`
+abbrev pub has_order : Order → List ℕ → Bool
+has_order Fifo [] = false
+has_order _ _ = true
 
 -- whether a certificate is asked for
 abbrev pub has_certificate : Values → Bool
@@ -64,24 +78,35 @@ has_certificate values = flag_named (values (codes "cert"))
 pub record AsksCertified (words values : Values) (q : Request) : Type 0 where
   pub asks : Asks words values q
   pub certificate : has_certificate values ≡ true
-  pub order : q.order ≡ Fifo
+  pub order : has_order q.order q.choices.now ≡ false
 
 -- a certificate of this top and grain
 pub record AsksCertificate (words : Values) (name : List ℕ) (g : ClaimedGrain) : Type 0 where
   pub top : words (codes "top") ≡ Some name
   pub grain : g ≡ grain_named (words (codes "grain"))
 
+-- the words and the other values of the options of `vsim race` ask for this
+pub record AsksRace (words values : Values) (q : Hunt) : Type 0 where
+  pub top : words (codes "top") ≡ Some q.top.now
+  pub until : IsNumber (values (codes "until")) q.until.count
+  pub steps : IsNumber (values (codes "steps")) q.steps.count
+  pub tries : IsNumber (values (codes "tries")) q.tries.count
+  pub seed : IsNumber (values (codes "seed")) q.seed.count
+  pub start : IsNumber (values (codes "from")) q.from.count
+
 -- the subcommands
 pub data Name : Type 0 where
   run : Name
   check : Name
   certify : Name
+  race : Name
   elab : Name
 
 -- the subcommand of a name; one that isn't another is `run`
 abbrev pub name_of : List ℕ → Name
 name_of name = if bytes_eq name (codes "elab") then elab
-    else (if bytes_eq name (codes "check") then check else (if bytes_eq name (codes "certify") then certify else run))
+    else (if bytes_eq name (codes "check") then check
+    else (if bytes_eq name (codes "certify") then certify else (if bytes_eq name (codes "race") then race else run)))
 
 -- the values of the options of a subcommand ask for this
 abbrev pub AsksAs : Name → Values → Values → Subcommand → Type 0
@@ -89,13 +114,22 @@ AsksAs run words values (Run q) = Asks words values q × (has_certificate values
 AsksAs run words values (RunCertified q) = AsksCertified words values q
 AsksAs check words values (Check top) = words (codes "top") ≡ Some top.now
 AsksAs certify words values (Certify top grain) = AsksCertificate words top.now grain
+AsksAs race words values (Race q) = AsksRace words values q
 AsksAs elab words values (Elab top) = words (codes "top") ≡ Some top.now
 AsksAs _ words values _ = ⊥
 
--- they ask for a run of a design whose certificate is accepted, in the order `Lifo`
-abbrev pub AsksForBoth : Name → Values → Values → Type 0
-AsksForBoth run words values = (has_certificate values ≡ true) × (order_named (words (codes "policy")) ≡ Lifo)
-AsksForBoth _ words values = ⊥
+-- they ask for a run of a design whose certificate is accepted, in another order than the first one
+pub record AsksForBoth (words values : Values) : Type 0 where
+  pub certificate : has_certificate values ≡ true
+  pub choices : List ℕ
+  pub given : words (codes "choices") ≡ Some choices
+  pub order : has_order (order_named (words (codes "policy"))) choices ≡ true
+
+-- the values of a subcommand's options ask for nothing, with this fault
+abbrev pub AskInVain : WordsFault → Name → Values → Values → Type 0
+AskInVain fault.OrderOfCertified run words values = AsksForBoth words values
+AskInVain fault.Choices run words values = are_choices (words (codes "choices")) ≡ false
+AskInVain _ _ words values = ⊥
 
 -- the words, which have no fault by the table of options, name a subcommand, with these values of its options
 pub record AreTaken (words : List (List ℕ)) : Type 0 where
@@ -119,10 +153,10 @@ pub record WordsAsk (words : List (List ℕ)) (call : asked.Call) : Type 0 where
   pub asks : AsksAs (name_of taken.name) (words_of taken) (values_of taken) call.subcommand
   pub explains : call.explains ≡ flag_named (values_of taken (codes "explain"))
 
--- the words, which have no fault by the table of options, ask for a run of a design whose certificate is accepted, in the order `Lifo`
-pub record WordsAskForBoth (words : List (List ℕ)) : Type 0 where
+-- the words, which have no fault by the table of options, ask for nothing, with this fault of the values
+pub record WordsAskInVain (words : List (List ℕ)) (f : WordsFault) : Type 0 where
   pub taken : AreTaken words
-  pub both : AsksForBoth (name_of taken.name) (words_of taken) (values_of taken)
+  pub vain : AskInVain f (name_of taken.name) (words_of taken) (values_of taken)
 
 -- the words have a fault of this kind by the table of options; a call for help or for the version counts among them
 pub record HaveFault (words : List (List ℕ)) (k : ErrorKind) : Type 0 where
@@ -133,5 +167,6 @@ pub record HaveFault (words : List (List ℕ)) (k : ErrorKind) : Type 0 where
 -- what a fault of the words says of them
 abbrev pub WordsFail : List (List ℕ) → WordsFault → Type 0
 WordsFail words (fault.Refused e) = (kind_of e ≡ OutOfMemory) ⊎ HaveFault words (kind_of e)
-WordsFail words fault.OrderOfCertified = WordsAskForBoth words
+WordsFail words fault.OrderOfCertified = WordsAskInVain words fault.OrderOfCertified
+WordsFail words fault.Choices = WordsAskInVain words fault.Choices
 WordsFail words fault.Memory = Unit {0}

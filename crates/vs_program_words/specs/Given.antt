@@ -2,7 +2,7 @@
 use Rattle.std.specs.Prelude.{ℕ, ◌≡◌, ◌||◌, true, Option, Some, None, List, codes, is_some}
 use Rattle.std.specs.Str.{bytes_eq}
 use Rattle.clap.specs.Words.{IsUnsignedIn}
-use Rattle.vs_program_words.specs.Asks.{Name, Values, certify, check, elab, run}
+use Rattle.vs_program_words.specs.Asks.{Name, Values, certify, check, elab, race, run}
 
 -- there is a text, of a number from 0 to 2^62 - 1
 abbrev pub IsCount : Option (List ℕ) → Type 0
@@ -20,6 +20,7 @@ pub record AreGiven (words values : Values) : Type 0 where
   pub until : IsCount (values (codes "until"))
   pub steps : IsCount (values (codes "steps"))
   pub policy : is_some (words (codes "policy")) ≡ true
+  pub choices : is_some (words (codes "choices")) ≡ true
   pub out : is_some (words (codes "out")) ≡ true
   pub cert : IsFlag (values (codes "cert"))
 
@@ -28,11 +29,21 @@ pub record AreGivenToCertify (words : Values) : Type 0 where
   pub top : is_some (words (codes "top")) ≡ true
   pub grain : is_some (words (codes "grain")) ≡ true
 
+-- those of `vsim race`
+pub record AreGivenToRace (words values : Values) : Type 0 where
+  pub top : is_some (words (codes "top")) ≡ true
+  pub until : IsCount (values (codes "until"))
+  pub steps : IsCount (values (codes "steps"))
+  pub tries : IsCount (values (codes "tries"))
+  pub seed : IsCount (values (codes "seed"))
+  pub start : IsCount (values (codes "from"))
+
 -- the options of a subcommand that it alone has, and its top, have their values
 abbrev pub AreGivenAs : Name → Values → Values → Type 0
 AreGivenAs run words values = AreGiven words values
 AreGivenAs check words values = is_some (words (codes "top")) ≡ true
 AreGivenAs certify words values = AreGivenToCertify words
+AreGivenAs race words values = AreGivenToRace words values
 AreGivenAs elab words values = is_some (words (codes "top")) ≡ true
 
 -- all options of a subcommand have their values

@@ -1,3 +1,4 @@
 pub mod Asks
+pub mod Choices
 pub mod Given
 pub mod Options

@@ -33,12 +33,26 @@ until_option = record (number_option (codes "until")) { required = true }
 abbrev pub steps_option : Rule
 steps_option = record (number_option (codes "steps")) { defaults = codes "10000000" ∷ [] }
 
+-- how many orders are tried, what they are drawn from, and the time before which they are the first order
+abbrev pub tries_option : Rule
+tries_option = record (number_option (codes "tries")) { defaults = codes "100" ∷ [] }
+
+abbrev pub seed_option : Rule
+seed_option = record (number_option (codes "seed")) { defaults = codes "0" ∷ [] }
+
+abbrev pub from_option : Rule
+from_option = record (number_option (codes "from")) { defaults = codes "0" ∷ [] }
+
 -- an option whose value is one of some words, and one of them where it is left out
 abbrev pub choice_option : List ℕ → Words → List ℕ → Rule
 choice_option name words default = record (option_of name) { parser = Some (vp.Names words); defaults = default ∷ [] }
 
 abbrev pub policy_option : Words → Rule
 policy_option orders = choice_option (codes "policy") orders (codes "fifo")
+
+-- choices of items in place of an order
+abbrev pub choices_option : Rule
+choices_option = record (option_of (codes "choices")) { value_names = 1; defaults = [] ∷ [] }
 
 abbrev pub out_option : Words → Rule
 out_option texts = choice_option (codes "out") texts (codes "lines")
@@ -56,7 +70,8 @@ explain_option = flag_option (codes "explain")
 
 -- `run`, with the words of `--policy` and of `--out`
 abbrev pub run_rules : Words → Words → List Rule
-run_rules orders texts = top_option ∷ until_option ∷ steps_option ∷ policy_option orders ∷ out_option texts ∷ cert_option ∷ explain_option ∷ []
+run_rules orders texts =
+    top_option ∷ until_option ∷ steps_option ∷ policy_option orders ∷ choices_option ∷ out_option texts ∷ cert_option ∷ explain_option ∷ []
 
 abbrev pub run_options : Words → Words → Shape
 run_options orders texts = record (new_shape (codes "run")) { rules = run_rules orders texts }
@@ -73,6 +88,13 @@ certify_options grains = record (new_shape (codes "certify")) { rules = top_opti
 abbrev pub elab_options : Shape
 elab_options = record (new_shape (codes "elab")) { rules = top_option ∷ explain_option ∷ [] }
 
+-- `race`
+abbrev pub race_rules : List Rule
+race_rules = top_option ∷ until_option ∷ steps_option ∷ tries_option ∷ seed_option ∷ from_option ∷ explain_option ∷ []
+
+abbrev pub race_options : Shape
+race_options = record (new_shape (codes "race")) { rules = race_rules }
+
 -- `vsim`, with its version, of whose subcommands one is asked for
 abbrev pub bare_options : App
 bare_options = record { top = record (new_shape (codes "vsim")) { has_version = true; subcommand_required = true }; subs = [] }
@@ -81,7 +103,7 @@ bare_options = record { top = record (new_shape (codes "vsim")) { has_version = 
 abbrev pub options_of : Words → Words → Words → App
 options_of orders texts grains = record {
   top = record bare_options.top { is_leaf = false };
-  subs = run_options orders texts ∷ check_options ∷ certify_options grains ∷ elab_options ∷ [];
+  subs = run_options orders texts ∷ check_options ∷ certify_options grains ∷ race_options ∷ elab_options ∷ [];
 }
 
 -- the table of all options

@@ -1,7 +1,8 @@
 //! The words of the program's command line: the table of its options, and what words ask for by it.
 #![tactic(auto)]
 
+mod choices;
 mod options;
 mod words;
 
-pub use words::{Call, Order, OutputText, Request, Subcommand, WordsFault, read_words};
+pub use words::{Call, Hunt, Order, OutputText, Request, Subcommand, WordsFault, read_words};

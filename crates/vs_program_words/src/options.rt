@@ -2,7 +2,8 @@
 ghost use Rattle.std.specs.Prelude.{◌≡◌, All, IfOk, IsOkAnd, false, fold, map, true};
 ghost use Rattle.clap.specs.Words.{app_of, new_app, rule_of, shape_of, with_rule, with_subcommand};
 ghost use Rattle.vs_program_words.specs.Options.{AreOptions, certify_options, check_options, choice_option, elab_options};
-ghost use Rattle.vs_program_words.specs.Options.{bare_options, explain_option, flag_option, number_option, option_of, run_options, run_rules, steps_option, top_option, until_option};
+ghost use Rattle.vs_program_words.specs.Options.{bare_options, choices_option, explain_option, flag_option, number_option, option_of, race_options, race_rules, run_options};
+ghost use Rattle.vs_program_words.specs.Options.{run_rules, from_option, seed_option, steps_option, top_option, tries_option, until_option};
 
 use clap::{Arg, ArgAction, Command};
 use std::alloc::{AllocError, Global};
@@ -17,8 +18,9 @@ const AFTER: &str = "A source is read from standard input, as in
   vsim certify --top tb <tb.v >tb.cert
   cat tb.cert tb.v | vsim run --top tb --until 100 --cert
 
-Exit status: 0 done, 1 refused (or `no`, or `not made`), 2 step limit,
-3 out of memory, read error or write error, 64 wrong arguments.";
+Exit status: 0 done, 1 refused (or `no`, `not made`, or a race), 2 step limit
+(or no race found), 3 out of memory, read error or write error, 64 wrong
+arguments.";
 
 /// What stands below the options of `run`.
 const AFTER_RUN: &str = "--out lines writes the log: what `$display` and `$strobe` print;
@@ -40,6 +42,16 @@ const AFTER_CERTIFY: &str = "Example: vsim certify --top tb <tb.v >tb.cert
 
 Exit status: 0 done, 1 not made or refused, 3 out of memory, read error or
 write error, 64 wrong arguments.";
+
+/// What stands below the options of `race`.
+const AFTER_RACE: &str =
+    "Prints a signal that has two values by the order of events alone, or that none
+was found, which proves nothing. The same words give the same answer.
+
+Example: vsim race --top tb --until 100 <tb.v
+
+Exit status: 0 certified, so there is none, 1 shown or refused, 2 none found,
+3 out of memory, read error or write error, 64 wrong arguments.";
 
 /// What stands below the options of `elab`.
 const AFTER_ELAB: &str = "Example: vsim elab --top tb <tb.v
@@ -99,6 +111,35 @@ fn steps<'a>(alloc: Global) -> Arg<'a>
     ensures local { result.global ≡ false }
 {
     number(alloc, "steps", "The most steps that the run may take").default_value("10000000")
+}
+
+// The option with the number of orders.
+fn tries<'a>(alloc: Global) -> Arg<'a>
+    ensures option { rule_of result ≡ tries_option }
+    ensures local { result.global ≡ false }
+{
+    number(alloc, "tries", "How many orders of events are tried").default_value("100")
+}
+
+// The option with the number that orders are drawn from.
+fn seed<'a>(alloc: Global) -> Arg<'a>
+    ensures option { rule_of result ≡ seed_option }
+    ensures local { result.global ≡ false }
+{
+    number(alloc, "seed", "The number that the orders are drawn from").default_value("0")
+}
+
+// The option with the time before which orders are the first one.
+fn from<'a>(alloc: Global) -> Arg<'a>
+    ensures option { rule_of result ≡ from_option }
+    ensures local { result.global ≡ false }
+{
+    number(
+        alloc,
+        "from",
+        "The moment before which the first order is kept, in ticks",
+    )
+    .default_value("0")
 }
 
 // An option whose value is one of some words, and one of them where it is left out.
@@ -205,6 +246,20 @@ fn certify_command<'a>(alloc: Global, grains: &'a [&'a str]) -> Result<Command<'
     )
 }
 
+// The option with choices of items.
+fn choices<'a>(alloc: Global) -> Arg<'a>
+    ensures option { rule_of result ≡ choices_option }
+    ensures local { result.global ≡ false }
+{
+    option(
+        alloc,
+        "choices",
+        "Which choices take another item than the first, as 17..22=1,30..30=2",
+    )
+    .value_name("LIST")
+    .default_value("")
+}
+
 // The options of `run`, with the words that they take.
 fn run_list<'a>(
     alloc: Global,
@@ -238,6 +293,7 @@ fn run_list<'a>(
         until(alloc),
         steps(alloc),
         policy,
+        choices(alloc),
         out,
         cert,
         explain(alloc),
@@ -259,6 +315,37 @@ fn run_command<'a>(
         "run",
         "Runs the design on standard input",
         AFTER_RUN,
+        options,
+    )
+}
+
+// The options of `race`.
+fn race_list<'a>(alloc: Global) -> Result<Vec<Arg<'a>>, AllocError>
+    ensures rules { IfOk result (λ list. map rule_of list.items ≡ race_rules) }
+    ensures local { IfOk result (λ list. All (λ a. a.global ≡ false) list.items) }
+{
+    let list = vec![in alloc;
+        top(alloc),
+        until(alloc),
+        steps(alloc),
+        tries(alloc),
+        seed(alloc),
+        from(alloc),
+        explain(alloc),
+    ]?;
+    Ok(list)
+}
+
+// `race`.
+fn race_command<'a>(alloc: Global) -> Result<Command<'a>, AllocError>
+    ensures { IfOk result (λ c. shape_of c ≡ race_options) }
+{
+    let options = race_list(alloc)?;
+    command_of(
+        alloc,
+        "race",
+        "Looks for two orders of events under which a design has different values",
+        AFTER_RACE,
         options,
     )
 }
@@ -296,5 +383,6 @@ pub(crate) fn vsim_command<'a>(alloc: Global) -> Result<Command<'a>, AllocError>
     )?;
     let command = with_command(command, check_command(alloc))?;
     let command = with_command(command, certify_command(alloc, GRAINS.as_slice()))?;
+    let command = with_command(command, race_command(alloc))?;
     with_command(command, elab_command(alloc))
 }

@@ -1,11 +1,12 @@
 //! The words of a command line.
-ghost use Rattle.std.specs.Prelude.{◌≡◌, IfErr, IfNone, IfOk, IfSome, codes, is_some, map, true};
+ghost use Rattle.std.specs.Prelude.{◌≡◌, IfErr, IfOk, codes, is_some, map, true};
 ghost use Rattle.clap.specs.Words.{first_value, found_of, one_text};
-ghost use Rattle.vs_program_words.specs.Asks.{Asks, AsksAs, AsksForBoth, IsNumber, WordsAsk, WordsFail};
-ghost use Rattle.vs_program_words.specs.Asks.{flag_named, grain_named, name_of, run};
-ghost use Rattle.vs_program_words.specs.Given.{AreGiven, AreGivenAs, IsCount, IsFlag};
+ghost use Rattle.vs_program_words.specs.Asks.{AskInVain, Asks, AsksAs, IsNumber, WordsAsk, WordsFail, has_order};
+ghost use Rattle.vs_program_words.specs.Asks.{AsksRace, flag_named, grain_named, name_of, run};
+ghost use Rattle.vs_program_words.specs.Given.{AreGiven, AreGivenAs, AreGivenToRace, IsCount, IsFlag};
 ghost use Rattle.vs_program_words.specs.declared.words.WordsFault.TheVariants.{Memory, Refused};
 
+use crate::choices::is_choices;
 use crate::options::vsim_command;
 use clap::{ArgMatches, Error};
 use std::alloc::{AllocError, Global};
@@ -41,8 +42,27 @@ pub struct Request<'a> {
     pub steps: Ticks,
     /// Which enabled item is next.
     pub order: Order,
+    /// The choices that take another item than the first, in place of that order; empty where there are none.
+    pub choices: &'a str,
     /// The text that is asked for.
     pub text: OutputText,
+}
+
+/// What the words of `vsim race` ask for.
+#[derive(Clone, Copy)]
+pub struct Hunt<'a> {
+    /// The top module's name.
+    pub top: &'a str,
+    /// The moment up to which the design runs.
+    pub until: Ticks,
+    /// The most steps that each run may take; there are fewer of them than of ticks.
+    pub steps: Ticks,
+    /// How many orders are tried.
+    pub tries: Ticks,
+    /// The number that the orders are drawn from.
+    pub seed: Ticks,
+    /// The moment before which the first order is kept.
+    pub from: Ticks,
 }
 
 /// What the words of a call ask for.
@@ -56,6 +76,8 @@ pub enum Subcommand<'a> {
     Check(&'a str),
     /// `vsim certify`: a certificate of the design with this top, at this grain.
     Certify(&'a str, ClaimedGrain),
+    /// `vsim race`: two orders of events under which the design has different values.
+    Race(Hunt<'a>),
     /// `vsim elab`: the listing of the design with this top.
     Elab(&'a str),
 }
@@ -74,8 +96,10 @@ pub struct Call<'a> {
 pub enum WordsFault {
     /// `clap` refuses them, or they call for help or for the version.
     Refused(Error),
-    /// They ask for a certified run in the order `Lifo`.
+    /// They ask for a certified run in another order than the first one.
     OrderOfCertified,
+    /// The text of `--choices` has none.
+    Choices,
     /// A growth of memory was refused.
     Memory,
 }
@@ -115,9 +139,10 @@ fn has_flag(matches: &ArgMatches, name: &str) -> bool
 }
 
 // What the matches of `run` ask for.
-fn request_of<'a>(matches: &ArgMatches<'a>) -> Request<'a>
+fn request_of<'a>(matches: &ArgMatches<'a>) -> Result<Request<'a>, WordsFault>
     requires { AreGiven (first_value (found_of matches.now)) (one_text (found_of matches.now)) }
-    ensures { Asks (first_value (found_of matches.now)) (one_text (found_of matches.now)) result }
+    ensures ok { IfOk result (Asks (first_value (found_of matches.now)) (one_text (found_of matches.now))) }
+    ensures err { IfErr result (λ fault. AskInVain fault run (first_value (found_of matches.now)) (one_text (found_of matches.now))) }
 {
     let order = match matches.get_str("policy").unwrap() {
         "lifo" => Order::Lifo,
@@ -127,28 +152,59 @@ fn request_of<'a>(matches: &ArgMatches<'a>) -> Request<'a>
         "vcd" => OutputText::Dump,
         _ => OutputText::Lines,
     };
-    Request {
+    let choices = matches.get_str("choices").unwrap();
+    if !is_choices(choices) {
+        return Err(WordsFault::Choices);
+    }
+    Ok(Request {
         top: matches.get_str("top").unwrap(),
         until: number_of(matches, "until"),
         steps: number_of(matches, "steps"),
         order,
+        choices,
         text,
+    })
+}
+
+// Whether a request has another order than the first one.
+fn has_order(request: &Request) -> bool
+    ensures { result ≡ has_order request.now.order request.now.choices.now }
+{
+    match request.order {
+        Order::Lifo => true,
+        Order::Fifo => !request.choices.is_empty(),
     }
 }
 
-// What the matches of `run` ask for, unless it is a certified run in the order `Lifo`.
-fn run_of<'a>(matches: &ArgMatches<'a>) -> Option<Subcommand<'a>>
+// What the matches of `run` ask for, unless it is a certified run in another order than the first one.
+fn run_of<'a>(matches: &ArgMatches<'a>) -> Result<Subcommand<'a>, WordsFault>
     requires { AreGiven (first_value (found_of matches.now)) (one_text (found_of matches.now)) }
-    ensures asks { IfSome result (λ call. AsksAs run (first_value (found_of matches.now)) (one_text (found_of matches.now)) call) }
-    ensures both { IfNone result (AsksForBoth run (first_value (found_of matches.now)) (one_text (found_of matches.now))) }
+    ensures ok { IfOk result (AsksAs run (first_value (found_of matches.now)) (one_text (found_of matches.now))) }
+    ensures err { IfErr result (λ fault. AskInVain fault run (first_value (found_of matches.now)) (one_text (found_of matches.now))) }
 {
-    let request = request_of(matches);
+    let request = request_of(matches)?;
     if !has_flag(matches, "cert") {
-        return Some(Subcommand::Run(request));
+        return Ok(Subcommand::Run(request));
     }
-    match request.order {
-        Order::Fifo => Some(Subcommand::RunCertified(request)),
-        Order::Lifo => None,
+    if has_order(&request) {
+        return Err(WordsFault::OrderOfCertified);
+    }
+    Ok(Subcommand::RunCertified(request))
+}
+
+// What the matches of `race` ask for.
+fn hunt_of<'a>(matches: &ArgMatches<'a>) -> Hunt<'a>
+    requires { AreGivenToRace (first_value (found_of matches.now)) (one_text (found_of matches.now)) }
+    ensures { AsksRace (first_value (found_of matches.now)) (one_text (found_of matches.now)) result }
+{
+    let until = number_of(matches, "until");
+    Hunt {
+        top: matches.get_str("top").unwrap(),
+        until,
+        steps: number_of(matches, "steps"),
+        tries: number_of(matches, "tries"),
+        seed: number_of(matches, "seed"),
+        from: number_of(matches, "from"),
     }
 }
 
@@ -163,18 +219,18 @@ fn grain_of(matches: &ArgMatches) -> ClaimedGrain
     }
 }
 
-// What the matches of a subcommand ask for, unless it is a certified run in the order `Lifo`.
-fn subcommand_of<'a>(name: &str, matches: &ArgMatches<'a>) -> Option<Subcommand<'a>>
+// What the matches of a subcommand ask for.
+fn subcommand_of<'a>(name: &str, matches: &ArgMatches<'a>) -> Result<Subcommand<'a>, WordsFault>
     requires { AreGivenAs (name_of name.now) (first_value (found_of matches.now)) (one_text (found_of matches.now)) }
-    ensures asks { IfSome result (λ call.
-        AsksAs (name_of name.now) (first_value (found_of matches.now)) (one_text (found_of matches.now)) call) }
-    ensures both { IfNone result
-        (AsksForBoth (name_of name.now) (first_value (found_of matches.now)) (one_text (found_of matches.now))) }
+    ensures ok { IfOk result (AsksAs (name_of name.now) (first_value (found_of matches.now)) (one_text (found_of matches.now))) }
+    ensures err { IfErr result (λ fault.
+        AskInVain fault (name_of name.now) (first_value (found_of matches.now)) (one_text (found_of matches.now))) }
 {
     match name {
-        "elab" => Some(Subcommand::Elab(matches.get_str("top").unwrap())),
-        "check" => Some(Subcommand::Check(matches.get_str("top").unwrap())),
-        "certify" => Some(Subcommand::Certify(matches.get_str("top").unwrap(), grain_of(matches))),
+        "elab" => Ok(Subcommand::Elab(matches.get_str("top").unwrap())),
+        "check" => Ok(Subcommand::Check(matches.get_str("top").unwrap())),
+        "certify" => Ok(Subcommand::Certify(matches.get_str("top").unwrap(), grain_of(matches))),
+        "race" => Ok(Subcommand::Race(hunt_of(matches))),
         _ => run_of(matches),
     }
 }
@@ -187,11 +243,11 @@ pub fn read_words<'a>(alloc: Global, words: &'a [&'a str]) -> Result<Call<'a>, W
 {
     let matches = vsim_command(alloc)?.try_get_matches_from(words)?;
     let (name, matches) = matches.subcommand().unwrap();
-    let Some(subcommand) = subcommand_of(name, matches) else {
-        return Err(WordsFault::OrderOfCertified);
-    };
-    Ok(Call {
-        subcommand,
-        explains: has_flag(matches, "explain"),
-    })
+    match subcommand_of(name, matches) {
+        Ok(subcommand) => Ok(Call {
+            subcommand,
+            explains: has_flag(matches, "explain"),
+        }),
+        Err(fault) => Err(fault),
+    }
 }

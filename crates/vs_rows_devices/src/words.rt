@@ -12,11 +12,15 @@ const MISUSED: &[&str] = &[
     "vsim run --top t --top t --until 1",
     "vsim run --top t --until 1 --out dump",
     "vsim run --top t --until 1 --cert --policy lifo",
+    "vsim run --top t --until 1 --cert --choices 0..0=1",
+    "vsim run --top t --until 1 --choices 0..0",
     "vsim run --top t --until 1 --cert --cert",
     "vsim check",
     "vsim check --top t --until 1",
     "vsim certify --top t --grain process",
     "vsim certify --top t --cert",
+    "vsim race --top t",
+    "vsim race --top t --until 1 --tries many",
 ];
 
 #[test]
@@ -36,6 +40,7 @@ const SHOWN: &[&str] = &[
     "vsim run --help",
     "vsim check -h",
     "vsim certify --help",
+    "vsim race --help",
     "vsim elab --help",
     "vsim --version",
     "vsim -V",

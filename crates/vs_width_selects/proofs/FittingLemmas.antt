@@ -29,6 +29,7 @@ use Rattle.vs_width_selects.specs.declared.shape.Shape.{Shape}
 use Rattle.vs_width_selects.specs.declared.forms.Sizable.{Sizable, Sizable-F, fold-roll-Sizable, map-Sizable, roll-Sizable}
 use Rattle.vs_width_selects.specs.declared.forms.Sizable.TheVariants as v
 use Rattle.vs_width_selects.specs.declared.forms.Sizable.TheOpen as f
+use Rattle.vs_width_selects.specs.Layers.{Layer, name, brought, operator_layer, layer_of, layer_step}
 use Rattle.vs_width_selects.specs.Operations.{operated}
 use Rattle.vs_width_selects.specs.Each.{Each, each_none, each_more}
 use Rattle.vs_width_selects.specs.Senses.{Sense, form_step, sense, open_size, open_link, open_value, IsFitted, IsExtended, IsLink, IsTest, IsPair, IsPart}
@@ -57,30 +58,33 @@ layer x z h = ap sense (sym h) ∙ fold-roll-Sizable Sense form_step x
 pub fitted_as : (x : Sizable-F Sizable) (z : Sizable) → roll-Sizable x ≡ z → (w : ℕ) (g : Bool) (y : Typed-F Typed) (e : Typed) → roll-Typed y ≡ e →
     size_step (map-Typed Typed (Option ℕ) size_of y) ≡ (form_step (map-Sizable Sizable Sense sense x)).size w →
     ((store : Store) (time : ℕ) → value_step store time (map-Typed Typed (List Digit) (λ e. value_of e store time) y) ≡ (form_step (map-Sizable Sizable Sense sense x)).at store time w g) →
-    reads_step (map-Typed Typed (List BitRange) reads y) ≡ (form_step (map-Sizable Sizable Sense sense x)).reads → IsFitted (sense z) w g e
-fitted_as x z h w g y e k size value ranges =
+    reads_step (map-Typed Typed (List BitRange) reads y) ≡ (form_step (map-Sizable Sizable Sense sense x)).reads →
+    layer_step (map-Typed Typed Layer layer_of y) ≡ (form_step (map-Sizable Sizable Sense sense x)).layer → IsFitted (sense z) w g e
+fitted_as x z h w g y e k size value ranges outermost =
     let same = layer x z h in
     subst (λ s. IsFitted s w g e) (sym same) (record {
       size = ap size_of (sym k) ∙ fold-roll-Typed (Option ℕ) size_step y ∙ size;
       value = λ store time. ap (λ z. value_of z store time) (sym k) ∙ fold-roll-Typed (List Digit) (value_step store time) y ∙ value store time;
       ranges = ap reads (sym k) ∙ fold-roll-Typed (List BitRange) reads_step y ∙ ranges;
+      layer = ap layer_of (sym k) ∙ fold-roll-Typed Layer layer_step y ∙ outermost;
     })
 
 -- a part that is brought to a context
 pub fitted_extended : (x : Sizable-F Sizable) (z : Sizable) → roll-Sizable x ≡ z → (w : ℕ) (g : Bool) (y e : Typed) → IsExtended y w g e →
     option_map (λ n. w) (size_of y) ≡ (form_step (map-Sizable Sizable Sense sense x)).size w →
     ((store : Store) (time : ℕ) → resized g w (value_of y store time) ≡ (form_step (map-Sizable Sizable Sense sense x)).at store time w g) →
-    reads y ≡ (form_step (map-Sizable Sizable Sense sense x)).reads → IsFitted (sense z) w g e
-fitted_extended x z h w g y e k size value ranges =
+    reads y ≡ (form_step (map-Sizable Sizable Sense sense x)).reads → brought (layer_of y) ≡ (form_step (map-Sizable Sizable Sense sense x)).layer → IsFitted (sense z) w g e
+fitted_extended x z h w g y e k size value ranges outermost =
     let same = layer x z h in
     subst (λ s. IsFitted s w g e) (sym same) (record {
       size = k.size ∙ size;
       value = λ store time. k.value store time ∙ value store time;
       ranges = k.ranges ∙ ranges;
+      layer = k.layer ∙ outermost;
     })
 
 pub fits_Slice : (n : Slice) (w : ℕ) (g : Bool) → IsFitted (sense (v.Slice n)) w g (t.Slice n)
-fits_Slice n w g = fitted_as (f.Slice n) (v.Slice n) (v.rolls-Slice n) w g (o.Slice n) (t.Slice n) (t.rolls-Slice n) refl (λ store time. refl) refl
+fits_Slice n w g = fitted_as (f.Slice n) (v.Slice n) (v.rolls-Slice n) w g (o.Slice n) (t.Slice n) (t.rolls-Slice n) refl (λ store time. refl) refl refl
 
 pub fits_Select : (s : Box Selection Global) (c : Selection) (xw xl : Box Sizable Global) (aw al : Sizable) (bw bl : Box Typed Global) (w : ℕ) (g : Bool) → c ≡ s.value → aw ≡ xw.value → al ≡ xl.value →
     IsFitted (sense aw) w g bw.value → IsFitted (sense al) w g bl.value → IsFitted (sense (v.Select s xw xl)) w g (t.Select c bw bl)
@@ -91,12 +95,12 @@ fits_Select s c xw xl aw al bw bl w g hc hw hl pw pl =
     fitted_as (f.Select s xw xl) (v.Select s xw xl) (v.rolls-Select s xw xl) w g (o.Select s.value bw bl) (t.Select s.value bw bl) (t.rolls-Select s.value bw bl)
     (ap₂ (indexed_size s.value.width) qw.size ql.size)
     (λ store time. ap₂ (selection_value s.value store) (qw.value store time) (ql.value store time))
-    (ap₂ (λ a b. all_words s.value.signal ∷ a ++ b) qw.ranges ql.ranges))
+    (ap₂ (λ a b. all_words s.value.signal ∷ a ++ b) qw.ranges ql.ranges) refl)
 
 pub fits_Signal : (n : ℕ) (k : Operand) (w : ℕ) (g : Bool) → k.signal ≡ n → k.width ≡ w → k.signed ≡ g → IsFitted (sense (v.Signal n)) w g (t.Signal k)
 fits_Signal n k w g hn hw hg =
     fitted_as (f.Signal n) (v.Signal n) (v.rolls-Signal n) w g (o.Signal k) (t.Signal k) (t.rolls-Signal k)
-    (ap (λ z. Some z) hw) (λ store time. rw (hn, hw, hg) refl) (ap (λ z. whole z ∷ []) hn)
+    (ap (λ z. Some z) hw) (λ store time. rw (hn, hw, hg) refl) (ap (λ z. whole z ∷ []) hn) (ap name hn)
 
 pub fits_Excerpt : (s : Box Excerpt Global) (c : Excerpt) (x : Box Sizable Global) (a : Sizable) (b : Box Typed Global) (w : ℕ) (g : Bool) → c ≡ s.value → a ≡ x.value → IsFitted (sense a) w g b.value →
     IsFitted (sense (v.Excerpt s x)) w g (t.Excerpt c b)
@@ -104,19 +108,20 @@ fits_Excerpt s c x a b w g hc h p =
     let q : IsFitted (sense x.value) w g b.value = subst (λ z. IsFitted (sense z) w g b.value) h p in
     rw hc (
     fitted_as (f.Excerpt s x) (v.Excerpt s x) (v.rolls-Excerpt s x) w g (o.Excerpt s.value b) (t.Excerpt s.value b) (t.rolls-Excerpt s.value b)
-    (ap (option_map (λ n. s.value.width)) q.size) (λ store time. ap (excerpt_value s.value) (q.value store time)) q.ranges)
+    (ap (option_map (λ n. s.value.width)) q.size) (λ store time. ap (excerpt_value s.value) (q.value store time)) q.ranges refl)
 
 pub fits_Unary : (op : Unary) (x : Box Sizable Global) (a : Sizable) (b : Box Typed Global) (w : ℕ) (g : Bool) → a ≡ x.value → IsFitted (sense a) w g b.value → IsFitted (sense (v.Unary op x)) w g (t.Unary op b)
 fits_Unary op x a b w g h p =
     let q : IsFitted (sense x.value) w g b.value = subst (λ z. IsFitted (sense z) w g b.value) h p in
     fitted_as (f.Unary op x) (v.Unary op x) (v.rolls-Unary op x) w g (o.Unary op b) (t.Unary op b) (t.rolls-Unary op b)
     (ap (option_map (λ n. if gives_bit op then 1 else n)) q.size) (λ store time. ap (unary op) (q.value store time)) q.ranges
+    (ap (operator_layer op) q.layer)
 
 pub fits_Repeat : (n : Count) (x : Box Sizable Global) (a : Sizable) (b : Box Typed Global) (w : ℕ) (g : Bool) → a ≡ x.value → IsFitted (sense a) w g b.value → IsFitted (sense (v.Repeat n x)) w g (t.Repeat n b)
 fits_Repeat n x a b w g h p =
     let q : IsFitted (sense x.value) w g b.value = subst (λ z. IsFitted (sense z) w g b.value) h p in
     fitted_as (f.Repeat n x) (v.Repeat n x) (v.rolls-Repeat n x) w g (o.Repeat n b) (t.Repeat n b) (t.rolls-Repeat n b)
-    (ap (λ z. at_most_64 (option_map (λ m. n.times * m) z)) q.size) (λ store time. ap (λ ds. take 64 (replication n.times ds)) (q.value store time)) q.ranges
+    (ap (λ z. at_most_64 (option_map (λ m. n.times * m) z)) q.size) (λ store time. ap (λ ds. take 64 (replication n.times ds)) (q.value store time)) q.ranges refl
 
 -- ---- operands behind the first one
 
@@ -197,7 +202,7 @@ fits_Chain x ls a ks b ys w g h l p r =
     fitted_as (f.Chain x ls) (v.Chain x ls) (v.rolls-Chain x ls) w g (o.Chain b ys) (t.Chain b ys) (t.rolls-Chain b ys)
     (ap (λ z. chain_size z (links_sized ys.items)) q.size ∙ links_size w g ((sense x.value).size w) ls.items ys.items e)
     (λ store time. ap (λ z. chained z (links_valued store time ys.items)) (q.value store time) ∙ links_value w g store time ((sense x.value).at store time w g) ls.items ys.items e)
-    (ap₂ (λ c d. c ++ d) q.ranges (links_reads w g ls.items ys.items e))
+    (ap₂ (λ c d. c ++ d) q.ranges (links_reads w g ls.items ys.items e)) refl
 
 pub fits_Tests : (x : Box Sizable Global) (ls : Vec (Link × Sizable) Global) (a : Sizable) (ks : List (Link × Sizable)) (b : Box Typed Global) (ys : Vec (Link × Typed) Global) (w : ℕ) (g : Bool) (e : Typed) → a ≡ x.value → ks ≡ ls.items →
     IsFitted (sense a) 1 false b.value → Each IsTest ks ys.items → IsExtended (t.Chain b ys) w g e → IsFitted (sense (v.Tests x ls)) w g e
@@ -215,6 +220,7 @@ fits_Tests x ls a ks b ys w g e h l p r z =
     ∙ ap (λ z. chained z (links_valued store time ys.items)) (q.value store time) ∙ tests_valued store time (first.at store time 1 false) ls.items ys.items d
     ))
     (ap reads (sym (t.rolls-Chain b ys)) ∙ fold-roll-Typed (List BitRange) reads_step (o.Chain b ys) ∙ ap₂ (λ c d. c ++ d) q.ranges (tests_reads ls.items ys.items d))
+    (ap brought (ap layer_of (sym (t.rolls-Chain b ys)) ∙ fold-roll-Typed Layer layer_step (o.Chain b ys)))
 
 -- ---- choices
 
@@ -258,7 +264,7 @@ fits_Choice ps x ks a qs b w g l h r p =
     (pairs_size w g (size_of b.value) ps.items qs.items e ∙ ap (choice_size (map (λ (p : Sense × Sense). (p.0.size w, p.1.size w)) (pairs_sensed ps.items))) q.size)
     (λ store time. pairs_value w g store time (value_of b.value store time) ps.items qs.items e
     ∙ ap (chosen (map (λ (p : Sense × Sense). (p.0.at store time w g, p.1.at store time w g)) (pairs_sensed ps.items))) (q.value store time))
-    (ap₂ (λ c d. c ++ d) (pairs_reads w g ps.items qs.items e) q.ranges)
+    (ap₂ (λ c d. c ++ d) (pairs_reads w g ps.items qs.items e) q.ranges) refl
 
 -- ---- concatenations
 
@@ -283,7 +289,7 @@ fits_Concat x xs a ks b ys w g h l p r =
     fitted_as (f.Concat x xs) (v.Concat x xs) (v.rolls-Concat x xs) w g (o.Concat b ys) (t.Concat b ys) (t.rolls-Concat b ys)
     (ap at_most_64 (ap₂ (λ c d. sum_size (c ∷ d)) q.size (parts_size w g xs.items ys.items e)))
     (λ store time. ap₂ concatenated (q.value store time) (parts_value w g store time xs.items ys.items e))
-    (ap₂ (λ c d. c ++ d) q.ranges (parts_reads w g xs.items ys.items e))
+    (ap₂ (λ c d. c ++ d) q.ranges (parts_reads w g xs.items ys.items e)) refl
 
 -- ---- parts with a size of their own
 
@@ -291,7 +297,7 @@ pub fits_Closed : (s : Shape) (x : Box Sizable Global) (a : Sizable) (y e : Type
 fits_Closed s x a y e w g h p k =
     let q : IsFitted (sense x.value) s.width s.signed y = subst (λ z. IsFitted (sense z) s.width s.signed y) h p in
     fitted_extended (f.Closed s x) (v.Closed s x) (v.rolls-Closed s x) w g y e k
-    (ap (option_map (λ n. w)) q.size) (λ store time. ap (resized g w) (q.value store time)) q.ranges
+    (ap (option_map (λ n. w)) q.size) (λ store time. ap (resized g w) (q.value store time)) q.ranges (ap brought q.layer)
 
 -- ---- what is brought to a context, where memory suffices
 

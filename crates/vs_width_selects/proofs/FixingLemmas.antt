@@ -25,8 +25,9 @@ use Rattle.vs_width_selects.specs.Senses.{sense}
 use Rattle.vs_width_selects.proofs.FittingLemmas.{layer}
 use Rattle.vs_width_selects.specs.declared.places.ChosenBits.{ChosenBits}
 use Rattle.vs_width_selects.specs.Findings.{Has, at_found}
+use Rattle.vs_width_selects.specs.Layers.{FixedBits, slice_bits, bits, other, brought, selected_layer}
 use Rattle.vs_width_selects.specs.Meants.{Meant}
-use Rattle.vs_width_selects.specs.Selects.{Named, size_found, range_by, named_range, named_reads, named_value, operand_meant}
+use Rattle.vs_width_selects.specs.Selects.{Named, size_found, range_by, named_range, named_bits, named_reads, named_value, operand_meant}
 use Rattle.vs_width_selects.specs.passes.Measures.{meaning, IsMeasured, IsOwnPart}
 use Rattle.vs_width_selects.specs.passes.Places.{IsPlaced, IsAlone, IsFixed, IsChosen}
 
@@ -114,6 +115,15 @@ sized n w s h = ap size_found h
 valued : (n : Named) (w : ℕ) (s : Bool) (store : Store) (time : ℕ) → n.finding ≡ Has w s → named_value n store time ≡ bits_value (n.low store time) w (word_of store n.signal (n.word store time))
 valued n w s store time h = ap (λ z. at_found z (λ width signed. bits_value (n.low store time) width (word_of store n.signal (n.word store time)))) h
 
+-- what is outermost in what has constant indices, and in what has others
+layer_none : (rs : List BitRange) (n : Named) (s : Slice) → rs ≡ [] → s.signal ≡ n.signal → s.word ≡ n.word [] 0 → s.low ≡ n.low [] 0 → s.width ≡ size_found n.finding →
+    brought (bits (slice_bits s)) ≡ selected_layer rs (named_bits n)
+layer_none _ n s h e i j d = rw (h, e, i, j, d) refl
+
+layer_some : (rs : List BitRange) (q : FixedBits) → (rs ≡ [] → ⊥) → other ≡ selected_layer rs q
+layer_some [] q h = absurd (h refl)
+layer_some (r ∷ rs) q h = refl
+
 -- the range of what has constant indices
 pub fixed_range : (p : ChosenBits) (s : Slice) → IsFixed p s → (n : Named) → IsPlaced n p → slice_range s ≡ named_range n
 fixed_range p s q n h =
@@ -141,6 +151,9 @@ fixed_chosen p s q n h =
           ∙ ap₂ (λ a b. bits_value a b (word_of store s.signal s.word)) (sym (h.low store time ∙ q.low store time)) q.width
           ∙ ap₂ (λ a b. bits_value (n.low store time) w (word_of store a b)) (q.signal ∙ sym h.signal) (sym (h.word store time ∙ q.word store time))
           ∙ sym (valued n w p.extent.shape.signed store time h.found);
+      layer = ap (λ z. brought z.layer) same
+          ∙ layer_none n.reads n s (fixed_reads p s q n h) (q.signal ∙ sym h.signal) (sym (h.word [] 0 ∙ q.word [] 0)) (sym (h.low [] 0 ∙ q.low [] 0))
+          (q.width ∙ sym (sized n w p.extent.shape.signed h.found));
     }
 
 pub select_chosen : (p : ChosenBits) (s : Box Selection Global) (b d : Box Sizable Global) → IsOwnPart p.word b.value → IsOwnPart p.extent.index d.value → s.value.signal ≡ p.signal → s.value.words ≡ p.words → s.value.bits ≡ p.extent.axis → s.value.width ≡ p.extent.shape.width →
@@ -163,13 +176,15 @@ select_chosen p s b d k l e i j w q n h =
           ∙ ap (λ a. bits_value (n.low store time) p.extent.shape.width (word_of store a (n.word store time))) (sym h.signal)
           ∙ sym (valued n p.extent.shape.width p.extent.shape.signed store time h.found)
           );
+      layer = ap (λ z. brought z.layer) same
+          ∙ layer_some n.reads (named_bits n) (λ r. both_empty (sense p.word.form).reads (sense p.extent.index.form).reads q (sym h.ranges ∙ r));
     }
 
 -- ---- operands
 
 -- two meanings that agree at each point
-pub meant_same : (a b : Meant) → a.finding ≡ b.finding → a.reads ≡ b.reads → ((store : Store) (time width : ℕ) (signed : Bool) → a.at store time width signed ≡ b.at store time width signed) → a ≡ b
-meant_same a b p q h = λ i. record { finding = p i; reads = q i; at = λ store time width signed. h store time width signed i }
+pub meant_same : (a b : Meant) → a.finding ≡ b.finding → a.reads ≡ b.reads → ((store : Store) (time width : ℕ) (signed : Bool) → a.at store time width signed ≡ b.at store time width signed) → a.layer ≡ b.layer → a ≡ b
+meant_same a b p q h l = λ i. record { finding = p i; reads = q i; at = λ store time width signed. h store time width signed i; layer = l i }
 
 pub operand_as : (p : ChosenBits) (y : Sizable) (b : Box Sizable Global) → b.value ≡ y → ((n : Named) → IsPlaced n p → IsChosen n y) → (n : Named) → IsPlaced n p →
     IsMeasured (operand_meant n) (record { shape = p.extent.shape; form = v.Closed p.extent.shape b })
@@ -180,6 +195,7 @@ operand_as p y b e k n h =
     record {
       means = meant_same (operand_meant n) (meaning (record { shape = shape; form = v.Closed shape b })) h.found
           (ap (λ z. named_reads z n) h.found ∙ sym (ap (λ z. z.reads) same ∙ c.ranges))
-          (λ store time width signed. sym (ap (λ z. z.at store time width signed) same ∙ ap (resized signed width) (c.value store time shape.width shape.signed)));
+          (λ store time width signed. sym (ap (λ z. z.at store time width signed) same ∙ ap (resized signed width) (c.value store time shape.width shape.signed)))
+          (sym (ap (λ z. z.layer) same ∙ c.layer));
       flexible = λ width. ap (λ z. z.size width) same ∙ ap (option_map (λ n. width)) (c.size shape.width);
     }

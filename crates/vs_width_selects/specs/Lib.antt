@@ -2,6 +2,7 @@ pub mod Each
 pub mod Operations
 pub mod Senses
 pub mod Findings
+pub mod Layers
 pub mod Environment
 pub mod Meants
 pub mod Constants

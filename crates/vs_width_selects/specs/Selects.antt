@@ -18,6 +18,7 @@ use Rattle.vs_width_selects.specs.declared.bindings.Binding.TheVariants.{Signal,
 use Rattle.vs_width_selects.specs.declared.constants.Const.{Const}
 use Rattle.vs_width_selects.specs.declared.faults.WidthReason.{WidthReason}
 use Rattle.vs_width_selects.specs.Findings.{Finding, Has, Lacks, stands, unknown, wrong_kind, not_constant, together, alone, second, unsigned, at_found}
+use Rattle.vs_width_selects.specs.Layers.{FixedBits, other, selected_layer}
 use Rattle.vs_width_selects.specs.Meants.{Meant, own}
 use Rattle.vs_width_selects.specs.Constants.{constant_finding, index_at, natural_of, whole_of, positive}
 
@@ -204,6 +205,10 @@ range_by (r ∷ rs) n = all_words n.signal
 abbrev pub named_range : Named → BitRange
 named_range n = range_by n.reads n
 
+-- the bits that are named, where the indices read nothing
+abbrev pub named_bits : Named → FixedBits
+named_bits n = record { signal = n.signal; word = n.word [] 0; low = n.low [] 0; width = size_found n.finding }
+
 -- what an operand reads: its range, and what its indices read (profile)
 abbrev pub named_reads : Finding → Named → List BitRange
 named_reads (Has width signed) n = named_range n ∷ n.reads
@@ -220,6 +225,7 @@ operand_meant n = record {
   finding = n.finding;
   reads = named_reads n.finding n;
   at = λ store time width signed. resized signed width (named_value n store time);
+  layer = selected_layer n.reads (named_bits n);
 }
 
 -- ---- bits of a constant
@@ -241,6 +247,7 @@ excerpt_meant digits s = record {
   finding = s.finding;
   reads = s.reads;
   at = λ store time width signed. resized signed width (span_value digits s store time);
+  layer = other;
 }
 
 -- ---- operands

@@ -25,6 +25,7 @@ use Rattle.vs_width_selects.specs.declared.bindings.Binding.{Binding}
 use Rattle.vs_width_selects.specs.declared.bindings.Binding.TheVariants.{Signal, Constant, Pending, Other, Genvar}
 use Rattle.vs_width_selects.specs.Environment.{Environment}
 use Rattle.vs_width_selects.specs.Findings.{Finding, Has, Lacks, unknown, wrong_kind, not_constant, together, alone, alike, linked_shape, second, beside, repeated, at_found}
+use Rattle.vs_width_selects.specs.Layers.{Layer, name, other, brought, operator_layer}
 use Rattle.vs_width_selects.specs.Meants.{Meant, own}
 use Rattle.vs_width_selects.specs.Constants.{natural_of, positive, count_finding}
 use Rattle.vs_width_selects.specs.Selects.{Select, select_meant}
@@ -56,6 +57,11 @@ name_value (Some (Signal m signal)) store time width signed = operand_value sign
 name_value (Some (Constant c)) store time width signed = resized signed width c.value
 name_value _ store time width signed = []
 
+-- what is outermost in a name
+abbrev pub name_layer : Option Binding → Layer
+name_layer (Some (Signal m signal)) = name signal
+name_layer _ = other
+
 -- ---- operators of one operand
 
 -- the size and sign of the result, at those of the operand: one bit where the operator gives one (clause 5.4.1)
@@ -67,6 +73,11 @@ unary_finding false found = found
 abbrev pub unary_value : Bool → Unary → Meant → Store → ℕ → ℕ → Bool → List Digit
 unary_value true op m store time width signed = resized signed width (unary op (own m store time))
 unary_value false op m store time width signed = unary op (m.at store time width signed)
+
+-- what is outermost in the result: that of an operator that gives one bit is brought to its context
+abbrev pub unary_layer : Bool → Unary → Layer → Layer
+unary_layer true op x = brought (operator_layer op x)
+unary_layer false op x = operator_layer op x
 
 -- ---- operators of two operands
 
@@ -88,6 +99,7 @@ linked_meant a l = record {
   finding = together (linked_shape (sizing_of l.0)) a.finding l.1.finding;
   reads = a.reads ++ l.1.reads;
   at = linked_value (sizing_of l.0) l.0 a l.1;
+  layer = other;
 }
 
 -- operands with operators between them, from left to right (clause 5.1.2)
@@ -109,6 +121,7 @@ choice_meant pairs last = record {
   reads = joined (map (λ (p : Meant × Meant). p.0.reads ++ p.1.reads) pairs) ++ last.reads;
   at = λ store time width signed.
       chosen (map (λ (p : Meant × Meant). (own p.0 store time, p.1.at store time width signed)) pairs) (last.at store time width signed);
+  layer = other;
 }
 
 -- ---- concatenations
@@ -128,6 +141,7 @@ concat_meant first rest = record {
   finding = sum_finding (alone (λ width signed. Has width false) first.finding) rest;
   reads = first.reads ++ joined (map (λ (m : Meant). m.reads) rest);
   at = λ store time width signed. resized signed width (joined_value first rest store time);
+  layer = other;
 }
 
 -- ---- replications
@@ -146,6 +160,7 @@ repeat_meant count first rest = record {
   reads = (concat_meant first rest).reads;
   at = λ store time width signed.
       resized signed width (repeated_value (positive (natural_of count)) (joined_value first rest store time));
+  layer = other;
 }
 
 -- ---- expressions
@@ -156,6 +171,7 @@ digits_meant value sign = record {
   finding = Has (length value) sign;
   reads = [];
   at = λ store time width signed. resized signed width value;
+  layer = other;
 }
 
 -- a number (clauses 3.5.1 and 5.5.1)
@@ -164,11 +180,16 @@ number_meant l = digits_meant l.value l.signed
 
 -- a name (clause 12.7)
 abbrev pub name_meant : Option Binding → Meant
-name_meant b = record { finding = name_finding b; reads = name_reads b; at = name_value b }
+name_meant b = record { finding = name_finding b; reads = name_reads b; at = name_value b; layer = name_layer b }
 
 -- an operator and its operand
 abbrev pub unary_meant : Unary → Meant → Meant
-unary_meant op x = record { finding = unary_finding (gives_bit op) x.finding; reads = x.reads; at = unary_value (gives_bit op) op x }
+unary_meant op x = record {
+  finding = unary_finding (gives_bit op) x.finding;
+  reads = x.reads;
+  at = unary_value (gives_bit op) op x;
+  layer = unary_layer (gives_bit op) op x.layer;
+}
 
 -- `$signed(x)` or `$unsigned(x)` (clause 5.5)
 abbrev pub cast_meant : Bool → Meant → Meant
@@ -176,6 +197,7 @@ cast_meant sign x = record {
   finding = alone (λ width signed. Has width sign) x.finding;
   reads = x.reads;
   at = λ store time width signed. resized signed width (own x store time);
+  layer = brought x.layer;
 }
 
 -- one layer of an expression, with what each inner expression means in its place

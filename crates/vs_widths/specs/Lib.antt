@@ -4,6 +4,7 @@ pub mod Aiming
 pub use Rattle.vs_width_selects.specs.Constants
 pub use Rattle.vs_width_selects.specs.Environment
 pub use Rattle.vs_width_selects.specs.Findings
+pub use Rattle.vs_width_selects.specs.Layers
 pub use Rattle.vs_width_selects.specs.Meants
 pub use Rattle.vs_width_selects.specs.Selects
 pub mod Names

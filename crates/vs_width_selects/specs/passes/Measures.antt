@@ -9,6 +9,7 @@ use Rattle.vs_width_selects.specs.declared.forms.Measured.{Measured}
 use Rattle.vs_width_selects.specs.Senses.{Sense, sense}
 use Rattle.vs_width_selects.specs.declared.faults.WidthFault.{WidthFault}
 use Rattle.vs_width_selects.specs.Findings.{Has, Refuses}
+use Rattle.vs_width_selects.specs.Layers.{brought}
 use Rattle.vs_width_selects.specs.Meants.{Meant}
 use Rattle.vs_width_selects.specs.Constants.{where_none, positive, natural_of, whole_of, count_finding, whole_finding}
 
@@ -16,7 +17,7 @@ use Rattle.vs_width_selects.specs.Constants.{where_none, positive, natural_of, w
 
 -- what a size, a sign and a sense are together
 abbrev pub meant_of : Shape → Sense → Meant
-meant_of shape s = record { finding = Has shape.width shape.signed; reads = s.reads; at = s.at }
+meant_of shape s = record { finding = Has shape.width shape.signed; reads = s.reads; at = s.at; layer = s.layer }
 
 -- what a measured expression means
 abbrev pub meaning : Measured → Meant
@@ -50,6 +51,7 @@ pub record IsClosedPart (x : Measured) (shape : Shape) (y : Measured) : Type 0 w
   pub ranges : (sense y.form).reads ≡ (sense x.form).reads
   pub value : (store : Store) (time width : ℕ) (signed : Bool) →
       (sense y.form).at store time width signed ≡ resized signed width ((sense x.form).at store time x.shape.width x.shape.signed)
+  pub layer : (sense y.form).layer ≡ brought (sense x.form).layer
 
 -- ---- constants
 

@@ -16,8 +16,9 @@ use Rattle.vs_width_selects.specs.declared.faults.WidthFault.{WidthFault}
 use Rattle.vs_width_selects.specs.declared.places.Extent.{Extent}
 use Rattle.vs_width_selects.specs.declared.places.ChosenBits.{ChosenBits}
 use Rattle.vs_width_selects.specs.Findings.{Has, Refuses}
+use Rattle.vs_width_selects.specs.Layers.{brought, selected_layer, other}
 use Rattle.vs_width_selects.specs.Meants.{own}
-use Rattle.vs_width_selects.specs.Selects.{Select, Span, Named, ascends, size_found, named_range, named_value, span_value}
+use Rattle.vs_width_selects.specs.Selects.{Select, Span, Named, ascends, size_found, named_range, named_bits, named_value, span_value}
 use Rattle.vs_width_selects.specs.passes.Measures.{meaning, IsFlexible}
 
 -- what a measured select means
@@ -104,9 +105,11 @@ pub record IsChosen (n : Named) (y : Sizable) : Type 0 where
   pub size : (width : ℕ) → (sense y).size width ≡ Some (size_found n.finding)
   pub ranges : (sense y).reads ≡ named_range n ∷ n.reads
   pub value : (store : Store) (time width : ℕ) (signed : Bool) → (sense y).at store time width signed ≡ named_value n store time
+  pub layer : brought (sense y).layer ≡ selected_layer n.reads (named_bits n)
 
 -- chosen bits of digits, before they are brought to a context
 pub record IsExcerpt (digits : List Digit) (s : Span) (shape : Shape) (y : Sizable) : Type 0 where
   pub size : (sense y).size shape.width ≡ Some shape.width
   pub ranges : (sense y).reads ≡ s.reads
   pub value : (store : Store) (time : ℕ) → (sense y).at store time shape.width shape.signed ≡ span_value digits s store time
+  pub layer : brought (sense y).layer ≡ other

@@ -9,7 +9,7 @@ use Rattle.vs_eval_resolved.specs.declared.node.Size.{Size}
 use Rattle.vs_eval_resolved.specs.Copies.{links_of, pairs_of}
 use Rattle.vs_eval_resolved.specs.Meant.{AreSized, IsMeant, Means, Values}
 use Rattle.vs_eval_resolved.proofs.CopyLemmas.{kept_whole}
-use Rattle.vs_eval_resolved.proofs.LayerLemmas.{number_law, signal_law, slice_law, select_law, excerpt_long, unary_meant, chain_meant, choice_meant, concat_long, repeat_long, resized_long}
+use Rattle.vs_eval_resolved.proofs.LayerLemmas.{number_law, signal_law, slice_law, select_law, excerpt_long, unary_meant, chain_meant, choice_meant, concat_long, repeat_long, resized_long, resized_meant}
 use Rattle.vs_eval_resolved.proofs.MeantLemmas.{linked_long}
 use Rattle.vs_eval_resolved.proofs.OperandLemmas.{AreLinked, answered, all_linked, all_parts, if_means, link_step, none_chosen, none_linked, one_linked, pair_before, pair_means, part_step}
 use Rattle.vs_eval_resolved.proofs.WordLemmas.{bit_means, bits_long, element_means}
@@ -83,9 +83,15 @@ resolve-returns-in_ok-other-in-Some-5 t c =
     (repeat_long c.args.design.now.signals c.args.e.now c.in-Repeat.count c.in-Repeat.x c.deref-in-Repeat.result.now c.in-Some-5.x.0 c.in-Some-5.x.1.width c.repeated_size-size.result.width
     c.in-Repeat.is c.deref-in-Repeat.ensures (rw c.in-Some-5.is at c.in_ok-x-in-Repeat.ensures) wide)
 
-pub resolve-returns-in_ok-other-in-Resized : goal.resolve-returns-in_ok-other-in-Resized
-resolve-returns-in_ok-other-in-Resized t c =
-    c.in_ok-other-in-Resized.ensures c.args.design.now.signals (resized_long c.args.design.now.signals c.args.e.now c.in-Resized.size c.in-Resized.field-1 c.in-Resized.is)
+pub resolve-returns-in_ok-brought-in-Some-6 : goal.resolve-returns-in_ok-brought-in-Some-6
+resolve-returns-in_ok-brought-in-Some-6 t c =
+    resized_meant c.args.design.now.signals c.args.e.now c.in-Resized.size c.in-Resized.x c.deref-in-Resized.result.now
+    c.in_ok-brought-in-Some-6.field-0.0 c.in_ok-brought-in-Some-6.field-0.1.width c.in-Resized.is c.deref-in-Resized.ensures
+    (c.in_ok-brought-in-Some-6.ensures c.args.design.now.signals (λ store time. value_of c.deref-in-Resized.result.now store time) (rw c.in-Some-6.is at c.in_ok-x-in-Resized.ensures))
+
+pub resolve-returns-in_ok-other-in-None-6 : goal.resolve-returns-in_ok-other-in-None-6
+resolve-returns-in_ok-other-in-None-6 t c =
+    c.in_ok-other-in-None-6.ensures c.args.design.now.signals (resized_long c.args.design.now.signals c.args.e.now c.in-Resized.size c.in-Resized.x c.in-Resized.is)
 
 -- ---- bits that two indices choose
 

@@ -8,10 +8,10 @@ use Rattle.clap.specs.declared.error.kind.ErrorKind.{ErrorKind}
 use Rattle.clap.specs.declared.error.kind.ErrorKind.TheVariants.{OutOfMemory}
 use Rattle.vs_program.specs.Statuses.{words_status}
 use Rattle.vs_program_words.specs.Asks.{HaveFault, WordsFail}
-use Rattle.vs_program.specs.Ends.{EndsWords, by_kind, by_order, by_memory, by_help, with_call, without_call}
+use Rattle.vs_program.specs.Ends.{EndsWords, by_kind, by_choices, by_order, by_memory, by_help, with_call, without_call}
 use Rattle.vs_program.specs.passes.Telling.{TellsWords}
 use Rattle.vs_program_words.specs.declared.words.WordsFault.{WordsFault}
-use Rattle.vs_program_words.specs.declared.words.WordsFault.TheVariants.{Memory, OrderOfCertified, Refused}
+use Rattle.vs_program_words.specs.declared.words.WordsFault.TheVariants.{Choices, Memory, OrderOfCertified, Refused}
 use Rattle.vs_program.proofs.command.program.Goals as goal
 
 -- want of memory is no help
@@ -41,6 +41,7 @@ told_error words e old new status (inr fault) (inr is) kept = by_kind (kind_of e
 told_fault : (words : List (List ℕ)) (f : WordsFault) (old new : Option (List ℕ)) (status : ℕ) → WordsFail words f → TellsWords f old new status → EndsWords words old new status
 told_fault words (Refused e) old new status fails told = told_error words e old new status fails told.0 told.1
 told_fault words OrderOfCertified old new status fails told = by_order fails told.0 told.1
+told_fault words Choices old new status fails told = by_choices fails told.0 told.1
 told_fault words Memory old new status fails told = by_memory told.0 told.1
 
 pub returns-in-Ok : goal.returns-in-Ok

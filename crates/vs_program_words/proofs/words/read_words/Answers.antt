@@ -12,8 +12,9 @@ use Rattle.clap.proofs.WalkLemmas.{first_value-rows, one_text-rows}
 use Rattle.vs_program_words.specs.Options.{AreOptions, Words, options_of}
 use Rattle.vs_program_words.proofs.Given.{words_given}
 use Rattle.vs_program_words.specs.Given.{AreAllGiven}
-use Rattle.vs_program_words.specs.Asks.{AsksAs, AsksForBoth, Values, WordsFail, flag_named, name_of}
-use Rattle.vs_program_words.specs.declared.words.WordsFault.TheVariants.{Refused}
+use Rattle.vs_program_words.specs.Asks.{AreTaken, AskInVain, AsksAs, Values, WordsFail, flag_named, name_of, values_of, words_of}
+use Rattle.vs_program_words.specs.declared.words.WordsFault.{WordsFault}
+use Rattle.vs_program_words.specs.declared.words.WordsFault.TheVariants.{Choices, Memory, OrderOfCertified, Refused}
 use Rattle.vs_program_words.proofs.words.read_words.Goals as goal
 
 -- what a parse gives and refuses is known of this table
@@ -60,6 +61,13 @@ failed : (a : App) → AreOptions a → (words : List Text) (e : Error) → HasK
 failed a o words e (inl memory) = inl memory
 failed a o words e (inr kind) = inr (record { app = a; options = o; kind = kind })
 
+-- values that ask for nothing
+in_vain : (words : List Text) (t : AreTaken words) (f : WordsFault) → AskInVain f (name_of t.name) (words_of t) (values_of t) → WordsFail words f
+in_vain words t OrderOfCertified h = record { taken = t; vain = h }
+in_vain words t Choices h = record { taken = t; vain = h }
+in_vain words t (Refused e) h = absurd h
+in_vain words t Memory h = absurd h
+
 pub subcommand_of-requires : goal.subcommand_of-requires
 subcommand_of-requires c =
     let options = c.in_ok-vsim_command.ensures in
@@ -74,27 +82,25 @@ has_flag-requires c =
     let found = sym (c.in_ok-matches.ensures.matches (are_simple _ options)).1 ∙ met _ _ _ c.unwrap.ensures c.subcommand.ensures.name c.subcommand.ensures.rows in
     (all_given _ options words (c.in_ok-matches.ensures.kinds (are_simple_and_free _ options)) c.unwrap.result.0.now (found_of c.unwrap.result.1.now) found).explain
 
-pub returns-in_default-clause-err : goal.returns-in_default-clause-err
-returns-in_default-clause-err c =
+pub returns-clause-err : goal.returns-clause-err
+returns-clause-err c =
     let options = c.in_ok-vsim_command.ensures in
     let words = map (λ w. w.now) c.args.words.now in
     let name = c.unwrap.result.0.now in
     let f = found_of c.unwrap.result.1.now in
     let found = sym (c.in_ok-matches.ensures.matches (are_simple _ options)).1 ∙ met _ _ _ c.unwrap.ensures c.subcommand.ensures.name c.subcommand.ensures.rows in
-    record {
-      taken = record {
-        app = app_of c.in_ok-vsim_command.field-0;
-        options = options;
-        taken = c.in_ok-matches.ensures.kinds (are_simple_and_free _ options);
-        name = name;
-        rows = rows_of f;
-        found = found;
-      };
-      both = subst (λ (X : Type 0). X) (same_values (λ words values. AsksForBoth (name_of name) words values) f) (rw c.in_default.is at c.subcommand_of.ensures.both);
-    }
+    let taken : AreTaken words = record {
+      app = app_of c.in_ok-vsim_command.field-0;
+      options = options;
+      taken = c.in_ok-matches.ensures.kinds (are_simple_and_free _ options);
+      name = name;
+      rows = rows_of f;
+      found = found;
+    } in
+    in_vain words taken c.in-Err.fault (subst (λ (X : Type 0). X) (same_values (λ words values. AskInVain c.in-Err.fault (name_of name) words values) f) c.in-Err.ensures.err)
 
-pub returns-clause-ok : goal.returns-clause-ok
-returns-clause-ok c =
+pub returns-in-Ok-clause-ok : goal.returns-in-Ok-clause-ok
+returns-in-Ok-clause-ok c =
     let options = c.in_ok-vsim_command.ensures in
     let words = map (λ w. w.now) c.args.words.now in
     let name = c.unwrap.result.0.now in
@@ -109,7 +115,7 @@ returns-clause-ok c =
         rows = rows_of f;
         found = found;
       };
-      asks = subst (λ (X : Type 0). X) (same_values (λ words values. AsksAs (name_of name) words values c.in-Some.subcommand) f) c.in-Some.ensures.asks;
+      asks = subst (λ (X : Type 0). X) (same_values (λ words values. AsksAs (name_of name) words values c.in-Ok.subcommand) f) c.in-Ok.ensures.ok;
       explains = c.has_flag.ensures ∙ ap flag_named (one_text-rows f (codes "explain"));
     }
 

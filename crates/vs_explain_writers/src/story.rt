@@ -1,24 +1,16 @@
 //! What is said of a cause: what is wrong, and what mends it.
 
-use crate::sentences::sentence_of;
 use vs_explain_facts::Question;
 use vs_explain_outline::Page;
-use vs_explain_places::put_statement;
+use vs_explain_spots::{Site, mark_site, sentence_of};
 
 /// A cause in a sentence, and what mends it in one; `%` stands for the name of a signal.
 #[derive(Clone, Copy)]
-pub(crate) struct Story {
+pub struct Story {
     /// What is wrong.
-    pub(crate) cause: &'static str,
+    pub cause: &'static str,
     /// What mends it.
-    pub(crate) remedy: &'static str,
-}
-
-/// A statement of a process, by the numbers of both.
-#[derive(Clone, Copy, PartialEq, Eq)]
-pub(crate) struct Place {
-    pub(crate) process: usize,
-    pub(crate) number: usize,
+    pub remedy: &'static str,
 }
 
 /// Puts words, with a name in place of each `%`.
@@ -37,29 +29,22 @@ fn put_words(page: &mut Page, words: &str, name: &[u8]) {
 }
 
 /// Puts the rule, what is wrong, and what mends it.
-pub(crate) fn put_story(page: &mut Page, number: u8, story: Story, name: &[u8]) {
+pub fn put_story(page: &mut Page, number: u8, story: Story, name: &[u8]) {
     page.put(sentence_of(number));
     page.put("\n");
     put_words(page, story.cause, name);
     put_words(page, story.remedy, name);
 }
 
-/// Puts the line of a statement with a mark under it.
-pub(crate) fn put_place(page: &mut Page, asked: &Question, place: Place) {
-    if let Some(process) = asked.design.processes().get(place.process) {
-        put_statement(page, asked.text, process, place.number);
-    }
-}
-
 /// Puts the line of a statement, where there is one.
-pub(crate) fn put_maybe(page: &mut Page, asked: &Question, place: Option<Place>) {
-    if let Some(place) = place {
-        put_place(page, asked, place);
+pub fn put_maybe(page: &mut Page, asked: Question, site: Option<Site>) {
+    if let Some(site) = site {
+        mark_site(page, asked, site);
     }
 }
 
 /// The name of a signal as it is declared.
-pub(crate) fn name_of<'q>(asked: &Question<'q>, signal: usize) -> &'q [u8] {
+pub fn name_of<'q>(asked: Question<'q>, signal: usize) -> &'q [u8] {
     match asked.design.signals().get(signal) {
         Some(signal) => &signal.name,
         None => &[],

@@ -1,16 +1,17 @@
 //! How a signal is written, in the rule K3.
 
 use crate::claimed::put_writers_claimed;
-use crate::story::{Place, Story, name_of, put_place, put_story};
-use crate::writes::{Wanted, is_root, write_in};
+use crate::story::{Story, name_of, put_story};
+use crate::writes::{Wanted, write_in};
 use vs_explain_facts::{Facts, Question, TextKind};
 use vs_explain_outline::Page;
+use vs_explain_spots::{Site, mark_site};
 
 /// Where a process writes a signal by `=`, and where by `<=`.
 #[derive(Clone, Copy)]
 struct Ways {
-    now: Place,
-    later: Place,
+    now: Site,
+    later: Site,
 }
 
 /// The first process that writes a signal in both ways.
@@ -26,15 +27,15 @@ fn ways_of(facts: &Facts, signal: usize) -> Option<Ways> {
 }
 
 /// Whether a statement stands under a test of a signal that its process waits for, where it waits for several.
-fn is_under_reset(facts: &Facts, place: Place) -> bool {
-    let Some(text) = facts.texts.get(place.process) else {
+fn is_under_reset(facts: &Facts, site: Site) -> bool {
+    let Some(text) = facts.texts.get(site.process) else {
         return false;
     };
     if text.terms.len() < 2 {
         return false;
     }
     for (number, point) in text.points.iter().enumerate() {
-        if number < place.number && place.number < point.behind {
+        if number < site.number && site.number < point.behind {
             for signal in &point.reads {
                 if text.waits_for(*signal) {
                     return true;
@@ -63,7 +64,7 @@ fn story_of(facts: &Facts, signal: usize, ways: Ways) -> Story {
             remedy: "Write it by `<=` alone: of two in one slot the last one wins, so a default may stand before the `if`.",
         };
     }
-    if is_root(facts, signal) {
+    if facts.is_root(signal) {
         return Story {
             cause: "One process writes `%`, of which others await edges, by `=` and by `<=`.",
             remedy: "Write it by `=` alone.",
@@ -76,7 +77,7 @@ fn story_of(facts: &Facts, signal: usize, ways: Ways) -> Story {
 }
 
 /// Puts how a signal is written, and why that breaks the rule.
-pub(crate) fn put_ways(page: &mut Page, asked: &Question) {
+pub fn put_ways(page: &mut Page, asked: Question) {
     let Some(signal) = asked.facts.signal_named(asked.place) else {
         return;
     };
@@ -84,12 +85,12 @@ pub(crate) fn put_ways(page: &mut Page, asked: &Question) {
         return put_writers_claimed(page, asked, 3, signal);
     };
     let is_now_first = ways.now.number < ways.later.number;
-    put_place(
+    mark_site(
         page,
         asked,
         if is_now_first { ways.now } else { ways.later },
     );
-    put_place(
+    mark_site(
         page,
         asked,
         if is_now_first { ways.later } else { ways.now },

@@ -1,7 +1,9 @@
 //! The rules of certificates in a sentence each.
 
+use vs_explain_outline::Page;
+
 /// A rule in a sentence.
-pub(crate) fn sentence_of(number: u8) -> &'static str {
+pub fn sentence_of(number: u8) -> &'static str {
     match number {
         1 =>
             "K1: a certificate names each signal, assignment and process of the design once, and nothing else.",
@@ -21,4 +23,10 @@ pub(crate) fn sentence_of(number: u8) -> &'static str {
             "K10: in the first slot a process reads only what it alone writes, and no clock or reset gets a first edge.",
         _ => "K11: a combinational block that never ran has the outputs that a run would give.",
     }
+}
+
+/// Puts a rule in a sentence, and a blank behind it.
+pub fn put_rule(page: &mut Page, number: u8) {
+    page.put(sentence_of(number));
+    page.put(" ");
 }

@@ -1,11 +1,11 @@
 //! What a certificate says of a subject, where nothing is wrong with the design itself.
 
-use crate::sentences::sentence_of;
 use crate::writes::{Wanted, write_in};
 use vs_certificate::SignalEntry;
 use vs_explain_facts::{Question, entry_of, mode_word};
 use vs_explain_outline::Page;
 use vs_explain_places::put_marked;
+use vs_explain_spots::sentence_of;
 
 /// How many writers are told.
 const TOLD: usize = 4;
@@ -35,7 +35,7 @@ fn put_entry(page: &mut Page, entry: &SignalEntry) {
 }
 
 /// Puts how a process writes a signal.
-fn put_how(page: &mut Page, asked: &Question, process: usize, signal: usize) {
+fn put_how(page: &mut Page, asked: Question, process: usize, signal: usize) {
     let now = write_in(asked.facts, process, signal, Wanted::Now).is_some();
     let later = write_in(asked.facts, process, signal, Wanted::Later).is_some();
     page.put(match (now, later) {
@@ -46,19 +46,19 @@ fn put_how(page: &mut Page, asked: &Question, process: usize, signal: usize) {
 }
 
 /// Puts the subject and the rule.
-pub(crate) fn put_subject(page: &mut Page, asked: &Question, number: u8) {
+pub fn put_subject(page: &mut Page, asked: Question, number: u8) {
     put_marked(page, asked.text, asked.place);
     page.put(sentence_of(number));
     page.put("\n");
 }
 
 /// Puts that a certificate has to be made anew.
-pub(crate) fn put_anew(page: &mut Page) {
+pub fn put_anew(page: &mut Page) {
     page.put(ANEW);
 }
 
 /// Puts what a certificate says of a signal, and the processes that write it.
-pub(crate) fn put_writers_claimed(page: &mut Page, asked: &Question, number: u8, signal: usize) {
+pub(crate) fn put_writers_claimed(page: &mut Page, asked: Question, number: u8, signal: usize) {
     put_subject(page, asked, number);
     if let Some(entry) = entry_of(asked.certificate, asked.place) {
         put_entry(page, entry);

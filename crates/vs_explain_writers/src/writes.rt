@@ -1,13 +1,13 @@
 //! The writes of a signal in the texts of processes.
 
-use crate::story::Place;
 use vs_design::vs_logic4::{Unary, Vec4};
 use vs_design::{Aim, Signal, Statement, Target, Typed};
 use vs_explain_facts::{Facts, Point};
+use vs_explain_spots::{Site, unsized_of};
 
 /// Which writes are looked for.
 #[derive(Clone, Copy, PartialEq, Eq)]
-pub(crate) enum Wanted {
+pub enum Wanted {
     /// Any.
     Any,
     /// Those behind a control.
@@ -47,30 +47,25 @@ pub(crate) fn write_in(
     process: usize,
     signal: usize,
     wanted: Wanted,
-) -> Option<Place> {
+) -> Option<Site> {
     let text = facts.texts.get(process)?;
     for (number, point) in text.points.iter().enumerate() {
         if point.writes_signal(signal) && is_wanted(point, wanted) {
-            return Some(Place { process, number });
+            return Some(Site { process, number });
         }
     }
     None
 }
 
 /// The first such write of a signal, by any process.
-pub(crate) fn write_of(facts: &Facts, signal: usize, wanted: Wanted) -> Option<Place> {
+pub fn write_of(facts: &Facts, signal: usize, wanted: Wanted) -> Option<Site> {
     for process in facts.writers_of(signal) {
-        let place = write_in(facts, *process, signal, wanted);
-        if place.is_some() {
-            return place;
+        let site = write_in(facts, *process, signal, wanted);
+        if site.is_some() {
+            return site;
         }
     }
     None
-}
-
-/// The statement at a place.
-pub(crate) fn point_at<'f, 'd>(facts: &'f Facts<'d>, place: Place) -> Option<&'f Point<'d>> {
-    facts.texts.get(place.process)?.points.get(place.number)
 }
 
 /// The right side of an assignment.
@@ -105,17 +100,9 @@ pub(crate) fn is_part(target: &Target, number: usize, signal: &Signal) -> bool {
     false
 }
 
-/// An expression without what brings it to the size of its context.
-pub(crate) fn bare(source: &Typed) -> &Typed {
-    match source {
-        Typed::Resized(_, inner) => &**inner,
-        _ => source,
-    }
-}
-
 /// The number that an expression is.
 pub(crate) fn number_of(source: &Typed) -> Option<Vec4> {
-    match bare(source) {
+    match unsized_of(source) {
         Typed::Number(value) => Some(*value),
         _ => None,
     }
@@ -147,7 +134,7 @@ fn bit_behind(plane: u64, offset: u32) -> bool {
 }
 
 /// The lowest bit that an assignment of a constant gives a signal, where that is 0 or 1.
-pub(crate) fn bit_given(statement: &Statement, signal: usize) -> Option<bool> {
+pub fn bit_given(statement: &Statement, signal: usize) -> Option<bool> {
     let value = number_of(source_of(statement)?)?;
     let offset = offset_of(target_of(statement)?, signal);
     if bit_behind(value.unknown_plane(), offset) {
@@ -167,15 +154,18 @@ fn is_of_signal(source: &Typed, signal: usize) -> bool {
 }
 
 /// Whether an expression turns a signal over: `~clk` or `!clk`.
-pub(crate) fn turns_over(source: &Typed, signal: usize) -> bool {
-    match bare(source) {
-        Typed::Unary(Unary::Not | Unary::LogicalNot, inner) => is_of_signal(bare(inner), signal),
+fn turns_over(source: &Typed, signal: usize) -> bool {
+    match unsized_of(source) {
+        Typed::Unary(Unary::Not | Unary::LogicalNot, inner) => is_of_signal(
+            unsized_of(inner),
+            signal,
+        ),
         _ => false,
     }
 }
 
 /// Whether some process turns a signal over, as a clock is.
-pub(crate) fn is_turned(facts: &Facts, signal: usize) -> bool {
+pub fn is_turned(facts: &Facts, signal: usize) -> bool {
     for process in facts.writers_of(signal) {
         let Some(text) = facts.texts.get(*process) else {
             continue;
@@ -187,18 +177,6 @@ pub(crate) fn is_turned(facts: &Facts, signal: usize) -> bool {
                         return true;
                     }
                 }
-            }
-        }
-    }
-    false
-}
-
-/// Whether the root of an event term is a signal.
-pub(crate) fn is_root(facts: &Facts, signal: usize) -> bool {
-    for text in &facts.texts {
-        for term in &text.terms {
-            if facts.root(term.term.range.signal) == signal {
-                return true;
             }
         }
     }

@@ -1,14 +1,15 @@
 //! Who writes a signal, in the rule K2.
 
 use crate::claimed::put_writers_claimed;
-use crate::story::{Place, Story, name_of, put_maybe, put_story};
-use crate::writes::{Wanted, is_part, number_of, point_at, source_of, target_of, write_in};
+use crate::story::{Story, name_of, put_maybe, put_story};
+use crate::writes::{Wanted, is_part, number_of, source_of, target_of, write_in};
 use std::alloc::{AllocError, Global};
 use vs_design::vs_logic4::{Binary, Edge};
 use vs_design::{SignalKind, Statement, Typed};
 use vs_explain_facts::{Facts, Question, Reading, TextKind};
 use vs_explain_outline::Page;
 use vs_explain_places::{is_declaration, put_marked};
+use vs_explain_spots::Site;
 
 /// Why two processes may not write a signal.
 #[derive(Clone, Copy, PartialEq, Eq)]
@@ -37,8 +38,8 @@ enum Cause {
 #[derive(Clone, Copy)]
 struct Fault {
     cause: Cause,
-    first: Option<Place>,
-    second: Option<Place>,
+    first: Option<Site>,
+    second: Option<Site>,
 }
 
 /// The processes that write a signal behind a control.
@@ -79,7 +80,7 @@ enum Asked {
 }
 
 /// Whether all writes of a signal by these processes are so.
-fn all_are(asked: &Question, processes: &[usize], signal: usize, what: Asked) -> bool {
+fn all_are(asked: Question, processes: &[usize], signal: usize, what: Asked) -> bool {
     let Some(declared) = asked.design.signals().get(signal) else {
         return false;
     };
@@ -104,7 +105,7 @@ fn all_are(asked: &Question, processes: &[usize], signal: usize, what: Asked) ->
 }
 
 /// Whether a signal is used in loops alone, by these processes alone.
-fn is_loop_variable(asked: &Question, processes: &[usize], signal: usize) -> bool {
+fn is_loop_variable(asked: Question, processes: &[usize], signal: usize) -> bool {
     match asked.design.signals().get(signal) {
         Some(declared) if declared.kind == SignalKind::Integer => {}
         _ => return false,
@@ -143,7 +144,7 @@ fn edges_of(facts: &Facts, process: usize) -> (bool, bool) {
 /// Whether two processes stand at one place of the text, as turns of a generate loop do.
 fn share_text(
     alloc: Global,
-    asked: &Question,
+    asked: Question,
     one: usize,
     other: usize,
 ) -> Result<bool, AllocError> {
@@ -165,7 +166,7 @@ fn kind_of(facts: &Facts, process: usize) -> TextKind {
 /// Why two processes that write a signal after time 0 do.
 fn cause_of_two(
     alloc: Global,
-    asked: &Question,
+    asked: Question,
     late: &[usize],
     signal: usize,
     one: usize,
@@ -210,7 +211,7 @@ fn cause_of_clocked(facts: &Facts, one: usize, other: usize) -> Cause {
 /// The fault of two processes that write a signal after time 0.
 fn two_late(
     alloc: Global,
-    asked: &Question,
+    asked: Question,
     late: &[usize],
     signal: usize,
 ) -> Result<Option<Fault>, AllocError> {
@@ -238,7 +239,7 @@ fn no_more_first(
     process: usize,
     signal: usize,
     reading: Reading,
-) -> Result<Option<Place>, AllocError> {
+) -> Result<Option<Site>, AllocError> {
     let Some(text) = facts.texts.get(process) else {
         return Ok(None);
     };
@@ -252,29 +253,32 @@ fn no_more_first(
             return Ok(None);
         }
         if point.moment.is_first && found.is_none() {
-            found = Some(Place { process, number });
+            found = Some(Site { process, number });
         }
     }
     Ok(found)
 }
 
 /// Whether a write at the very start reads the signal that it writes.
-fn turning_start(facts: &Facts, process: usize, signal: usize) -> Option<Place> {
+fn turning_start(facts: &Facts, process: usize, signal: usize) -> Option<Site> {
     let text = facts.texts.get(process)?;
     for (number, point) in text.points.iter().enumerate() {
         if point.moment.is_prologue && point.writes_signal(signal) && point.reads_signal(signal) {
-            return Some(Place { process, number });
+            return Some(Site { process, number });
         }
     }
     None
 }
 
 /// Whether two writes are of one number.
-fn same_value(facts: &Facts, one: Option<Place>, other: Option<Place>) -> bool {
+fn same_value(facts: &Facts, one: Option<Site>, other: Option<Site>) -> bool {
     let (Some(one), Some(other)) = (one, other) else {
         return false;
     };
-    let (Some(one), Some(other)) = (point_at(facts, one), point_at(facts, other)) else {
+    let (Some(one), Some(other)) = (
+        facts.point(one.process, one.number),
+        facts.point(other.process, other.number),
+    ) else {
         return false;
     };
     let one = source_of(one.statement).and_then(|source| number_of(source));
@@ -286,7 +290,7 @@ fn same_value(facts: &Facts, one: Option<Place>, other: Option<Place>) -> bool {
 }
 
 /// Whether a process is a declaration with a value.
-fn is_declared(alloc: Global, asked: &Question, process: usize) -> Result<bool, AllocError> {
+fn is_declared(alloc: Global, asked: Question, process: usize) -> Result<bool, AllocError> {
     match asked.design.processes().get(process) {
         Some(process) => is_declaration(alloc, asked.text, process),
         None => Ok(false),
@@ -306,7 +310,7 @@ const NO_EMPTY: Reading = Reading {
 };
 
 /// The fault of these writes, where there is a second one.
-fn fault_at(cause: Cause, first: Option<Place>, second: Option<Place>) -> Option<Fault> {
+fn fault_at(cause: Cause, first: Option<Site>, second: Option<Site>) -> Option<Fault> {
     if second.is_none() {
         return None;
     }
@@ -320,7 +324,7 @@ fn fault_at(cause: Cause, first: Option<Place>, second: Option<Place>) -> Option
 /// The fault of two processes that give a signal a value in the first slot.
 fn two_first(
     alloc: Global,
-    asked: &Question,
+    asked: Question,
     signal: usize,
     writer: usize,
     other: usize,
@@ -345,7 +349,7 @@ fn two_first(
 }
 
 /// The first write of a signal at time 0 by its writer that may not stand beside those of another process: by `=`, or by `<=` where the other's are too.
-fn start_beside(facts: &Facts, signal: usize, writer: usize, other: usize) -> Option<Place> {
+fn start_beside(facts: &Facts, signal: usize, writer: usize, other: usize) -> Option<Site> {
     let now = write_in(facts, writer, signal, Wanted::FirstNow);
     if now.is_none() && write_in(facts, other, signal, Wanted::FirstLater).is_some() {
         return write_in(facts, writer, signal, Wanted::FirstLater);
@@ -356,7 +360,7 @@ fn start_beside(facts: &Facts, signal: usize, writer: usize, other: usize) -> Op
 /// The fault of two processes that both give a signal its first value.
 fn two_starts(
     alloc: Global,
-    asked: &Question,
+    asked: Question,
     signal: usize,
     writer: usize,
     other: usize,
@@ -381,7 +385,7 @@ fn two_starts(
 }
 
 /// The fault of the processes that write a signal, where they have one.
-fn fault_of(alloc: Global, asked: &Question, signal: usize) -> Result<Option<Fault>, AllocError> {
+fn fault_of(alloc: Global, asked: Question, signal: usize) -> Result<Option<Fault>, AllocError> {
     let facts = asked.facts;
     let all = facts.writers_of(signal);
     let Some(last) = all.last() else {
@@ -527,7 +531,7 @@ fn story_of_start(cause: Cause) -> Story {
 }
 
 /// Puts the first write; of a loop variable its declaration.
-fn put_first(page: &mut Page, asked: &Question, fault: Fault) {
+fn put_first(page: &mut Page, asked: Question, fault: Fault) {
     if fault.cause == Cause::LoopVariable {
         put_marked(page, asked.text, asked.place);
     } else {
@@ -536,7 +540,7 @@ fn put_first(page: &mut Page, asked: &Question, fault: Fault) {
 }
 
 /// Puts the processes that write a signal, and why that breaks the rule.
-pub(crate) fn put_writers(page: &mut Page, asked: &Question) {
+pub fn put_writers(page: &mut Page, asked: Question) {
     let Some(signal) = asked.facts.signal_named(asked.place) else {
         return;
     };

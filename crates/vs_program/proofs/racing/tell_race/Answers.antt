@@ -1,0 +1,53 @@
+use Rattle.std.proofs.Common.{◌≡◌, ◌∙◌, Bool, true, false, ℕ, List, inr, refl, subst, sym}
+use Rattle.std.proofs.lemmas.Bool.{false≢true}
+use Rattle.std.proofs.lemmas.Result.{err_from_is_err_and}
+use Rattle.std.specs.Io.KnownBytes.{Appends}
+use Rattle.vs_certified.specs.vs_vcd_writing.specs.Sinks.{AppendsPart}
+use Rattle.vs_design.specs.Parts.{Parts}
+use Rattle.vs_explain.specs.vs_simulate.specs.Honesty.{Defines, SimulationFails, is_refusal}
+use Rattle.vs_race.specs.Races.{IsAnswer}
+use Rattle.vs_race.specs.declared.answer.Race.{Race}
+use Rattle.vs_race.specs.declared.answer.Race.TheVariants.{Certified, Found, NotFound}
+use Rattle.vs_program.proofs.Fails.{if_err}
+use Rattle.vs_program.proofs.racing.tell_race.Goals as goal
+
+-- what is answered is of a source that defines a design
+defined_of : (source top : List ℕ) (r : Race) → IsAnswer source top r → (d : Parts) × Defines source top d
+defined_of source top (Certified c) is = (is.design, is.defined)
+defined_of source top (Found w refused) is = (is.design, is.defined)
+defined_of source top (NotFound missed refused) is = is
+
+-- what is told before a run is no fault of one
+not_late : {X : Type 0} (b : Bool) → b ≡ true → b ≡ false → X
+not_late b early late = absurd (false≢true (sym late ∙ early))
+
+pub returns-in_err-found-clause-begun : goal.returns-in_err-found-clause-begun
+returns-in_err-found-clause-begun g c =
+    let p = err_from_is_err_and c.from_residual.result c.from_residual.ensures.1 in
+    rw (p.1, p.2) (not_late (is_refusal c.in_err-found.field-0.0) c.in_err-found.ensures.early)
+
+pub returns-in_err-show-clause-err : goal.returns-in_err-show-clause-err
+returns-in_err-show-clause-err g c =
+    let p = err_from_is_err_and c.from_residual-in_err-show.result c.from_residual-in_err-show.ensures.1 in
+    let answered = subst (λ (t : List ℕ). IsAnswer c.args.source.now t c.in_ok-found.found) c.as_bytes.ensures.value c.in_ok-found.ensures.answered in
+    rw (p.1, p.2)
+    (subst (SimulationFails c.args.source.now c.args.hunt.top.now) (sym c.in_err-show.ensures.err.0)
+    (defined_of c.args.source.now c.args.hunt.top.now c.in_ok-found.found answered, inr refl))
+
+pub returns-clause-ok : goal.returns-clause-ok
+returns-clause-ok g c = record {
+  answered = subst (λ (t : List ℕ). IsAnswer c.args.source.now t c.in_ok-found.found) c.as_bytes.ensures.value c.in_ok-found.ensures.answered;
+  text = c.in_ok-text.text.items;
+  told = c.in_ok-text.ensures;
+  written = subst (λ (l : List ℕ). Appends (g.S.Sink.bytes c.args.shown.now) (g.S.Sink.bytes c.show.new.shown) l) c.deref.ensures.value c.in_ok-show.ensures.ok;
+}
+
+pub returns-in_err-show-clause-begun : goal.returns-in_err-show-clause-begun
+returns-in_err-show-clause-begun g c = if_err c.from_residual-in_err-show.result _ (λ e running. record {
+  race = c.in_ok-found.found;
+  answered = subst (λ (t : List ℕ). IsAnswer c.args.source.now t c.in_ok-found.found) c.as_bytes.ensures.value c.in_ok-found.ensures.answered;
+  text = c.in_ok-text.text.items;
+  told = c.in_ok-text.ensures;
+  begun = subst (λ (l : List ℕ). AppendsPart (g.S.Sink.bytes c.args.shown.now) (g.S.Sink.bytes c.show.new.shown) l) c.deref.ensures.value
+      c.in_err-show.ensures.err.1;
+})

@@ -1,0 +1,52 @@
+-- What the program tells of a search for a race.
+use Rattle.std.specs.Prelude.{ℕ, ◌≡◌, Option, List, [], ◌∷◌, ◌++◌, codes, decimal, map, reverse}
+use Rattle.std.specs.List.{flat_map}
+use Rattle.std.specs.Io.KnownBytes.{Appends}
+use Rattle.vs_design.specs.vs_logic4.specs.declared.digit.Digit.{Digit}
+use Rattle.vs_design.specs.vs_logic4.specs.Tables.{letter}
+use Rattle.vs_elaborate.specs.vs_scopes.specs.Texts.{shown_byte}
+use Rattle.vs_certified.specs.vs_vcd_writing.specs.Sinks.{AppendsPart}
+use Rattle.vs_race.specs.Races.{IsAnswer}
+use Rattle.vs_race.specs.declared.answer.Race.{Race}
+use Rattle.vs_race.specs.declared.answer.Race.TheVariants.{Certified, Found, NotFound}
+use Rattle.vs_race.specs.vs_race_shown.specs.declared.witness.Witness.{Witness}
+
+-- the text of a value: its digits, the highest first
+abbrev pub value_text : List Digit → List ℕ
+value_text value = reverse (map letter value)
+
+-- the line of a race: the signal, the moment, and its two values then
+abbrev pub witness_line : Witness → List ℕ
+witness_line w =
+    flat_map shown_byte w.path.items ++ codes " at " ++ decimal w.time ++ codes ": " ++ value_text w.first ++ codes " or " ++ value_text w.other ++ 10 ∷ []
+
+-- the first line of what is told
+abbrev pub race_line : Race → List ℕ
+race_line (Certified c) = codes "certified: no order of events makes a difference" ++ 10 ∷ []
+race_line (Found w refused) = witness_line w
+race_line (NotFound missed refused) = codes "none found" ++ 10 ∷ []
+
+-- a text begins with the first line of what is told
+abbrev pub IsTold : Race → List ℕ → Type 0
+IsTold race text = (more : List ℕ) × (text ≡ race_line race ++ more)
+
+-- what is told of a search was written
+pub record WroteRace (bytes top : List ℕ) (race : Race) (old new : Option (List ℕ)) : Type 0 where
+  pub answered : IsAnswer bytes top race
+  pub text : List ℕ
+  pub told : IsTold race text
+  pub written : Appends old new text
+
+-- a beginning of it
+pub record HasBegunRace (bytes top : List ℕ) (old new : Option (List ℕ)) : Type 0 where
+  pub race : Race
+  pub answered : IsAnswer bytes top race
+  pub text : List ℕ
+  pub told : IsTold race text
+  pub begun : AppendsPart old new text
+
+-- the status: 0 where a certificate was made, 1 where a race is shown, 2 where none was found
+abbrev pub race_status : Race → ℕ
+race_status (Certified c) = 0
+race_status (Found w refused) = 1
+race_status (NotFound missed refused) = 2

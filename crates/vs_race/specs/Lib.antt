@@ -1,0 +1,3 @@
+pub mod Races
+pub mod passes
+pub use Rattle.vs_race_shown

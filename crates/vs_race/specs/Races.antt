@@ -1,0 +1,38 @@
+-- Two executions of one design that differ.
+use Rattle.std.specs.Prelude.{ℕ, List}
+use Rattle.vs_certificate.specs.declared.members.Certificate.{Certificate}
+use Rattle.vs_certificate.specs.declared.members.ClaimedGrain.TheVariants.{Block}
+use Rattle.vs_design.specs.Parts.{Parts}
+use Rattle.vs_design.specs.Traces.{SameTrace}
+use Rattle.vs_process.specs.declared.moves.Grain.{Grain}
+use Rattle.vs_process.specs.Executions.{trace}
+use Rattle.vs_independence.specs.Discipline.{Independent}
+use Rattle.vs_simulate.specs.Honesty.{Defines}
+use Rattle.vs_propose.specs.Proposals.{IsMade}
+use Rattle.vs_propose.specs.vs_rules.specs.Certificates.{claims_of}
+use Rattle.vs_race_shown.specs.declared.witness.Witness.{Witness}
+use Rattle.vs_race_shown.specs.Witnesses.{IsWitness}
+use Rattle.vs_race.specs.declared.answer.Race.{Race}
+use Rattle.vs_race.specs.declared.answer.Race.TheVariants.{Certified, Found, NotFound}
+
+-- a race of the design that a source and a top define: two such executions, whose traces differ, so that the design depends at each grain on the order
+-- in which permitted steps are taken
+pub record IsRace (source top : List ℕ) (w : Witness) : Type 0 where
+  pub design : Parts
+  pub defined : Defines source top design
+  pub witness : IsWitness design w
+  pub traces : SameTrace (trace design witness.first.moves w.time) (trace design witness.other.moves w.time) → ⊥
+  pub dependent : (grain : Grain) → Independent grain design → ⊥
+
+-- the design that a source and a top define keeps all rules of a certificate of grain block, so that it doesn't depend on that order
+pub record IsCertified (source top : List ℕ) (c : Certificate) : Type 0 where
+  pub design : Parts
+  pub defined : Defines source top design
+  pub made : IsMade design Block c
+  pub independent : Independent (claims_of c).grain design
+
+-- what is answered of a source and a top: a certificate or a race is one; where neither was found, these define a design, and nothing else is said
+abbrev pub IsAnswer : List ℕ → List ℕ → Race → Type 0
+IsAnswer source top (Certified c) = IsCertified source top c
+IsAnswer source top (Found w refused) = IsRace source top w
+IsAnswer source top (NotFound missed refused) = (design : Parts) × Defines source top design

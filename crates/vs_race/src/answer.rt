@@ -1,0 +1,24 @@
+//! What a search for a race answers.
+use vs_certificate::Certificate;
+use vs_propose::Proposal;
+use vs_race_shown::Witness;
+
+/// A search that found nothing.
+#[derive(Clone, Copy)]
+pub struct Missed {
+    /// How many orders were tried.
+    pub tries: u64,
+    /// How many of these ended no slot within the steps.
+    pub stuck: u64,
+}
+
+/// What a search for a race answers.
+#[derive(Drop)]
+pub enum Race {
+    /// There is none at grain block: the design keeps all rules of this certificate.
+    Certified(Certificate),
+    /// One was found; with why no certificate was made.
+    Found(Witness, Proposal),
+    /// None was found, which says nothing of the design; with why no certificate was made.
+    NotFound(Missed, Proposal),
+}

@@ -1,0 +1,8 @@
+use Rattle.vs_run_moves.specs.Standing.{IsStanding}
+use Rattle.vs_race_orders.proofs.trial.run_trial.Given as goal
+
+abbrev pub invariant-loop-left : goal.invariant-loop-left
+invariant-loop-left l = IsStanding l.run
+
+abbrev pub decreases-loop-left : goal.decreases-loop-left
+decreases-loop-left l = l.left

@@ -1,0 +1,216 @@
+//! Orders made short: which few choices of another item than the first are enough for the dump to differ.
+ghost use Rattle.std.specs.Prelude.{◌≡◌, map};
+
+use crate::chooser::Chooser;
+use crate::comparing::Comparing;
+use crate::span::Span;
+use crate::trial::{Bounds, Ended, Reference, run_trial};
+use std::alloc::{AllocError, Global};
+use vs_design::Design;
+use vs_run_updates::vs_process::Code;
+use vs_vcd_writing::WriterFault;
+
+/// The most runs that are made to find one delay that is enough.
+const DELAYS: u64 = 120;
+
+/// The most runs that are made to find one choice that is enough, and then to leave choices of a list out.
+const OTHERS: u64 = 120;
+
+/// The most items of a choice that are tried one by one.
+const ITEMS: usize = 4;
+
+/// What trials are compared with, and how far they go.
+#[derive(Clone, Copy)]
+pub(crate) struct Stage<'a> {
+    pub(crate) alloc: Global,
+    pub(crate) design: &'a Design,
+    /// The codes of the design's processes, one each in order.
+    pub(crate) codes: &'a [Code<'a>],
+    pub(crate) reference: &'a Reference,
+    pub(crate) bounds: Bounds,
+}
+
+/// The choices of the slot in which the dump differs: the number of the first one, and that behind the last one.
+#[derive(Clone, Copy)]
+struct Choices {
+    first: u64,
+    end: u64,
+}
+
+// A trial under an order.
+pub(crate) fn try_under(stage: &Stage, chooser: &mut Chooser) -> Result<Ended, WriterFault>
+    requires { stage.now.codes.now ≡ map (λ p. p.body) stage.now.design.now.processes }
+{
+    let mut sink = Comparing::new(&stage.reference.text, stage.reference.whole);
+    run_trial(
+        stage.alloc,
+        stage.design,
+        stage.codes,
+        stage.bounds,
+        chooser,
+        &mut sink,
+    )
+}
+
+// The choices in the last slot of the first order.
+fn last_choices(stage: &Stage) -> Result<Choices, WriterFault>
+    requires { stage.now.codes.now ≡ map (λ p. p.body) stage.now.design.now.processes }
+{
+    let mut chooser = Chooser::planned(stage.alloc, &[]);
+    let ended = try_under(stage, &mut chooser)?;
+    Ok(Choices {
+        first: ended.before,
+        end: chooser.count(),
+    })
+}
+
+// Whether the dump differs under spans: then how many choices were made.
+fn differs_under(stage: &Stage, spans: &[Span]) -> Result<Option<u64>, WriterFault>
+    requires { stage.now.codes.now ≡ map (λ p. p.body) stage.now.design.now.processes }
+{
+    let mut chooser = Chooser::planned(stage.alloc, spans);
+    let ended = try_under(stage, &mut chooser)?;
+    Ok(ended.differs.map(|_| chooser.count()))
+}
+
+// A delay that is enough: from one choice of the slot on the second item, to the end.
+fn delay_of(stage: &Stage, choices: Choices) -> Result<Option<Span>, WriterFault>
+    requires { stage.now.codes.now ≡ map (λ p. p.body) stage.now.design.now.processes }
+{
+    for first in choices.first..choices.end.min(choices.first.saturating_add(DELAYS)) {
+        let span = Span {
+            first,
+            last: u64::MAX,
+            item: 1,
+        };
+        if let Some(count) = differs_under(stage, &[span])? {
+            return Ok(Some(Span {
+                first,
+                last: count.saturating_sub(1),
+                item: 1,
+            }));
+        }
+    }
+    Ok(None)
+}
+
+// The number of a trial of one choice as that choice: of each some items are tried, from the second on.
+fn choice_of(choices: Choices, number: u64) -> Span {
+    let first = choices.first.saturating_add(number / ITEMS as u64);
+    Span {
+        first,
+        last: first,
+        item: (number % ITEMS as u64) as usize + 1,
+    }
+}
+
+// One choice that is enough.
+fn single_of(stage: &Stage, choices: Choices) -> Result<Option<Span>, WriterFault>
+    requires { stage.now.codes.now ≡ map (λ p. p.body) stage.now.design.now.processes }
+{
+    for number in 0..OTHERS {
+        let span = choice_of(choices, number);
+        if span.first >= choices.end {
+            break;
+        }
+        if differs_under(stage, &[span])?.is_some() {
+            return Ok(Some(span));
+        }
+    }
+    Ok(None)
+}
+
+// Spans without those of so many places from one on.
+fn without(
+    alloc: Global,
+    spans: &[Span],
+    from: usize,
+    size: usize,
+) -> Result<Vec<Span>, AllocError> {
+    let mut others = Vec::new(alloc);
+    for (place, span) in spans.iter().enumerate() {
+        if place < from || place - from >= size {
+            others.push(*span)?;
+        }
+    }
+    Ok(others)
+}
+
+// Spans without pieces of a size that aren't needed, within so many runs; with how many runs are left.
+fn without_pieces(
+    stage: &Stage,
+    spans: Vec<Span>,
+    size: usize,
+    runs: u64,
+) -> Result<(Vec<Span>, u64), WriterFault>
+    requires { stage.now.codes.now ≡ map (λ p. p.body) stage.now.design.now.processes }
+{
+    let mut kept = spans;
+    let mut left = runs;
+    let mut from = 0;
+    for _ in 0..runs {
+        if from >= kept.len() {
+            break;
+        }
+        left = left.saturating_sub(1);
+        let others = without(stage.alloc, &kept, from, size)?;
+        if differs_under(stage, &others)?.is_some() {
+            kept = others;
+        } else {
+            from = from.saturating_add(size);
+        }
+    }
+    Ok((kept, left))
+}
+
+// Spans of which those are left out that aren't needed, within some runs: halves first, then smaller pieces.
+fn shortened(stage: &Stage, spans: Vec<Span>) -> Result<Vec<Span>, WriterFault>
+    requires { stage.now.codes.now ≡ map (λ p. p.body) stage.now.design.now.processes }
+{
+    let mut kept = spans;
+    let mut left = OTHERS;
+    let mut size = kept.len() / 2;
+    for _ in 0..64 {
+        if size == 0 || left == 0 {
+            break;
+        }
+        let (others, rest) = without_pieces(stage, kept, size, left)?;
+        kept = others;
+        left = rest;
+        size = (size / 2).min(kept.len());
+    }
+    Ok(kept)
+}
+
+// The choices of a try, as it makes them again.
+fn choices_made(stage: &Stage, number: u64, seed: u64) -> Result<Vec<Span>, WriterFault>
+    requires { stage.now.codes.now ≡ map (λ p. p.body) stage.now.design.now.processes }
+{
+    let mut chooser = Chooser::of_try(stage.alloc, number, seed);
+    chooser.tell();
+    let _ = try_under(stage, &mut chooser)?;
+    Ok(chooser.into_told())
+}
+
+// One span in a list.
+fn alone(alloc: Global, span: Span) -> Result<Vec<Span>, AllocError> {
+    let mut spans = Vec::new(alloc);
+    spans.push(span)?;
+    Ok(spans)
+}
+
+/// A few choices under which the dump differs, where a try's does: a delay in the last slot, one choice there, or else what is needed of those of the
+/// try.
+pub(crate) fn few_choices(stage: &Stage, number: u64, seed: u64) -> Result<Vec<Span>, WriterFault>
+    requires { stage.now.codes.now ≡ map (λ p. p.body) stage.now.design.now.processes }
+{
+    let choices = last_choices(stage)?;
+    if let Some(span) = delay_of(stage, choices)? {
+        return Ok(alone(stage.alloc, span)?);
+    }
+    if let Some(span) = single_of(stage, choices)? {
+        return Ok(alone(stage.alloc, span)?);
+    }
+    let made = choices_made(stage, number, seed)?;
+    shortened(stage, made)
+}

@@ -1,0 +1,3 @@
+mod GiveLemmas
+mod UnequalLemmas
+mod ValueLemmas

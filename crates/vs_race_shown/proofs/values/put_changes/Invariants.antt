@@ -1,0 +1,6 @@
+use Rattle.std.proofs.Common.{◌≡◌, drop}
+use Rattle.vs_vcd_law.specs.vs_vcd_reading.specs.Layout.{written}
+use Rattle.vs_race_shown.proofs.values.put_changes.Given as goal
+
+abbrev pub invariant-loop-change : goal.invariant-loop-change
+invariant-loop-change l = written l.values.items (drop l.change-index l.changes) ≡ written l.fn.values.items l.changes
