@@ -12,17 +12,23 @@ _vsim() {
     --policy) words='fifo lifo' ;;
     --out) words='lines vcd' ;;
     --grain) words='block statement' ;;
-    --top | --until | --steps | '<' | '>' | '>>') ;;
+    --top | --until | --steps | --choices | --tries | --seed | --from | -D | -I | '<' | '>' | '>>') ;;
     *)
       case $COMP_CWORD:${COMP_WORDS[1]} in
-        1:*) words='run check certify elab help --help --version' ;;
-        2:help) words='run check certify elab' ;;
-        *:run) words='--top --until --steps --policy --out --cert --explain --help' ;;
-        *:certify) words='--top --grain --explain --help' ;;
-        *:check | *:elab) words='--top --explain --help' ;;
+        1:*) words='run check certify race elab preprocess help --help --version' ;;
+        2:help) words='run check certify race elab preprocess' ;;
+        *:run) words='--top --until --steps --policy --choices --out --cert --explain -D -I --help' ;;
+        *:race) words='--top --until --steps --tries --seed --from --explain -D -I --help' ;;
+        *:certify) words='--top --grain --explain -D -I --help' ;;
+        *:check | *:elab) words='--top --explain -D -I --help' ;;
+        *:preprocess) words='--explain -D -I --help' ;;
       esac
       ;;
   esac
+  # without a dash a word is a file, which `-o default` completes
+  if [ "$COMP_CWORD" -gt 1 ] && [ "${word#-}" = "$word" ] && [ "${before#--}" = "$before" ] && [ "${COMP_WORDS[1]}" != help ]; then
+    words=
+  fi
   mapfile -t COMPREPLY < <(compgen -W "$words" -- "$word")
 }
 complete -o default -F _vsim vsim

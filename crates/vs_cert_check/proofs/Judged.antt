@@ -1,16 +1,18 @@
 -- The least broken rule, by the rules before the last and by the last.
-use Rattle.std.proofs.Common.{◌≡◌, ℕ, ◌<◌, ◌↔◌, Bool, IsTrue, Some, None, List, length, map, slice_get, inl, inr, subst, sym, ap, ◌∙◌, arith}
+use Rattle.std.proofs.Common.{◌≡◌, ℕ, suc, ◌+◌, ◌<◌, ◌↔◌, Bool, IsTrue, Option, Some, None, List, length, map, slice_get, inl, inr, subst, sym, ap, ◌∙◌, arith}
 use Rattle.std.specs.Prelude.{option_map}
 use Rattle.std.proofs.lemmas.Option.{same_Some, slice_get-map}
 use Rattle.std.proofs.Math.Nat.{le-suc_iff}
 use Rattle.std.proofs.lemmas.List.{length-map}
 use Rattle.vs_design.specs.Parts.{Parts}
 use Rattle.vs_cert_writers.specs.vs_reach.specs.Verdicts.{IsFirst, IsLeast}
-use Rattle.vs_cert_starts.specs.vs_rules.specs.Claims.{Claims}
+use Rattle.vs_cert_starts.specs.vs_rules.specs.Claims.{Claims, Name}
 use Rattle.vs_cert_starts.specs.vs_rules.specs.Verdict.{Keeps, KeepsAll, subjects}
 use Rattle.vs_cert_starts.specs.vs_rules.specs.Verdict as verdict
 use Rattle.vs_cert_names.specs.declared.subjects.Subject.{Subject}
 use Rattle.vs_cert_names.specs.Subjects.{subject_view}
+use Rattle.vs_cert_check.specs.declared.verdict.Broken.{Broken}
+use Rattle.vs_cert_check.specs.Broken.{broken_view, name_of, told_at}
 use Rattle.vs_cert_check.specs.Verdicts.{rule_of, KeepsAt, AllKeptBelow}
 use Rattle.vs_cert_check.proofs.Verdicts.{all_keep}
 
@@ -53,3 +55,15 @@ kept_at d c k i s b at told =
 pub below_all : (d : Parts) (c : Claims) (all : List Subject) → map subject_view all ≡ subjects d c → IsLeast (KeepsAt d c) 10 (length all) None →
     AllKeptBelow d c 10
 below_all d c all are h k below i within = h k below i (subst (λ n. i < n) (sym (as_many d c all are)) within)
+
+pub kept_of_all : (d : Parts) (c : Claims) (all : List Subject) (rules : ℕ) → map subject_view all ≡ subjects d c →
+    ((k : ℕ) → k < rules → (i : ℕ) → i < length all → KeepsAt d c k i) → AllKeptBelow d c rules
+kept_of_all d c all rules are h k below i within = h k below i (subst (λ n. i < n) (sym (as_many d c all are)) within)
+
+-- a subject that a rule is found broken at, as it is told
+pub told_here : (d : Parts) (c : Claims) (all : List Subject) (rule i : ℕ) (x : Subject) (b : Broken) → map subject_view all ≡ subjects d c →
+    slice_get all i ≡ Some x → b.number ≡ rule + 1 → verdict.place_of d (subject_view x) ≡ Some b.place.items → broken_view b ≡ told_at d c (rule, i)
+told_here d c all rule i x b are is number told =
+    let more : rule + 1 ≡ suc rule = omega arith in
+    ap (λ (k : ℕ). (k, Some b.place.items)) (number ∙ more)
+    ∙ ap (λ (o : Option Name). (suc rule, o)) (sym told ∙ sym (ap (name_of d) (subject_at d c all i x are is)))

@@ -1,5 +1,6 @@
 pub mod Verdicts
 pub mod Answers
+pub mod Broken
 pub mod Marks
 pub mod Means
 pub mod Places

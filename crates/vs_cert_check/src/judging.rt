@@ -1,6 +1,8 @@
 //! The verdict on a certificate: the least rule that is broken, and the first subject that breaks it.
 ghost use Rattle.std.specs.Prelude.{ℕ, ◌≡◌, ◌<◌, length, map, IfOk};
+ghost use Rattle.std.specs.List.{All};
 ghost use Rattle.vs_cert_check.specs.Answers.{verdict_view, HasNumber, IsTold};
+ghost use Rattle.vs_cert_check.specs.Broken.{AreTold, FirstBroken, IsListed};
 ghost use Rattle.vs_cert_check.specs.Marks.{marks_of};
 ghost use Rattle.vs_cert_check.specs.Means.{Means};
 ghost use Rattle.vs_cert_check.specs.Verdicts.{KeepsAt, AllKeptBelow};
@@ -13,13 +15,14 @@ ghost use Rattle.vs_cert_writers.specs.vs_reach.specs.Verdicts.{IsFirst, IsLeast
 ghost use Rattle.vs_cert_starts.specs.vs_rules.specs.Blocks.{K5};
 ghost use Rattle.vs_cert_starts.specs.vs_rules.specs.Certificates.{claims_of};
 ghost use Rattle.vs_cert_starts.specs.vs_rules.specs.Limits.{IsCertificate};
-ghost use Rattle.vs_cert_starts.specs.vs_rules.specs.Verdict.{IsVerdict, subjects};
+ghost use Rattle.vs_cert_starts.specs.vs_rules.specs.Verdict.{IsVerdict, numbers, subjects};
 ghost use Rattle.vs_cert_first_slot.specs.vs_slots_cones.specs.Wires.{wiring};
 ghost use Rattle.vs_cert_writers.specs.vs_slots_paths.specs.Reaches.{chart_of};
 
 use crate::laws::least_is_verdict;
+use crate::listing::{all_broken, breakers};
 use crate::sheet::{Sheet, keeps, starts_well};
-use crate::verdict::Verdict;
+use crate::verdict::{Told, Verdict};
 use std::alloc::{AllocError, Global};
 use vs_cert_blocks::vs_flatcode::{Code, TextMap};
 use vs_cert_delays::vs_slots::Slots;
@@ -41,16 +44,16 @@ use vs_design::Design;
 use vs_law_rules::{rules_make_displays_alike, rules_make_independent};
 
 /// How many rules there are before the last one.
-const BEFORE: usize = 10;
+pub(crate) const BEFORE: usize = 10;
 
 // A rule before the last, by its number from 0 on, and the subjects in their order.
 #[derive(Drop)]
-struct OfRule<'a, 'b> {
-    sheet: &'b Sheet<'a>,
-    all: &'b [Subject<'a>],
-    rule: usize,
-    ghost before: { rule < 10 },
-    ghost are: { map subject_view all.now ≡ subjects sheet.now.facts.now.design sheet.now.facts.now.claims },
+pub(crate) struct OfRule<'a, 'b> {
+    pub sheet: &'b Sheet<'a>,
+    pub all: &'b [Subject<'a>],
+    pub rule: usize,
+    pub ghost before: { rule < 10 },
+    pub ghost are: { map subject_view all.now ≡ subjects sheet.now.facts.now.design sheet.now.facts.now.claims },
 }
 
 impl<'a, 'b> Rule for OfRule<'a, 'b> {
@@ -118,6 +121,32 @@ impl<'a, 'b> Book for RulesBefore<'a, 'b> {
     }
 }
 
+/// The first subjects that break the last rule, at most so many, where all keep those before.
+pub(crate) fn first_starts<'a>(
+    alloc: Global,
+    sheet: &Sheet<'a>,
+    all: &[Subject<'a>],
+    most: usize,
+) -> Result<Vec<usize>, AllocError>
+    requires are { map subject_view all.now ≡ subjects sheet.now.facts.now.design sheet.now.facts.now.claims }
+    requires kept { AllKeptBelow sheet.now.facts.now.design sheet.now.facts.now.claims 10 }
+    ensures first { IfOk result (λ found. FirstBroken (KeepsAt sheet.now.facts.now.design sheet.now.facts.now.claims 10) most
+        (numbers 0 (length all.now)) found.items) }
+    ensures within { IfOk result (λ found. All (λ i. i < length all.now) found.items) }
+{
+    let order = in_order(alloc, sheet.facts)?;
+    let beginning = Beginning::new(alloc, sheet.facts.design(), &order)?;
+    let of_blocks = Starts::of(alloc, sheet.facts, sheet.cones)?;
+    let starts = OfStarts {
+        sheet,
+        all,
+        starts: &of_blocks,
+        beginning: &beginning,
+    };
+    let found = breakers(alloc, &starts, all.len(), most)?;
+    Ok(found)
+}
+
 // The first subject that breaks the last rule, where all keep those before.
 fn first_start<'a>(
     alloc: Global,
@@ -129,17 +158,8 @@ fn first_start<'a>(
     ensures { IfOk result (λ first. IsFirst (KeepsAt sheet.now.facts.now.design sheet.now.facts.now.claims 10)
         (length all.now) first) }
 {
-    let order = in_order(alloc, sheet.facts)?;
-    let beginning = Beginning::new(alloc, sheet.facts.design(), &order)?;
-    let of_blocks = Starts::of(alloc, sheet.facts, sheet.cones)?;
-    let starts = OfStarts {
-        sheet,
-        all,
-        starts: &of_blocks,
-        beginning: &beginning,
-    };
-    let first = first_broken(alloc, &starts, all.len())?;
-    Ok(first)
+    let found = first_starts(alloc, sheet, all, 1)?;
+    Ok(found.first().copied())
 }
 
 // The least rule that is broken, and the first subject that breaks it.
@@ -198,12 +218,14 @@ fn block_marks(alloc: Global, facts: &Facts) -> Result<Vec<bool>, AllocError>
 }
 
 // The verdict, by all tables.
-fn by_sheet<'a>(alloc: Global, sheet: &Sheet<'a>) -> Result<Verdict, AllocError>
-    ensures { IfOk result (λ v. IsTold sheet.entry.now.facts.now.design sheet.entry.now.facts.now.claims v) }
+fn by_sheet<'a>(alloc: Global, sheet: &Sheet<'a>, most: usize) -> Result<Told, AllocError>
+    ensures { IfOk result (λ t. AreTold sheet.entry.now.facts.now.design sheet.entry.now.facts.now.claims most t) }
 {
     let all = all_subjects(alloc, sheet.facts)?;
     let least = least(alloc, &*sheet, &all)?;
-    verdict_of(alloc, sheet.facts, &all, least)
+    let verdict = verdict_of(alloc, sheet.facts, &all, least)?;
+    let broken = all_broken(alloc, &*sheet, &all, least, most)?;
+    Ok(Told { verdict, broken })
 }
 
 // The verdict, by the tables in which the rules look things up.
@@ -218,7 +240,8 @@ fn by_tables<'x>(
     slots: &'x Slots<'x>,
     classes: &'x WriteClasses<'x>,
     first_slot: &'x FirstSlot<'x>,
-) -> Result<Verdict, AllocError>
+    most: usize,
+) -> Result<Told, AllocError>
     requires uses { uses.now ≡ texts_in facts.now }
     requires cones { cones.now ≡ wiring facts.now.design (marks_of facts.now.design facts.now.claims) }
     requires copies { copies.now ≡ facts.now.design }
@@ -227,7 +250,7 @@ fn by_tables<'x>(
     requires slots { slots.now ≡ facts.now }
     requires classes { classes.now ≡ slots.now }
     requires first_slot { first_slot.now ≡ facts.now }
-    ensures { IfOk result (λ v. IsTold facts.entry.now.design facts.entry.now.claims v) }
+    ensures { IfOk result (λ t. AreTold facts.entry.now.design facts.entry.now.claims most t) }
 {
     let sheet = Sheet {
         facts,
@@ -240,7 +263,7 @@ fn by_tables<'x>(
         classes,
         first_slot,
     };
-    by_sheet(alloc, &sheet)
+    by_sheet(alloc, &sheet, most)
 }
 
 // The verdict, by what is known of the first slot.
@@ -251,12 +274,13 @@ fn by_entries<'x>(
     cones: &'x Cones<'x>,
     copies: &'x Copies<'x>,
     entries: &'x Entries<'x>,
-) -> Result<Verdict, AllocError>
+    most: usize,
+) -> Result<Told, AllocError>
     requires uses { uses.now ≡ texts_in facts.now }
     requires cones { cones.now ≡ wiring facts.now.design (marks_of facts.now.design facts.now.claims) }
     requires copies { copies.now ≡ facts.now.design }
     requires entries { entries.now ≡ facts.now }
-    ensures { IfOk result (λ v. IsTold facts.entry.now.design facts.entry.now.claims v) }
+    ensures { IfOk result (λ t. AreTold facts.entry.now.design facts.entry.now.claims most t) }
 {
     let first_writes = FirstWrites::of(alloc, entries)?;
     let slots = Slots::new(alloc, facts)?;
@@ -273,6 +297,7 @@ fn by_entries<'x>(
         &slots,
         &classes,
         &first_slot,
+        most,
     )
 }
 
@@ -283,11 +308,12 @@ fn by_facts<'x>(
     certificate: &'x Certificate,
     tables: &'x [Tables<'x>],
     marks: &'x [bool],
-) -> Result<Verdict, AllocError>
+    most: usize,
+) -> Result<Told, AllocError>
     requires certificate { claims_of certificate.now ≡ facts.now.claims }
     requires tables { tables.now ≡ facts.now.charts }
     requires marks { marks.now ≡ marks_of facts.now.design facts.now.claims }
-    ensures { IfOk result (λ v. IsTold facts.entry.now.design facts.entry.now.claims v) }
+    ensures { IfOk result (λ t. AreTold facts.entry.now.design facts.entry.now.claims most t) }
 {
     facts.maps();
     let design = facts.design();
@@ -295,7 +321,7 @@ fn by_facts<'x>(
     let uses = Uses::new(alloc, design, tables)?;
     let copies = Copies::of(alloc, design)?;
     let entries = Entries::of(alloc, facts, certificate)?;
-    by_entries(alloc, &*facts, &uses, &cones, &copies, &entries)
+    by_entries(alloc, &*facts, &uses, &cones, &copies, &entries, most)
 }
 
 // The verdict, by the tables of the processes.
@@ -304,14 +330,15 @@ fn by_processes<'x>(
     design: &'x Design,
     certificate: &'x Certificate,
     tables: &'x [Tables<'x>],
-) -> Result<Verdict, AllocError>
+    most: usize,
+) -> Result<Told, AllocError>
     requires maps { AreCharts design.now tables.now }
     requires certificate { IsCertificate (claims_of certificate.now) }
-    ensures { IfOk result (λ v. IsTold design.entry.now (claims_of certificate.entry.now) v) }
+    ensures { IfOk result (λ t. AreTold design.entry.now (claims_of certificate.entry.now) most t) }
 {
     let facts = Facts::new(alloc, design, certificate, tables)?;
     let marks = block_marks(alloc, &facts)?;
-    by_facts(alloc, &facts, &*certificate, &*tables, &marks)
+    by_facts(alloc, &facts, &*certificate, &*tables, &marks, most)
 }
 
 // The verdict, by the maps of the texts of the processes.
@@ -320,13 +347,14 @@ fn by_texts<'x>(
     design: &'x Design,
     certificate: &'x Certificate,
     texts: &'x [TextMap<'x>],
-) -> Result<Verdict, AllocError>
+    most: usize,
+) -> Result<Told, AllocError>
     requires maps { AreCharts design.now (map chart_of texts.now) }
     requires certificate { IsCertificate (claims_of certificate.now) }
-    ensures { IfOk result (λ v. IsTold design.entry.now (claims_of certificate.entry.now) v) }
+    ensures { IfOk result (λ t. AreTold design.entry.now (claims_of certificate.entry.now) most t) }
 {
     let tables = tables(alloc, design, texts)?;
-    by_processes(alloc, &*design, &*certificate, &tables)
+    by_processes(alloc, &*design, &*certificate, &tables, most)
 }
 
 // The verdict, by the codes of the processes.
@@ -335,13 +363,14 @@ fn by_codes<'x>(
     design: &Design,
     certificate: &Certificate,
     codes: &'x [Code<'x>],
-) -> Result<Verdict, AllocError>
+    most: usize,
+) -> Result<Told, AllocError>
     requires codes { codes.now ≡ bodies design.now.processes }
     requires certificate { IsCertificate (claims_of certificate.now) }
-    ensures { IfOk result (λ v. IsTold design.entry.now (claims_of certificate.entry.now) v) }
+    ensures { IfOk result (λ t. AreTold design.entry.now (claims_of certificate.entry.now) most t) }
 {
     let texts = texts(alloc, design, codes)?;
-    by_texts(alloc, &*design, &*certificate, &texts)
+    by_texts(alloc, &*design, &*certificate, &texts, most)
 }
 
 // The same, of codes that are lent for a shorter time than what they are made of.
@@ -350,12 +379,13 @@ fn by_lent_codes(
     design: &Design,
     certificate: &Certificate,
     codes: &[Code],
-) -> Result<Verdict, AllocError>
+    most: usize,
+) -> Result<Told, AllocError>
     requires codes { codes.now ≡ bodies design.now.processes }
     requires certificate { IsCertificate (claims_of certificate.now) }
-    ensures { IfOk result (λ v. IsTold design.entry.now (claims_of certificate.entry.now) v) }
+    ensures { IfOk result (λ t. AreTold design.entry.now (claims_of certificate.entry.now) most t) }
 {
-    by_codes(alloc, design, certificate, &*codes)
+    by_codes(alloc, design, certificate, &*codes, most)
 }
 
 // The verdict, by the design.
@@ -363,12 +393,13 @@ fn by_design(
     alloc: Global,
     design: &Design,
     certificate: &Certificate,
-) -> Result<Verdict, AllocError>
+    most: usize,
+) -> Result<Told, AllocError>
     requires certificate { IsCertificate (claims_of certificate.now) }
-    ensures { IfOk result (λ v. IsTold design.entry.now (claims_of certificate.entry.now) v) }
+    ensures { IfOk result (λ t. AreTold design.entry.now (claims_of certificate.entry.now) most t) }
 {
     let codes = codes(alloc, design)?;
-    by_lent_codes(alloc, design, certificate, &codes)
+    by_lent_codes(alloc, design, certificate, &codes, most)
 }
 
 // What the rules of a design that keeps them all are for.
@@ -399,7 +430,24 @@ pub fn check(
     ensures meaning { IfOk result (λ v. Means design.entry.now (claims_of certificate.entry.now) v) }
 {
     tested_are_certificates();
-    let verdict = by_design(alloc, design, certificate)?;
+    let Told { verdict, broken: _ } = by_design(alloc, design, certificate, 0)?;
     tell_meaning(design, certificate, &verdict);
     Ok(verdict)
+}
+
+/// The verdict on a certificate of a design, as `check` gives it, and the first subjects that break rules, at most so many: by the rules, and then in the
+/// order of subjects. The rule K11 is asked where no other one is broken. It takes as long as a `Yes`.
+pub fn check_all(
+    alloc: Global,
+    design: &Design,
+    certificate: &Certificate,
+    most: usize,
+) -> Result<Told, AllocError>
+    requires sound { IsSound (value_of certificate.now) }
+    ensures exact { IfOk result (λ t. IsVerdict design.entry.now (claims_of certificate.entry.now) (verdict_view t.verdict)) }
+    ensures numbered { IfOk result (λ t. HasNumber t.verdict) }
+    ensures broken { IfOk result (λ t. IsListed design.entry.now (claims_of certificate.entry.now) most t.broken.items) }
+{
+    tested_are_certificates();
+    by_design(alloc, design, certificate, most)
 }

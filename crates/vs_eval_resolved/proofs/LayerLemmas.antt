@@ -1,13 +1,11 @@
 -- Lemmas on what each form of expression gives.
-use Rattle.std.proofs.Common.{◌≡◌, ℕ, ◌*◌, min, map, List, Some, length, sym, ◌∙◌, ap, ap₂, arith}
-use Rattle.std.proofs.lemmas.List.{length-take}
+use Rattle.std.proofs.Common.{◌≡◌, ℕ, take, List, Some, length, sym, ◌∙◌, ap, ap₂}
 use Rattle.std.specs.declared.alloc.Global.{Global}
 use Rattle.std.specs.declared.boxed.Box.{Box}
 use Rattle.std.specs.declared.vec.Vec.{Vec}
 use Rattle.vs_design.specs.vs_logic4.specs.declared.digit.Digit.{Digit}
 use Rattle.vs_design.specs.vs_logic4.specs.declared.operators.Unary.{Unary}
 use Rattle.vs_design.specs.vs_logic4.specs.Extensions.{length-resized}
-use Rattle.vs_design.specs.vs_logic4.specs.Lengths.{length-replication}
 use Rattle.vs_design.specs.vs_logic4.specs.Operators.{unary}
 use Rattle.vs_design.specs.vs_logic4.specs.Parts.{replication}
 use Rattle.vs_design.specs.vs_logic4.specs.Vectors.{resized}
@@ -78,21 +76,21 @@ module _ (signals : List Signal) (e : Typed) where
       ap₂ (λ (z : Typed) (qs : List (Typed × Typed)). chosen (pairs_of qs store time) (value_of z store time)) y_is ps_are
       ∙ sym (value_layer e store time (layer.Choice pairs x) (t.rolls-Choice pairs x ∙ sym is))) m
 
-  pub concat_long : (x : Box Typed Global) (others : Vec Typed Global) (y : Typed) (es : List Typed) (width : ℕ) → e ≡ t.Concat x others → y ≡ x.value → es ≡ others.items →
-      AreSized signals (λ store time. concatenated (value_of y store time) (parts_of es store time)) width → AreSized signals (λ store time. value_of e store time) width
-  concat_long x others y es width is y_is es_are long = λ store time store_is.
-      ap length
-      (value_layer e store time (layer.Concat x others) (t.rolls-Concat x others ∙ sym is)
-      ∙ ap₂ (λ (z : Typed) (ds : List Typed). concatenated (value_of z store time) (parts_of ds store time)) (sym y_is) (sym es_are))
-      ∙ long store time store_is
+  pub concat_meant : (x : Box Typed Global) (others : Vec Typed Global) (y : Typed) (es : List Typed) (node : Node) (width : ℕ) → e ≡ t.Concat x others → y ≡ x.value → es ≡ others.items →
+      Means signals (λ store time. concatenated (value_of y store time) (parts_of es store time)) node width → IsMeant signals e node width
+  concat_meant x others y es node width is y_is es_are m =
+      means_as signals (λ store time. concatenated (value_of y store time) (parts_of es store time)) (λ store time. value_of e store time) node width
+      (λ store time.
+      ap₂ (λ (z : Typed) (ds : List Typed). concatenated (value_of z store time) (parts_of ds store time)) y_is es_are
+      ∙ sym (value_layer e store time (layer.Concat x others) (t.rolls-Concat x others ∙ sym is))) m
 
-  pub repeat_long : (n : Count) (x : Box Typed Global) (y : Typed) (node : Node) (size width : ℕ) → e ≡ t.Repeat n x → y ≡ x.value → IsMeant signals y node size → width ≡ min 64 (n.times * size) →
-      AreSized signals (λ store time. value_of e store time) width
-  repeat_long n x y node size width is y_is m wide = λ store time store_is.
-      ap length (value_layer e store time (layer.Repeat n x) (t.rolls-Repeat n x ∙ sym is))
-      ∙ length-take 64 (replication n.times (value_of x.value store time))
-      ∙ ap (min 64) (length-replication n.times (value_of x.value store time) ∙ ap (λ k. n.times * k) (ap (λ (z : Typed). length (value_of z store time)) (sym y_is) ∙ m.sized store time store_is))
-      ∙ sym wide
+  pub repeat_meant : (n : Count) (x : Box Typed Global) (y : Typed) (node : Node) (width : ℕ) → e ≡ t.Repeat n x → y ≡ x.value →
+      Means signals (λ store time. take 64 (replication n.times (value_of y store time))) node width → IsMeant signals e node width
+  repeat_meant n x y node width is y_is m =
+      means_as signals (λ store time. take 64 (replication n.times (value_of y store time))) (λ store time. value_of e store time) node width
+      (λ store time.
+      ap (λ (z : Typed). take 64 (replication n.times (value_of z store time))) y_is
+      ∙ sym (value_layer e store time (layer.Repeat n x) (t.rolls-Repeat n x ∙ sym is))) m
 
   pub resized_long : (size : Extension) (x : Box Typed Global) → e ≡ t.Resized size x → AreSized signals (λ store time. value_of e store time) size.width
   resized_long size x is = λ store time _.

@@ -5,6 +5,7 @@ use Rattle.std.specs.declared.boxed.Box.{Box}
 use Rattle.std.specs.declared.vec.Vec.{Vec}
 use Rattle.vs_design.specs.vs_logic4.specs.Comparisons.{truth}
 use Rattle.vs_design.specs.vs_logic4.specs.declared.operators.Unary.{Unary}
+use Rattle.vs_design.specs.declared.expression.Count.{Count}
 use Rattle.vs_design.specs.Stores.{Store}
 use Rattle.vs_eval_resolved.specs.declared.node.Array.{Array}
 use Rattle.vs_eval_resolved.specs.declared.node.Change.{Change}
@@ -17,7 +18,7 @@ use Rattle.vs_eval_resolved.specs.declared.node.Node.TheFolds.{fold-roll-Node, m
 use Rattle.vs_eval_resolved.specs.declared.node.Planes.{Planes}
 use Rattle.vs_eval_resolved.specs.declared.node.Sides.{Sides}
 use Rattle.vs_eval_resolved.specs.declared.node.Size.{Size}
-use Rattle.vs_eval_resolved.specs.Nodes.{planes_step, planes_in, word_planes, field_planes, element_planes, bit_planes, unary_planes, combined, chained, chosen, changed_planes}
+use Rattle.vs_eval_resolved.specs.Nodes.{planes_step, planes_in, word_planes, field_planes, element_planes, bit_planes, unary_planes, combined, chained, chosen, changed_planes, joined, repeated}
 use Rattle.vs_eval_resolved.specs.PlanesOf.{digits_of}
 
 -- the planes of a resolved expression are what its outermost layer gives
@@ -58,3 +59,10 @@ module _ (store : Store) (time : ℕ) where
 
   pub in_resized : (change : Change) (x : Box Node Global) → planes_in (v.Resized change x) store time ≡ changed_planes change (planes_in x.value store time)
   in_resized change x = node_layer (v.Resized change x) store time (f.Resized change x) (v.rolls-Resized change x)
+
+  pub in_concat : (size : Size) (x : Box Node Global) (parts : Vec (Size × Node) Global) →
+      planes_in (v.Concat size x parts) store time ≡ joined size (planes_in x.value store time) (map (λ p. (p.0, planes_in p.1 store time)) parts.items)
+  in_concat size x parts = node_layer (v.Concat size x parts) store time (f.Concat size x parts) (v.rolls-Concat size x parts)
+
+  pub in_repeat : (count : Count) (size : Size) (x : Box Node Global) → planes_in (v.Repeat count size x) store time ≡ repeated count size (planes_in x.value store time)
+  in_repeat count size x = node_layer (v.Repeat count size x) store time (f.Repeat count size x) (v.rolls-Repeat count size x)

@@ -1,22 +1,22 @@
 -- Lemmas on nodes made of those of operands.
-use Rattle.std.proofs.Common.{◌≡◌, ℕ, zero, suc, ◌+◌, ◌-◌, ◌<◌, ◌≤◌, min, List, [], ◌∷◌, ◌++◌, map, length, get_or, take, drop, refl, sym, ◌∙◌, ap, ap₂, subst, arith}
-use Rattle.std.specs.Prelude.{false, Option, Some, None, Result, Ok, Err, IfOk, IfSome, if◌then◌else◌}
+use Rattle.std.proofs.Common.{◌≡◌, ℕ, ◌+◌, ◌-◌, ◌*◌, ◌<◌, ◌≤◌, min, List, [], ◌∷◌, ◌++◌, map, length, get_or, take, drop, refl, sym, ◌∙◌, ap, ap₂, subst, arith}
+use Rattle.std.specs.Prelude.{Option, Some, None, Result, Ok, Err, IfOk, IfSome, if◌then◌else◌}
 use Rattle.std.proofs.lemmas.List.{drop_all, length-take, map-append, take_all, take_more}
 use Rattle.std.specs.declared.alloc.Global.{Global}
 use Rattle.std.specs.declared.boxed.Box.{Box}
 use Rattle.std.specs.declared.vec.Vec.{Vec}
 use Rattle.vs_design.specs.vs_logic4.specs.declared.digit.Digit.{Digit}
 use Rattle.vs_design.specs.vs_logic4.specs.Comparisons.{truth}
-use Rattle.vs_design.specs.vs_logic4.specs.Lengths.{length-concatenation}
+use Rattle.vs_design.specs.vs_logic4.specs.Lengths.{length-concatenation, length-replication}
 use Rattle.vs_design.specs.vs_logic4.specs.Operators.{is_one_bit, sizing_of}
-use Rattle.vs_design.specs.vs_logic4.specs.Parts.{concatenation}
-use Rattle.vs_design.specs.vs_logic4.specs.Vectors.{resized}
+use Rattle.vs_design.specs.vs_logic4.specs.Parts.{concatenation, replication}
+use Rattle.vs_design.specs.declared.expression.Count.{Count}
 use Rattle.vs_design.specs.declared.expression.Link.{Link}
 use Rattle.vs_design.specs.declared.expression.Typed.{Typed}
 use Rattle.vs_design.specs.declared.signal.Signal.{Signal}
 use Rattle.vs_design.specs.InOrder.{IsStoreOf}
 use Rattle.vs_design.specs.Stores.{Store}
-use Rattle.vs_eval.specs.Values.{left_side, right_side, linked, chained, picked, chosen, concatenated, value_of}
+use Rattle.vs_eval.specs.Values.{linked, chained, picked, chosen, concatenated, value_of}
 use Rattle.vs_eval.proofs.ValueLemmas.{chosen_before}
 use Rattle.vs_eval_resolved.specs.declared.node.Node.{Node}
 use Rattle.vs_eval_resolved.specs.declared.node.Node.TheVariants as v
@@ -29,7 +29,7 @@ use Rattle.vs_eval_resolved.specs.Nodes as nodes
 use Rattle.vs_eval_resolved.specs.Nodes.{combined, planes_in}
 use Rattle.vs_eval_resolved.specs.PlanesOf.{planes_of, digits_of}
 use Rattle.vs_eval_resolved.proofs.MeantLemmas.{chosen_planes, linked_long, linked_planes, picked_long}
-use Rattle.vs_eval_resolved.proofs.NodeLemmas.{in_chain, in_if, in_two}
+use Rattle.vs_eval_resolved.proofs.NodeLemmas.{in_chain, in_concat, in_if, in_repeat, in_two}
 use Rattle.vs_eval_resolved.proofs.PlanesLemmas.{own_digits}
 
 -- a node that means a value means an equal one
@@ -183,24 +183,75 @@ concatenated_more : (high : List Digit) (ls : List (List Digit)) (l : List Digit
 concatenated_more high [] l = refl
 concatenated_more high (k ∷ ls) l = concatenated_more (take 64 (concatenation high k)) ls l
 
+-- the vectors of parts of their sizes
+abbrev pub digits_in : List (Size × Node) → Store → ℕ → List (List Digit)
+digits_in parts store time = map (λ p. digits_of p.0.width (planes_in p.1 store time)) parts
+
+-- whether nodes after a first one are parts of these values, all of them of this size
+pub record AreJoined (signals : List Signal) (values : Values) (others : List Typed) (parts : List (Size × Node)) (width : ℕ) : Type 0 where
+  pub sized : AreSized signals (λ store time. concatenated (values store time) (parts_of others store time)) width
+  pub same : (store : Store) (time : ℕ) → IsStoreOf signals store → digits_in parts store time ≡ parts_of others store time
+
 module _ (signals : List Signal) (values : Values) where
+  -- before the first of the others
+  pub none_joined : (width : ℕ) → AreSized signals values width → AreJoined signals values [] [] width
+  none_joined width sized = record { sized = sized; same = λ store time is. refl }
+
+  part_added : (others : List Typed) (e : Typed) (parts : List (Size × Node)) (y : Node) (size : Size) (high next : ℕ) → next ≡ min 64 (high + size.width) → IsMeant signals e y size.width →
+      AreJoined signals values others parts high → AreJoined signals values (others ++ e ∷ []) (parts ++ (size, y) ∷ []) next
+  part_added others e parts y size high next joined m so_far = record {
+    sized = λ store time is.
+        let before = concatenated (values store time) (parts_of others store time) in
+        ap length
+        (ap (concatenated (values store time)) (map-append (λ (e : Typed). value_of e store time) others (e ∷ []))
+        ∙ concatenated_more (values store time) (parts_of others store time) (value_of e store time))
+        ∙ omega (arith, length-take 64 (concatenation before (value_of e store time)), length-concatenation before (value_of e store time), so_far.sized store time is, m.sized store time is, joined);
+    same = λ store time is.
+        map-append (λ (p : Size × Node). digits_of p.0.width (planes_in p.1 store time)) parts ((size, y) ∷ [])
+        ∙ ap₂ (λ ds d. ds ++ d ∷ []) (so_far.same store time is) (ap (digits_of size.width) (m.same store time is) ∙ own_digits size.width (value_of e store time) (m.sized store time is))
+        ∙ sym (map-append (λ (e : Typed). value_of e store time) others (e ∷ []));
+  }
+
   -- a loop's step
-  pub part_step : (xs : List Typed) (i : ℕ) (x : Typed) (high low next : ℕ) → i < length xs → x ≡ get_or xs i x → next ≡ min 64 (high + low) →
-      AreSized signals (λ store time. value_of x store time) low → AreSized signals (λ store time. concatenated (values store time) (parts_of (take i xs) store time)) high →
-      AreSized signals (λ store time. concatenated (values store time) (parts_of (take (i + 1) xs) store time)) next
-  part_step xs i x high low next below is joined part so_far =
-      λ store time store_is.
+  pub part_step : (xs : List Typed) (i : ℕ) (x : Typed) (parts more : List (Size × Node)) (y : Node) (size : Size) (high next : ℕ) → i < length xs → x ≡ get_or xs i x →
+      more ≡ parts ++ (size, y) ∷ [] → next ≡ min 64 (high + size.width) → IsMeant signals x y size.width → AreJoined signals values (take i xs) parts high →
+      AreJoined signals values (take (i + 1) xs) more next
+  part_step xs i x parts more y size high next below is pushed joined m so_far =
       let front : take (i + 1) xs ≡ take i xs ++ x ∷ [] = take_more xs i x below ∙ ap (λ z. take i xs ++ z ∷ []) (sym is) in
-      let before = concatenated (values store time) (parts_of (take i xs) store time) in
-      let whole : concatenated (values store time) (parts_of (take (i + 1) xs) store time) ≡ take 64 (concatenation before (value_of x store time)) =
-      ap (λ z. concatenated (values store time) (parts_of z store time)) front
-      ∙ ap (concatenated (values store time)) (map-append (λ (e : Typed). value_of e store time) (take i xs) (x ∷ []))
-      ∙ concatenated_more (values store time) (parts_of (take i xs) store time) (value_of x store time) in
-      ap length whole
-      ∙ omega (arith, length-take 64 (concatenation before (value_of x store time)), length-concatenation before (value_of x store time), so_far store time store_is, part store time store_is, joined)
+      subst (λ z. AreJoined signals values z more next) (sym front)
+      (subst (λ z. AreJoined signals values (take i xs ++ x ∷ []) z next) (sym pushed) (part_added (take i xs) x parts y size high next joined m so_far))
 
   -- after the last part
-  pub all_parts : (xs : List Typed) (i : ℕ) (width : ℕ) → length xs ≤ i → AreSized signals (λ store time. concatenated (values store time) (parts_of (take i xs) store time)) width →
-      AreSized signals (λ store time. concatenated (values store time) (parts_of xs store time)) width
-  all_parts xs i width end so_far =
-      subst (λ z. AreSized signals (λ store time. concatenated (values store time) (parts_of z store time)) width) (take_all i xs end) so_far
+  pub all_parts : (first : Node) (own : Size) (xs : List Typed) (i : ℕ) (parts : Vec (Size × Node) Global) (width : ℕ) (box : Box Node Global) → length xs ≤ i → box.value ≡ first →
+      Means signals values first own.width → AreJoined signals values (take i xs) parts.items width →
+      Means signals (λ store time. concatenated (values store time) (parts_of xs store time)) (v.Concat own box parts) width
+  all_parts first own xs i parts width box end made m so_far =
+      let whole : AreJoined signals values xs parts.items width = subst (λ z. AreJoined signals values z parts.items width) (take_all i xs end) so_far in
+      record {
+        sized = whole.sized;
+        same = λ store time is.
+            in_concat store time own box parts
+            ∙ ap (λ (n : Node). nodes.joined own (planes_in n store time) (map (λ p. (p.0, planes_in p.1 store time)) parts.items)) made
+            ∙ ap planes_of
+            (ap₂ concatenated (ap (digits_of own.width) (m.same store time is) ∙ own_digits own.width (values store time) (m.sized store time is))
+            (map_map parts.items store time ∙ whole.same store time is));
+      }
+    where
+      map_map : (ps : List (Size × Node)) (store : Store) (time : ℕ) →
+          map (λ (p : Size × Planes). digits_of p.0.width p.1) (map (λ (p : Size × Node). (p.0, planes_in p.1 store time)) ps) ≡ digits_in ps store time
+      map_map [] store time = refl
+      map_map (p ∷ ps) store time = ap (λ ds. digits_of p.0.width (planes_in p.1 store time) ∷ ds) (map_map ps store time)
+
+  -- a part that is repeated
+  pub repeat_means : (x : Node) (count : Count) (own : Size) (width : ℕ) (box : Box Node Global) → width ≡ min 64 (count.times * own.width) → box.value ≡ x → Means signals values x own.width →
+      Means signals (λ store time. take 64 (replication count.times (values store time))) (v.Repeat count own box) width
+  repeat_means x count own width box wide made m = record {
+    sized = λ store time is.
+        length-take 64 (replication count.times (values store time))
+        ∙ ap (min 64) (length-replication count.times (values store time) ∙ ap (λ k. count.times * k) (m.sized store time is))
+        ∙ sym wide;
+    same = λ store time is.
+        in_repeat store time count own box
+        ∙ ap (λ (n : Node). nodes.repeated count own (planes_in n store time)) made
+        ∙ ap (λ ds. planes_of (take 64 (replication count.times ds))) (ap (digits_of own.width) (m.same store time is) ∙ own_digits own.width (values store time) (m.sized store time is));
+  }

@@ -1,5 +1,5 @@
 -- Lemmas on nodes that stand for words and bits.
-use Rattle.std.proofs.Common.{◌≡◌, ℕ, ℤ, zero, suc, ◌+◌, ◌<◌, ◌≤◌, ◌==◌, ◌&&◌, Bool, true, false, pos, ◌+ℤ◌, nat_lt, if◌then◌else◌, Option, Some, None, List, [], ◌∷◌, map, length, get_or, replicate, slice_get, refl, sym, ◌∙◌, ap, ap₂, arith}
+use Rattle.std.proofs.Common.{◌≡◌, ℕ, ℤ, zero, suc, ◌+◌, ◌<◌, ◌≤◌, ◌==◌, Bool, true, false, pos, ◌+ℤ◌, nat_lt, if◌then◌else◌, Option, Some, None, List, [], ◌∷◌, map, length, replicate, slice_get, refl, sym, ◌∙◌, ap, ap₂, arith}
 use Rattle.std.proofs.lemmas.Bool.{and_parts, ltb-true}
 use Rattle.std.proofs.lemmas.Int.{ints}
 use Rattle.std.proofs.lemmas.List.{ext_get_or, get_or_past, length-map, length-replicate}
@@ -19,7 +19,7 @@ use Rattle.vs_design.specs.declared.expression.Selection.{Selection}
 use Rattle.vs_design.specs.declared.expression.Slice.{Slice}
 use Rattle.vs_design.specs.declared.expression.Typed.{Typed}
 use Rattle.vs_design.specs.declared.signal.Signal.{Signal}
-use Rattle.vs_design.specs.InOrder.{IsStoreOf, words_before, numbered_word, word_sizes, sizes_of_signals}
+use Rattle.vs_design.specs.InOrder.{IsStoreOf, numbered_word, word_sizes, sizes_of_signals}
 use Rattle.vs_design.specs.Selects.{from_zero, place_of, word_place}
 use Rattle.vs_design.specs.Stores.{Store, word_of}
 use Rattle.vs_eval.specs.Values.{bits_value, operand_value, selection_value, value_of}

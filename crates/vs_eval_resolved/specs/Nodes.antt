@@ -1,16 +1,18 @@
 -- The values of resolved expressions.
-use Rattle.std.specs.Prelude.{ℕ, ◌+◌, ◌/◌, ◌^◌, ◌&&◌, ◌==◌, nat_lt, if◌then◌else◌, List, [], ◌∷◌}
+use Rattle.std.specs.Prelude.{ℕ, ◌+◌, ◌/◌, ◌^◌, ◌&&◌, ◌==◌, nat_lt, if◌then◌else◌, List, [], ◌∷◌, map, take}
 use Rattle.vs_design.specs.vs_logic4.specs.declared.digit.Digit.{Digit}
 use Rattle.vs_design.specs.vs_logic4.specs.declared.digit.Digit.TheVariants.{Zero, One, X, Z}
 use Rattle.vs_design.specs.vs_logic4.specs.declared.operators.Unary.{Unary}
 use Rattle.vs_design.specs.vs_logic4.specs.Bitwise.{merged}
 use Rattle.vs_design.specs.vs_logic4.specs.Comparisons.{truth}
 use Rattle.vs_design.specs.vs_logic4.specs.Operators.{unary, binary}
+use Rattle.vs_design.specs.vs_logic4.specs.Parts.{replication}
 use Rattle.vs_design.specs.vs_logic4.specs.Planes.{digits_of_planes}
 use Rattle.vs_design.specs.vs_logic4.specs.Vectors.{all_unknown, resized}
+use Rattle.vs_design.specs.declared.expression.Count.{Count}
 use Rattle.vs_design.specs.InOrder.{numbered_word}
 use Rattle.vs_design.specs.Stores.{Store}
-use Rattle.vs_eval.specs.Values.{value_of}
+use Rattle.vs_eval.specs.Values.{concatenated, value_of}
 use Rattle.vs_eval_resolved.specs.declared.node.Array.{Array}
 use Rattle.vs_eval_resolved.specs.declared.node.Change.{Change}
 use Rattle.vs_eval_resolved.specs.declared.node.Field.{Field}
@@ -69,6 +71,14 @@ chosen Z size value other = planes_of (merged (digits_of size.width value) (digi
 abbrev pub changed_planes : Change → Planes → Planes
 changed_planes c p = planes_of (resized c.signed c.to (digits_of c.from p))
 
+-- what parts of their sizes give, the first of them the highest, cut to the lowest 64 bits
+abbrev pub joined : Size → Planes → List (Size × Planes) → Planes
+joined size first parts = planes_of (concatenated (digits_of size.width first) (map (λ p. digits_of p.0.width p.1) parts))
+
+-- what an operand of this size gives that is repeated, cut to the lowest 64 bits
+abbrev pub repeated : Count → Size → Planes → Planes
+repeated n size p = planes_of (take 64 (replication n.times (digits_of size.width p)))
+
 -- one layer of a resolved expression: its planes in a store at a time, with those of each inner one in its place
 abbrev pub planes_step : Store → ℕ → Node-F Planes → Planes
 planes_step store time (n.Number p) = p
@@ -81,6 +91,8 @@ planes_step store time (n.Two sides x y) = combined x.value (sides, y.value)
 planes_step store time (n.Chain x links) = chained x.value links.items
 planes_step store time (n.If size width c x y) = chosen (truth (digits_of size.width c.value)) width x.value y.value
 planes_step store time (n.Resized change x) = changed_planes change x.value
+planes_step store time (n.Concat size x parts) = joined size x.value parts.items
+planes_step store time (n.Repeat count size x) = repeated count size x.value
 planes_step store time (n.Other e) = planes_of (value_of e.value store time)
 
 -- the planes of a resolved expression in a store at a time in ticks

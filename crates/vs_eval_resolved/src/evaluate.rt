@@ -4,11 +4,11 @@ ghost use Rattle.vs_design.specs.vs_logic4.specs.Bitwise.{merged};
 ghost use Rattle.vs_design.specs.vs_logic4.specs.Comparisons.{truth};
 ghost use Rattle.vs_eval.specs.Values.{value_of};
 ghost use Rattle.vs_eval_resolved.specs.PlanesOf.{planes_of, digits_of};
-ghost use Rattle.vs_eval_resolved.specs.Nodes.{planes_in, word_planes, field_planes, element_planes, bit_planes, combined, chained, chosen, unary_planes, changed_planes};
+ghost use Rattle.vs_eval_resolved.specs.Nodes.{planes_in, word_planes, field_planes, element_planes, bit_planes, combined, chained, chosen, unary_planes, changed_planes, joined, repeated};
 
 use crate::node::{Array, Change, Field, Node, Planes, Sides, Size};
 use vs_design::vs_logic4::{Binary, Digit, Unary, Vec4};
-use vs_design::{Store, Typed};
+use vs_design::{Count, Store, Typed};
 use vs_eval::value;
 
 /// The planes of a vector.
@@ -70,6 +70,10 @@ pub(crate) fn planes_at(node: &Node, store: &Store, time: u64) -> Planes
             choice(truth, *width, x, y, store, time)
         }
         Node::Resized(change, x) => resized(*change, quick_planes(x, store, time)),
+        Node::Concat(size, x, parts) => {
+            joined(*size, quick_planes(x, store, time), parts, store, time)
+        }
+        Node::Repeat(count, size, x) => { repeated(*count, *size, quick_planes(x, store, time)) }
         Node::Other(e) => other(e, store, time),
     }
 }
@@ -94,6 +98,19 @@ fn chain(first: Planes, links: &[(Sides, Node)], store: &Store, time: u64) -> Pl
         all = combined(sides, all, quick_planes(node, store, time));
     }
     all
+}
+
+/// What parts of their sizes give, the first of them the highest, cut to the lowest 64 bits.
+#[cycle(evaluate)]
+#[inline(never)]
+fn joined(size: Size, first: Planes, parts: &[(Size, Node)], store: &Store, time: u64) -> Planes
+    ensures { result ≡ joined size first (map (λ p. (p.0, planes_in p.1 store.now time)) parts.now) }
+{
+    let mut all = vector(size.width, first);
+    for (size, node) in parts {
+        all = all.join(vector(size.width, quick_planes(node, store, time)));
+    }
+    planes(all)
 }
 
 /// What an operand and another one give by the truth of a condition. One alone is evaluated where the condition is known.
@@ -196,6 +213,14 @@ fn resized(change: Change, p: Planes) -> Planes
     ensures { result ≡ changed_planes change p }
 {
     planes(vector(change.from, p).resize(change.to, change.signed))
+}
+
+/// What an operand of this size gives that is repeated, cut to the lowest 64 bits.
+#[inline(never)]
+fn repeated(count: Count, size: Size, p: Planes) -> Planes
+    ensures { result ≡ repeated count size p }
+{
+    planes(vector(size.width, p).repeated(count.times))
 }
 
 /// What an operator gives of what stands on its left and on its right.

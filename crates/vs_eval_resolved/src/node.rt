@@ -2,8 +2,8 @@
 ghost use Rattle.std.specs.Prelude.{◌≡◌, ◌<◌, ◌≤◌, ◌+◌, ◌^◌, true};
 ghost use Rattle.vs_design.specs.vs_logic4.specs.Operators.{is_even, sizing_of};
 
-use vs_design::Typed;
 use vs_design::vs_logic4::{Binary, Unary};
+use vs_design::{Count, Typed};
 
 /// A value in two planes: a digit is 0, 1, z or x where their bits are 00, 10, 01 or 11.
 #[derive(Clone, Copy)]
@@ -93,6 +93,10 @@ pub(crate) enum Node {
     If(Size, Size, Box<Node>, Box<Node>, Box<Node>),
     /// An operand brought to another size.
     Resized(Change, Box<Node>),
+    /// `{x, ..}`: the size of the first part, which is the highest, that part, and the others with their sizes.
+    Concat(Size, Box<Node>, Vec<(Size, Node)>),
+    /// `{n{x}}`: how often an operand of this size is repeated.
+    Repeat(Count, Size, Box<Node>),
     /// Any other expression: a copy, so that a node holds no reference.
     Other(Box<Typed>),
 }
@@ -110,6 +114,8 @@ impl Drop for Node {
             | Self::Chain(_, _)
             | Self::If(_, _, _, _, _)
             | Self::Resized(_, _)
+            | Self::Concat(_, _, _)
+            | Self::Repeat(_, _, _)
             | Self::Other(_) => {}
         }
     }

@@ -1,8 +1,9 @@
 //! Expressions made into resolved ones.
-ghost use Rattle.std.specs.Prelude.{◌≡◌, ℕ, ◌+◌, ◌*◌, ◌<◌, ◌≤◌, pos, true, false, if◌then◌else◌, min, map, length, List, Some, IfOk, IfSome};
+ghost use Rattle.std.specs.Prelude.{◌≡◌, ℕ, ◌+◌, ◌*◌, ◌<◌, ◌≤◌, pos, true, false, if◌then◌else◌, min, map, take, length, List, Some, IfOk, IfSome};
 ghost use Rattle.vs_design.specs.vs_logic4.specs.declared.digit.Digit.{Digit};
 ghost use Rattle.vs_design.specs.vs_logic4.specs.Comparisons.{truth};
 ghost use Rattle.vs_design.specs.vs_logic4.specs.Operators.{unary, gives_bit, is_even, is_one_bit, sizing_of};
+ghost use Rattle.vs_design.specs.vs_logic4.specs.Parts.{replication};
 ghost use Rattle.vs_design.specs.vs_logic4.specs.Vectors.{resized};
 ghost use Rattle.vs_design.specs.declared.signal.Signal.{Signal};
 ghost use Rattle.vs_design.specs.Selects.{place_of};
@@ -46,15 +47,12 @@ pub(crate) fn resolve(
             Some(last) => choice(alloc, design, pairs, last),
             None => Ok(None),
         },
-        Typed::Concat(x, others) => match concatenated_size(alloc, design, x, others)? {
-            Some(size) => Ok(Some(other(alloc, e, size.width)?)),
+        Typed::Concat(x, others) => match resolve(alloc, design, x)? {
+            Some(x) => concatenated(alloc, design, x, others),
             None => Ok(None),
         },
         Typed::Repeat(count, x) => match resolve(alloc, design, x)? {
-            Some(x) => {
-                let size = repeated_size(*count, size_of(x));
-                Ok(Some(other(alloc, e, size.width)?))
-            },
+            Some(x) => Ok(Some(repeated(alloc, *count, x)?)),
             None => Ok(None),
         },
         Typed::Resized(size, x) => match resolve(alloc, design, x)? {
@@ -92,22 +90,10 @@ fn whole(alloc: Global, design: &Design, o: Operand, e: &Typed) -> Result<(Node,
         → IsMeant design.now.signals e.now r.0 r.1.width) }
 {
     match word_of(design, o.signal, 0) {
-        Some((number, size)) if has_planes(o, size.width) => {
+        Some((number, size)) if keeps_planes(o.signed, o.width, size) => {
             Ok((Node::Word(number), Size { width: o.width }))
         }
         _ => other(alloc, e, o.width),
-    }
-}
-
-/// Whether a signal has the planes of its word of this size: it is extended by 0, or not at all.
-fn has_planes(o: Operand, width: u32) -> bool
-    ensures { result ≡ true → (ds : List Digit) → length ds ≡ width
-        → planes_of ds ≡ planes_of (operand_value o.signed o.width (Some ds)) }
-{
-    if o.signed {
-        width == o.width
-    } else {
-        width <= o.width
     }
 }
 
@@ -272,7 +258,7 @@ fn brought(alloc: Global, to: Extension, x: (Node, Size)) -> Result<(Node, Size)
 {
     let (node, from) = x;
     let size = Size { width: to.width };
-    if keeps_planes(to, from) {
+    if keeps_planes(to.signed, to.width, from) {
         return Ok((node, size));
     }
     let change = Change {
@@ -283,14 +269,14 @@ fn brought(alloc: Global, to: Extension, x: (Node, Size)) -> Result<(Node, Size)
     Ok((Node::Resized(change, Box::new(alloc, node)?), size))
 }
 
-/// Whether a value of this size has the same planes behind an extension.
-fn keeps_planes(to: Extension, from: Size) -> bool
-    ensures { result ≡ true → (ds : List Digit) → length ds ≡ from.width → planes_of ds ≡ planes_of (resized to.signed to.width ds) }
+/// Whether a value of this size has the same planes at another one: it is extended by 0, or not at all.
+fn keeps_planes(signed: bool, width: u32, from: Size) -> bool
+    ensures { result ≡ true → (ds : List Digit) → length ds ≡ from.width → planes_of ds ≡ planes_of (resized signed width ds) }
 {
-    if to.signed {
-        from.width == to.width
+    if signed {
+        from.width == width
     } else {
-        from.width <= to.width
+        from.width <= width
     }
 }
 
@@ -459,36 +445,40 @@ fn choice(
     Ok(Some((node, size)))
 }
 
-/// The size of parts, a first one and others, cut to 64 bits.
+/// Parts, a first one, which is the highest, and others.
 #[cycle(resolve)]
-fn concatenated_size(
+fn concatenated(
     alloc: Global,
     design: &Design,
-    first: &Typed,
+    first: (Node, Size),
     others: &[Typed],
-) -> Result<Option<Size>, AllocError>
-    ensures { IfOk result (λ o. IfSome o (λ size. AreSized design.now.signals
-        (λ store time. concatenated (value_of first.now store time) (map (λ e. value_of e store time) others.now)) size.width)) }
+) -> Result<Option<(Node, Size)>, AllocError>
+    ensures { IfOk result (λ o. IfSome o (λ r. (values : Values) → Means design.now.signals values first.0 first.1.width
+        → Means design.now.signals (λ store time. concatenated (values store time) (map (λ e. value_of e store time) others.now))
+        r.0 r.1.width)) }
 {
-    let Some(highest) = resolve(alloc, design, first)? else {
-        return Ok(None);
-    };
-    let mut size = size_of(highest);
+    let (node, own) = first;
+    let mut size = own;
+    let mut parts = Vec::with_capacity(alloc, others.len())?;
     for part in others {
-        let Some(below) = resolve(alloc, design, part)? else {
+        let Some((y, below)) = resolve(alloc, design, part)? else {
             return Ok(None);
         };
-        size = joined_size(size, size_of(below));
+        parts.push((below, y))?;
+        size = joined_size(size, below);
     }
-    Ok(Some(size))
+    let node = Node::Concat(own, Box::new(alloc, node)?, parts);
+    Ok(Some((node, size)))
 }
 
-/// The size of a node that isn't kept.
-fn size_of(made: (Node, Size)) -> Size
-    ensures { result.width ≡ made.1.width }
+/// A part that is repeated.
+fn repeated(alloc: Global, count: Count, x: (Node, Size)) -> Result<(Node, Size), AllocError>
+    ensures { IfOk result (λ r. (signals : List Signal) (values : Values) → Means signals values x.0 x.1.width
+        → Means signals (λ store time. take 64 (replication count.times (values store time))) r.0 r.1.width) }
 {
-    let (_node, size) = made;
-    size
+    let (node, own) = x;
+    let size = repeated_size(count, own);
+    Ok((Node::Repeat(count, own, Box::new(alloc, node)?), size))
 }
 
 /// The size of a part with another one below it, cut to 64 bits.

@@ -11,28 +11,7 @@ use vs_explain_limit::{Taken, explain_steps};
 use vs_explain_rules::explain_broken;
 use vs_explain_steps::last_steps;
 use vs_explain_text::vs_explain_outline::{Page, SourceText};
-use vs_explain_text::vs_parser::{ParseFault, parse};
-use vs_simulate::vs_elaborate::{ElabFault, elaborate};
-use vs_syntax::vs_lexer::{LexFault, lex};
-
-/// The design that a source and a top define, where they define one.
-fn design_of(alloc: Global, source: &[u8], top: &[u8]) -> Result<Option<Design>, AllocError> {
-    let tokens = match lex(alloc, source) {
-        Ok(tokens) => tokens,
-        Err(LexFault::Memory) => return Err(AllocError),
-        Err(_) => return Ok(None),
-    };
-    let tree = match parse(alloc, &tokens) {
-        Ok(tree) => tree,
-        Err(ParseFault::Memory) => return Err(AllocError),
-        Err(_) => return Ok(None),
-    };
-    match elaborate(alloc, &tree, top) {
-        Ok(design) => Ok(Some(design)),
-        Err(ElabFault::Memory) => Err(AllocError),
-        Err(_) => Ok(None),
-    }
-}
+use vs_simulate::design_of;
 
 /// A certificate that says nothing.
 fn no_claims(alloc: Global) -> Certificate {
@@ -57,7 +36,7 @@ fn certificate_of(alloc: Global, bytes: &[u8]) -> Result<Certificate, AllocError
 }
 
 /// Whether a design has a signal, an assignment or a process of this name.
-fn is_named(design: &Design, name: &[u8]) -> bool {
+pub(crate) fn is_named(design: &Design, name: &[u8]) -> bool {
     for signal in design.signals() {
         if signal.path.as_slice() == name {
             return true;
@@ -88,9 +67,9 @@ pub fn explain_rule(
 ) -> Result<Vec<u8>, AllocError> {
     let mut page = Page::new(alloc);
     let text = SourceText::read(alloc, source)?;
-    let design = design_of(alloc, source, top)?;
+    let design = design_of(alloc, source, top);
     let claimed = certificate_of(alloc, certificate)?;
-    if let (Some(text), Some(design)) = (&text, &design) {
+    if let (Some(text), Ok(design)) = (&text, &design) {
         if !is_named(design, place) {
             put_name_in(&mut page, certificate, place);
         }
@@ -112,8 +91,8 @@ pub fn explain_limit(
 ) -> Result<Vec<u8>, AllocError> {
     let mut page = Page::new(alloc);
     let text = SourceText::read(alloc, source)?;
-    let design = design_of(alloc, source, top)?;
-    if let (Some(text), Some(design)) = (&text, &design) {
+    let design = design_of(alloc, source, top);
+    if let (Some(text), Ok(design)) = (&text, &design) {
         let last = last_steps(alloc, design, lifo, steps)?;
         let taken = Taken {
             steps: last.steps,

@@ -6,11 +6,13 @@
 
 mod certificates;
 mod judged;
+mod others;
 mod pieces;
 mod scopes;
 mod sources;
 
 pub use certificates::explain_certificate;
 pub use judged::{explain_limit, explain_rule};
+pub use others::explain_others;
 pub use sources::{explain, explain_after};
 pub use vs_simulate;

@@ -8,5 +8,5 @@ mod names;
 mod walk;
 
 pub use malformed::{explain_malformed, put_forgotten};
-pub use names::put_name_in;
+pub use names::{put_name_in, put_named_in};
 pub use vs_certificate;

@@ -30,22 +30,33 @@ fn place_in(alloc: Global, text: &str, name: &[u8]) -> Result<Option<usize>, All
     Ok(None)
 }
 
-/// Puts the place of a name in a certificate, with its line and a mark. Whether the certificate has the name.
-pub fn put_name_in(page: &mut Page, certificate: &[u8], name: &[u8]) -> bool {
-    let Ok(text) = str::from_utf8(certificate) else {
-        return false;
-    };
+/// The place of a name in a certificate, where that has it.
+fn place_of(page: &mut Page, certificate: &[u8], name: &[u8]) -> Option<usize> {
+    let text = str::from_utf8(certificate).ok()?;
     match place_in(page.alloc(), text, name) {
-        Ok(Some(place)) => {
-            page.put_name(name);
-            page.put(" in the certificate, at ");
-            page.put_place(certificate, place);
-            true
-        }
-        Ok(None) => false,
+        Ok(place) => place,
         Err(_) => {
             page.leave_out();
-            false
+            None
         }
+    }
+}
+
+/// Puts the place of a name in a certificate, where that has it, with its line and a mark.
+pub fn put_name_in(page: &mut Page, certificate: &[u8], name: &[u8]) {
+    if let Some(place) = place_of(page, certificate, name) {
+        page.put_name(name);
+        page.put(" in the certificate, at ");
+        page.put_place(certificate, place);
+    }
+}
+
+/// Puts a name, and its line and column in a certificate where that has it.
+pub fn put_named_in(page: &mut Page, certificate: &[u8], name: &[u8]) {
+    page.put_name(name);
+    if let Some(place) = place_of(page, certificate, name) {
+        page.put(" (");
+        page.put_spot(certificate, place);
+        page.put(" of the certificate)");
     }
 }

@@ -9,7 +9,7 @@ ghost use Rattle.vs_flatcode.specs.Landings.{landing, start_where, start_taken, 
 use crate::draft::{Extra, Op};
 use vs_design::vs_logic4::{CaseKind, Digit, Vec4};
 use vs_design::{Statement, Store, Typed};
-use vs_strobe::vs_eval::{quick_value, value};
+use vs_strobe::vs_eval::quick_value;
 
 /// The first of two places where a condition is true, else the second; x and z count as false.
 #[inline(always)]
@@ -34,7 +34,7 @@ fn item_matches(
 {
     let (labels, _) = item;
     for e in labels {
-        if kind.matches(digits, value(e, store, time)) {
+        if kind.matches(digits, quick_value(e, store, time)) {
             return true;
         }
     }

@@ -1,5 +1,6 @@
 -- Lemmas on how the program ends.
-use Rattle.std.proofs.Common.{◌≡◌, ◌⊎◌, inl, inr, ℕ, List, true, false}
+use Rattle.std.proofs.Common.{arith, ◌≡◌, ◌∙◌, ◌==◌, ◌⊎◌, inl, inr, ne_eqb, refl, subst, sym, true≢false, ℕ, List, [], ◌∷◌, length, true, false}
+use Rattle.std.specs.Borrow.{Bor}
 use Rattle.std.specs.Prelude.{Option, None}
 use Rattle.std.specs.Io.KnownBytes.{Keeps, append_known}
 use Rattle.std.proofs.KnownBytes.{Appends-kept}
@@ -12,14 +13,15 @@ use Rattle.vs_certified.specs.Certified.{HasBegunCertifiedRun, IsCertifiedRun, S
 use Rattle.vs_certified.specs.declared.fault.CertifiedFault.{CertifiedFault}
 use Rattle.vs_explain.specs.vs_simulate.specs.Honesty.{IsRun, HasBegunRun}
 use Rattle.vs_program.specs.declared.doing.Done.{Done}
-use Rattle.vs_program.specs.declared.doing.Done.TheVariants.{Ran, Judged, Proposed, Raced, Listed}
+use Rattle.vs_program.specs.declared.doing.Done.TheVariants.{Ran, Judged, Proposed, Raced, Listed, Preprocessed}
 use Rattle.vs_program_words.specs.declared.words.Request.{Request}
 use Rattle.vs_program_words.specs.declared.words.OutputText.{OutputText}
 use Rattle.vs_program_words.specs.declared.words.OutputText.TheVariants.{Lines, Dump}
 use Rattle.vs_program_words.specs.declared.words.Subcommand.{Subcommand}
-use Rattle.vs_program_words.specs.declared.words.Subcommand.TheVariants.{Run, RunCertified, Check, Certify, Race, Elab}
+use Rattle.vs_program_words.specs.declared.words.Subcommand.TheVariants.{Run, RunCertified, Check, Certify, Race, Elab, Preprocess}
 use Rattle.vs_program.specs.Ends.{HasBegunCertifiedText, HasBegunText, HasBegunWriting, HasWritten, Wrote, WroteCertified}
-use Rattle.vs_program.specs.Ends.{CallFails, IsFinished, IsKeptFor, EndsCall, by_doing, by_fault, by_write, done_status}
+use Rattle.vs_program.specs.Ends.{CallFails, EndsAsked, EndsCall, EndsFiles, IsFinished, EndsWith, by_device, by_doing, by_fault, by_write, done_status}
+use Rattle.vs_program.specs.passes.Kept.{EndsKept}
 use Rattle.vs_program.specs.Statuses.{refusal_status}
 
 -- ---- what was written stays
@@ -118,6 +120,7 @@ module _ (old mid new : Option (List ℕ)) (kept : Keeps mid new) where
   written_kept bytes certificate (Race q) (Raced race) h =
       record { answered = h.answered; text = h.text; told = h.told; written = Appends-kept old mid new _ h.written kept }
   written_kept bytes certificate (Elab top) Listed h = record { design = h.design; defined = h.defined; written = Appends-kept old mid new _ h.written kept }
+  written_kept bytes certificate Preprocess Preprocessed h = Appends-kept old mid new _ h kept
   written_kept bytes certificate call done h = absurd h
 
   begun_text_kept : (t : OutputText) (bytes : List ℕ) (q : Request) → HasBegunText t bytes q old mid → HasBegunText t bytes q old new
@@ -141,24 +144,51 @@ module _ (old mid new : Option (List ℕ)) (kept : Keeps mid new) where
   begun_kept bytes certificate (Race q) h =
       record { race = h.race; answered = h.answered; text = h.text; told = h.told; begun = (h.begun.0, Appends-kept old mid new _ h.begun.1 kept) }
   begun_kept bytes certificate (Elab top) h = record { design = h.design; defined = h.defined; begun = (h.begun.0, Appends-kept old mid new _ h.begun.1 kept) }
+  begun_kept bytes certificate Preprocess h = (h.0, Appends-kept old mid new _ h.1 kept)
 
 -- ---- the ends of a call
 
+-- what is true of the bytes is said of less
+pub ends_weaker : (P Q : List ℕ → List ℕ → Type 0) (call : Subcommand) (old new : Option (List ℕ)) (status : ℕ) → ((certificate bytes : List ℕ) → P certificate bytes → Q certificate bytes)
+    → EndsWith P call old new status → EndsWith Q call old new status
+ends_weaker P Q call old new status more (by_doing certificate bytes done k written is) = by_doing certificate bytes done (more certificate bytes k) written is
+ends_weaker P Q call old new status more (by_fault certificate bytes f k fails left told) = by_fault certificate bytes f (more certificate bytes k) fails left told
+ends_weaker P Q call old new status more (by_write certificate bytes done lost k written is) = by_write certificate bytes done lost (more certificate bytes k) written is
+ends_weaker P Q call old new status more (by_device kept is) = by_device kept is
+
 -- a call that was done, whose text is that of a sink which began as the writer
-pub ends_by_doing : (old text new : Option (List ℕ)) (done : Done) (call : Subcommand) (input : Option (List ℕ)) (certificate bytes : List ℕ) (status : ℕ) →
-    IsKeptFor call input certificate bytes → HasWritten bytes certificate call done old text → IsFinished text new (done_status done) status
-    → EndsCall input call old new status
-ends_by_doing old text new done call input certificate bytes status k written ended = elim ended [
-  | inl all ↦ by_doing certificate bytes done k (written_kept old text new all.0 bytes certificate call done written) all.1
-  | inr short ↦ by_write certificate bytes done short.0 k (written_kept old text (append_known new short.0) short.1 bytes certificate call done written) short.2
+pub ends_by_doing : (old text new : Option (List ℕ)) (done : Done) (call : Subcommand) (certificate bytes : List ℕ) (status : ℕ) →
+    HasWritten bytes certificate call done old text → IsFinished text new (done_status done) status → EndsKept certificate bytes call old new status
+ends_by_doing old text new done call certificate bytes status written ended = elim ended [
+  | inl all ↦ by_doing certificate bytes done (refl, refl) (written_kept old text new all.0 bytes certificate call done written) all.1
+  | inr short ↦ by_write certificate bytes done short.0 (refl, refl) (written_kept old text (append_known new short.0) short.1 bytes certificate call done written) short.2
 ]
 
 -- a call that gave a fault
-pub ends_by_fault : (old text new : Option (List ℕ)) (f : CertifiedFault) (call : Subcommand) (input : Option (List ℕ)) (certificate bytes : List ℕ) (status : ℕ) →
-    IsKeptFor call input certificate bytes → CallFails bytes certificate call f → (is_before_run f ≡ true → Keeps old new) →
+pub ends_by_fault : (old text new : Option (List ℕ)) (f : CertifiedFault) (call : Subcommand) (certificate bytes : List ℕ) (status : ℕ) →
+    CallFails bytes certificate call f → (is_before_run f ≡ true → Keeps old new) →
     (is_before_run f ≡ false → HasBegunWriting bytes certificate call old text) → ((lost : List ℕ) × Keeps text (append_known new lost)) →
-    (status ≡ refusal_status f) ⊎ (status ≡ 3) → EndsCall input call old new status
-ends_by_fault old text new f call input certificate bytes status k fails refused begun left told = by_fault certificate bytes f k fails (record {
+    (status ≡ refusal_status f) ⊎ (status ≡ 3) → EndsKept certificate bytes call old new status
+ends_by_fault old text new f call certificate bytes status fails refused begun left told = by_fault certificate bytes f (refl, refl) fails (record {
   refused = refused;
   begun = λ running. (left.0, begun_kept old text (append_known new left.0) left.1 bytes certificate call (begun running));
 }) told
+
+-- what is true of the bytes that were read is true of those with which the call ends
+pub ends_as : (P : List ℕ → List ℕ → Type 0) (call : Subcommand) (old new : Option (List ℕ)) (status : ℕ) (certificate bytes : List ℕ) → P certificate bytes
+    → EndsKept certificate bytes call old new status → EndsWith P call old new status
+ends_as P call old new status certificate bytes holds ended =
+    ends_weaker _ P call old new status (λ c b same. subst (λ x. P x b) (sym same.0) (subst (P certificate) (sym same.1) holds)) ended
+
+-- how a call ends that names no file, and one that names some
+pub ends_without : (files : List (Bor (List ℕ))) (input : Option (List ℕ)) (call : Subcommand) (old new : Option (List ℕ)) (status : ℕ) → (length files == 0) ≡ true
+    → EndsCall input call old new status → EndsAsked files input call old new status
+ends_without [] input call old new status is h = h
+ends_without (f ∷ fs) input call old new status is h =
+    let some : (length (f ∷ fs) == 0) ≡ false = ne_eqb _ _ (λ e. omega arith) in
+    absurd (true≢false (sym is ∙ some))
+
+pub ends_within : (files : List (Bor (List ℕ))) (input : Option (List ℕ)) (call : Subcommand) (old new : Option (List ℕ)) (status : ℕ) → (length files == 0) ≡ false
+    → EndsFiles input call old new status → EndsAsked files input call old new status
+ends_within [] input call old new status is h = absurd (true≢false is)
+ends_within (f ∷ fs) input call old new status is h = h

@@ -2,10 +2,15 @@
 use Rattle.std.proofs.Common.{arith, cond, ◌≡◌, ◌∙◌, ◌||◌, ◌==◌, ◌+◌, ap, refl, sym, ℕ, Bool, true, false, List, [], ◌∷◌, ◌++◌, length, min, take, take_all, ◌<◌, ◌≤◌}
 use Rattle.std.proofs.lemmas.List.{length-take, length_push, take-append-le}
 use Rattle.std.specs.Prelude.{Option, Some, None, option_map, IfSome}
-use Rattle.vs_program.specs.Inputs.{IsKept, after_line, first_line, has_line_feed}
+use Rattle.vs_program.specs.Inputs.{IsFront, IsKept, after_line, first_line, has_line_feed}
 
 -- what was read of an input that ends after so many bytes
-pub kept_of : (known : Option (List ℕ)) (items : List ℕ) → IfSome (option_map (take 8388609) known) (λ xs. items ≡ [] ++ xs) → IsKept known items
+pub front_of : (most : ℕ) (known : Option (List ℕ)) (items : List ℕ) → IfSome (option_map (take most) known) (λ xs. items ≡ [] ++ xs) → IsFront most known items
+front_of most None items h = tt
+front_of most (Some bytes) items h = h
+
+-- what is kept of an input is its front
+pub kept_of : (known : Option (List ℕ)) (items : List ℕ) → IsFront 8388609 known items → IsKept known items
 kept_of None items h = tt
 kept_of (Some bytes) items h = h
 

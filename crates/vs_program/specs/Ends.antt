@@ -1,5 +1,6 @@
 -- How the program ends: its exit status (profile).
-use Rattle.std.specs.Prelude.{ℕ, ◌≡◌, ◌⊎◌, true, false, Option, None, List}
+use Rattle.std.specs.Borrow.{Bor}
+use Rattle.std.specs.Prelude.{ℕ, ◌≡◌, ◌≤◌, ◌⊎◌, true, false, Option, None, List, [], ◌∷◌, length}
 use Rattle.std.specs.Io.KnownBytes.{Appends, Keeps, append_known}
 use Rattle.clap.specs.declared.error.kind.ErrorKind.{ErrorKind}
 use Rattle.vs_certificate.specs.declared.members.ClaimedGrain.{ClaimedGrain}
@@ -16,17 +17,20 @@ use Rattle.vs_certified.specs.Certified.{IsCertifiedRun, HasBegunCertifiedRun, C
 use Rattle.vs_certified.specs.Judged.{IsJudged}
 use Rattle.vs_certified.specs.declared.fault.CertifiedFault.{CertifiedFault}
 use Rattle.vs_certified.specs.declared.fault.CertifiedFault.TheVariants.{Simulation, Certificate, Rejected}
+use Rattle.vs_explain.specs.vs_simulate.specs.declared.fault.SimFault.TheVariants as sim
+use Rattle.vs_certified.specs.vs_kernel.specs.declared.outcome.RunFault.TheVariants as run
+use Rattle.vs_preprocess.specs.Limits.{text_limit}
 use Rattle.vs_program_words.specs.declared.words.Call as asked
 use Rattle.vs_program_words.specs.declared.words.Request.{Request}
 use Rattle.vs_program_words.specs.declared.words.Subcommand.{Subcommand}
-use Rattle.vs_program_words.specs.declared.words.Subcommand.TheVariants.{Run, RunCertified, Check, Certify, Race, Elab}
+use Rattle.vs_program_words.specs.declared.words.Subcommand.TheVariants.{Run, RunCertified, Check, Certify, Race, Elab, Preprocess}
 use Rattle.vs_program_words.specs.declared.words.WordsFault.TheVariants.{Choices, OrderOfCertified}
 use Rattle.vs_program_words.specs.declared.words.OutputText.{OutputText}
 use Rattle.vs_program_words.specs.declared.words.OutputText.TheVariants.{Lines, Dump}
 use Rattle.vs_program.specs.declared.doing.Done.{Done}
-use Rattle.vs_program.specs.declared.doing.Done.TheVariants.{Ran, Judged, Proposed, Raced, Listed}
+use Rattle.vs_program.specs.declared.doing.Done.TheVariants.{Ran, Judged, Proposed, Raced, Listed, Preprocessed}
 use Rattle.vs_program_words.specs.Asks.{HaveFault, WordsAsk, WordsAskInVain}
-use Rattle.vs_program.specs.Inputs.{AreKept, IsKept}
+use Rattle.vs_program.specs.Inputs.{AreKept, AreOfFiles, IsKept}
 use Rattle.vs_program.specs.Races.{HasBegunRace, WroteRace, race_status}
 use Rattle.vs_program.specs.Statuses.{outcome_status, proposal_status, refusal_status, verdict_status, words_status}
 use Rattle.vs_program.specs.Texts.{IsTooLong, ReadsBack, proposal_line, verdict_line}
@@ -70,6 +74,7 @@ HasWritten bytes certificate (Check top) (Judged v) old new = WroteVerdict bytes
 HasWritten bytes certificate (Certify top grain) (Proposed p) old new = WroteProposal bytes top.now grain p old new
 HasWritten bytes certificate (Race q) (Raced race) old new = WroteRace bytes q.top.now race old new
 HasWritten bytes certificate (Elab top) Listed old new = IsListed bytes top.now old new
+HasWritten bytes certificate Preprocess Preprocessed old new = Appends old new bytes
 HasWritten bytes certificate call _ old new = ⊥
 
 -- the status of what was done
@@ -79,6 +84,7 @@ done_status (Judged v) = verdict_status v
 done_status (Proposed p) = proposal_status p
 done_status (Raced race) = race_status race
 done_status Listed = 0
+done_status Preprocessed = 0
 
 -- ---- what a call wrote that failed
 
@@ -114,6 +120,7 @@ HasBegunWriting bytes certificate (Check top) old new = HasBegunVerdict bytes to
 HasBegunWriting bytes certificate (Certify top grain) old new = HasBegunProposal bytes top.now grain old new
 HasBegunWriting bytes certificate (Race q) old new = HasBegunRace bytes q.top.now old new
 HasBegunWriting bytes certificate (Elab top) old new = HasBegunListing bytes top.now old new
+HasBegunWriting bytes certificate Preprocess old new = AppendsPart old new bytes
 
 -- ---- why a call failed
 
@@ -139,8 +146,13 @@ abbrev pub CheckingFails : List ℕ → List ℕ → List ℕ → CertifiedFault
 CheckingFails bytes top certificate (Rejected number place) = ⊥
 CheckingFails bytes top certificate fault = CertifyingFails bytes top certificate fault
 
+-- what a fault says where a text is only to be written
+abbrev pub WritingFails : CertifiedFault → Type 0
+WritingFails (Simulation (sim.Run run.Write)) = Unit {0}
+WritingFails _ = ⊥
+
 -- what a fault says of a call: the source is refused, or then the certificate where the call takes or makes one, or then the design where it is to run;
--- and what is written fails for memory or a write alone
+-- and a text of files that is only to be written fails where a write fails
 abbrev pub CallFails : List ℕ → List ℕ → Subcommand → CertifiedFault → Type 0
 CallFails bytes certificate (Run q) fault = SourceFails bytes q.top.now fault
 CallFails bytes certificate (RunCertified q) fault = CertifyingFails bytes q.top.now certificate fault
@@ -148,6 +160,7 @@ CallFails bytes certificate (Check top) fault = CheckingFails bytes top.now cert
 CallFails bytes certificate (Certify top grain) fault = MakingFails bytes top.now grain fault
 CallFails bytes certificate (Race q) fault = SourceFails bytes q.top.now fault
 CallFails bytes certificate (Elab top) fault = SourceFails bytes top.now fault
+CallFails bytes certificate Preprocess fault = WritingFails fault
 
 -- what a call that gave a fault leaves at the writer: where it is refused, all is as it was; else a beginning of its text, but for bytes at its end
 pub record HasLeft (bytes certificate : List ℕ) (call : Subcommand) (fault : CertifiedFault) (old new : Option (List ℕ)) : Type 0 where
@@ -168,17 +181,34 @@ IsKeptFor (Check top) input certificate bytes = AreKept input certificate bytes
 IsKeptFor (Certify top grain) input certificate bytes = IsKept input bytes
 IsKeptFor (Race q) input certificate bytes = IsKept input bytes
 IsKeptFor (Elab top) input certificate bytes = IsKept input bytes
+IsKeptFor Preprocess input certificate bytes = IsKept input bytes
 
--- how a call that was asked for ends, with the bytes kept of the input and with what the writer holds before and after it: by what it did, by its fault,
--- or with 3 where a device or memory failed
-pub data EndsCall (input : Option (List ℕ)) (call : Subcommand) (old new : Option (List ℕ)) (status : ℕ) : Type 0 where
-  by_doing : (certificate bytes : List ℕ) (done : Done) → IsKeptFor call input certificate bytes → HasWritten bytes certificate call done old new →
-      status ≡ done_status done → EndsCall input call old new status
-  by_fault : (certificate bytes : List ℕ) (fault : CertifiedFault) → IsKeptFor call input certificate bytes → CallFails bytes certificate call fault →
-      HasLeft bytes certificate call fault old new → (status ≡ refusal_status fault) ⊎ (status ≡ 3) → EndsCall input call old new status
-  by_write : (certificate bytes : List ℕ) (done : Done) (lost : List ℕ) → IsKeptFor call input certificate bytes →
-      HasWritten bytes certificate call done old (append_known new lost) → status ≡ 3 → EndsCall input call old new status
-  by_device : Keeps old new → status ≡ 3 → EndsCall input call old new status
+-- how a call that was asked for ends, with what is true of the bytes of its certificate and of its source, and with what the writer holds before and
+-- after it: by what it did, by its fault, or with 3 where a device or memory failed
+pub data EndsWith (kept : List ℕ → List ℕ → Type 0) (call : Subcommand) (old new : Option (List ℕ)) (status : ℕ) : Type 0 where
+  by_doing : (certificate bytes : List ℕ) (done : Done) → kept certificate bytes → HasWritten bytes certificate call done old new →
+      status ≡ done_status done → EndsWith kept call old new status
+  by_fault : (certificate bytes : List ℕ) (fault : CertifiedFault) → kept certificate bytes → CallFails bytes certificate call fault →
+      HasLeft bytes certificate call fault old new → (status ≡ refusal_status fault) ⊎ (status ≡ 3) → EndsWith kept call old new status
+  by_write : (certificate bytes : List ℕ) (done : Done) (lost : List ℕ) → kept certificate bytes →
+      HasWritten bytes certificate call done old (append_known new lost) → status ≡ 3 → EndsWith kept call old new status
+  by_device : Keeps old new → status ≡ 3 → EndsWith kept call old new status
+
+-- how a call ends with the bytes kept of the input
+abbrev pub EndsCall : Option (List ℕ) → Subcommand → Option (List ℕ) → Option (List ℕ) → ℕ → Type 0
+EndsCall input call old new status = EndsWith (IsKeptFor call input) call old new status
+
+-- how a call ends whose source is the text of files: with their text, or where they are refused, or where a device or memory failed
+pub data EndsFiles (input : Option (List ℕ)) (call : Subcommand) (old new : Option (List ℕ)) (status : ℕ) : Type 0 where
+  by_text : (text : List ℕ) → length text ≤ text_limit → EndsWith (AreOfFiles call input text) call old new status →
+      EndsFiles input call old new status
+  by_refusal : Keeps old new → status ≡ 1 → EndsFiles input call old new status
+  by_reading : Keeps old new → status ≡ 3 → EndsFiles input call old new status
+
+-- how a call ends that names these files, or none
+abbrev pub EndsAsked : List (Bor (List ℕ)) → Option (List ℕ) → Subcommand → Option (List ℕ) → Option (List ℕ) → ℕ → Type 0
+EndsAsked [] input call old new status = EndsCall input call old new status
+EndsAsked (file ∷ files) input call old new status = EndsFiles input call old new status
 
 -- how the program ends where the words ask for nothing: by the fault that they have, a call for help or for the version among them, or since they ask for
 -- a certified run in an order of its own or for choices that are none, or with 3 where memory or, at help and the version, a device failed; these two alone
@@ -193,4 +223,5 @@ pub data EndsWords (words : List (List ℕ)) (old new : Option (List ℕ)) (stat
 -- how the program ends, with these words, this input, and what the writer holds before and after it
 pub data Ends (words : List (List ℕ)) (input old new : Option (List ℕ)) (status : ℕ) : Type 0 where
   without_call : EndsWords words old new status → Ends words input old new status
-  with_call : (call : asked.Call) → WordsAsk words call → EndsCall input call.subcommand old new status → Ends words input old new status
+  with_call : (call : asked.Call) → WordsAsk words call → EndsAsked call.sources.files.items input call.subcommand old new status →
+      Ends words input old new status

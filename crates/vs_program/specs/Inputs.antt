@@ -1,4 +1,6 @@
 -- What the program reads of its input.
+use Rattle.vs_program_words.specs.declared.words.Subcommand.{Subcommand}
+use Rattle.vs_program_words.specs.declared.words.Subcommand.TheVariants.{Check, RunCertified}
 use Rattle.std.specs.Prelude.{ℕ, ◌≡◌, ◌==◌, ◌||◌, Bool, false, Option, Some, None, List, [], ◌∷◌, take, if◌then◌else◌}
 
 -- the bytes that are kept of an input: where its bytes are known, the first 8,388,609 of them (profile)
@@ -26,3 +28,18 @@ has_line_feed (x ∷ xs) = x == 10 || has_line_feed xs
 abbrev pub AreKept : Option (List ℕ) → List ℕ → List ℕ → Type 0
 AreKept None certificate source = Unit {0}
 AreKept (Some bytes) certificate source = (certificate ≡ take 16777217 (first_line bytes)) × (source ≡ take 8388609 (after_line bytes))
+
+-- the bytes that are kept of the front of an input, where its bytes are known
+abbrev pub IsFront : ℕ → Option (List ℕ) → List ℕ → Type 0
+IsFront most None bytes = Unit {0}
+IsFront most (Some all) bytes = bytes ≡ take most all
+
+-- the bytes of a certificate that a subcommand which takes one keeps of an input that is nothing else: the first 16,777,217 (profile)
+abbrev pub IsCertificateFor : Subcommand → Option (List ℕ) → List ℕ → Type 0
+IsCertificateFor (RunCertified q) input certificate = IsFront 16777217 input certificate
+IsCertificateFor (Check top) input certificate = IsFront 16777217 input certificate
+IsCertificateFor call input certificate = Unit {0}
+
+-- the bytes of a call whose source is the text of files: that text, and the certificate that is kept of the input
+abbrev pub AreOfFiles : Subcommand → Option (List ℕ) → List ℕ → List ℕ → List ℕ → Type 0
+AreOfFiles call input text certificate bytes = (bytes ≡ text) × IsCertificateFor call input certificate

@@ -1,3 +1,4 @@
+pub mod Kept
 pub mod Proposing
 pub mod Reading
 pub mod Telling

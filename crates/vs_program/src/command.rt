@@ -3,29 +3,35 @@ ghost use Rattle.std.specs.Prelude.{◌≡◌, ◌⊎◌, ℕ, List, map, true, 
 ghost use Rattle.std.specs.Io.KnownBytes.{Keeps, append_known};
 ghost use Rattle.vs_certified.specs.Certified.{is_before_run};
 ghost use Rattle.vs_program.specs.Buffers.{all_bytes};
-ghost use Rattle.vs_program.specs.Ends.{Ends, EndsCall, IsFinished, IsKeptFor, done_status};
+ghost use Rattle.vs_program.specs.Ends.{Ends, EndsAsked, EndsCall, EndsFiles, IsFinished, IsKeptFor, done_status};
+ghost use Rattle.vs_program.specs.passes.Kept.{EndsKept};
 ghost use Rattle.vs_program.specs.Statuses.{refusal_status};
 
 use crate::buffered::{Buffered, ROOM};
 use crate::cut::{is_open_at_cut, too_long};
 use crate::doing::{Done, do_call};
 use crate::explaining::{explain_done, explain_fault};
+use crate::files::{FilesRead, read_files};
 use crate::input::{InputFault, Kept, read_both, read_source};
+use crate::placing::tell_refusal;
 use crate::telling::{tell, tell_done, tell_fault, tell_words};
-use crate::texts::FAILED;
+use crate::texts::{FAILED, REFUSED};
 use std::alloc::Global;
 use std::io::{Read, Write};
 use vs_certified::CertifiedFault;
 use vs_certified::vs_kernel::RunFault;
 use vs_explain::vs_simulate::SimFault;
+use vs_preprocess::{Library, Shelf};
 use vs_program_words::{Call, Subcommand, read_words};
 
-/// Does what the words ask for; they begin with the program's own name. The source is read from `input`, in front of it the line of a certificate where
-/// the words ask for one, the text that was asked for goes to `out`, and a refusal to `err`. The answer is the exit status, and `out` with what it was
-/// given: 0 done, a yes or help, 1 refused, a no or not made, 2 step limit, 3 out of memory, read error or write error, 64 wrong arguments.
-pub fn program<R: Read + Drop, O: Write + Drop, E: Write + Drop>(
+/// Does what the words ask for; they begin with the program's own name. The source is the text of the files that they name, which come of the library;
+/// without files it is read from `input`, in front of it the line of a certificate where the words ask for one. With files the certificate is what `input`
+/// gives. The text that was asked for goes to `out`, and a refusal to `err`. The answer is the exit status, and `out` with what it was given: 0 done, a yes
+/// or help, 1 refused, a no or not made, 2 step limit, 3 out of memory, read error or write error, 64 wrong arguments.
+pub fn program_on<L: Library, R: Read + Drop, O: Write + Drop, E: Write + Drop>(
     alloc: Global,
     words: &[&str],
+    library: &mut L,
     input: R,
     out: O,
     mut err: E,
@@ -33,9 +39,41 @@ pub fn program<R: Read + Drop, O: Write + Drop, E: Write + Drop>(
     ensures { Ends (map (λ w. w.now) words.entry.now) (R.remaining input) (O.contents out) (O.contents result.1) result.0 }
 {
     match read_words(alloc, words) {
-        Ok(call) => answer(alloc, &call, input, out, &mut err),
+        Ok(call) => answer_call(alloc, &call, library, input, out, &mut err),
         Err(fault) => tell_words(alloc, &fault, out, &mut err),
     }
+}
+
+/// The same where there are no files.
+pub fn program<R: Read + Drop, O: Write + Drop, E: Write + Drop>(
+    alloc: Global,
+    words: &[&str],
+    input: R,
+    out: O,
+    err: E,
+) -> (u8, O)
+    ensures { Ends (map (λ w. w.now) words.entry.now) (R.remaining input) (O.contents out) (O.contents result.1) result.0 }
+{
+    let mut none = Shelf { files: &[] };
+    program_on(alloc, words, &mut none, input, out, err)
+}
+
+// Does what a call asks for: with the text of its files, or with the input where it names none.
+fn answer_call<L: Library, R: Read + Drop, O: Write + Drop, E: Write>(
+    alloc: Global,
+    call: &Call,
+    library: &mut L,
+    input: R,
+    out: O,
+    err: &mut E,
+) -> (u8, O)
+    ensures { EndsAsked call.now.sources.files.items (R.remaining input) call.now.subcommand
+        (O.contents out) (O.contents result.1) result.0 }
+{
+    if call.sources.files.is_empty() {
+        return answer(alloc, call, input, out, err);
+    }
+    answer_files(alloc, call, library, input, out, err)
 }
 
 // Reads the input of a call: a source, and in front of it a certificate where the call takes one.
@@ -62,11 +100,54 @@ fn answer<R: Read + Drop, O: Write + Drop, E: Write>(
 ) -> (u8, O)
     ensures { EndsCall (R.remaining input) call.now.subcommand (O.contents out) (O.contents result.1) result.0 }
 {
-    let kept = match read_input(alloc, &call.subcommand, input) {
-        Ok(kept) => kept,
-        Err(InputFault::Memory) => return (tell(err, b"memory", FAILED), out),
-        Err(InputFault::Read) => return (tell(err, b"read", FAILED), out),
-    };
+    match read_input(alloc, &call.subcommand, input) {
+        Ok(kept) => answer_kept(alloc, call, &kept, out, err),
+        Err(fault) => (tell_input(fault, err), out),
+    }
+}
+
+// Reads the files and does with their text what a call asks for.
+fn answer_files<L: Library, R: Read + Drop, O: Write + Drop, E: Write>(
+    alloc: Global,
+    call: &Call,
+    library: &mut L,
+    input: R,
+    out: O,
+    err: &mut E,
+) -> (u8, O)
+    ensures { EndsFiles (R.remaining input) call.now.subcommand (O.contents out) (O.contents result.1) result.0 }
+{
+    match read_files(alloc, library, call, input) {
+        Ok(FilesRead::Text(kept)) => answer_kept(alloc, call, &kept, out, err),
+        Ok(FilesRead::Refused(places, refusal)) => {
+            tell_refusal(err, &places, &refusal, &call.sources.files);
+            (REFUSED, out)
+        }
+        Err(fault) => (tell_input(fault, err), out),
+    }
+}
+
+// Tells why no input was read.
+fn tell_input<E: Write>(fault: InputFault, err: &mut E) -> u8
+    ensures { result ≡ 3 }
+{
+    match fault {
+        InputFault::Memory => tell(err, b"memory", FAILED),
+        InputFault::Read => tell(err, b"read", FAILED),
+    }
+}
+
+// Does with what was read what a call asks for.
+fn answer_kept<O: Write + Drop, E: Write>(
+    alloc: Global,
+    call: &Call,
+    kept: &Kept,
+    out: O,
+    err: &mut E,
+) -> (u8, O)
+    ensures { EndsKept kept.now.certificate.items kept.now.source.items call.now.subcommand
+        (O.contents out) (O.contents result.1) result.0 }
+{
     let Ok(room) = Vec::with_capacity(alloc, ROOM) else {
         return (tell(err, b"memory", FAILED), out);
     };
@@ -78,8 +159,8 @@ fn answer<R: Read + Drop, O: Write + Drop, E: Write>(
         &kept.certificate,
         &mut buffer,
     ) {
-        Ok(done) => finish(alloc, call, &kept, &done, buffer, err),
-        Err(fault) => give_up(alloc, call, &kept, &fault, buffer, err),
+        Ok(done) => finish(alloc, call, kept, &done, buffer, err),
+        Err(fault) => give_up(alloc, call, kept, &fault, buffer, err),
     }
 }
 
@@ -132,7 +213,7 @@ fn tell_whole<E: Write>(
 ) -> u8
     ensures { (result ≡ refusal_status fault.now) ⊎ (result ≡ 3) }
 {
-    let status = tell_fault(alloc, fault, err);
+    let status = tell_fault(alloc, kept, fault, err);
     if call.explains {
         explain_fault(alloc, call.subcommand, kept, fault, err);
     }

@@ -37,6 +37,8 @@ pub enum Done {
     Raced(Race),
     /// A design was listed.
     Listed,
+    /// The text of files was written.
+    Preprocessed,
 }
 
 // The policy of an order, or of choices where there are some.
@@ -237,6 +239,10 @@ pub(crate) fn do_call<'s, S: Sink>(
         Subcommand::Elab(top) => {
             list_design(alloc, source, top.as_bytes(), shown)?;
             Ok(Done::Listed)
+        }
+        Subcommand::Preprocess => {
+            show(shown, source)?;
+            Ok(Done::Preprocessed)
         }
     }
 }

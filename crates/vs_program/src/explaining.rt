@@ -8,7 +8,9 @@ use vs_certificate::{CertFault, to_json};
 use vs_certified::CertifiedFault;
 use vs_certified::vs_cert_check::Verdict;
 use vs_certified::vs_kernel::Outcome;
-use vs_explain::{explain, explain_after, explain_certificate, explain_limit, explain_rule};
+use vs_explain::{
+    explain, explain_after, explain_certificate, explain_limit, explain_others, explain_rule,
+};
 use vs_program_words::{Order, Request, Subcommand};
 use vs_propose::{Proposal, Refusal};
 use vs_race::Race;
@@ -22,6 +24,7 @@ fn top_of<'a>(call: Subcommand<'a>) -> &'a [u8] {
         Subcommand::Certify(top, _) => top.as_bytes(),
         Subcommand::Race(hunt) => hunt.top.as_bytes(),
         Subcommand::Elab(top) => top.as_bytes(),
+        Subcommand::Preprocess => &[],
     }
 }
 
@@ -52,9 +55,25 @@ fn certificate_meaning(
     }
 }
 
+// What it means that a subject breaks a rule under a certificate, and which further subjects break rules under it.
+fn rule_meaning(
+    alloc: Global,
+    source: &[u8],
+    top: &[u8],
+    certificate: &[u8],
+    number: u8,
+    place: &[u8],
+) -> Result<Vec<u8>, AllocError> {
+    let mut text = explain_rule(alloc, source, top, certificate, number, place)?;
+    if let Ok(others) = explain_others(alloc, source, top, certificate, number, place) {
+        text.extend_from_slice(&others)?;
+    }
+    Ok(text)
+}
+
 // Whether a call takes a certificate in front of its source.
-fn takes_certificate(call: Subcommand) -> bool {
-    matches!(call, Subcommand::RunCertified(_) | Subcommand::Check(_))
+fn takes_certificate(call: Subcommand, kept: &Kept) -> bool {
+    kept.places.is_none() && matches!(call, Subcommand::RunCertified(_) | Subcommand::Check(_))
 }
 
 // What a fault means.
@@ -66,13 +85,13 @@ fn fault_meaning(
 ) -> Result<Vec<u8>, AllocError> {
     let top = top_of(call);
     match fault {
-        CertifiedFault::Simulation(cause) if takes_certificate(call) => {
+        CertifiedFault::Simulation(cause) if takes_certificate(call, kept) => {
             explain_after(alloc, &kept.certificate, &kept.source, top, cause)
         }
         CertifiedFault::Simulation(cause) => explain(alloc, &kept.source, top, cause),
         CertifiedFault::Certificate(cause) => certificate_meaning(alloc, call, kept, *cause),
         CertifiedFault::Rejected(number, place) => {
-            explain_rule(alloc, &kept.source, top, &kept.certificate, *number, place)
+            rule_meaning(alloc, &kept.source, top, &kept.certificate, *number, place)
         }
     }
 }
@@ -97,7 +116,7 @@ fn limit_meaning(
     }
 }
 
-// What it means that no certificate was made.
+// What it means that no certificate was made. One that claims nothing lacks each name, so no further one is told.
 fn refusal_meaning(
     alloc: Global,
     top: &[u8],
@@ -105,14 +124,11 @@ fn refusal_meaning(
     refusal: &Refusal,
 ) -> Result<Vec<u8>, AllocError> {
     let certificate = to_json(alloc, &refusal.certificate)?;
-    explain_rule(
-        alloc,
-        &kept.source,
-        top,
-        &certificate,
-        refusal.number,
-        &refusal.place,
-    )
+    let Refusal { number, place, .. } = refusal;
+    if *number == 1 {
+        return explain_rule(alloc, &kept.source, top, &certificate, *number, place);
+    }
+    rule_meaning(alloc, &kept.source, top, &certificate, *number, place)
 }
 
 // What it means that no certificate was made where a race was sought.
@@ -152,7 +168,7 @@ fn done_meaning(
     match done {
         Done::Ran(Outcome::StepLimit(time)) => limit_meaning(alloc, call, kept, *time),
         Done::Judged(Verdict::No(number, place)) => {
-            let text = explain_rule(alloc, &kept.source, top, &kept.certificate, *number, place)?;
+            let text = rule_meaning(alloc, &kept.source, top, &kept.certificate, *number, place)?;
             with_race(alloc, text, top)
         }
         Done::Proposed(Proposal::NotMade(refusal)) => {

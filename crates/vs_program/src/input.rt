@@ -1,17 +1,18 @@
 //! The input that a program is given: a source, and a certificate in front of it where a call takes one.
 ghost use Rattle.std.specs.Prelude.{◌≡◌, ◌++◌, ℕ, List, [], ◌∷◌, IfOk, OnOk, take};
-ghost use Rattle.vs_program.specs.Inputs.{AreKept, IsKept};
+ghost use Rattle.vs_program.specs.Inputs.{AreKept, IsFront, IsKept};
 ghost use Rattle.vs_program.specs.passes.Reading.{HasKept};
 
 use std::alloc::{AllocError, Global};
 use std::io::{self, BufReader, ErrorKind, Read};
+use vs_preprocess::{Failure, Places};
 
 /// How many bytes of a source are kept at most: more than twice as many as a source may have (4 MiB), so that what begins within these is kept whole,
 /// unless it is as long itself.
 pub(crate) const SOURCE_LIMIT: u64 = 8388609;
 
 /// How many bytes of a certificate are kept at most: one more than a certificate may have (16 MiB).
-const CERTIFICATE_LIMIT: u64 = 16777217;
+pub(crate) const CERTIFICATE_LIMIT: u64 = 16777217;
 
 /// Why no input was read.
 #[derive(Clone, Copy, PartialEq, Eq)]
@@ -38,13 +39,24 @@ impl From<AllocError> for InputFault {
     }
 }
 
+impl From<Failure> for InputFault {
+    fn from(failure: Failure) -> InputFault {
+        match failure {
+            Failure::Memory => InputFault::Memory,
+            Failure::Read => InputFault::Read,
+        }
+    }
+}
+
 /// What is kept of an input.
 #[derive(Drop)]
 pub(crate) struct Kept {
-    /// The bytes of a certificate: the first ones of the first line, where a call takes one.
+    /// The bytes of a certificate, where a call takes one: the first ones of the first line, or of all with files.
     pub(crate) certificate: Vec<u8>,
-    /// The bytes of a source: the first ones of what follows.
+    /// The bytes of a source: the first ones of what follows, or the text of files.
     pub(crate) source: Vec<u8>,
+    /// Where the source comes from, if it is the text of files.
+    pub(crate) places: Option<Places>,
     // Whether the first line has ended.
     line_ended: bool,
 }
@@ -67,7 +79,21 @@ impl Kept {
         Kept {
             certificate: Vec::new(alloc),
             source: Vec::new(alloc),
+            places: None,
             line_ended: false,
+        }
+    }
+
+    /// A text of files, and a certificate.
+    pub(crate) fn of_files(certificate: Vec<u8>, source: Vec<u8>, places: Places) -> Self
+        ensures certificate { result.certificate ≡ certificate }
+        ensures source { result.source ≡ source }
+    {
+        Kept {
+            certificate,
+            source,
+            places: Some(places),
+            line_ended: true,
         }
     }
 
@@ -86,18 +112,31 @@ impl Kept {
     }
 }
 
+/// Reads an input to its end, and answers so many bytes of its front.
+pub(crate) fn read_first<R: Read + Drop>(
+    alloc: Global,
+    input: R,
+    most: u64,
+) -> Result<Vec<u8>, InputFault>
+    ensures { IfOk result (λ bytes. IsFront most (R.remaining input) bytes.items) }
+{
+    let mut bytes = Vec::new(alloc);
+    let mut kept = input.take(most);
+    kept.read_to_end(&mut bytes)?;
+    let mut rest = kept.into_inner();
+    io::copy(&mut rest, &mut io::sink())?;
+    Ok(bytes)
+}
+
 /// Reads an input to its end, and answers its first 8,388,609 bytes: a source that has more is refused by its length alone.
 pub(crate) fn read_source<R: Read + Drop>(alloc: Global, input: R) -> Result<Kept, InputFault>
     ensures kept { IfOk result (λ kept. IsKept (R.remaining input) kept.source.items) }
 {
-    let mut source = Vec::new(alloc);
-    let mut kept = input.take(SOURCE_LIMIT);
-    kept.read_to_end(&mut source)?;
-    let mut rest = kept.into_inner();
-    io::copy(&mut rest, &mut io::sink())?;
+    let source = read_first(alloc, input, SOURCE_LIMIT)?;
     Ok(Kept {
         certificate: Vec::new(alloc),
         source,
+        places: None,
         line_ended: true,
     })
 }

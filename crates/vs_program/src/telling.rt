@@ -8,6 +8,8 @@ ghost use Rattle.vs_program.specs.Statuses.{refusal_status, start_status, words_
 ghost use Rattle.vs_program.specs.passes.Telling.{TellsWords};
 
 use crate::doing::Done;
+use crate::input::Kept;
+use crate::placing::{place_of, tell_placed};
 use crate::racing::race_status;
 use crate::texts::{
     DONE, FAILED, LIMITED, MISUSED, REFUSED, refusal_status, refusal_text, words_status,
@@ -116,10 +118,25 @@ pub(crate) fn tell_done<E: Write>(done: &Done, err: &mut E) -> u8
     }
 }
 
-/// What a fault tells the user; where there is no memory for its text, that is told.
-pub(crate) fn tell_fault<E: Write>(alloc: Global, fault: &CertifiedFault, err: &mut E) -> u8
+/// What a fault tells the user, at its place in a file where the source is the text of files; where there is no memory for its text, that is told.
+pub(crate) fn tell_fault<E: Write>(
+    alloc: Global,
+    kept: &Kept,
+    fault: &CertifiedFault,
+    err: &mut E,
+) -> u8
     ensures { (result ≡ refusal_status fault.now) ⊎ (result ≡ 3) }
 {
+    if let Some(places) = &kept.places {
+        match place_of(alloc, fault) {
+            Ok(Some(placed)) => {
+                tell_placed(err, places, &placed);
+                return refusal_status(fault);
+            }
+            Ok(None) => {}
+            Err(_) => return tell(err, b"memory", FAILED),
+        }
+    }
     match refusal_text(alloc, fault) {
         Ok(text) => tell(err, &text, refusal_status(fault)),
         Err(_) => tell(err, b"memory", FAILED),

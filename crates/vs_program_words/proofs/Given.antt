@@ -11,7 +11,7 @@ use Rattle.clap.specs.Walk.{Row, Text, answers_to, finished, first_of, has_row, 
 use Rattle.clap.specs.Simple.{App, Shape, argument_words, built, built_leaf, entered, help_shape, inherited, label_of, marked_built, names_of, rows_at, subcommand_of, with_leaf_noted}
 use Rattle.clap.specs.Faults.{entered_fault, fault_of, level_fault}
 use Rattle.clap.proofs.ValueTestLemmas.{accepts-Accepts}
-use Rattle.vs_program_words.specs.Options.{AreOptions, Words, bare_options, certify_options, check_options, elab_options, options_of, race_options, run_options}
+use Rattle.vs_program_words.specs.Options.{AreOptions, Words, bare_options, certify_options, check_options, elab_options, options_of, preprocess_options, race_options, run_options}
 use Rattle.vs_program_words.specs.Asks.{name_of}
 use Rattle.vs_program_words.specs.Given.{AreAllGiven, IsCount, IsFlag}
 use Rattle.vs_program_words.proofs.Rows.{IsNoHelp, RowsFit, RulesFit, default_row, leaf_fits, level_parts, required_row, row_value, subcommand_given, walk_stops}
@@ -116,7 +116,7 @@ abbrev elab_built : Shape
 elab_built = built_below elab_options
 
 elab_fits : RulesFit Passed elab_built.rules
-elab_fits = ((refl, (refl, λ v e. ((λ n. absurd cc), (λ f. absurd cc)))), ((refl, (refl, λ v e. ((λ n. absurd cc), (λ f. flag_passed v e)))), (tt, tt)))
+elab_fits = ((refl, (refl, λ v e. ((λ n. absurd cc), (λ f. absurd cc)))), ((refl, (refl, λ v e. ((λ n. absurd cc), (λ f. flag_passed v e)))), ((refl, (refl, λ v e. ((λ n. absurd cc), (λ f. absurd cc)))), ((refl, (refl, λ v e. ((λ n. absurd cc), (λ f. absurd cc)))), ((refl, (refl, λ v e. ((λ n. absurd cc), (λ f. absurd cc)))), (tt, tt))))))
 
 elab_gives : Gives elab_built
 elab_gives word words free is e = record {
@@ -128,7 +128,7 @@ abbrev check_built : Shape
 check_built = built_below check_options
 
 check_fits : RulesFit Passed check_built.rules
-check_fits = ((refl, (refl, λ v e. ((λ n. absurd cc), (λ f. absurd cc)))), ((refl, (refl, λ v e. ((λ n. absurd cc), (λ f. flag_passed v e)))), (tt, tt)))
+check_fits = ((refl, (refl, λ v e. ((λ n. absurd cc), (λ f. absurd cc)))), ((refl, (refl, λ v e. ((λ n. absurd cc), (λ f. flag_passed v e)))), ((refl, (refl, λ v e. ((λ n. absurd cc), (λ f. absurd cc)))), ((refl, (refl, λ v e. ((λ n. absurd cc), (λ f. absurd cc)))), ((refl, (refl, λ v e. ((λ n. absurd cc), (λ f. absurd cc)))), (tt, tt))))))
 
 check_gives : Gives check_built
 check_gives word words free is e = record {
@@ -136,26 +136,23 @@ check_gives word words free is e = record {
   explain = flag_given check_built check_fits words e (codes "explain") refl (defaulted check_built check_fits words e (codes "explain") refl);
 }
 
+abbrev preprocess_built : Shape
+preprocess_built = built_below preprocess_options
+
+preprocess_fits : RulesFit Passed preprocess_built.rules
+preprocess_fits = ((refl, (refl, λ v e. ((λ n. absurd cc), (λ f. flag_passed v e)))), ((refl, (refl, λ v e. ((λ n. absurd cc), (λ f. absurd cc)))), ((refl, (refl, λ v e. ((λ n. absurd cc), (λ f. absurd cc)))), ((refl, (refl, λ v e. ((λ n. absurd cc), (λ f. absurd cc)))), (tt, tt)))))
+
+preprocess_gives : Gives preprocess_built
+preprocess_gives word words free is e = record {
+  own = tt;
+  explain = flag_given preprocess_built preprocess_fits words e (codes "explain") refl (defaulted preprocess_built preprocess_fits words e (codes "explain") refl);
+}
+
 abbrev race_built : Shape
 race_built = built_below race_options
 
 race_fits : RulesFit Passed race_built.rules
-race_fits = (
-  (refl, (refl, λ v e. ((λ n. absurd cc), (λ f. absurd cc)))),
-  (
-    (refl, (refl, λ v e. ((λ n. passed v e), (λ f. absurd cc)))),
-    (
-      (refl, (refl, λ v e. ((λ n. passed v e), (λ f. absurd cc)))),
-      (
-        (refl, (refl, λ v e. ((λ n. passed v e), (λ f. absurd cc)))),
-        (
-          (refl, (refl, λ v e. ((λ n. passed v e), (λ f. absurd cc)))),
-          ((refl, (refl, λ v e. ((λ n. passed v e), (λ f. absurd cc)))), ((refl, (refl, λ v e. ((λ n. absurd cc), (λ f. flag_passed v e)))), (tt, tt))),
-        ),
-      ),
-    ),
-  ),
-)
+race_fits = ((refl, (refl, λ v e. ((λ n. absurd cc), (λ f. absurd cc)))), ((refl, (refl, λ v e. ((λ n. passed v e), (λ f. absurd cc)))), ((refl, (refl, λ v e. ((λ n. passed v e), (λ f. absurd cc)))), ((refl, (refl, λ v e. ((λ n. passed v e), (λ f. absurd cc)))), ((refl, (refl, λ v e. ((λ n. passed v e), (λ f. absurd cc)))), ((refl, (refl, λ v e. ((λ n. passed v e), (λ f. absurd cc)))), ((refl, (refl, λ v e. ((λ n. absurd cc), (λ f. flag_passed v e)))), ((refl, (refl, λ v e. ((λ n. absurd cc), (λ f. absurd cc)))), ((refl, (refl, λ v e. ((λ n. absurd cc), (λ f. absurd cc)))), ((refl, (refl, λ v e. ((λ n. absurd cc), (λ f. absurd cc)))), (tt, tt)))))))))))
 
 race_gives : Gives race_built
 race_gives word words free is e = record {
@@ -191,25 +188,7 @@ module _ (orders texts grains : Words) where
   run_built = built_below (run_options orders texts)
 
   run_fits : RulesFit Passed run_built.rules
-  run_fits = (
-    (refl, (refl, λ v e. ((λ n. absurd cc), (λ f. absurd cc)))),
-    (
-      (refl, (refl, λ v e. ((λ n. passed v e), (λ f. absurd cc)))),
-      (
-        (refl, (refl, λ v e. ((λ n. passed v e), (λ f. absurd cc)))),
-        (
-          (refl, (refl, λ v e. ((λ n. absurd cc), (λ f. absurd cc)))),
-          (
-            (refl, (refl, λ v e. ((λ n. absurd cc), (λ f. absurd cc)))),
-            (
-              (refl, (refl, λ v e. ((λ n. absurd cc), (λ f. absurd cc)))),
-              ((refl, (refl, λ v e. ((λ n. absurd cc), (λ f. flag_passed v e)))), ((refl, (refl, λ v e. ((λ n. absurd cc), (λ f. flag_passed v e)))), (tt, tt))),
-            ),
-          ),
-        ),
-      ),
-    ),
-  )
+  run_fits = ((refl, (refl, λ v e. ((λ n. absurd cc), (λ f. absurd cc)))), ((refl, (refl, λ v e. ((λ n. passed v e), (λ f. absurd cc)))), ((refl, (refl, λ v e. ((λ n. passed v e), (λ f. absurd cc)))), ((refl, (refl, λ v e. ((λ n. absurd cc), (λ f. absurd cc)))), ((refl, (refl, λ v e. ((λ n. absurd cc), (λ f. absurd cc)))), ((refl, (refl, λ v e. ((λ n. absurd cc), (λ f. absurd cc)))), ((refl, (refl, λ v e. ((λ n. absurd cc), (λ f. flag_passed v e)))), ((refl, (refl, λ v e. ((λ n. absurd cc), (λ f. flag_passed v e)))), ((refl, (refl, λ v e. ((λ n. absurd cc), (λ f. absurd cc)))), ((refl, (refl, λ v e. ((λ n. absurd cc), (λ f. absurd cc)))), ((refl, (refl, λ v e. ((λ n. absurd cc), (λ f. absurd cc)))), (tt, tt))))))))))))
 
   run_gives : Gives run_built
   run_gives word words free is e = record {
@@ -229,10 +208,7 @@ module _ (orders texts grains : Words) where
   certify_built = built_below (certify_options grains)
 
   certify_fits : RulesFit Passed certify_built.rules
-  certify_fits = (
-    (refl, (refl, λ v e. ((λ n. absurd cc), (λ f. absurd cc)))),
-    ((refl, (refl, λ v e. ((λ n. absurd cc), (λ f. absurd cc)))), ((refl, (refl, λ v e. ((λ n. absurd cc), (λ f. flag_passed v e)))), (tt, tt))),
-  )
+  certify_fits = ((refl, (refl, λ v e. ((λ n. absurd cc), (λ f. absurd cc)))), ((refl, (refl, λ v e. ((λ n. absurd cc), (λ f. absurd cc)))), ((refl, (refl, λ v e. ((λ n. absurd cc), (λ f. flag_passed v e)))), ((refl, (refl, λ v e. ((λ n. absurd cc), (λ f. absurd cc)))), ((refl, (refl, λ v e. ((λ n. absurd cc), (λ f. absurd cc)))), ((refl, (refl, λ v e. ((λ n. absurd cc), (λ f. absurd cc)))), (tt, tt)))))))
 
   certify_gives : Gives certify_built
   certify_gives word words free is e = record {
@@ -249,7 +225,7 @@ module _ (orders texts grains : Words) where
   table = built (options_of orders texts grains)
 
   table_gives : AllGive table.subs
-  table_gives = (run_gives, (check_gives, (certify_gives, (race_gives, (elab_gives, (help_gives, tt))))))
+  table_gives = (run_gives, (check_gives, (certify_gives, (race_gives, (elab_gives, (preprocess_gives, (help_gives, tt)))))))
 
   found_given : (subs : List Shape) → AllGive subs → (p : Text × List Text) → bytes_eq p.0 (codes "help") ≡ false
       → is_some (option_map (λ s. rows_at s p.1) (find (λ s. answers_to p.0 (label_of s)) subs)) ≡ true

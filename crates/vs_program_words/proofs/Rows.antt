@@ -261,6 +261,7 @@ module _ (P : Text → Text → Type 0) where
   -- an argument takes a value, or is a flag, which has one without being given it, or calls for help
   abbrev pub FitsAs : ArgAction → Rule → Type 0
   FitsAs action.Set a = (nat_lt 0 (unwrap_or_range a.range).start_inclusive ≡ true) × Reads a
+  FitsAs action.Append a = (nat_lt 0 (unwrap_or_range a.range).start_inclusive ≡ true) × Reads a
   FitsAs action.SetTrue a = (is_empty a.missing ≡ false) × Reads a
   FitsAs action.Help a = Unit {0}
   FitsAs _ a = ⊥
@@ -332,7 +333,12 @@ module _ (P : Text → Text → Type 0) where
   used_as_fits action.SetTrue again a [] rows fits range e h = flag_fits_none again a a.missing rows fits.0 fits.1 e h
   used_as_fits action.SetTrue again a (v ∷ vs) rows fits range e h = set_fits again a v vs rows fits.1 e h
   used_as_fits action.Help again a values rows fits range e h = absurd cc
-  used_as_fits action.Append again a values rows fits range e h = absurd fits
+  used_as_fits action.Append again a [] rows fits range e h =
+      let some = rw fits.0 at range in
+      absurd cc
+  used_as_fits action.Append again a (v ∷ vs) rows fits range e h =
+      let first = (none_of (value_kinds a.ignore_case (parser_of_value a.parser) v) _ e).0 in
+      with_values_fits a.id (reading_by a) CommandLine (v ∷ vs) rows fits.1.0 (fits.1.1 v first) h
   used_as_fits action.SetFalse again a values rows fits range e h = absurd fits
   used_as_fits action.Count again a values rows fits range e h = absurd fits
   used_as_fits action.HelpShort again a values rows fits range e h = absurd fits
@@ -494,7 +500,7 @@ module _ (P : Text → Text → Type 0) where
       by_action action.Set v vs fits e = given_fits a v vs rows fits.1 e h
       by_action action.SetTrue v vs fits e = given_fits a v vs rows fits.1 e h
       by_action action.Help v vs fits e = absurd cc
-      by_action action.Append v vs fits e = absurd fits
+      by_action action.Append v vs fits e = given_fits a v vs rows fits.1 e h
       by_action action.SetFalse v vs fits e = absurd fits
       by_action action.Count v vs fits e = absurd fits
       by_action action.HelpShort v vs fits e = absurd fits

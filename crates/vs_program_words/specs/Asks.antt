@@ -1,8 +1,8 @@
 -- What the words of a command line ask for.
-use Rattle.std.specs.Prelude.{ℕ, ◌≡◌, ◌⊎◌, Bool, true, false, Option, Some, None, List, [], codes, if◌then◌else◌}
+use Rattle.std.specs.Prelude.{ℕ, ◌≡◌, ◌⊎◌, Bool, true, false, Option, Some, None, List, [], codes, if◌then◌else◌, map, unwrap_or}
 use Rattle.std.specs.Str.{bytes_eq}
 use Rattle.std.specs.Str.Parse.{IsNumeral, digits_value, without_leading_plus}
-use Rattle.clap.specs.Words.{App, IsAmong, Row, first_of, kind_of, one_of, subcommand_of, fault_of}
+use Rattle.clap.specs.Words.{App, IsAmong, Row, all_of, first_of, kind_of, one_of, subcommand_of, fault_of}
 use Rattle.clap.specs.declared.error.kind.ErrorKind.{ErrorKind}
 use Rattle.clap.specs.declared.error.kind.ErrorKind.TheVariants.{OutOfMemory}
 use Rattle.vs_certificate.specs.declared.members.ClaimedGrain.{ClaimedGrain}
@@ -12,8 +12,9 @@ use Rattle.vs_program_words.specs.Options.{AreOptions}
 use Rattle.vs_program_words.specs.declared.words.Hunt.{Hunt}
 use Rattle.vs_program_words.specs.declared.words.Request.{Request}
 use Rattle.vs_program_words.specs.declared.words.Call as asked
+use Rattle.vs_program_words.specs.declared.words.Sources.{Sources}
 use Rattle.vs_program_words.specs.declared.words.Subcommand.{Subcommand}
-use Rattle.vs_program_words.specs.declared.words.Subcommand.TheVariants.{Run, RunCertified, Check, Certify, Race, Elab}
+use Rattle.vs_program_words.specs.declared.words.Subcommand.TheVariants.{Run, RunCertified, Check, Certify, Race, Elab, Preprocess}
 use Rattle.vs_program_words.specs.declared.words.Order.{Order}
 use Rattle.vs_program_words.specs.declared.words.Order.TheVariants.{Fifo, Lifo}
 use Rattle.vs_program_words.specs.declared.words.OutputText.{OutputText}
@@ -101,12 +102,14 @@ pub data Name : Type 0 where
   certify : Name
   race : Name
   elab : Name
+  preprocess : Name
 
 -- the subcommand of a name; one that isn't another is `run`
 abbrev pub name_of : List ℕ → Name
-name_of name = if bytes_eq name (codes "elab") then elab
+name_of name = if bytes_eq name (codes "preprocess") then preprocess
+    else (if bytes_eq name (codes "elab") then elab
     else (if bytes_eq name (codes "check") then check
-    else (if bytes_eq name (codes "certify") then certify else (if bytes_eq name (codes "race") then race else run)))
+    else (if bytes_eq name (codes "certify") then certify else (if bytes_eq name (codes "race") then race else run))))
 
 -- the values of the options of a subcommand ask for this
 abbrev pub AsksAs : Name → Values → Values → Subcommand → Type 0
@@ -116,6 +119,7 @@ AsksAs check words values (Check top) = words (codes "top") ≡ Some top.now
 AsksAs certify words values (Certify top grain) = AsksCertificate words top.now grain
 AsksAs race words values (Race q) = AsksRace words values q
 AsksAs elab words values (Elab top) = words (codes "top") ≡ Some top.now
+AsksAs preprocess words values Preprocess = Unit {0}
 AsksAs _ words values _ = ⊥
 
 -- they ask for a run of a design whose certificate is accepted, in another order than the first one
@@ -130,6 +134,16 @@ abbrev pub AskInVain : WordsFault → Name → Values → Values → Type 0
 AskInVain fault.OrderOfCertified run words values = AsksForBoth words values
 AskInVain fault.Choices run words values = are_choices (words (codes "choices")) ≡ false
 AskInVain _ _ words values = ⊥
+
+-- all values of an option by its name, where it is given
+abbrev pub Lists : Type 0
+Lists = List ℕ → Option (List (List ℕ))
+
+-- the values of options name these files, macros and folders, in their order
+pub record NamesFiles (all : Lists) (s : Sources) : Type 0 where
+  pub files : map (λ w. w.now) s.files.items ≡ unwrap_or (all (codes "files")) []
+  pub defines : map (λ w. w.now) s.defines.items ≡ unwrap_or (all (codes "define")) []
+  pub folders : map (λ w. w.now) s.folders.items ≡ unwrap_or (all (codes "folder")) []
 
 -- the words, which have no fault by the table of options, name a subcommand, with these values of its options
 pub record AreTaken (words : List (List ℕ)) : Type 0 where
@@ -147,10 +161,14 @@ words_of t = λ option. first_of option t.rows
 abbrev pub values_of : {words : List (List ℕ)} → AreTaken words → Values
 values_of t = λ option. one_of option t.rows
 
+abbrev pub lists_of : {words : List (List ℕ)} → AreTaken words → Lists
+lists_of t = λ option. all_of option t.rows
+
 -- the words, which have no fault by the table of options, ask for this: so the values of the subcommand that they name do
 pub record WordsAsk (words : List (List ℕ)) (call : asked.Call) : Type 0 where
   pub taken : AreTaken words
   pub asks : AsksAs (name_of taken.name) (words_of taken) (values_of taken) call.subcommand
+  pub sources : NamesFiles (lists_of taken) call.sources
   pub explains : call.explains ≡ flag_named (values_of taken (codes "explain"))
 
 -- the words, which have no fault by the table of options, ask for nothing, with this fault of the values

@@ -2,7 +2,7 @@
 use Rattle.std.specs.Prelude.{ℕ, ◌≡◌, ◌||◌, true, Option, Some, None, List, codes, is_some}
 use Rattle.std.specs.Str.{bytes_eq}
 use Rattle.clap.specs.Words.{IsUnsignedIn}
-use Rattle.vs_program_words.specs.Asks.{Name, Values, certify, check, elab, race, run}
+use Rattle.vs_program_words.specs.Asks.{Name, Values, certify, check, elab, preprocess, race, run}
 
 -- there is a text, of a number from 0 to 2^62 - 1
 abbrev pub IsCount : Option (List ℕ) → Type 0
@@ -45,6 +45,7 @@ AreGivenAs check words values = is_some (words (codes "top")) ≡ true
 AreGivenAs certify words values = AreGivenToCertify words
 AreGivenAs race words values = AreGivenToRace words values
 AreGivenAs elab words values = is_some (words (codes "top")) ≡ true
+AreGivenAs preprocess words values = Unit {0}
 
 -- all options of a subcommand have their values
 pub record AreAllGiven (name : Name) (words values : Values) : Type 0 where

@@ -3,7 +3,7 @@ use Rattle.std.specs.Prelude.{◌≡◌, ℕ, true, false, Some, List, [], ◌�
 use Rattle.std.specs.Borrow.{Bor}
 use Rattle.clap.specs.Words.{App, Rule, Shape, new_rule}
 use Rattle.clap.specs.Simple.{new_shape}
-use Rattle.clap.specs.declared.builder.action.ArgAction.TheVariants.{Set, SetTrue}
+use Rattle.clap.specs.declared.builder.action.ArgAction.TheVariants.{Append, Set, SetTrue}
 use Rattle.clap.specs.declared.builder.value_parser.ValueParser.TheVariants as vp
 
 -- some words
@@ -68,29 +68,58 @@ cert_option = flag_option (codes "cert")
 abbrev pub explain_option : Rule
 explain_option = flag_option (codes "explain")
 
+-- an option of one letter that may be given several times, each with a value
+abbrev pub letter_option : List ℕ → ℕ → Rule
+letter_option name letter = record (new_rule name) { short = Some letter; action = Some Append; value_names = 1 }
+
+-- `-D` and `-I`: macros that are defined before the first file, and folders in which included files are sought
+abbrev pub define_option : Rule
+define_option = letter_option (codes "define") 68
+
+abbrev pub folder_option : Rule
+folder_option = letter_option (codes "folder") 73
+
+-- the files, which stand without an option, and the same where there is one at least
+abbrev pub files_option : Rule
+files_option = record (new_rule (codes "files")) { action = Some Append; value_names = 1 }
+
+abbrev pub some_files_option : Rule
+some_files_option = record files_option { required = true }
+
+-- what a source is read from
+abbrev pub source_rules : List Rule
+source_rules = define_option ∷ folder_option ∷ files_option ∷ []
+
 -- `run`, with the words of `--policy` and of `--out`
 abbrev pub run_rules : Words → Words → List Rule
 run_rules orders texts =
-    top_option ∷ until_option ∷ steps_option ∷ policy_option orders ∷ choices_option ∷ out_option texts ∷ cert_option ∷ explain_option ∷ []
+    top_option ∷ until_option ∷ steps_option ∷ policy_option orders ∷ choices_option ∷ out_option texts ∷ cert_option ∷ explain_option
+    ∷ source_rules
 
 abbrev pub run_options : Words → Words → Shape
 run_options orders texts = record (new_shape (codes "run")) { rules = run_rules orders texts }
 
 -- `check`
 abbrev pub check_options : Shape
-check_options = record (new_shape (codes "check")) { rules = top_option ∷ explain_option ∷ [] }
+check_options = record (new_shape (codes "check")) { rules = top_option ∷ explain_option ∷ source_rules }
 
 -- `certify`, with the words of `--grain`
 abbrev pub certify_options : Words → Shape
-certify_options grains = record (new_shape (codes "certify")) { rules = top_option ∷ grain_option grains ∷ explain_option ∷ [] }
+certify_options grains = record (new_shape (codes "certify")) { rules = top_option ∷ grain_option grains ∷ explain_option ∷ source_rules }
 
 -- `elab`
 abbrev pub elab_options : Shape
-elab_options = record (new_shape (codes "elab")) { rules = top_option ∷ explain_option ∷ [] }
+elab_options = record (new_shape (codes "elab")) { rules = top_option ∷ explain_option ∷ source_rules }
+
+-- `preprocess`
+abbrev pub preprocess_options : Shape
+preprocess_options = record (new_shape (codes "preprocess")) {
+  rules = explain_option ∷ define_option ∷ folder_option ∷ some_files_option ∷ [];
+}
 
 -- `race`
 abbrev pub race_rules : List Rule
-race_rules = top_option ∷ until_option ∷ steps_option ∷ tries_option ∷ seed_option ∷ from_option ∷ explain_option ∷ []
+race_rules = top_option ∷ until_option ∷ steps_option ∷ tries_option ∷ seed_option ∷ from_option ∷ explain_option ∷ source_rules
 
 abbrev pub race_options : Shape
 race_options = record (new_shape (codes "race")) { rules = race_rules }
@@ -103,7 +132,7 @@ bare_options = record { top = record (new_shape (codes "vsim")) { has_version = 
 abbrev pub options_of : Words → Words → Words → App
 options_of orders texts grains = record {
   top = record bare_options.top { is_leaf = false };
-  subs = run_options orders texts ∷ check_options ∷ certify_options grains ∷ race_options ∷ elab_options ∷ [];
+  subs = run_options orders texts ∷ check_options ∷ certify_options grains ∷ race_options ∷ elab_options ∷ preprocess_options ∷ [];
 }
 
 -- the table of all options

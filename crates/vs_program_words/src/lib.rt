@@ -5,4 +5,6 @@ mod choices;
 mod options;
 mod words;
 
-pub use words::{Call, Hunt, Order, OutputText, Request, Subcommand, WordsFault, read_words};
+pub use words::{
+    Call, Hunt, Order, OutputText, Request, Sources, Subcommand, WordsFault, read_words,
+};

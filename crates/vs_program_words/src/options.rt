@@ -1,9 +1,10 @@
 //! The options of the command line.
 ghost use Rattle.std.specs.Prelude.{◌≡◌, All, IfOk, IsOkAnd, false, fold, map, true};
 ghost use Rattle.clap.specs.Words.{app_of, new_app, rule_of, shape_of, with_rule, with_subcommand};
-ghost use Rattle.vs_program_words.specs.Options.{AreOptions, certify_options, check_options, choice_option, elab_options};
+ghost use Rattle.vs_program_words.specs.Options.{AreOptions, certify_options, check_options, choice_option, elab_options, preprocess_options};
 ghost use Rattle.vs_program_words.specs.Options.{bare_options, choices_option, explain_option, flag_option, number_option, option_of, race_options, race_rules, run_options};
 ghost use Rattle.vs_program_words.specs.Options.{run_rules, from_option, seed_option, steps_option, top_option, tries_option, until_option};
+ghost use Rattle.vs_program_words.specs.Options.{define_option, files_option, folder_option, letter_option, some_files_option};
 
 use clap::{Arg, ArgAction, Command};
 use std::alloc::{AllocError, Global};
@@ -12,8 +13,11 @@ use std::alloc::{AllocError, Global};
 const VERSION: &str = "0.1.0\nrattle-kit-13f logic dac8208d650f15bf";
 
 /// What stands below the list of the subcommands.
-const AFTER: &str = "A source is read from standard input, as in
+const AFTER: &str =
+    "Files are preprocessed, and are one source together. Without files the source is
+read from standard input as it is. So
 
+  vsim run --top tb --until 100 -I include tb.v alu.v
   vsim run --top tb --until 100 <tb.v
   vsim certify --top tb <tb.v >tb.cert
   cat tb.cert tb.v | vsim run --top tb --until 100 --cert
@@ -32,7 +36,12 @@ Exit status: 0 done, 1 refused, 2 step limit, 3 out of memory, read error or
 write error, 64 wrong arguments.";
 
 /// What stands below the options of `check`.
-const AFTER_CHECK: &str = "Example: cat tb.cert tb.v | vsim check --top tb
+const AFTER_CHECK: &str =
+    "Without files the certificate is the first line of standard input, and the
+source is what follows it; with files it is all of standard input. So
+
+  vsim check --top tb tb.v <tb.cert
+  cat tb.cert tb.v | vsim check --top tb
 
 Exit status: 0 yes, 1 no or refused, 3 out of memory, read error or
 write error, 64 wrong arguments.";
@@ -55,6 +64,12 @@ Exit status: 0 certified, so there is none, 1 shown or refused, 2 none found,
 
 /// What stands below the options of `elab`.
 const AFTER_ELAB: &str = "Example: vsim elab --top tb <tb.v
+
+Exit status: 0 done, 1 refused, 3 out of memory, read error or write error,
+64 wrong arguments.";
+
+/// What stands below the options of `preprocess`.
+const AFTER_PREPROCESS: &str = "Example: vsim preprocess -D WIDTH=8 -I include tb.v alu.v >plain.v
 
 Exit status: 0 done, 1 refused, 3 out of memory, read error or write error,
 64 wrong arguments.";
@@ -180,6 +195,65 @@ fn explain<'a>(alloc: Global) -> Arg<'a>
     )
 }
 
+// An option of one letter that may be given several times, each with a value.
+fn letter<'a>(alloc: Global, name: &'a str, letter: char, value: &'a str, help: &'a str) -> Arg<'a>
+    ensures option { rule_of result ≡ letter_option name.entry.now letter }
+    ensures local { result.global ≡ false }
+{
+    Arg::new(alloc, name)
+        .short(letter)
+        .value_name(value)
+        .help(help)
+        .action(ArgAction::Append)
+}
+
+// The option that defines a macro.
+fn define<'a>(alloc: Global) -> Arg<'a>
+    ensures option { rule_of result ≡ define_option }
+    ensures local { result.global ≡ false }
+{
+    letter(
+        alloc,
+        "define",
+        'D',
+        "N[=TEXT]",
+        "Define a macro before the first file; without a text it is 1",
+    )
+}
+
+// The option that names a folder of included files.
+fn folder<'a>(alloc: Global) -> Arg<'a>
+    ensures option { rule_of result ≡ folder_option }
+    ensures local { result.global ≡ false }
+{
+    letter(
+        alloc,
+        "folder",
+        'I',
+        "FOLDER",
+        "A folder in which included files are sought",
+    )
+}
+
+// The files of a call.
+fn files<'a>(alloc: Global) -> Arg<'a>
+    ensures option { rule_of result ≡ files_option }
+    ensures local { result.global ≡ false }
+{
+    Arg::new(alloc, "files")
+        .value_name("FILE")
+        .help("The files, in the order in which they are read; - is standard input")
+        .action(ArgAction::Append)
+}
+
+// The same, of which there is one at least.
+fn some_files<'a>(alloc: Global) -> Arg<'a>
+    ensures option { rule_of result ≡ some_files_option }
+    ensures local { result.global ≡ false }
+{
+    files(alloc).required(true)
+}
+
 // A subcommand with these options.
 fn command_of<'a>(
     alloc: Global,
@@ -197,15 +271,40 @@ fn command_of<'a>(
         .args(options)
 }
 
+// `preprocess`.
+fn preprocess_command<'a>(alloc: Global) -> Result<Command<'a>, AllocError>
+    ensures { IfOk result (λ c. shape_of c ≡ preprocess_options) }
+{
+    let options = vec![in alloc;
+        explain(alloc),
+        define(alloc),
+        folder(alloc),
+        some_files(alloc),
+    ]?;
+    command_of(
+        alloc,
+        "preprocess",
+        "Writes the text that files are read as: without macros and included files",
+        AFTER_PREPROCESS,
+        options,
+    )
+}
+
 // `elab`.
 fn elab_command<'a>(alloc: Global) -> Result<Command<'a>, AllocError>
     ensures { IfOk result (λ c. shape_of c ≡ elab_options) }
 {
-    let options = vec![in alloc; top(alloc), explain(alloc)]?;
+    let options = vec![in alloc;
+        top(alloc),
+        explain(alloc),
+        define(alloc),
+        folder(alloc),
+        files(alloc),
+    ]?;
     command_of(
         alloc,
         "elab",
-        "Lists the signals, assignments and processes of the design on standard input",
+        "Lists the signals, assignments and processes of a design",
         AFTER_ELAB,
         options,
     )
@@ -215,11 +314,17 @@ fn elab_command<'a>(alloc: Global) -> Result<Command<'a>, AllocError>
 fn check_command<'a>(alloc: Global) -> Result<Command<'a>, AllocError>
     ensures { IfOk result (λ c. shape_of c ≡ check_options) }
 {
-    let options = vec![in alloc; top(alloc), explain(alloc)]?;
+    let options = vec![in alloc;
+        top(alloc),
+        explain(alloc),
+        define(alloc),
+        folder(alloc),
+        files(alloc),
+    ]?;
     command_of(
         alloc,
         "check",
-        "Checks a certificate, on the first line of standard input, of the design after it",
+        "Checks a certificate, which standard input begins with, of a design",
         AFTER_CHECK,
         options,
     )
@@ -236,11 +341,18 @@ fn certify_command<'a>(alloc: Global, grains: &'a [&'a str]) -> Result<Command<'
         grains,
         "block",
     );
-    let options = vec![in alloc; top(alloc), grain, explain(alloc)]?;
+    let options = vec![in alloc;
+        top(alloc),
+        grain,
+        explain(alloc),
+        define(alloc),
+        folder(alloc),
+        files(alloc),
+    ]?;
     command_of(
         alloc,
         "certify",
-        "Makes a certificate of the design on standard input",
+        "Makes a certificate of a design",
         AFTER_CERTIFY,
         options,
     )
@@ -286,7 +398,7 @@ fn run_list<'a>(
     let cert = flag(
         alloc,
         "cert",
-        "The first line of standard input is a certificate: run only if it is accepted",
+        "Standard input begins with a certificate: run only if it is accepted",
     );
     let list = vec![in alloc;
         top(alloc),
@@ -297,6 +409,9 @@ fn run_list<'a>(
         out,
         cert,
         explain(alloc),
+        define(alloc),
+        folder(alloc),
+        files(alloc),
     ]?;
     Ok(list)
 }
@@ -310,13 +425,7 @@ fn run_command<'a>(
     ensures { IfOk result (λ c. shape_of c ≡ run_options orders.entry texts.entry) }
 {
     let options = run_list(alloc, orders, texts)?;
-    command_of(
-        alloc,
-        "run",
-        "Runs the design on standard input",
-        AFTER_RUN,
-        options,
-    )
+    command_of(alloc, "run", "Runs a design", AFTER_RUN, options)
 }
 
 // The options of `race`.
@@ -332,6 +441,9 @@ fn race_list<'a>(alloc: Global) -> Result<Vec<Arg<'a>>, AllocError>
         seed(alloc),
         from(alloc),
         explain(alloc),
+        define(alloc),
+        folder(alloc),
+        files(alloc),
     ]?;
     Ok(list)
 }
@@ -384,5 +496,6 @@ pub(crate) fn vsim_command<'a>(alloc: Global) -> Result<Command<'a>, AllocError>
     let command = with_command(command, check_command(alloc))?;
     let command = with_command(command, certify_command(alloc, GRAINS.as_slice()))?;
     let command = with_command(command, race_command(alloc))?;
-    with_command(command, elab_command(alloc))
+    let command = with_command(command, elab_command(alloc))?;
+    with_command(command, preprocess_command(alloc))
 }

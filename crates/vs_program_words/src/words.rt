@@ -1,7 +1,7 @@
 //! The words of a command line.
-ghost use Rattle.std.specs.Prelude.{◌≡◌, IfErr, IfOk, codes, is_some, map, true};
-ghost use Rattle.clap.specs.Words.{first_value, found_of, one_text};
-ghost use Rattle.vs_program_words.specs.Asks.{AskInVain, Asks, AsksAs, IsNumber, WordsAsk, WordsFail, has_order};
+ghost use Rattle.std.specs.Prelude.{◌≡◌, [], IfErr, IfOk, codes, is_some, map, option_map, true, unwrap_or};
+ghost use Rattle.clap.specs.Words.{first_value, found_of, matched_of, one_text, raw_values};
+ghost use Rattle.vs_program_words.specs.Asks.{AskInVain, Asks, AsksAs, IsNumber, NamesFiles, WordsAsk, WordsFail, has_order};
 ghost use Rattle.vs_program_words.specs.Asks.{AsksRace, flag_named, grain_named, name_of, run};
 ghost use Rattle.vs_program_words.specs.Given.{AreGiven, AreGivenAs, AreGivenToRace, IsCount, IsFlag};
 ghost use Rattle.vs_program_words.specs.declared.words.WordsFault.TheVariants.{Memory, Refused};
@@ -80,13 +80,28 @@ pub enum Subcommand<'a> {
     Race(Hunt<'a>),
     /// `vsim elab`: the listing of the design with this top.
     Elab(&'a str),
+    /// `vsim preprocess`: the text that files are read as.
+    Preprocess,
 }
 
-/// A call, and whether it asks for what a refusal means.
-#[derive(Clone, Copy)]
+/// The files of a call.
+#[derive(Drop)]
+pub struct Sources<'a> {
+    /// Their names, in order; without one the source is standard input, as it is.
+    pub files: Vec<&'a str>,
+    /// The macros that are defined before the first file, each as `N` or as `N=TEXT`.
+    pub defines: Vec<&'a str>,
+    /// The folders in which included files are sought, in order.
+    pub folders: Vec<&'a str>,
+}
+
+/// A call, its files, and whether it asks for what a refusal means.
+#[derive(Drop)]
 pub struct Call<'a> {
     /// What it asks for.
     pub subcommand: Subcommand<'a>,
+    /// Its files.
+    pub sources: Sources<'a>,
     /// Whether a refusal is explained on standard error.
     pub explains: bool,
 }
@@ -227,12 +242,39 @@ fn subcommand_of<'a>(name: &str, matches: &ArgMatches<'a>) -> Result<Subcommand<
         AskInVain fault (name_of name.now) (first_value (found_of matches.now)) (one_text (found_of matches.now))) }
 {
     match name {
+        "preprocess" => Ok(Subcommand::Preprocess),
         "elab" => Ok(Subcommand::Elab(matches.get_str("top").unwrap())),
         "check" => Ok(Subcommand::Check(matches.get_str("top").unwrap())),
         "certify" => Ok(Subcommand::Certify(matches.get_str("top").unwrap(), grain_of(matches))),
         "race" => Ok(Subcommand::Race(hunt_of(matches))),
         _ => run_of(matches),
     }
+}
+
+// The values of an option that may have several.
+fn values_of<'a>(
+    alloc: Global,
+    matches: &ArgMatches<'a>,
+    name: &str,
+) -> Result<Vec<&'a str>, AllocError>
+    ensures { IfOk result (λ list.
+        map (λ v. v.now) list.items ≡ unwrap_or (option_map raw_values (matched_of (found_of matches.now) name.now)) []) }
+{
+    match matches.get_strs(name) {
+        Some(values) => Vec::from_slice(alloc, values),
+        None => Ok(Vec::new(alloc)),
+    }
+}
+
+// The files that the matches of a subcommand name.
+fn sources_of<'a>(alloc: Global, matches: &ArgMatches<'a>) -> Result<Sources<'a>, AllocError>
+    ensures { IfOk result (λ s. NamesFiles (λ option. option_map raw_values (matched_of (found_of matches.now) option)) s) }
+{
+    Ok(Sources {
+        files: values_of(alloc, matches, "files")?,
+        defines: values_of(alloc, matches, "define")?,
+        folders: values_of(alloc, matches, "folder")?,
+    })
 }
 
 /// What the words ask for, which is always something where they have no fault; they begin with the program's own name. A fault of the words, and a
@@ -246,6 +288,7 @@ pub fn read_words<'a>(alloc: Global, words: &'a [&'a str]) -> Result<Call<'a>, W
     match subcommand_of(name, matches) {
         Ok(subcommand) => Ok(Call {
             subcommand,
+            sources: sources_of(alloc, matches)?,
             explains: has_flag(matches, "explain"),
         }),
         Err(fault) => Err(fault),

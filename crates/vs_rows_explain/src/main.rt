@@ -4,7 +4,9 @@
 use std::alloc::{AllocError, Global};
 use std::io;
 use vs_certificate::from_json;
-use vs_explain::{explain, explain_after, explain_certificate, explain_limit, explain_rule};
+use vs_explain::{
+    explain, explain_after, explain_certificate, explain_limit, explain_others, explain_rule,
+};
 use vs_row_files::{Answers, Text, compare_files, first_and_rest};
 use vs_simulate::list_design;
 use vs_vcd_writing::Counted;
@@ -53,6 +55,21 @@ fn broken(alloc: Global, words: &str, question: &str) -> Result<Vec<u8>, AllocEr
     )
 }
 
+/// What is said of the further subjects that break rules of a certificate, on the first line, beside the one of this rule and name.
+fn others(alloc: Global, words: &str, question: &str) -> Result<Vec<u8>, AllocError> {
+    let (certificate, source) = first_and_rest(question, "\n");
+    let (number, rest) = first_and_rest(words, " ");
+    let (top, place) = first_and_rest(rest, " ");
+    explain_others(
+        alloc,
+        source.as_bytes(),
+        top.as_bytes(),
+        certificate.as_bytes(),
+        number.parse().ok().unwrap_or(0),
+        place.as_bytes(),
+    )
+}
+
 /// What is said of bytes that are no certificate; nothing of those that are one.
 fn malformed(alloc: Global, question: &str) -> Result<Vec<u8>, AllocError> {
     match from_json(alloc, question.as_bytes()) {
@@ -81,6 +98,7 @@ impl Answers for Explains {
         let (kind, rest) = first_and_rest(words, " ");
         let explained = match kind {
             "rule" => broken(alloc, rest, question),
+            "others" => others(alloc, rest, question),
             "certificate" => malformed(alloc, question),
             "limit" => limited(alloc, rest, question),
             "after" => refused_after(alloc, rest, question),

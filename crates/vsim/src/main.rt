@@ -3,7 +3,8 @@
 
 use std::process::ExitCode;
 use std::{env, io};
-use vs_program::{program, refuse_start};
+use vs_program::vs_preprocess::Disk;
+use vs_program::{program_on, refuse_start};
 
 /// Runs the program on the words of the call and the standard streams, and answers its exit status.
 fn run(rt: &HostRuntime) -> io::Result<u8> {
@@ -13,7 +14,15 @@ fn run(rt: &HostRuntime) -> io::Result<u8> {
     for word in &words {
         texts.push(word.as_str())?;
     }
-    let (status, _) = program(alloc, &texts, rt.stdin(), rt.stdout(), rt.stderr());
+    let mut disk = Disk { runtime: rt };
+    let (status, _) = program_on(
+        alloc,
+        &texts,
+        &mut disk,
+        rt.stdin(),
+        rt.stdout(),
+        rt.stderr(),
+    );
     Ok(status)
 }
 

@@ -1,29 +1,13 @@
-use Rattle.std.proofs.Common.{sym, subst, arith}
-use Rattle.vs_cert_first_slot.specs.vs_slots_cones.specs.Wires.{IsWiringOf}
-use Rattle.vs_cert_check.proofs.Wired.{wired}
-use Rattle.vs_law_rules.proofs.Keeps.{assigns_named, blocks_kept, order_kept}
-use Rattle.vs_cert_check.proofs.Judged.{kept_all}
+use Rattle.std.proofs.Common.{ℕ, Option, List, length, slice_get, sym, ◌∙◌, ap, subst}
+use Rattle.vs_cert_writers.specs.vs_reach.specs.Verdicts.{IsFirst}
+use Rattle.vs_cert_check.specs.Verdicts.{KeepsAt}
+use Rattle.vs_cert_check.proofs.BrokenLemmas.{is_first}
 use Rattle.vs_cert_check.proofs.judging.first_start.Goals as goal
 
-pub in_order-requires-clause-listed : goal.in_order-requires-clause-listed
-in_order-requires-clause-listed c =
-    let d = c.args.sheet.now.facts.now.design in
-    let n = c.args.sheet.now.facts.now.claims in
-    assigns_named d n (kept_all d n 10 0 c.requires.kept (omega arith))
-
-pub in_order-requires-clause-ordered : goal.in_order-requires-clause-ordered
-in_order-requires-clause-ordered c =
-    let d = c.args.sheet.now.facts.now.design in
-    let n = c.args.sheet.now.facts.now.claims in
-    order_kept d n (kept_all d n 10 3 c.requires.kept (omega arith))
-
-pub invariant_of-starts-clause-blocks : goal.invariant_of-starts-clause-blocks
-invariant_of-starts-clause-blocks c =
-    let d = c.args.sheet.now.facts.now.design in
-    let n = c.args.sheet.now.facts.now.claims in
-    λ i no. no (blocks_kept d n (kept_all d n 10 4 c.requires.kept (omega arith)) i)
-
-pub of-requires : goal.of-requires
-of-requires c =
-    let f = c.args.sheet.now in
-    subst (IsWiringOf f.facts.now.design f.facts.now.claims) (sym f.cones_are) (wired f.facts.now.design f.facts.now.claims)
+pub returns : goal.returns
+returns c =
+    let keeps = KeepsAt c.args.sheet.now.facts.now.design c.args.sheet.now.facts.now.claims 10 in
+    let n = length c.args.all.now in
+    subst (λ (x : Option ℕ). IsFirst keeps n x)
+    (sym (c.copied.ensures ∙ c.first.ensures.value ∙ ap (λ (xs : List ℕ). slice_get xs 0) c.deref.ensures.value))
+    (is_first keeps n c.in_ok-found.found.items c.in_ok-found.ensures.first)

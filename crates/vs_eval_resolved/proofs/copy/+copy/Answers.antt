@@ -1,4 +1,4 @@
-use Rattle.std.proofs.Common.{List, map, take, refl, sym, ◌∙◌, ap, ap₂}
+use Rattle.std.proofs.Common.{List, take, refl, sym, ◌∙◌, ap, ap₂}
 use Rattle.vs_design.specs.vs_logic4.specs.declared.digit.Digit.{Digit}
 use Rattle.vs_design.specs.vs_logic4.specs.Operators.{unary}
 use Rattle.vs_design.specs.vs_logic4.specs.Parts.{replication}

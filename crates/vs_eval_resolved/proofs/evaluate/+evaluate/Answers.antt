@@ -1,11 +1,15 @@
-use Rattle.std.proofs.Common.{◌∙◌, refl, sym, ap, ap₂, map}
+use Rattle.std.proofs.Common.{◌∙◌, refl, sym, ap, ap₂, map, take}
+use Rattle.std.proofs.lemmas.Simd.{map-map}
 use Rattle.vs_design.specs.vs_logic4.specs.Comparisons.{truth}
-use Rattle.vs_eval.specs.Values.{value_of}
+use Rattle.vs_design.specs.vs_logic4.specs.Parts.{concatenation}
+use Rattle.vs_eval.specs.Values.{concatenated, value_of}
 use Rattle.vs_eval.proofs.ValueLemmas.{went_on, went_through}
 use Rattle.vs_eval_resolved.specs.declared.node.Node.{Node}
-use Rattle.vs_eval_resolved.specs.declared.node.Node.TheVariants.{rolls-Number, rolls-Word, rolls-Bits, rolls-Element, rolls-Bit, rolls-Unary, rolls-Two, rolls-Chain, rolls-If, rolls-Resized, rolls-Other}
+use Rattle.vs_eval_resolved.specs.declared.node.Planes.{Planes}
+use Rattle.vs_eval_resolved.specs.declared.node.Size.{Size}
+use Rattle.vs_eval_resolved.specs.declared.node.Node.TheVariants.{rolls-Number, rolls-Word, rolls-Bits, rolls-Element, rolls-Bit, rolls-Unary, rolls-Two, rolls-Chain, rolls-If, rolls-Resized, rolls-Concat, rolls-Repeat, rolls-Other}
 use Rattle.vs_eval_resolved.specs.declared.node.Node.TheOpen as layer
-use Rattle.vs_eval_resolved.specs.Nodes.{planes_in, element_planes, bit_planes, unary_planes, combined, chained, chosen, changed_planes}
+use Rattle.vs_eval_resolved.specs.Nodes.{planes_in, element_planes, bit_planes, unary_planes, combined, chained, chosen, changed_planes, joined, repeated}
 use Rattle.vs_eval_resolved.specs.PlanesOf.{digits_of, planes_of}
 use Rattle.vs_eval_resolved.proofs.NodeLemmas.{node_layer}
 use Rattle.vs_eval_resolved.proofs.evaluate.+evaluate.Goals as goal
@@ -74,6 +78,17 @@ planes_at-returns-in-Resized t c =
     c.resized.ensures ∙ ap (changed_planes c.in-Resized.change) (c.quick_planes-in-Resized.ensures ∙ ap (λ x. planes_in x c.args.store.now c.args.time) c.deref-in-Resized.ensures)
     ∙ sym (node_layer c.args.node.now c.args.store.now c.args.time (layer.Resized c.in-Resized.change c.in-Resized.x) (rolls-Resized c.in-Resized.change c.in-Resized.x ∙ sym c.in-Resized.is))
 
+pub planes_at-returns-in-Concat : goal.planes_at-returns-in-Concat
+planes_at-returns-in-Concat t c =
+    c.joined.ensures
+    ∙ ap₂ (λ p ps. joined c.in-Concat.size p (map (λ q. (q.0, planes_in q.1 c.args.store.now c.args.time)) ps)) (c.quick_planes-in-Concat.ensures ∙ ap (λ x. planes_in x c.args.store.now c.args.time) c.deref-in-Concat.ensures) c.deref-in-Concat-2.ensures.value
+    ∙ sym (node_layer c.args.node.now c.args.store.now c.args.time (layer.Concat c.in-Concat.size c.in-Concat.x c.in-Concat.parts) (rolls-Concat c.in-Concat.size c.in-Concat.x c.in-Concat.parts ∙ sym c.in-Concat.is))
+
+pub planes_at-returns-in-Repeat : goal.planes_at-returns-in-Repeat
+planes_at-returns-in-Repeat t c =
+    c.repeated.ensures ∙ ap (repeated c.in-Repeat.count c.in-Repeat.size) (c.quick_planes-in-Repeat.ensures ∙ ap (λ x. planes_in x c.args.store.now c.args.time) c.deref-in-Repeat.ensures)
+    ∙ sym (node_layer c.args.node.now c.args.store.now c.args.time (layer.Repeat c.in-Repeat.count c.in-Repeat.size c.in-Repeat.x) (rolls-Repeat c.in-Repeat.count c.in-Repeat.size c.in-Repeat.x ∙ sym c.in-Repeat.is))
+
 pub planes_at-returns-in-Other : goal.planes_at-returns-in-Other
 planes_at-returns-in-Other t c =
     c.other.ensures ∙ ap (λ x. planes_of (value_of x c.args.store.now c.args.time)) c.deref-in-Other.ensures
@@ -87,3 +102,15 @@ chain-loop-sides-preserved t c =
 pub chain-returns : goal.chain-returns
 chain-returns t c =
     went_through chained (λ l. (l.0, planes_in l.1 c.args.store.now c.args.time)) (λ p. refl) c.args.links.now c.loop-sides.sides-index c.loop-sides.all _ c.loop-sides-test.false c.loop-sides.invariant
+
+pub joined-loop-size-preserved : goal.joined-loop-size-preserved
+joined-loop-size-preserved t c =
+    went_on concatenated (λ high low. take 64 (concatenation high low)) (λ q. digits_of q.0.width (planes_in q.1 c.args.store.now c.args.time)) (λ p l ls. refl) c.args.parts.now c.loop-size.size-index c.loop-size-item.result c.loop-size.all c.join-all.result _
+    c.loop-size-test.true c.loop-size-item.is (c.join-all.ensures ∙ ap (λ ds. take 64 (concatenation c.loop-size.all ds)) (c.vector.ensures ∙ ap (digits_of c.loop-size-item.result.0.width) c.quick_planes.ensures)) c.loop-size.invariant
+
+pub joined-returns : goal.joined-returns
+joined-returns t c =
+    c.planes.ensures
+    ∙ ap planes_of (went_through concatenated (λ q. digits_of q.0.width (planes_in q.1 c.args.store.now c.args.time)) (λ p. refl) c.args.parts.now c.loop-size.size-index c.loop-size.all _ c.loop-size-test.false c.loop-size.invariant)
+    ∙ ap (λ ds. planes_of (concatenated (digits_of c.args.size.width c.args.first) ds))
+    (sym (map-map (λ (p : Size × Planes). digits_of p.0.width p.1) (λ (q : Size × Node). (q.0, planes_in q.1 c.args.store.now c.args.time)) c.args.parts.now))

@@ -1,4 +1,4 @@
-use Rattle.std.proofs.Common.{◌≡◌, ℕ, ◌∙◌, List, length, sym, ap}
+use Rattle.std.proofs.Common.{◌≡◌, ◌∙◌, List, length, sym, ap}
 use Rattle.std.specs.Prelude.{true}
 use Rattle.vs_design.specs.vs_logic4.specs.declared.digit.Digit.{Digit}
 use Rattle.vs_design.specs.vs_logic4.specs.Operators.{is_even, sizing_of}

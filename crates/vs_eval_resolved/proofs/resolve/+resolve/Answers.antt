@@ -1,17 +1,15 @@
-use Rattle.std.proofs.Common.{◌≡◌, ◌*◌, min, List, length, map, drop, take, sym, ◌∙◌, ap, subst, arith}
-use Rattle.vs_design.specs.declared.expression.Link.{Link}
-use Rattle.vs_design.specs.declared.expression.Typed.{Typed}
+use Rattle.std.proofs.Common.{◌≡◌, length, drop, take, sym, ◌∙◌, ap, subst, arith}
 use Rattle.vs_design.specs.Selects.{place_of, word_place}
 use Rattle.vs_design.specs.Stores.{word_of}
 use Rattle.vs_eval.specs.Values.{chained, chosen, concatenated, linked, value_of}
 use Rattle.vs_eval_resolved.specs.declared.node.Node.{Node}
 use Rattle.vs_eval_resolved.specs.declared.node.Size.{Size}
-use Rattle.vs_eval_resolved.specs.Copies.{links_of, pairs_of}
-use Rattle.vs_eval_resolved.specs.Meant.{AreSized, IsMeant, Means, Values}
+use Rattle.vs_eval_resolved.specs.Copies.{links_of, pairs_of, parts_of}
+use Rattle.vs_eval_resolved.specs.Meant.{IsMeant, Means, Values}
 use Rattle.vs_eval_resolved.proofs.CopyLemmas.{kept_whole}
-use Rattle.vs_eval_resolved.proofs.LayerLemmas.{number_law, signal_law, slice_law, select_law, excerpt_long, unary_meant, chain_meant, choice_meant, concat_long, repeat_long, resized_long, resized_meant}
+use Rattle.vs_eval_resolved.proofs.LayerLemmas.{number_law, signal_law, slice_law, select_law, excerpt_long, unary_meant, chain_meant, choice_meant, concat_meant, repeat_meant, resized_long, resized_meant}
 use Rattle.vs_eval_resolved.proofs.MeantLemmas.{linked_long}
-use Rattle.vs_eval_resolved.proofs.OperandLemmas.{AreLinked, answered, all_linked, all_parts, if_means, link_step, none_chosen, none_linked, one_linked, pair_before, pair_means, part_step}
+use Rattle.vs_eval_resolved.proofs.OperandLemmas.{AreJoined, AreLinked, answered, all_linked, all_parts, if_means, link_step, none_chosen, none_joined, none_linked, one_linked, pair_before, pair_means, part_step}
 use Rattle.vs_eval_resolved.proofs.WordLemmas.{bit_means, bits_long, element_means}
 use Rattle.vs_eval_resolved.proofs.resolve.+resolve.Goals as goal
 
@@ -70,18 +68,25 @@ resolve-returns-in-Some-3 t c =
     (made (λ store time. value_of last store time) (rw c.in-Some-3.is at c.in_ok-last-in-Choice.ensures)))
     c.choice.ensures
 
-pub resolve-returns-in_ok-other-in-Some-4 : goal.resolve-returns-in_ok-other-in-Some-4
-resolve-returns-in_ok-other-in-Some-4 t c =
-    c.in_ok-other-in-Some-4.ensures c.args.design.now.signals
-    (concat_long c.args.design.now.signals c.args.e.now c.in-Concat.x c.in-Concat.others c.deref-in-Concat.result.now c.deref-in-Concat-2.result.now c.in-Some-4.size.width
-    c.in-Concat.is c.deref-in-Concat.ensures c.deref-in-Concat-2.ensures.value (rw c.in-Some-4.is at c.in_ok-size-in-Concat.ensures))
+pub resolve-returns-in-Some-4 : goal.resolve-returns-in-Some-4
+resolve-returns-in-Some-4 t c =
+    let signals = c.args.design.now.signals in
+    let first = c.deref-in-Concat.result.now in
+    let others = c.deref-in-Some-4.result.now in
+    answered
+    (λ (r : Node × Size). (values : Values) → Means signals values c.in-Some-4.x.0 c.in-Some-4.x.1.width → Means signals (λ store time. concatenated (values store time) (parts_of others store time)) r.0 r.1.width)
+    (λ (r : Node × Size). IsMeant signals c.args.e.now r.0 r.1.width)
+    c.concatenated.result
+    (λ (r : Node × Size) made.
+    concat_meant signals c.args.e.now c.in-Concat.x c.in-Concat.others first others r.0 r.1.width c.in-Concat.is c.deref-in-Concat.ensures c.deref-in-Some-4.ensures.value
+    (made (λ store time. value_of first store time) (rw c.in-Some-4.is at c.in_ok-x-in-Concat.ensures)))
+    c.concatenated.ensures
 
-pub resolve-returns-in_ok-other-in-Some-5 : goal.resolve-returns-in_ok-other-in-Some-5
-resolve-returns-in_ok-other-in-Some-5 t c =
-    let wide = c.repeated_size-size.ensures ∙ ap (λ n. min 64 (c.in-Repeat.count.times * n)) c.size_of.ensures in
-    c.in_ok-other-in-Some-5.ensures c.args.design.now.signals
-    (repeat_long c.args.design.now.signals c.args.e.now c.in-Repeat.count c.in-Repeat.x c.deref-in-Repeat.result.now c.in-Some-5.x.0 c.in-Some-5.x.1.width c.repeated_size-size.result.width
-    c.in-Repeat.is c.deref-in-Repeat.ensures (rw c.in-Some-5.is at c.in_ok-x-in-Repeat.ensures) wide)
+pub resolve-returns-in_ok-repeated-in-Some-5 : goal.resolve-returns-in_ok-repeated-in-Some-5
+resolve-returns-in_ok-repeated-in-Some-5 t c =
+    repeat_meant c.args.design.now.signals c.args.e.now c.in-Repeat.count c.in-Repeat.x c.deref-in-Repeat.result.now
+    c.in_ok-repeated-in-Some-5.field-0.0 c.in_ok-repeated-in-Some-5.field-0.1.width c.in-Repeat.is c.deref-in-Repeat.ensures
+    (c.in_ok-repeated-in-Some-5.ensures c.args.design.now.signals (λ store time. value_of c.deref-in-Repeat.result.now store time) (rw c.in-Some-5.is at c.in_ok-x-in-Repeat.ensures))
 
 pub resolve-returns-in_ok-brought-in-Some-6 : goal.resolve-returns-in_ok-brought-in-Some-6
 resolve-returns-in_ok-brought-in-Some-6 t c =
@@ -180,19 +185,18 @@ choice-returns t c = λ values m.
 
 -- ---- concatenations
 
-pub concatenated_size-loop-part-init : goal.concatenated_size-loop-part-init
-concatenated_size-loop-part-init t c =
-    let m = rw c.in-Some.is at c.in_ok-highest.ensures in
-    subst (AreSized c.args.design.now.signals (λ store time. value_of c.args.first.now store time)) (sym c.size_of-size.ensures) m.sized
+pub concatenated-loop-part-init : goal.concatenated-loop-part-init
+concatenated-loop-part-init t c = λ values m.
+    subst (λ z. AreJoined c.args.design.now.signals values (take 0 c.args.others.now) z c.args.first.1.width) (sym c.in_ok-parts.ensures.items)
+    (none_joined c.args.design.now.signals values c.args.first.1.width m.sized)
 
-pub concatenated_size-loop-part-preserved : goal.concatenated_size-loop-part-preserved
-concatenated_size-loop-part-preserved t c =
-    let m = rw c.in-Some-2.is at c.in_ok-below.ensures in
-    part_step c.args.design.now.signals (λ store time. value_of c.args.first.now store time) c.args.others.now c.loop-part.part-index c.part-item.result
-    c.loop-part.size.width c.size_of.result.width c.joined_size-size.result.width c.loop-part-test.true c.part-item.is c.joined_size-size.ensures
-    (subst (AreSized c.args.design.now.signals (λ store time. value_of c.part-item.result store time)) (sym c.size_of.ensures) m.sized) c.loop-part.invariant
+pub concatenated-loop-part-preserved : goal.concatenated-loop-part-preserved
+concatenated-loop-part-preserved t c = λ values m.
+    part_step c.args.design.now.signals values c.args.others.now c.loop-part.part-index c.part-item.result c.loop-part.parts.items c.push.new.self.items
+    c.in-Some.y c.in-Some.below c.loop-part.size.width c.joined_size-size.result.width c.loop-part-test.true c.part-item.is c.in_ok-push.ensures.items c.joined_size-size.ensures
+    (rw c.in-Some.is at c.in_ok-y.ensures) (c.loop-part.invariant values m)
 
-pub concatenated_size-returns : goal.concatenated_size-returns
-concatenated_size-returns t c =
-    all_parts c.args.design.now.signals (λ store time. value_of c.args.first.now store time) c.args.others.now c.loop-part.part-index c.loop-part.size.width
-    c.loop-part-test.false c.loop-part.invariant
+pub concatenated-returns : goal.concatenated-returns
+concatenated-returns t c = λ values m.
+    all_parts c.args.design.now.signals values c.args.first.0 c.args.first.1 c.args.others.now c.loop-part.part-index c.loop-part.parts c.loop-part.size.width c.in_ok-new.field-0
+    c.loop-part-test.false c.in_ok-new.ensures.ok m (c.loop-part.invariant values m)

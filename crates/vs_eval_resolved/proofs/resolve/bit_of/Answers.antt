@@ -1,4 +1,3 @@
-use Rattle.std.proofs.Common.{arith}
 use Rattle.vs_eval_resolved.proofs.resolve.bit_of.Goals as goal
 
 pub returns-then-is_lowest : goal.returns-then-is_lowest

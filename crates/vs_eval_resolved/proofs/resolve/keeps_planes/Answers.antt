@@ -3,9 +3,9 @@ use Rattle.std.proofs.lemmas.Bool.{eqb-true, leb-true}
 use Rattle.vs_eval_resolved.proofs.MeantLemmas.{word_meant}
 use Rattle.vs_eval_resolved.proofs.resolve.keeps_planes.Goals as goal
 
-pub returns-then-to : goal.returns-then-to
-returns-then-to c = λ is ds long. word_meant c.args.to.signed c.args.to.width ds (inl (long ∙ eqb-true c.args.from.width c.args.to.width is))
+pub returns-then-signed : goal.returns-then-signed
+returns-then-signed c = λ is ds long. word_meant c.args.signed c.args.width ds (inl (long ∙ eqb-true c.args.from.width c.args.width is))
 
-pub returns-else-to : goal.returns-else-to
-returns-else-to c = λ is ds long.
-    word_meant c.args.to.signed c.args.to.width ds (inr (omega (arith, leb-true c.args.from.width c.args.to.width is, long), c.if-to.false))
+pub returns-else-signed : goal.returns-else-signed
+returns-else-signed c = λ is ds long.
+    word_meant c.args.signed c.args.width ds (inr (omega (arith, leb-true c.args.from.width c.args.width is, long), c.if-signed.false))

@@ -1,4 +1,4 @@
-use Rattle.std.proofs.Common.{◌∙◌, sym, ap}
+use Rattle.std.proofs.Common.{◌∙◌, ap}
 use Rattle.vs_eval_resolved.specs.declared.node.Node.TheOpen as f
 use Rattle.vs_eval_resolved.specs.declared.node.Node.TheVariants as v
 use Rattle.vs_eval_resolved.specs.PlanesOf.{planes_of}

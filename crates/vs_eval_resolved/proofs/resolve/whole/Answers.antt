@@ -6,7 +6,7 @@ use Rattle.vs_eval_resolved.proofs.resolve.whole.Goals as goal
 
 pub returns-in-Some : goal.returns-in-Some
 returns-in-Some c = λ law.
-    whole_means c.args.design.now.signals c.args.e.now c.args.o c.in-Some.number c.in-Some.size.width c.in-Some.ensures (c.has_planes.ensures c.if-has_planes.true) law
+    whole_means c.args.design.now.signals c.args.e.now c.args.o c.in-Some.number c.in-Some.size.width c.in-Some.ensures (c.keeps_planes.ensures c.if-keeps_planes.true) law
 
 pub returns-in_default : goal.returns-in_default
 returns-in_default c =

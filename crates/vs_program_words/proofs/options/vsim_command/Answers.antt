@@ -1,7 +1,7 @@
 use Rattle.std.proofs.Common.{rules, ◌≡◌, ◌∙◌, ap, refl}
 use Rattle.std.proofs.lemmas.Result.{IfOk-weaker}
 use Rattle.clap.specs.Words.{App, app_of, with_subcommand}
-use Rattle.vs_program_words.specs.Options.{bare_options, certify_options, check_options, elab_options, race_options, run_options}
+use Rattle.vs_program_words.specs.Options.{bare_options, certify_options, check_options, elab_options, preprocess_options, race_options, run_options}
 use Rattle.vs_program_words.proofs.Commands.{added, plain_of}
 use Rattle.vs_program_words.proofs.options.vsim_command.Goals as goal
 
@@ -20,6 +20,9 @@ with_command-requires-4 c = plain_of c.race_command.result race_options refl c.r
 pub with_command-requires-5 : goal.with_command-requires-5
 with_command-requires-5 c = plain_of c.elab_command.result elab_options refl c.elab_command.ensures
 
+pub with_command-requires-6 : goal.with_command-requires-6
+with_command-requires-6 c = plain_of c.preprocess_command.result preprocess_options refl c.preprocess_command.ensures
+
 pub returns : goal.returns
 returns c =
     let run = run_options c.as_slice.result c.as_slice-2.result in
@@ -32,12 +35,14 @@ returns c =
     added c.certify_command.result (app_of c.in_ok-command-2.command) (app_of c.in_ok-command-3.command) certify c.certify_command.ensures c.in_ok-command-3.ensures ∙ ap (λ (a : App). with_subcommand a certify) two in
     let four : app_of c.in_ok-command-4.command ≡ with_subcommand (with_subcommand (with_subcommand (with_subcommand bare_options run) check_options) certify) race_options =
     added c.race_command.result (app_of c.in_ok-command-3.command) (app_of c.in_ok-command-4.command) race_options c.race_command.ensures c.in_ok-command-4.ensures ∙ ap (λ (a : App). with_subcommand a race_options) three in
-    IfOk-weaker c.with_command-5.result _ _ (λ r h. record {
+    let five : app_of c.in_ok-command-5.command ≡ with_subcommand (with_subcommand (with_subcommand (with_subcommand (with_subcommand bare_options run) check_options) certify) race_options) elab_options =
+    added c.elab_command.result (app_of c.in_ok-command-4.command) (app_of c.in_ok-command-5.command) elab_options c.elab_command.ensures c.in_ok-command-5.ensures ∙ ap (λ (a : App). with_subcommand a elab_options) four in
+    IfOk-weaker c.with_command-6.result _ _ (λ r h. record {
       orders = c.as_slice.result;
       texts = c.as_slice-2.result;
       grains = c.as_slice-3.result;
       order_words = search rules;
       text_words = search rules;
       grain_words = search rules;
-      options = added c.elab_command.result (app_of c.in_ok-command-4.command) (app_of r) elab_options c.elab_command.ensures h ∙ ap (λ (a : App). with_subcommand a elab_options) four;
-    }) c.with_command-5.ensures
+      options = added c.preprocess_command.result (app_of c.in_ok-command-5.command) (app_of r) preprocess_options c.preprocess_command.ensures h ∙ ap (λ (a : App). with_subcommand a preprocess_options) five;
+    }) c.with_command-6.ensures

@@ -8,11 +8,11 @@ use Rattle.clap.specs.declared.error.Error.{Error}
 use Rattle.clap.specs.declared.parser.matches.ArgMatches.{ArgMatches}
 use Rattle.clap.specs.declared.parser.matches.Found.{Found}
 use Rattle.clap.proofs.OnLiterals.{clap_on_literals}
-use Rattle.clap.proofs.WalkLemmas.{first_value-rows, one_text-rows}
+use Rattle.clap.proofs.WalkLemmas.{first_value-rows, one_text-rows, raw_values-rows}
 use Rattle.vs_program_words.specs.Options.{AreOptions, Words, options_of}
 use Rattle.vs_program_words.proofs.Given.{words_given}
 use Rattle.vs_program_words.specs.Given.{AreAllGiven}
-use Rattle.vs_program_words.specs.Asks.{AreTaken, AskInVain, AsksAs, Values, WordsFail, flag_named, name_of, values_of, words_of}
+use Rattle.vs_program_words.specs.Asks.{AreTaken, AskInVain, AsksAs, Lists, NamesFiles, Values, WordsFail, flag_named, name_of, values_of, words_of}
 use Rattle.vs_program_words.specs.declared.words.WordsFault.{WordsFault}
 use Rattle.vs_program_words.specs.declared.words.WordsFault.TheVariants.{Choices, Memory, OrderOfCertified, Refused}
 use Rattle.vs_program_words.proofs.words.read_words.Goals as goal
@@ -116,6 +116,7 @@ returns-in-Ok-clause-ok c =
         found = found;
       };
       asks = subst (λ (X : Type 0). X) (same_values (λ words values. AsksAs (name_of name) words values c.in-Ok.subcommand) f) c.in-Ok.ensures.ok;
+      sources = subst (λ (all : Lists). NamesFiles all c.in_ok-sources_of-in-Ok.field-0) (fun_ext (raw_values-rows f)) c.in_ok-sources_of-in-Ok.ensures;
       explains = c.has_flag.ensures ∙ ap flag_named (one_text-rows f (codes "explain"));
     }
 

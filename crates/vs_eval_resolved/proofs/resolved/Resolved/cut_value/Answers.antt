@@ -1,9 +1,9 @@
 use Rattle.std.proofs.Common.{sym, ◌∙◌, ap, subst}
-use Rattle.std.specs.Prelude.{IfSome, false}
+use Rattle.std.specs.Prelude.{false}
 use Rattle.vs_design.specs.vs_logic4.specs.Vectors.{resized}
 use Rattle.vs_design.specs.InOrder.{IsStoreOf}
 use Rattle.vs_eval.specs.Values.{value_of}
-use Rattle.vs_eval_resolved.specs.Meant.{IsMeant, Meaning}
+use Rattle.vs_eval_resolved.specs.Meant.{Meaning}
 use Rattle.vs_eval_resolved.specs.PlanesOf.{digits_of}
 use Rattle.vs_eval_resolved.proofs.MeantLemmas.{other_value}
 use Rattle.vs_eval_resolved.proofs.resolved.Resolved.cut_value.Goals as goal

@@ -1,8 +1,7 @@
 use Rattle.std.proofs.Common.{sym, ◌∙◌, ap, subst}
-use Rattle.std.specs.Prelude.{IfSome}
 use Rattle.vs_design.specs.InOrder.{IsStoreOf}
 use Rattle.vs_eval.specs.Values.{value_of}
-use Rattle.vs_eval_resolved.specs.Meant.{IsMeant, Meaning}
+use Rattle.vs_eval_resolved.specs.Meant.{Meaning}
 use Rattle.vs_eval_resolved.specs.PlanesOf.{digits_of}
 use Rattle.vs_eval_resolved.proofs.MeantLemmas.{own_value}
 use Rattle.vs_eval_resolved.proofs.resolved.Resolved.value.Goals as goal

@@ -7,7 +7,7 @@ use Rattle.vs_program.proofs.input.Kept.take_byte.Goals as goal
 pub returns-then-self : goal.returns-then-self
 returns-then-self c = λ seen h.
     let old = c.args.self.now in
-    let new : input.Kept = record { certificate = old.certificate; source = c.keep.new.text; line_ended = old.line_ended } in
+    let new : input.Kept = record { certificate = old.certificate; source = c.keep.new.text; places = old.places; line_ended = old.line_ended } in
     on_ok {P = c.keep.new.text.items ≡ take 8388609 (after_line seen ++ c.args.byte ∷ [])} c.keep.result
     (λ more. more_source seen c.args.byte old new h c.if-self.true refl refl more) (c.keep.ensures (after_line seen) h.source)
 
@@ -17,7 +17,7 @@ returns-then-byte-eq10 c = λ seen h. line_ends seen c.args.byte c.args.self.now
 pub returns-else-byte-eq10 : goal.returns-else-byte-eq10
 returns-else-byte-eq10 c = λ seen h.
     let old = c.args.self.now in
-    let new : input.Kept = record { certificate = c.keep-else-byte-eq10.new.text; source = old.source; line_ended = old.line_ended } in
+    let new : input.Kept = record { certificate = c.keep-else-byte-eq10.new.text; source = old.source; places = old.places; line_ended = old.line_ended } in
     on_ok {P = c.keep-else-byte-eq10.new.text.items ≡ take 16777217 (first_line seen ++ c.args.byte ∷ [])} c.keep-else-byte-eq10.result
     (λ more. more_certificate seen c.args.byte old new h c.if-self.false c.if-byte-eq10.false refl refl more)
     (c.keep-else-byte-eq10.ensures (first_line seen) h.certificate)

@@ -12,7 +12,7 @@ use Rattle.vs_program.specs.Ends.{EndsWords, by_kind, by_choices, by_order, by_m
 use Rattle.vs_program.specs.passes.Telling.{TellsWords}
 use Rattle.vs_program_words.specs.declared.words.WordsFault.{WordsFault}
 use Rattle.vs_program_words.specs.declared.words.WordsFault.TheVariants.{Choices, Memory, OrderOfCertified, Refused}
-use Rattle.vs_program.proofs.command.program.Goals as goal
+use Rattle.vs_program.proofs.command.program_on.Goals as goal
 
 -- want of memory is no help
 no_help : (k : ErrorKind) → k ≡ OutOfMemory → words_status k ≡ 0 → ⊥
@@ -45,7 +45,7 @@ told_fault words Choices old new status fails told = by_choices fails told.0 tol
 told_fault words Memory old new status fails told = by_memory told.0 told.1
 
 pub returns-in-Ok : goal.returns-in-Ok
-returns-in-Ok g c = with_call c.in-Ok.call c.in-Ok.ensures.ok c.answer.ensures
+returns-in-Ok g c = with_call c.in-Ok.call c.in-Ok.ensures.ok c.answer_call.ensures
 
 pub returns-in-Err : goal.returns-in-Err
 returns-in-Err g c = without_call (told_fault _ c.in-Err.fault _ _ c.tell_words.result.0 c.in-Err.ensures.err c.tell_words.ensures)

@@ -1,0 +1,134 @@
+//! All subjects that break rules, as far as so many are asked for.
+ghost use Rattle.std.specs.Prelude.{ℕ, ◌≡◌, ◌<◌, ◌≤◌, ◌++◌, length, map, IfOk, OnOk};
+ghost use Rattle.std.specs.List.{All};
+ghost use Rattle.vs_cert_check.specs.Broken.{broken_view, told_at, AreListed, FirstBroken, IsListed};
+ghost use Rattle.vs_cert_check.specs.Verdicts.{KeepsAt, AllKeptBelow};
+ghost use Rattle.vs_cert_names.specs.Subjects.{subject_view};
+ghost use Rattle.vs_cert_writers.specs.vs_reach.specs.Verdicts.{IsLeast};
+ghost use Rattle.vs_cert_starts.specs.vs_rules.specs.Verdict.{numbers, subjects};
+
+use crate::judging::{BEFORE, OfRule, first_starts};
+use crate::sheet::Sheet;
+use crate::verdict::Broken;
+use std::alloc::{AllocError, Global};
+use vs_cert_names::{Subject, name_of};
+use vs_cert_order::vs_cert_facts::Facts;
+use vs_cert_writers::vs_reach::Rule;
+
+/// The first things below a number that break a rule, at most so many.
+pub(crate) fn breakers<R: Rule>(
+    alloc: Global,
+    rule: &R,
+    n: usize,
+    most: usize,
+) -> Result<Vec<usize>, AllocError>
+    ensures first { IfOk result (λ found. FirstBroken (R.keeps rule.now) most (numbers 0 n) found.items) }
+    ensures within { IfOk result (λ found. All (λ i. i < n) found.items) }
+{
+    let mut found = Vec::new(alloc);
+    for i in 0..n {
+        if found.len() >= most {
+            return Ok(found);
+        }
+        if !rule.test(alloc, i)? {
+            found.push(i)?;
+        }
+    }
+    Ok(found)
+}
+
+// Puts subjects, by their numbers, at the end of those that break rules.
+fn tell<'a>(
+    alloc: Global,
+    facts: &Facts<'a>,
+    all: &[Subject<'a>],
+    rule: usize,
+    found: &[usize],
+    list: &mut Vec<Broken>,
+) -> Result<(), AllocError>
+    requires are { map subject_view all.now ≡ subjects facts.now.design facts.now.claims }
+    requires rule { rule < 11 }
+    requires within { All (λ i. i < length all.now) found.now }
+    ensures { OnOk result (map broken_view list.new.items ≡
+        map broken_view list.old.items ++ map (λ i. told_at facts.now.design facts.now.claims (rule, i)) found.now) }
+{
+    for i in found {
+        match name_of(facts, all[*i]) {
+            None => unreachable!(),
+            Some(name) => {
+                let place = Vec::from_slice(alloc, name)?;
+                list.push(Broken {
+                    number: rule as u8 + 1,
+                    place,
+                })?;
+            }
+        }
+    }
+    Ok(())
+}
+
+// The first subjects that break rules before the last one, at most so many, where all keep those below a number.
+fn broken_from<'a, 'b>(
+    alloc: Global,
+    sheet: &'b Sheet<'a>,
+    all: &'b [Subject<'a>],
+    first: usize,
+    most: usize,
+) -> Result<Vec<Broken>, AllocError>
+    requires are { map subject_view all.now ≡ subjects sheet.now.facts.now.design sheet.now.facts.now.claims }
+    requires first { first ≤ 10 }
+    requires kept { AllKeptBelow sheet.now.facts.now.design sheet.now.facts.now.claims first }
+    ensures { IfOk result (λ list. AreListed sheet.entry.now.facts.now.design sheet.entry.now.facts.now.claims 10 most list.items) }
+{
+    let mut list = Vec::new(alloc);
+    for rule in first..BEFORE {
+        let one = OfRule { sheet, all, rule };
+        let found = breakers(alloc, &one, all.len(), most - list.len())?;
+        tell(alloc, sheet.facts, all, rule, &found, &mut list)?;
+    }
+    Ok(list)
+}
+
+// The first subjects that break the last rule, at most so many, where all keep those before.
+fn broken_starts<'a>(
+    alloc: Global,
+    sheet: &Sheet<'a>,
+    all: &[Subject<'a>],
+    most: usize,
+) -> Result<Vec<Broken>, AllocError>
+    requires are { map subject_view all.now ≡ subjects sheet.now.facts.now.design sheet.now.facts.now.claims }
+    requires kept { AllKeptBelow sheet.now.facts.now.design sheet.now.facts.now.claims 10 }
+    ensures { IfOk result (λ list. AreListed sheet.entry.now.facts.now.design sheet.entry.now.facts.now.claims 11 most list.items) }
+{
+    let mut list = Vec::new(alloc);
+    if most == 0 {
+        return Ok(list);
+    }
+    let found = first_starts(alloc, sheet, all, most)?;
+    tell(alloc, sheet.facts, all, BEFORE, &found, &mut list)?;
+    Ok(list)
+}
+
+/// The first subjects that break rules, at most so many, by the least rule that is broken.
+pub(crate) fn all_broken<'a, 'b>(
+    alloc: Global,
+    sheet: &'b Sheet<'a>,
+    all: &'b [Subject<'a>],
+    least: Option<(usize, usize)>,
+    most: usize,
+) -> Result<Vec<Broken>, AllocError>
+    requires are { map subject_view all.now ≡ subjects sheet.now.facts.now.design sheet.now.facts.now.claims }
+    requires least { IsLeast (KeepsAt sheet.now.facts.now.design sheet.now.facts.now.claims) 11 (length all.now) least }
+    ensures { IfOk result (λ list. IsListed sheet.entry.now.facts.now.design sheet.entry.now.facts.now.claims most list.items) }
+{
+    match least {
+        None => Ok(Vec::new(alloc)),
+        Some((rule, _)) => {
+            if rule < BEFORE {
+                broken_from(alloc, sheet, all, rule, most)
+            } else {
+                broken_starts(alloc, &*sheet, &*all, most)
+            }
+        }
+    }
+}

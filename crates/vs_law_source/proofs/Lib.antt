@@ -1,0 +1,17 @@
+mod Alike
+mod Turned
+mod Todos
+mod Texts
+mod Steps
+mod Spots
+mod Trees
+mod Designs
+mod Named
+mod Done
+mod Walks
+mod Cones
+mod Clocks
+mod Slots
+mod Kept
+mod KeptBlocks
+mod Verdicts

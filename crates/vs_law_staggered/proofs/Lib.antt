@@ -1,0 +1,4 @@
+pub mod RootsPoints
+pub mod Roots
+pub mod LatePoints
+pub mod Late

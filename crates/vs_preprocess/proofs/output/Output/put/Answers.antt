@@ -1,0 +1,7 @@
+use Rattle.std.proofs.Common.{map}
+use Rattle.vs_preprocess.specs.Files.{bytes_of}
+use Rattle.vs_preprocess.proofs.Segments.{made_from}
+use Rattle.vs_preprocess.proofs.output.Output.put.Goals as goal
+
+pub put_from-requires-clause-from : goal.put_from-requires-clause-from
+put_from-requires-clause-from c = made_from (map bytes_of c.args.self.now.files.items) c.in_ok-spot.spot c.args.bytes.now c.in_ok-spot.ensures

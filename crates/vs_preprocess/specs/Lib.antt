@@ -1,0 +1,4 @@
+pub mod Files
+pub mod Limits
+pub mod Places
+pub mod passes
