@@ -1,4 +1,4 @@
-//! Designs that break a rule of certificates, and runs that take too many steps.
+//! Designs that break a rule of certificates, runs that take too many steps, and the events whose order makes two runs differ.
 
 use crate::scopes::put_scope;
 use std::alloc::{AllocError, Global};
@@ -11,6 +11,7 @@ use vs_explain_limit::{Taken, explain_steps};
 use vs_explain_rules::explain_broken;
 use vs_explain_steps::last_steps;
 use vs_explain_text::vs_explain_outline::{Page, SourceText};
+use vs_race_pair::{Asked, put_pair};
 use vs_simulate::design_of;
 
 /// A certificate that says nothing.
@@ -102,6 +103,23 @@ pub fn explain_limit(
         };
         explain_steps(&mut page, text, design, steps, time, taken);
         put_scope(&mut page, text, top);
+    }
+    page.finish()
+}
+
+/// Two lines on the two events whose order makes a signal differ in two runs of the design that a source and a top define, where they are found. Both runs
+/// are made again for it.
+pub fn explain_pair(
+    alloc: Global,
+    source: &[u8],
+    top: &[u8],
+    asked: &Asked,
+) -> Result<Vec<u8>, AllocError> {
+    let mut page = Page::new(alloc);
+    let text = SourceText::read(alloc, source)?;
+    let design = design_of(alloc, source, top);
+    if let (Some(text), Ok(design)) = (&text, &design) {
+        put_pair(&mut page, text, design, asked);
     }
     page.finish()
 }

@@ -11,8 +11,9 @@ use vs_certified::vs_vcd_writing::Sink;
 use vs_design::vs_logic4::{Digit, Vec4};
 use vs_elaborate::vs_scopes::push_bytes;
 use vs_explain::vs_simulate::SimFault;
+use vs_explain::{Asked, explain_pair};
 use vs_program_words::Hunt;
-use vs_race::{Missed, Race, Search, Span, Witness, race};
+use vs_race::{Missed, Race, Search, Span, Witness, choices_of, race};
 
 // The character of a digit.
 fn character(digit: Digit) -> u8
@@ -112,6 +113,28 @@ fn push_runs(
     Ok(())
 }
 
+// Puts the two lines on the events whose order makes the difference, where they are found.
+fn push_pair(
+    alloc: Global,
+    text: &mut Vec<u8>,
+    source: &[u8],
+    top: &str,
+    witness: &Witness,
+    steps: u64,
+) -> Result<(), AllocError> {
+    let choices = choices_of(alloc, &witness.choices, steps)?;
+    let asked = Asked {
+        time: witness.time,
+        signal: witness.signal,
+        first: witness.first,
+        other: witness.other,
+        choices: &choices,
+        steps,
+    };
+    let lines = explain_pair(alloc, source, top.as_bytes(), &asked)?;
+    text.extend_from_slice(&lines)
+}
+
 // Puts what was tried in vain.
 fn push_missed(
     alloc: Global,
@@ -135,6 +158,7 @@ fn push_missed(
 // What is told behind the first line.
 fn more_text(
     alloc: Global,
+    source: &[u8],
     race: &Race,
     top: &str,
     search: &Search,
@@ -143,6 +167,7 @@ fn more_text(
     match race {
         Race::Certified(_) => {}
         Race::Found(witness, refused) => {
+            push_pair(alloc, &mut text, source, top, witness, search.steps)?;
             push_runs(alloc, &mut text, top, witness)?;
             text.extend_from_slice(b"  certificate: ")?;
             text.extend_from_slice(&proposal_line(alloc, refused)?)?;
@@ -157,11 +182,17 @@ fn more_text(
 }
 
 // What is told.
-fn race_text(alloc: Global, race: &Race, top: &str, search: &Search) -> Result<Vec<u8>, AllocError>
+fn race_text(
+    alloc: Global,
+    source: &[u8],
+    race: &Race,
+    top: &str,
+    search: &Search,
+) -> Result<Vec<u8>, AllocError>
     ensures { IfOk result (λ text. IsTold race.now text.items) }
 {
     let mut text = race_line(alloc, race)?;
-    let more = more_text(alloc, race, top, search)?;
+    let more = more_text(alloc, source, race, top, search)?;
     text.extend_from_slice(&more)?;
     Ok(text)
 }
@@ -195,7 +226,7 @@ pub(crate) fn tell_race<'s, S: Sink>(
 {
     let search = search_of(hunt);
     let found = race(alloc, source, hunt.top.as_bytes(), &search)?;
-    let text = race_text(alloc, &found, hunt.top, &search)?;
+    let text = race_text(alloc, source, &found, hunt.top, &search)?;
     show(shown, &text)?;
     Ok(found)
 }

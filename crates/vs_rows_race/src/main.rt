@@ -1,8 +1,9 @@
 //! Rows of races: designs, and whether two orders of events are found under which they have different values.
 #![tactic(auto)]
 
-use std::alloc::Global;
+use std::alloc::{AllocError, Global};
 use std::io;
+use vs_explain::{Asked, explain_pair};
 use vs_race::vs_simulate::{Policy, simulate};
 use vs_race::{Race, Search, Span, Witness, choices_of, race};
 use vs_row_files::{Answers, Text, compare_files, first_and_rest};
@@ -88,6 +89,41 @@ fn put_race(source: &[u8], top: &[u8], witness: &Witness, tells: bool, text: &mu
     }
 }
 
+/// The two lines on the events whose order makes the difference of a race.
+fn pair_text(
+    alloc: Global,
+    source: &[u8],
+    top: &[u8],
+    witness: &Witness,
+) -> Result<Vec<u8>, AllocError> {
+    let choices = choices_of(alloc, &witness.choices, STEPS)?;
+    let asked = Asked {
+        time: witness.time,
+        signal: witness.signal,
+        first: witness.first,
+        other: witness.other,
+        choices: &choices,
+        steps: STEPS,
+    };
+    explain_pair(alloc, source, top, &asked)
+}
+
+/// Puts the signal and the moment of a race, and the lines on its two events, one behind another.
+fn put_pair(source: &[u8], top: &[u8], witness: &Witness, text: &mut Text) {
+    text.put(&witness.path);
+    text.put(b" at ");
+    text.put_shown(witness.time);
+    let Ok(lines) = pair_text(text.alloc(), source, top, witness) else {
+        return;
+    };
+    for line in lines.split(|byte| *byte == b'\n') {
+        if !line.is_empty() {
+            text.put(b" /");
+            text.put(line.strip_prefix(b" ").unwrap_or(line));
+        }
+    }
+}
+
 impl Answers for Races {
     fn answer(&self, words: &str, question: &str, text: &mut Text) {
         let (kind, rest) = first_and_rest(words, " ");
@@ -105,6 +141,9 @@ impl Answers for Races {
         let answered = race(text.alloc(), question.as_bytes(), top.as_bytes(), &search);
         match &answered {
             Ok(Race::Certified(_)) => text.put(b"certified"),
+            Ok(Race::Found(witness, _)) if kind == "pair" => {
+                put_pair(question.as_bytes(), top.as_bytes(), witness, text)
+            }
             Ok(Race::Found(witness, _)) => {
                 put_race(
                     question.as_bytes(),

@@ -1,0 +1,5 @@
+use Rattle.vs_run_steps.specs.Runs.{IsRunOf}
+use Rattle.vs_race_pair.proofs.course.log_slot.Given as goal
+
+abbrev pub invariant-loop-taken : goal.invariant-loop-taken
+invariant-loop-taken g l = IsRunOf l.forms l.run
