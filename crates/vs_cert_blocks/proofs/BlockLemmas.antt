@@ -9,7 +9,7 @@ use Rattle.vs_design.specs.declared.signal.Signal.{Signal}
 use Rattle.vs_design.specs.declared.statement.EventTerm.{EventTerm}
 use Rattle.vs_design.specs.Parts.{Parts}
 use Rattle.vs_law_writes.specs.Writes.{statement_writes}
-use Rattle.vs_rules.specs.Paths.{Has, text_reads}
+use Rattle.vs_slots_ranges.specs.vs_rules.specs.Paths.{Has, text_reads}
 use Rattle.vs_cert_facts.specs.vs_slots_paths.specs.Ranges.{HasSignal, HasTermAt}
 use Rattle.vs_cert_facts.specs.vs_slots_paths.specs.Reaches.{Chart}
 use Rattle.vs_cert_facts.specs.vs_slots_paths.proofs.RangeLemmas.{first_in, later_in, in_either}

@@ -9,7 +9,7 @@ use Rattle.vs_design.specs.declared.range.BitRange.{BitRange}
 use Rattle.vs_design.specs.Uses.{covers}
 use Rattle.vs_flatcode.specs.Stops.{stop_at, stop_statement, stops_tos}
 use Rattle.vs_flatcode.specs.Ways.{none}
-use Rattle.vs_rules.specs.Paths.{Bit, Has}
+use Rattle.vs_slots_ranges.specs.vs_rules.specs.Paths.{Bit, Has}
 use Rattle.vs_cert_facts.specs.vs_slots_paths.specs.Reaches.{Chart, pause_at, pause_of}
 use Rattle.vs_cert_facts.specs.vs_slots_paths.specs.Ranges.{ranges_of, reads_at, HasSignal}
 use Rattle.vs_cert_facts.specs.vs_slots_paths.proofs.RangeLemmas.{in_either}

@@ -10,8 +10,8 @@ use Rattle.vs_design.specs.declared.statement.Statement.TheViews.{out-Statement}
 use Rattle.vs_design.specs.Uses.{covers, has_bit, has_word, joined}
 use Rattle.vs_flatcode.specs.Stops.{LeadsIn, stop_at, stop_statement, stops_tos}
 use Rattle.vs_reach_local.specs.vs_reach.specs.Reached as reach
-use Rattle.vs_rules.specs.Blocks.{is_sure, statement_surely}
-use Rattle.vs_rules.specs.Paths.{Bit}
+use Rattle.vs_slots_ranges.specs.vs_rules.specs.Blocks.{is_sure, statement_surely}
+use Rattle.vs_slots_ranges.specs.vs_rules.specs.Paths.{Bit}
 use Rattle.vs_cert_facts.specs.vs_slots_paths.specs.Reaches.{Chart, places, pause_of}
 use Rattle.vs_cert_facts.specs.vs_slots_paths.proofs.RangeLemmas.{first_in, later_in}
 use Rattle.vs_slots_ranges.specs.Places.{bit}

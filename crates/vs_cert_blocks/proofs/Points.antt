@@ -11,16 +11,16 @@ use Rattle.vs_flatcode.specs.Places.{perform, turns, Todo}
 use Rattle.vs_flatcode.specs.Steps.{Next, on, after, wait}
 use Rattle.vs_flatcode.specs.Stops.{Stop, stop_at, stop_statement, stops_tos, next_statement, IsText}
 use Rattle.vs_flatcode.specs.Ways.{Pause, none, delay, event, next_by}
-use Rattle.vs_rules.specs.vs_law_threads.specs.Blocks.{outputs_for}
-use Rattle.vs_rules.specs.vs_law_threads.specs.Threads.{todo_reads}
+use Rattle.vs_slots_ranges.specs.vs_rules.specs.vs_law_threads.specs.Blocks.{outputs_for}
+use Rattle.vs_slots_ranges.specs.vs_rules.specs.vs_law_threads.specs.Threads.{todo_reads}
 use Rattle.vs_law_writes.specs.Writes.{statement_writes}
 use Rattle.vs_cert_facts.specs.vs_process.specs.declared.moves.Grain.{Grain}
 use Rattle.vs_cert_facts.specs.vs_process.specs.Executions.{is_combinational}
-use Rattle.vs_rules.specs.Blocks.{todo_surely, has_late_effect, K5}
-use Rattle.vs_rules.specs.Blocks as rule
-use Rattle.vs_rules.specs.Claims.{Claims, IsBlock}
-use Rattle.vs_rules.specs.Paths.{Bit, ListsSignal, Writes, is_plain, reads_for}
-use Rattle.vs_rules.specs.Points.{Goes}
+use Rattle.vs_slots_ranges.specs.vs_rules.specs.Blocks.{todo_surely, has_late_effect, K5}
+use Rattle.vs_slots_ranges.specs.vs_rules.specs.Blocks as rule
+use Rattle.vs_slots_ranges.specs.vs_rules.specs.Claims.{Claims, IsBlock}
+use Rattle.vs_slots_ranges.specs.vs_rules.specs.Paths.{Bit, ListsSignal, Writes, is_plain, reads_for}
+use Rattle.vs_slots_ranges.specs.vs_rules.specs.Points.{Goes}
 use Rattle.vs_cert_facts.specs.vs_slots_paths.specs.Ranges.{HasSignal}
 use Rattle.vs_cert_facts.specs.vs_slots_paths.specs.Reaches.{Chart, pause_of}
 use Rattle.vs_cert_facts.specs.vs_slots_paths.proofs.EachPoint.{reads_here}

@@ -10,7 +10,7 @@ use Rattle.std.proofs.lemmas.Map.Views.{tells_apart}
 use Rattle.std.proofs.lemmas.Option.{same_Some}
 use Rattle.vs_flatcode.specs.Stops.{stop_at, stop_statement, stops_tos}
 use Rattle.vs_reach_local.specs.vs_reach.specs.Reached as reach
-use Rattle.vs_rules.specs.Paths.{Bit}
+use Rattle.vs_slots_ranges.specs.vs_rules.specs.Paths.{Bit}
 use Rattle.vs_cert_facts.specs.vs_slots_paths.specs.Reaches.{Chart, pause_of}
 use Rattle.vs_cert_blocks.specs.Early.{IsScanned}
 use Rattle.vs_cert_blocks.specs.Starts.{ArePut, ArePutAt, AreStarts, DecidesAt, IsClearFrom, IsJoin}

@@ -4,7 +4,7 @@ use Rattle.std.specs.List.{Contains}
 use Rattle.vs_design.specs.declared.range.BitRange.{BitRange}
 use Rattle.vs_flatcode.specs.Stops.{stops_tos}
 use Rattle.vs_flatcode.specs.Ways.{none}
-use Rattle.vs_rules.specs.Paths.{Bit, Has}
+use Rattle.vs_slots_ranges.specs.vs_rules.specs.Paths.{Bit, Has}
 use Rattle.vs_cert_facts.specs.vs_slots_paths.specs.Reaches.{Chart, pause_at}
 use Rattle.vs_cert_facts.specs.vs_slots_paths.specs.Ranges.{reads_at, HasSignal}
 use Rattle.vs_cert_blocks.specs.Walks.{IsWoken, IsWrittenFirst}

@@ -4,7 +4,7 @@ use Rattle.std.specs.BTreeMap.{BTreeMap, get}
 use Rattle.std.specs.List.{Contains}
 use Rattle.std.specs.Ordering.{nat_cmp}
 use Rattle.vs_reach_local.specs.vs_reach.specs.Reached.{Reached}
-use Rattle.vs_rules.specs.Paths.{Bit}
+use Rattle.vs_slots_ranges.specs.vs_rules.specs.Paths.{Bit}
 use Rattle.vs_cert_facts.specs.vs_slots_paths.specs.Reaches.{Chart}
 use Rattle.vs_cert_blocks.specs.Walks.{open_tos, IsClear, IsWrittenFirst}
 

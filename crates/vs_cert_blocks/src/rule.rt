@@ -1,6 +1,6 @@
 //! The rule K5 of a process, on the facts of a certificate.
 ghost use Rattle.std.specs.Prelude.{◌↔◌, IfOk, IsTrue};
-ghost use Rattle.vs_rules.specs.Blocks.{K5};
+ghost use Rattle.vs_slots_ranges.specs.vs_rules.specs.Blocks.{K5};
 ghost use Rattle.vs_cert_blocks.specs.Blocks.{BlocksByPlaces};
 
 use crate::blocks::keeps_process;

@@ -9,5 +9,6 @@ mod words;
 
 pub use facts::Facts;
 pub use maps::{codes, tables, texts};
+pub use vs_certificate;
 pub use vs_process;
 pub use vs_slots_paths;

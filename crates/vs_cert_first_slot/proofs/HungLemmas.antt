@@ -6,12 +6,12 @@ use Rattle.std.proofs.lemmas.Option.{none-some, same_Some, slice_get_cases}
 use Rattle.vs_design.specs.declared.range.BitRange.{BitRange}
 use Rattle.vs_design.specs.Parts.{Parts}
 use Rattle.vs_flatcode.specs.Places.{Todo}
-use Rattle.vs_rules.specs.Claims.{Claims, IsBlock}
-use Rattle.vs_rules.specs.Drivers.{block, DriverNeeds, InCone}
-use Rattle.vs_rules.specs.vs_law_threads.specs.Threads.{todo_shows}
-use Rattle.vs_rules.specs.Paths.{IsPoint}
-use Rattle.vs_rules.specs.Rules.{BlockNeeds}
-use Rattle.vs_rules.specs.Rules as rules
+use Rattle.vs_slots_uses.specs.vs_rules.specs.Claims.{Claims, IsBlock}
+use Rattle.vs_slots_uses.specs.vs_rules.specs.Drivers.{block, DriverNeeds, InCone}
+use Rattle.vs_slots_uses.specs.vs_rules.specs.vs_law_threads.specs.Threads.{todo_shows}
+use Rattle.vs_slots_uses.specs.vs_rules.specs.Paths.{IsPoint}
+use Rattle.vs_slots_uses.specs.vs_rules.specs.Rules.{BlockNeeds}
+use Rattle.vs_slots_uses.specs.vs_rules.specs.Rules as rules
 use Rattle.vs_slots_cones.specs.vs_slots_paths.specs.Ranges.{shows_at}
 use Rattle.vs_slots_cones.specs.vs_slots_paths.specs.Reaches.{Chart, IsPlace, places}
 use Rattle.vs_slots_cones.specs.vs_slots_paths.proofs.EachPoint.{shows_here}

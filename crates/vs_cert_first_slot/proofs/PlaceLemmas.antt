@@ -9,9 +9,9 @@ use Rattle.vs_design.specs.declared.signal.Signal.{Signal}
 use Rattle.vs_design.specs.Kinds.{is_variable}
 use Rattle.vs_design.specs.Parts.{Parts}
 use Rattle.vs_flatcode.specs.Stops.{Stop, stop_at, stop_statement}
-use Rattle.vs_rules.specs.vs_law_threads.specs.Threads.{own_reads, own_shows}
-use Rattle.vs_rules.specs.Claims.{Claims}
-use Rattle.vs_rules.specs.Paths.{Writes, statement_now}
+use Rattle.vs_slots_uses.specs.vs_rules.specs.vs_law_threads.specs.Threads.{own_reads, own_shows}
+use Rattle.vs_slots_uses.specs.vs_rules.specs.Claims.{Claims}
+use Rattle.vs_slots_uses.specs.vs_rules.specs.Paths.{Writes, statement_now}
 use Rattle.vs_slots_cones.specs.vs_slots_paths.specs.Ranges.{ranges_of, now_at, reads_at, shows_at}
 use Rattle.vs_slots_cones.specs.vs_slots_paths.specs.Reaches.{Chart, places}
 use Rattle.vs_cert_first_slot.specs.FirstSlot.{IsOwn, AreOwn, Hangs, NoneHangs, ReadsOwn}

@@ -8,16 +8,16 @@ use Rattle.vs_design.specs.declared.range.BitRange.{BitRange}
 use Rattle.vs_design.specs.Parts.{Parts}
 use Rattle.vs_flatcode.specs.Places.{Todo}
 use Rattle.vs_flatcode.specs.Stops.{IsText}
-use Rattle.vs_rules.specs.vs_law_threads.specs.Threads.{todo_reads, todo_shows}
-use Rattle.vs_rules.specs.Claims.{Claims, IsSequential}
-use Rattle.vs_rules.specs.Paths.{IsSlot0, IsPrologue, WritesNow, todo_now, is_plain, is_zero_time}
-use Rattle.vs_rules.specs.Rules.{K10_Process, Reads}
+use Rattle.vs_slots_uses.specs.vs_rules.specs.vs_law_threads.specs.Threads.{todo_reads, todo_shows}
+use Rattle.vs_slots_uses.specs.vs_rules.specs.Claims.{Claims, IsSequential}
+use Rattle.vs_slots_uses.specs.vs_rules.specs.Paths.{IsSlot0, IsPrologue, WritesNow, todo_now, is_plain, is_zero_time}
+use Rattle.vs_slots_uses.specs.vs_rules.specs.Rules.{K10_Process, Reads}
 use Rattle.vs_slots_cones.specs.vs_slots_paths.specs.declared.along.Along.TheVariants.{Plain, ZeroTime}
 use Rattle.vs_slots_cones.specs.vs_slots_paths.specs.Ranges.{now_at, reads_at, shows_at}
 use Rattle.vs_slots_cones.specs.vs_slots_paths.specs.Reaches.{Chart, places, InSlot0, InPrologue}
 use Rattle.vs_slots_cones.specs.vs_slots_paths.proofs.EachPoint.{reads_here, shows_here}
 use Rattle.vs_slots_cones.specs.vs_slots_paths.proofs.EachWalk.{each_from, writes_now_at}
-use Rattle.vs_rules.proofs.Past.{past_paths}
+use Rattle.vs_slots_uses.specs.vs_rules.proofs.Past.{past_paths}
 use Rattle.vs_cert_facts.specs.Facts.{Case, AreCharts}
 use Rattle.vs_cert_first_slot.specs.FirstSlot.{IsOwn, AreOwn, Hangs, NoneHangs, ReadsOwn, KeepsFirst}
 

@@ -3,10 +3,10 @@ use Rattle.std.specs.Prelude.{ℕ, ◌≡◌, ◌↔◌, Bool, true, false, Some
 use Rattle.std.specs.List.{Contains}
 use Rattle.vs_design.specs.declared.range.BitRange.{BitRange}
 use Rattle.vs_design.specs.Parts.{Parts}
-use Rattle.vs_rules.specs.Claims.{Claims, HasKind, IsBlock, IsSequential}
-use Rattle.vs_rules.specs.Drivers.{block, DriverNeeds, InCone}
-use Rattle.vs_rules.specs.Paths.{Writes}
-use Rattle.vs_rules.specs.Rules.{BlockNeeds}
+use Rattle.vs_slots_uses.specs.vs_rules.specs.Claims.{Claims, HasKind, IsBlock, IsSequential}
+use Rattle.vs_slots_uses.specs.vs_rules.specs.Drivers.{block, DriverNeeds, InCone}
+use Rattle.vs_slots_uses.specs.vs_rules.specs.Paths.{Writes}
+use Rattle.vs_slots_uses.specs.vs_rules.specs.Rules.{BlockNeeds}
 use Rattle.vs_slots_cones.specs.vs_slots_paths.specs.Ranges.{HasSignal, now_at, reads_at, shows_at}
 use Rattle.vs_slots_cones.specs.vs_slots_paths.specs.Reaches.{Chart, IsPlace, InSlot0, InPrologue}
 use Rattle.vs_slots_uses.specs.Texts.{Texts}

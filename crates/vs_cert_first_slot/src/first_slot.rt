@@ -2,8 +2,8 @@
 ghost use Rattle.std.specs.Prelude.{ℕ, ◌≡◌, ◌↔◌, false, slice_index_or, IfOk, IsTrue};
 ghost use Rattle.std.specs.List.{Contains};
 ghost use Rattle.vs_design.specs.Kinds.{is_variable};
-ghost use Rattle.vs_rules.specs.Claims.{IsSequential};
-ghost use Rattle.vs_rules.specs.Rules.{K10_Process};
+ghost use Rattle.vs_slots_uses.specs.vs_rules.specs.Claims.{IsSequential};
+ghost use Rattle.vs_slots_uses.specs.vs_rules.specs.Rules.{K10_Process};
 ghost use Rattle.vs_slots_cones.specs.Wires.{IsWiringOf};
 ghost use Rattle.vs_slots_cones.specs.vs_slots_paths.specs.Ranges.{now_at};
 ghost use Rattle.vs_slots_cones.specs.vs_slots_paths.specs.Reaches.{InSlot0, InPrologue};

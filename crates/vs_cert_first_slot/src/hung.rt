@@ -2,7 +2,7 @@
 ghost use Rattle.std.specs.Prelude.{◌≡◌, ◌<◌, ◌↔◌, ◌⊎◌, OnOk, IfOk};
 ghost use Rattle.std.specs.List.{Contains};
 ghost use Rattle.vs_design.specs.declared.range.BitRange as range;
-ghost use Rattle.vs_rules.specs.Rules.{BlockNeeds};
+ghost use Rattle.vs_slots_uses.specs.vs_rules.specs.Rules.{BlockNeeds};
 ghost use Rattle.vs_slots_cones.specs.Wires.{IsWiringOf};
 ghost use Rattle.vs_slots_cones.specs.vs_slots_paths.specs.Ranges.{shows_at};
 ghost use Rattle.vs_slots_cones.specs.vs_slots_paths.specs.Reaches.{IsPlace};

@@ -2,7 +2,7 @@
 use Rattle.std.proofs.Common.{◌≡◌, ℕ, zero, suc, ◌+◌, ◌⊎◌, ◌↔◌, inl, inr, true, false, Option, Some, None, is_some, List, [], ◌∷◌, ◌++◌, map, append_assoc, add-one, refl, sym, ◌∙◌, ap, subst, arith}
 use Rattle.std.specs.List.{flat_map}
 use Rattle.std.proofs.lemmas.List.{map-append}
-use Rattle.vs_certificate.specs.declared.members.Certificate.{Certificate}
+use Rattle.vs_cert_facts.specs.vs_certificate.specs.declared.members.Certificate.{Certificate}
 use Rattle.vs_cert_index.specs.vs_rules.specs.Certificates.{claims_of, edge_claim, name_from, process_claim, signal_claim}
 use Rattle.vs_cert_index.specs.vs_rules.specs.Claims.{Name, Claims, ProcessClaim, SignalClaim, all_names, names_of_edge}
 use Rattle.vs_cert_index.specs.vs_rules.specs.Verdict.{Subject, numbers}

@@ -10,4 +10,4 @@ pub use rule::{
     keeps_assign_name, keeps_listed_name, keeps_names, keeps_process_name, keeps_signal_name,
 };
 pub use subjects::{Subject, all_subjects, name_of};
-pub use vs_certificate;
+pub use vs_cert_facts::vs_certificate;

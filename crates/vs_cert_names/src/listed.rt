@@ -7,7 +7,7 @@ ghost use Rattle.vs_cert_index.specs.Places.{texts};
 
 use std::alloc::{AllocError, Global};
 use vs_cert_facts::Facts;
-use vs_certificate::{EdgeSignal, ProcessEntry, SignalEntry};
+use vs_cert_facts::vs_certificate::{EdgeSignal, ProcessEntry, SignalEntry};
 
 // Puts the names of the entries of edge terms, of each the root first.
 fn push_edges<'a>(names: &mut Vec<&'a [u8]>, edges: &'a [EdgeSignal]) -> Result<(), AllocError>

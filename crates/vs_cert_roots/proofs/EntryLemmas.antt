@@ -6,9 +6,9 @@ use Rattle.std.specs.declared.vec.Vec.{Vec}
 use Rattle.std.specs.declared.alloc.Global.{Global}
 use Rattle.std.proofs.lemmas.Option.{same_Some, slice_get-map, slice_get_within, slice_get_past}
 use Rattle.std.proofs.lemmas.Slice.Eq.{bytes_eq-Decides}
-use Rattle.vs_logic4.proofs.Basics.{there}
-use Rattle.vs_certificate.specs.declared.members.Certificate.{Certificate}
-use Rattle.vs_certificate.specs.declared.members.EdgeSignal.{EdgeSignal}
+use Rattle.vs_design.specs.vs_logic4.proofs.Basics.{there}
+use Rattle.vs_rules.specs.vs_certificate.specs.declared.members.Certificate.{Certificate}
+use Rattle.vs_rules.specs.vs_certificate.specs.declared.members.EdgeSignal.{EdgeSignal}
 use Rattle.vs_design.specs.Parts.{Parts}
 use Rattle.vs_rules.specs.Certificates.{claims_of, edge_claim}
 use Rattle.vs_rules.specs.Claims.{Name, Claims, EdgeClaim, IsSignalNamed, IsRootOf, signal_name, times_in}

@@ -1,6 +1,6 @@
 -- What a root is given in the first slot.
 use Rattle.std.proofs.Common.{◌≡◌, ℕ, ◌<◌, ◌≤◌, ◌⊎◌, inl, inr, List, length, sym, ◌∙◌, ap, subst, arith}
-use Rattle.vs_logic4.proofs.Basics.{there}
+use Rattle.vs_design.specs.vs_logic4.proofs.Basics.{there}
 use Rattle.vs_design.specs.Parts.{Parts}
 use Rattle.vs_process.specs.vs_flatcode.specs.Places.{Todo}
 use Rattle.vs_rules.specs.Claims.{Claims, IsRoot}

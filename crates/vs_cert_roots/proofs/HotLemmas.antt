@@ -2,8 +2,8 @@
 use Rattle.std.proofs.Common.{◌≡◌, ℕ, ◌<◌, ◌≤◌, ◌⊎◌, ◌↔◌, inl, inr, Bool, true, false, IsTrue, Option, Some, None, List, [], ◌∷◌, length, option_map, slice_index_or, refl, sym, subst, arith}
 use Rattle.std.specs.List.{Contains}
 use Rattle.std.proofs.lemmas.Option.{same_Some}
-use Rattle.vs_certificate.specs.declared.members.SignalMode.{SignalMode}
-use Rattle.vs_certificate.specs.declared.members.SignalMode.TheVariants as modes
+use Rattle.vs_rules.specs.vs_certificate.specs.declared.members.SignalMode.{SignalMode}
+use Rattle.vs_rules.specs.vs_certificate.specs.declared.members.SignalMode.TheVariants as modes
 use Rattle.vs_design.specs.declared.range.BitRange.{BitRange}
 use Rattle.vs_design.specs.declared.statement.Statement.{Statement}
 use Rattle.vs_design.specs.declared.statement.Statement.TheOpen.{Statement-F}

@@ -3,7 +3,7 @@ use Rattle.std.proofs.Common.{◌≡◌, ℕ, ◌+◌, ◌<◌, ◌≤◌, ◌�
 use Rattle.std.specs.List.{Contains, list_any}
 use Rattle.std.proofs.lemmas.Bool.{and_parts, and_from, eqb-true}
 use Rattle.std.proofs.lemmas.Option.{same_Some, slice_get_within, slice_get-get_or, get_or_from_slice_get}
-use Rattle.vs_logic4.proofs.Basics.{element_of, same_self, there}
+use Rattle.vs_design.specs.vs_logic4.proofs.Basics.{element_of, same_self, there}
 use Rattle.vs_design.specs.declared.design.Process.{Process}
 use Rattle.vs_design.specs.declared.statement.EventTerm.{EventTerm}
 use Rattle.vs_design.specs.Parts.{Parts}
@@ -16,9 +16,9 @@ use Rattle.vs_slots_copies.specs.vs_slots_paths.specs.Reaches.{Chart}
 use Rattle.vs_slots_copies.specs.vs_slots_paths.specs.Ranges.{HasTermAt}
 use Rattle.vs_slots_copies.specs.vs_slots_paths.proofs.EachWalk.{terms_exact}
 use Rattle.vs_cert_ranks.specs.vs_cert_facts.specs.Facts.{AreCharts}
-use Rattle.vs_logic4.specs.declared.digit.Digit.{Digit}
-use Rattle.vs_logic4.specs.declared.digit.Digit.TheVariants.{X}
-use Rattle.vs_logic4.specs.Edges.{is_edge}
+use Rattle.vs_design.specs.vs_logic4.specs.declared.digit.Digit.{Digit}
+use Rattle.vs_design.specs.vs_logic4.specs.declared.digit.Digit.TheVariants.{X}
+use Rattle.vs_design.specs.vs_logic4.specs.Edges.{is_edge}
 use Rattle.vs_cert_roots.specs.Entries.{AreTerms, NamesTerm, WakesAt, is_edge_of}
 use Rattle.vs_cert_roots.specs.First.{WakesSignal}
 use Rattle.vs_cert_roots.proofs.ListLemmas.{any_in, appended, in_one, nothing_more}

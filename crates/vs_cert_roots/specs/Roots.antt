@@ -1,7 +1,7 @@
 -- Roots, by the places of maps.
 use Rattle.std.specs.Prelude.{ℕ, ◌≡◌, ◌↔◌, Bool, true, false, Option, Some, List, slice_get}
-use Rattle.vs_certificate.specs.declared.members.SignalMode.{SignalMode}
-use Rattle.vs_certificate.specs.declared.members.SignalMode.TheVariants as modes
+use Rattle.vs_rules.specs.vs_certificate.specs.declared.members.SignalMode.{SignalMode}
+use Rattle.vs_rules.specs.vs_certificate.specs.declared.members.SignalMode.TheVariants as modes
 use Rattle.vs_design.specs.declared.design.Process.{Process}
 use Rattle.vs_design.specs.Parts.{Parts}
 use Rattle.vs_process.specs.vs_flatcode.specs.Places.{Todo}

@@ -2,8 +2,8 @@
 ghost use Rattle.std.specs.Prelude.{ℕ, ◌≡◌, ◌<◌, ◌↔◌, ◌⊎◌, length, slice_index, IfOk, OnOk, IsTrue};
 ghost use Rattle.std.specs.List.{Contains, list_any};
 ghost use Rattle.vs_design.specs.declared.statement.EventTerm.{EventTerm};
-ghost use Rattle.vs_logic4.specs.declared.digit.Digit.TheVariants.{X};
-ghost use Rattle.vs_logic4.specs.Edges.{is_edge};
+ghost use Rattle.vs_design.specs.vs_logic4.specs.declared.digit.Digit.TheVariants.{X};
+ghost use Rattle.vs_design.specs.vs_logic4.specs.Edges.{is_edge};
 ghost use Rattle.vs_process.specs.Executions.{is_level};
 ghost use Rattle.vs_rules.specs.Certificates.{claims_of};
 ghost use Rattle.vs_rules.specs.Claims.{IsRootOf};
@@ -18,9 +18,9 @@ use std::marker::Model;
 use vs_cert_ranks::Writes;
 use vs_cert_ranks::vs_cert_facts::Facts;
 use vs_cert_ranks::vs_reach::{Family, gather};
-use vs_certificate::Certificate;
 use vs_design::EventTerm;
-use vs_logic4::{Digit, Edge};
+use vs_design::vs_logic4::{Digit, Edge};
+use vs_rules::vs_certificate::Certificate;
 use vs_slots_copies::only;
 use vs_slots_copies::vs_slots_paths::{index_of, terms};
 

@@ -15,7 +15,7 @@ use std::alloc::{AllocError, Global};
 use std::marker::Model;
 use vs_cert_ranks::vs_cert_facts::Facts;
 use vs_cert_ranks::vs_reach::{Family, gather};
-use vs_logic4::Digit;
+use vs_design::vs_logic4::Digit;
 use vs_slots_copies::vs_slots_constants::{Bit, given_by};
 use vs_slots_copies::vs_slots_paths::{Tables, index_of};
 use vs_slots_copies::{only, push_signals};

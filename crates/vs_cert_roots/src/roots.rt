@@ -13,8 +13,8 @@ use std::alloc::{AllocError, Global};
 use vs_cert_ranks::Writes;
 use vs_cert_ranks::vs_cert_facts::Facts;
 use vs_cert_ranks::vs_reach::{Rule, all_keep};
-use vs_certificate::SignalMode;
 use vs_design::{Design, SignalKind};
+use vs_rules::vs_certificate::SignalMode;
 use vs_slots_copies::Copies;
 use vs_slots_copies::vs_slots_paths::{Tables, hot};
 

@@ -11,7 +11,7 @@ use crate::starts::{no_starter_in, start_of};
 use std::alloc::{AllocError, Global};
 use std::marker::Model;
 use vs_cert_facts::Facts;
-use vs_certificate::Start;
+use vs_cert_facts::vs_certificate::Start;
 use vs_design::BitRange;
 use vs_slots_cones::Cones;
 

@@ -10,7 +10,7 @@ ghost use Rattle.vs_cert_starts.specs.Started.{AreTerms, IsOf, IsStartedBy, MayS
 use crate::started::starts_for;
 use std::alloc::{AllocError, Global};
 use vs_cert_facts::Facts;
-use vs_certificate::SignalMode;
+use vs_cert_facts::vs_certificate::SignalMode;
 use vs_design::{BitRange, EventTerm};
 use vs_slots_copies::Copies;
 

@@ -19,7 +19,7 @@ use crate::apart::Starts;
 use crate::starter::has_starter;
 use std::alloc::{AllocError, Global};
 use vs_cert_facts::Facts;
-use vs_certificate::{ClaimedKind, Start};
+use vs_cert_facts::vs_certificate::{ClaimedKind, Start};
 use vs_design::{BitRange, EventTerm};
 use vs_slots_cold::Beginning;
 use vs_slots_cones::Cones;

@@ -15,7 +15,7 @@ ghost use Rattle.vs_cert_writers.specs.Writers.{texts_in};
 use crate::points::NotOf;
 use crate::writers::Claimed;
 use vs_cert_facts::Facts;
-use vs_certificate::SignalMode;
+use vs_cert_facts::vs_certificate::SignalMode;
 use vs_design::{Design, SignalKind};
 use vs_slots_uses::Uses;
 

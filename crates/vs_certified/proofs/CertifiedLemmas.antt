@@ -5,22 +5,22 @@ use Rattle.std.specs.Io.KnownBytes.{Appends}
 use Rattle.vs_design.specs.Parts.{Parts}
 use Rattle.vs_design.specs.Stores.{Store}
 use Rattle.vs_design.specs.Traces.{Slot, SameTrace}
-use Rattle.vs_process.specs.declared.moves.Grain.{Grain}
-use Rattle.vs_process.specs.declared.moves.Grain.TheVariants.{Block, Statement}
-use Rattle.vs_process.specs.declared.moves.Move.{Move}
-use Rattle.vs_process.specs.Executions.{after, Legal, is_complete, lines_of, slots, trace}
-use Rattle.vs_process.specs.States.{State}
-use Rattle.vs_kernel.specs.vs_vcd_writing.specs.Shown.{Shows, slot_at}
-use Rattle.vs_kernel.specs.vs_vcd_writing.specs.Text.{vcd_header, vcd_slots, vcd_text}
-use Rattle.vs_kernel.specs.vs_vcd_writing.specs.Values.{shown_value}
+use Rattle.vs_independence.specs.vs_process.specs.declared.moves.Grain.{Grain}
+use Rattle.vs_independence.specs.vs_process.specs.declared.moves.Grain.TheVariants.{Block, Statement}
+use Rattle.vs_independence.specs.vs_process.specs.declared.moves.Move.{Move}
+use Rattle.vs_independence.specs.vs_process.specs.Executions.{after, Legal, is_complete, lines_of, slots, trace}
+use Rattle.vs_independence.specs.vs_process.specs.States.{State}
+use Rattle.vs_simulate.specs.vs_kernel.specs.vs_vcd_writing.specs.Shown.{Shows, slot_at}
+use Rattle.vs_simulate.specs.vs_kernel.specs.vs_vcd_writing.specs.Text.{vcd_header, vcd_slots, vcd_text}
+use Rattle.vs_simulate.specs.vs_kernel.specs.vs_vcd_writing.specs.Values.{shown_value}
 use Rattle.vs_independence.specs.Displays.{LinesAreOfSlots}
 use Rattle.vs_cert_check.specs.vs_rules.specs.Claims.{Claims}
 use Rattle.vs_cert_check.specs.Means.{IsIndependent}
-use Rattle.vs_kernel.specs.Runs.{EndsAs, RanTo, StopsAt, text_so_far}
-use Rattle.vs_kernel.specs.Shows.{ShowsSlotEnds}
-use Rattle.vs_kernel.specs.declared.outcome.Outcome.{Outcome}
-use Rattle.vs_kernel.specs.declared.outcome.Outcome.TheVariants.{Finished, Quiet, Reached, StepLimit}
-use Rattle.vs_kernel.proofs.RunsLemmas.{all_kept, complete_over}
+use Rattle.vs_simulate.specs.vs_kernel.specs.Runs.{EndsAs, RanTo, StopsAt, text_so_far}
+use Rattle.vs_simulate.specs.vs_kernel.specs.Shows.{ShowsSlotEnds}
+use Rattle.vs_simulate.specs.vs_kernel.specs.declared.outcome.Outcome.{Outcome}
+use Rattle.vs_simulate.specs.vs_kernel.specs.declared.outcome.Outcome.TheVariants.{Finished, Quiet, Reached, StepLimit}
+use Rattle.vs_simulate.specs.vs_kernel.proofs.RunsLemmas.{all_kept, complete_over}
 use Rattle.vs_certified.specs.Certified.{StandsFor, is_whole}
 use Rattle.vs_certified.proofs.LinesLemmas.{lines_alike}
 use Rattle.vs_certified.proofs.TraceLemmas.{shown_same, text_same}

@@ -5,9 +5,9 @@ use Rattle.std.specs.Option.{option_or}
 use Rattle.vs_design.specs.Parts.{Parts}
 use Rattle.vs_design.specs.Stores.{Store}
 use Rattle.vs_design.specs.Traces.{Slot, Trace, SameSlots, SameTrace}
-use Rattle.vs_kernel.specs.vs_vcd_writing.specs.Codes.{shown}
-use Rattle.vs_kernel.specs.vs_vcd_writing.specs.Shown.{slot_at}
-use Rattle.vs_kernel.specs.vs_vcd_writing.specs.Text.{end_time, first_lines, is_written, last_time, last_time_after, later_lines, lines_after, slots_lines, text_of, end_lines, vcd_end, vcd_header, vcd_slots, vcd_text}
+use Rattle.vs_simulate.specs.vs_kernel.specs.vs_vcd_writing.specs.Codes.{shown}
+use Rattle.vs_simulate.specs.vs_kernel.specs.vs_vcd_writing.specs.Shown.{slot_at}
+use Rattle.vs_simulate.specs.vs_kernel.specs.vs_vcd_writing.specs.Text.{end_time, first_lines, is_written, last_time, last_time_after, later_lines, lines_after, slots_lines, text_of, end_lines, vcd_end, vcd_header, vcd_slots, vcd_text}
 
 after_same : (signals : List ℕ) (before : Store) (ss ts : List Slot) → SameSlots ss ts → lines_after signals before ss ≡ lines_after signals before ts
 after_same signals before [] [] h = refl

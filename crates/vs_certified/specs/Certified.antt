@@ -7,22 +7,22 @@ use Rattle.vs_certificate.specs.JsonValue.{value_of}
 use Rattle.vs_certificate.specs.Reading.{Passes}
 use Rattle.vs_design.specs.Parts.{Parts}
 use Rattle.vs_design.specs.Traces.{Line, SameTrace, Slot, Trace, times_in}
-use Rattle.vs_process.specs.declared.moves.Move.{Move}
-use Rattle.vs_process.specs.Executions.{after, Legal, is_complete, trace}
-use Rattle.vs_kernel.specs.vs_vcd_writing.specs.Codes.{shown}
-use Rattle.vs_kernel.specs.vs_vcd_writing.specs.Shown.{Shows, slot_at}
-use Rattle.vs_kernel.specs.vs_vcd_writing.specs.Text.{vcd_text}
-use Rattle.vs_kernel.specs.vs_vcd_writing.specs.Values.{shown_value}
+use Rattle.vs_independence.specs.vs_process.specs.declared.moves.Move.{Move}
+use Rattle.vs_independence.specs.vs_process.specs.Executions.{after, Legal, is_complete, trace}
+use Rattle.vs_simulate.specs.vs_kernel.specs.vs_vcd_writing.specs.Codes.{shown}
+use Rattle.vs_simulate.specs.vs_kernel.specs.vs_vcd_writing.specs.Shown.{Shows, slot_at}
+use Rattle.vs_simulate.specs.vs_kernel.specs.vs_vcd_writing.specs.Text.{vcd_text}
+use Rattle.vs_simulate.specs.vs_kernel.specs.vs_vcd_writing.specs.Values.{shown_value}
 use Rattle.vs_independence.specs.Displays.{DisplaySlot, SameDisplays, displays}
 use Rattle.vs_cert_check.specs.vs_rules.specs.Certificates.{claims_of}
 use Rattle.vs_cert_check.specs.vs_rules.specs.Claims.{Claims, blocks_of}
 use Rattle.vs_cert_check.specs.vs_rules.specs.Verdict.{Disciplined}
-use Rattle.vs_kernel.specs.vs_run_turns.specs.Prints.{lines_text}
-use Rattle.vs_kernel.specs.Runs.{HasBegun, RanTo}
-use Rattle.vs_kernel.specs.Shows.{ShowsSlotEnds}
-use Rattle.vs_kernel.specs.declared.outcome.Outcome.{Outcome}
-use Rattle.vs_kernel.specs.declared.outcome.Outcome.TheVariants.{StepLimit}
-use Rattle.vs_kernel.specs.declared.outcome.RunFault.TheVariants as run
+use Rattle.vs_simulate.specs.vs_kernel.specs.vs_run_turns.specs.Prints.{lines_text}
+use Rattle.vs_simulate.specs.vs_kernel.specs.Runs.{HasBegun, RanTo}
+use Rattle.vs_simulate.specs.vs_kernel.specs.Shows.{ShowsSlotEnds}
+use Rattle.vs_simulate.specs.vs_kernel.specs.declared.outcome.Outcome.{Outcome}
+use Rattle.vs_simulate.specs.vs_kernel.specs.declared.outcome.Outcome.TheVariants.{StepLimit}
+use Rattle.vs_simulate.specs.vs_kernel.specs.declared.outcome.RunFault.TheVariants as run
 use Rattle.vs_cert_check.specs.Means.{IsIndependent}
 use Rattle.vs_simulate.specs.Honesty.{Defines, SimulationFails, is_refusal}
 use Rattle.vs_simulate.specs.declared.fault.SimFault.TheVariants.{Run}

@@ -1,15 +1,15 @@
 //! A run that stands for all permitted ones, from bytes.
 ghost use Rattle.std.specs.Prelude.{◌≡◌, ◌<◌, ◌^◌, true, false, IfOk, IfErr};
 ghost use Rattle.vs_certified.specs.Certified.{IsCertifiedRun, HasBegunCertifiedRun, CertifyingFails, is_before_run, is_write};
-ghost use Rattle.vs_kernel.specs.Faults.{OneFailed};
+ghost use Rattle.vs_simulate.specs.vs_kernel.specs.Faults.{OneFailed};
 
 use crate::fault::CertifiedFault;
 use std::alloc::Global;
 use vs_cert_check::{Verdict, check};
 use vs_certificate::from_json;
 use vs_independence::lines_are_of_slots;
-use vs_kernel::vs_vcd_writing::Sink;
-use vs_kernel::{Outcome, dumps_show_slot_ends};
+use vs_simulate::vs_kernel::vs_vcd_writing::Sink;
+use vs_simulate::vs_kernel::{Outcome, dumps_show_slot_ends};
 use vs_simulate::{Policy, design_of, names_of_one_line, run_design};
 
 /// Runs the design that a source and the name of a top module define, as `simulate` does, where it keeps all rules of a certificate, which is given

@@ -5,8 +5,8 @@ ghost use Rattle.vs_simulate.specs.declared.fault.SimFault.TheVariants as simula
 
 use std::alloc::AllocError;
 use vs_certificate::CertFault;
-use vs_kernel::RunFault;
 use vs_simulate::SimFault;
+use vs_simulate::vs_kernel::RunFault;
 
 /// Why a certificate has no verdict, or a certified run no outcome.
 #[derive(Drop)]

@@ -9,5 +9,6 @@ pub use certifying::certified;
 pub use fault::CertifiedFault;
 pub use judging::judge;
 pub use vs_cert_check;
-pub use vs_kernel;
-pub use vs_kernel::vs_vcd_writing;
+pub use vs_simulate;
+pub use vs_simulate::vs_kernel;
+pub use vs_simulate::vs_kernel::vs_vcd_writing;

@@ -18,10 +18,10 @@ use Rattle.vs_elab_listed.specs.declared.opened.Hierarchy.{Hierarchy}
 use Rattle.vs_elab_listed.specs.declared.opened.Numbering.{Numbering}
 use Rattle.vs_elab_listed.specs.Opened.{StandsAround, IsEntered, IsOpened, AreOpened, AreSeated, HasBlocks, OpensAll}
 use Rattle.vs_elab_listed.specs.Outlines.{declared, IsEntry, outline_of}
-use Rattle.vs_elab_entered.specs.passes.Blocks.{named_text, text_name, HasIndex, HasNoBlocks, with_blocks, IsIndexed, AreIndexedUpTo, AddsBlock, AreIndexed, HasInside, AreNamed}
+use Rattle.vs_elab_scope.specs.vs_elab_entered.specs.passes.Blocks.{named_text, text_name, HasIndex, HasNoBlocks, with_blocks, IsIndexed, AreIndexedUpTo, AddsBlock, AreIndexed, HasInside, AreNamed}
 use Rattle.vs_elab_hierarchy.specs.passes.Opens.{Made}
-use Rattle.vs_elab_entered.proofs.ListLemmas.{same_at, all_at, zip_by}
-use Rattle.vs_elab_entered.proofs.SeatLemmas.{opened_many, opened_here, scope_at}
+use Rattle.vs_elab_scope.specs.vs_elab_entered.proofs.ListLemmas.{same_at, all_at, zip_by}
+use Rattle.vs_elab_scope.specs.vs_elab_entered.proofs.SeatLemmas.{opened_many, opened_here, scope_at}
 use Rattle.vs_elab_hierarchy.proofs.SourceLemmas.{none_stands}
 
 -- ---- one element that is set

@@ -24,12 +24,12 @@ use Rattle.vs_scopes.specs.passes.Answers.{Told, Refuses, IsRefusal}
 use Rattle.vs_scopes.proofs.Folds.{any_false_at}
 use Rattle.vs_scopes.proofs.AnswerLemmas.{told_by, told_part}
 use Rattle.vs_elab_listed.specs.ScopeFaults.{Repeated, of_module, AtInstance, parameter_fault, override_fault, HasConstructFault, PassesLimit, PassesTurns, HoldsOpening, HoldsOpeningIn}
-use Rattle.vs_elab_entered.specs.vs_elab_implicit_nets.specs.passes.Nets.{IsNamedAsNet}
-use Rattle.vs_elab_entered.specs.passes.Entering.{IsSoundUse, IsSoundInner, EntersNot}
+use Rattle.vs_elab_scope.specs.vs_elab_entered.specs.vs_elab_implicit_nets.specs.passes.Nets.{IsNamedAsNet}
+use Rattle.vs_elab_scope.specs.vs_elab_entered.specs.passes.Entering.{IsSoundUse, IsSoundInner, EntersNot}
 use Rattle.vs_elab_scope.specs.passes.Own.{IsSoundOwn, HoldsOwn}
 use Rattle.vs_elab_scope.specs.passes.Adding.{AddsInnerNot}
 use Rattle.vs_elab_hierarchy.specs.passes.Opens.{HasInnerNot, IsSoundInside}
-use Rattle.vs_elab_entered.proofs.ListLemmas.{slice_either, all_at}
+use Rattle.vs_elab_scope.specs.vs_elab_entered.proofs.ListLemmas.{slice_either, all_at}
 use Rattle.vs_design.specs.vs_logic4.proofs.Basics.{slice_front, slice_back}
 use Rattle.vs_elab_scope.proofs.OwnLemmas.{is_deep, is_few}
 use Rattle.vs_elab_hierarchy.proofs.OpenLemmas.{below_append, within_inside}

@@ -10,11 +10,11 @@ use Rattle.vs_elab_listed.specs.vs_elab_generate.specs.declared.opening.Inner.{I
 use Rattle.vs_elab_listed.specs.vs_elab_generate.specs.Reads.{read_inner}
 use Rattle.vs_elab_listed.specs.declared.opened.ListedScope.{ListedScope as FoundScope}
 use Rattle.vs_elab_listed.specs.declared.opened.Numbering.{Numbering}
-use Rattle.vs_elab_entered.specs.declared.entering.NamedModule.{NamedModule}
-use Rattle.vs_elab_entered.specs.passes.Entering.{before_next}
+use Rattle.vs_elab_scope.specs.vs_elab_entered.specs.declared.entering.NamedModule.{NamedModule}
+use Rattle.vs_elab_scope.specs.vs_elab_entered.specs.passes.Entering.{before_next}
 use Rattle.vs_elab_scope.specs.passes.Adding.{AddsInnerAt, AddsInnerNot, IsHolding}
 use Rattle.vs_elab_listed.specs.Opened.{AreOpened, AreSeated}
-use Rattle.vs_elab_entered.proofs.SeatLemmas.{opened_place}
+use Rattle.vs_elab_scope.specs.vs_elab_entered.proofs.SeatLemmas.{opened_place}
 use Rattle.vs_syntax.specs.declared.tree.Module.{Module}
 use Rattle.vs_elab_hierarchy.specs.declared.opening.Opening.{Opening}
 use Rattle.vs_elab_hierarchy.specs.passes.Opens.{HasInner, HasInnerNot, IsReady}

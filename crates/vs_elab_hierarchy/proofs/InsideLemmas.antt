@@ -25,14 +25,14 @@ use Rattle.vs_elab_listed.specs.declared.opened.Numbering.{Numbering}
 use Rattle.vs_elab_listed.specs.Opened.{IsOpened}
 use Rattle.vs_elab_listed.specs.ScopeFaults.{HasConstructFault, HoldsOpeningIn}
 use Rattle.vs_elab_listed.proofs.BindLemmas.{is_key}
-use Rattle.vs_elab_entered.specs.declared.entering.NamedModule.{NamedModule}
-use Rattle.vs_elab_entered.specs.passes.Entering.{before_next}
+use Rattle.vs_elab_scope.specs.vs_elab_entered.specs.declared.entering.NamedModule.{NamedModule}
+use Rattle.vs_elab_scope.specs.vs_elab_entered.specs.passes.Entering.{before_next}
 use Rattle.vs_elab_scope.specs.passes.Own.{IsSoundOwn}
 use Rattle.vs_elab_scope.specs.passes.Adding.{AddsInnerAt, AddsInnerNot, IsHolding}
 use Rattle.vs_elab_hierarchy.specs.passes.Opens.{FindsInner, HasInner, IsReady, OpensInside, HoldsInner, OpensInsideNot}
-use Rattle.vs_elab_entered.proofs.ListLemmas.{all_at}
+use Rattle.vs_elab_scope.specs.vs_elab_entered.proofs.ListLemmas.{all_at}
 use Rattle.vs_design.specs.vs_logic4.proofs.Basics.{slice_front, at_end as slice_end}
-use Rattle.vs_elab_entered.proofs.EnterLemmas.{known_levels}
+use Rattle.vs_elab_scope.specs.vs_elab_entered.proofs.EnterLemmas.{known_levels}
 use Rattle.vs_elab_scope.proofs.OwnLemmas.{is_deep}
 use Rattle.vs_elab_scope.proofs.AddLemmas.{opened_before, planned_behind}
 use Rattle.vs_elab_hierarchy.proofs.OpenLemmas.{holding_none, holding_more, holding_all}

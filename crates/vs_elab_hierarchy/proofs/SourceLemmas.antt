@@ -44,16 +44,16 @@ use Rattle.vs_elab_listed.specs.Outlines.{declared, outline_within, outline_of, 
 use Rattle.vs_elab_listed.specs.ScopeFaults.{Repeated, of_module, top_fault, HoldsOpeningIn, StandsOpening}
 use Rattle.vs_elab_listed.proofs.BindLemmas.{bytes_eq_equiv, place_of_any}
 use Rattle.vs_design.specs.vs_logic4.proofs.Basics.{left_false, right_false}
-use Rattle.vs_elab_entered.specs.vs_elab_implicit_nets.specs.declared.members.Members.{Members}
-use Rattle.vs_elab_entered.specs.vs_elab_implicit_nets.specs.passes.Nets.{AreMembers}
-use Rattle.vs_elab_entered.specs.declared.entering.NamedModule.{NamedModule}
-use Rattle.vs_elab_entered.specs.passes.Blocks.{AreNamed}
-use Rattle.vs_elab_entered.specs.passes.Entering.{module_names, Lists, ListsNot}
+use Rattle.vs_elab_scope.specs.vs_elab_entered.specs.vs_elab_implicit_nets.specs.declared.members.Members.{Members}
+use Rattle.vs_elab_scope.specs.vs_elab_entered.specs.vs_elab_implicit_nets.specs.passes.Nets.{AreMembers}
+use Rattle.vs_elab_scope.specs.vs_elab_entered.specs.declared.entering.NamedModule.{NamedModule}
+use Rattle.vs_elab_scope.specs.vs_elab_entered.specs.passes.Blocks.{AreNamed}
+use Rattle.vs_elab_scope.specs.vs_elab_entered.specs.passes.Entering.{module_names, Lists, ListsNot}
 use Rattle.vs_elab_scope.specs.passes.Own.{IsSoundOwn, HoldsOwn, own_lines}
 use Rattle.vs_elab_scope.specs.passes.Adding.{IsPlanned, IsNext, AddsScope}
 use Rattle.vs_elab_hierarchy.specs.passes.Opens.{IsReady, IsSoundInside, scopes_inside, lines_inside, OpensInside, IsTop, TopNot, Made}
-use Rattle.vs_elab_entered.proofs.SeatLemmas.{seated_none}
-use Rattle.vs_elab_entered.proofs.EnterLemmas.{said_none}
+use Rattle.vs_elab_scope.specs.vs_elab_entered.proofs.SeatLemmas.{seated_none}
+use Rattle.vs_elab_scope.specs.vs_elab_entered.proofs.EnterLemmas.{said_none}
 use Rattle.vs_elab_hierarchy.proofs.OpenLemmas.{within_inside, outline_inside, lines_join}
 use Rattle.vs_elab_hierarchy.proofs.FaultLemmas.{own_told, none_in, not_repeated}
 

@@ -22,9 +22,9 @@ use Rattle.vs_elab_listed.specs.declared.opened.ListedScope.{ListedScope as Foun
 use Rattle.vs_elab_listed.specs.declared.opened.Numbering.{Numbering}
 use Rattle.vs_elab_listed.specs.Opened.{AreSeated}
 use Rattle.vs_elab_listed.specs.ScopeFaults.{top_fault, StandsOpening}
-use Rattle.vs_elab_entered.specs.declared.entering.NamedModule.{NamedModule}
-use Rattle.vs_elab_entered.specs.passes.Blocks.{text_name, HasIndex, with_blocks, AddsBlock, AreIndexedUpTo, AreIndexed}
-use Rattle.vs_elab_entered.specs.passes.Entering.{Lists}
+use Rattle.vs_elab_scope.specs.vs_elab_entered.specs.declared.entering.NamedModule.{NamedModule}
+use Rattle.vs_elab_scope.specs.vs_elab_entered.specs.passes.Blocks.{text_name, HasIndex, with_blocks, AddsBlock, AreIndexedUpTo, AreIndexed}
+use Rattle.vs_elab_scope.specs.vs_elab_entered.specs.passes.Entering.{Lists}
 use Rattle.vs_elab_scope.specs.passes.Adding.{AddsScope}
 use Rattle.vs_elab_scope.specs.passes.Own.{HoldsOwn}
 use Rattle.vs_elab_hierarchy.specs.passes.Opens.{IsReady, OpensInside, OpensInsideNot, TopNot, Made}

@@ -11,12 +11,12 @@ ghost use Rattle.vs_elab_hierarchy.specs.passes.InHand.{Asked, InHand};
 
 use std::alloc::Global;
 use vs_design::Entry;
-use vs_elab_entered::NamedModule;
-use vs_elab_entered::vs_elab_implicit_nets::check_blocks;
 use vs_elab_listed::vs_elab_generate::{Inner, inners};
 use vs_elab_listed::{ListedScope, Numbering, names_around, scope_fault};
 use vs_elab_parameters::vs_widths::{Levels, Names};
 use vs_elab_scope::add;
+use vs_elab_scope::vs_elab_entered::NamedModule;
+use vs_elab_scope::vs_elab_entered::vs_elab_implicit_nets::check_blocks;
 use vs_scopes::{BodyFault, ElabFault};
 
 /// A fault of a generate construct of the scope at a place.

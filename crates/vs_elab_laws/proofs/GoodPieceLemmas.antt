@@ -21,8 +21,8 @@ use Rattle.vs_syntax.specs.declared.tree.ModuleItem.TheOpen as mf
 use Rattle.vs_syntax.specs.SourceNames.{local_names, stmt_names_step, stmt_names, item_names, instance_names}
 use Rattle.vs_elab_pieces.specs.Uses.{names_used_by, names_used}
 use Rattle.vs_elab_pieces.specs.Pieces.{each_of, NamedBlock, blocks_in, blocks_among, blocks_of, Piece, plain, loop, choice, local, inside, net, pieces_in, pieces_of, block_pieces, Content, nothing, block, content_step, content_of}
-use Rattle.vs_width_selects.specs.declared.constants.Const.{Const}
-use Rattle.vs_width_selects.specs.Environment.{Environment}
+use Rattle.vs_elab_operands.specs.vs_width_selects.specs.declared.constants.Const.{Const}
+use Rattle.vs_elab_operands.specs.vs_width_selects.specs.Environment.{Environment}
 use Rattle.vs_elaborate.specs.vs_scopes.specs.Declarations.{Bindings, use_of, uses_by_item}
 use Rattle.vs_elaborate.specs.vs_scopes.specs.Nets.{Sight, new_among, with_nets, is_known, pieces_with_nets}
 use Rattle.vs_elaborate.specs.vs_scopes.specs.Parameters.{any_fault}

@@ -27,8 +27,8 @@ use Rattle.vs_design.specs.declared.design.Entry.TheVariants.{Enter, Declare, Le
 use Rattle.vs_design.specs.declared.design.ScopeKind.{ScopeKind}
 use Rattle.vs_design.specs.declared.signal.Signal.{Signal}
 use Rattle.vs_design.specs.Parts.{Parts}
-use Rattle.vs_width_selects.specs.declared.constants.Const.{Const}
-use Rattle.vs_width_selects.specs.Environment.{Environment}
+use Rattle.vs_elab_operands.specs.vs_width_selects.specs.declared.constants.Const.{Const}
+use Rattle.vs_elab_operands.specs.vs_width_selects.specs.Environment.{Environment}
 use Rattle.vs_elaborate.specs.vs_scopes.specs.Printed.{PathName, plainly}
 use Rattle.vs_elaborate.specs.vs_scopes.specs.Parameters.{said, any_fault}
 use Rattle.vs_elaborate.specs.vs_scopes.specs.Ports.{ModulePort, KindSaid, port_as, ports_from, port_said, kind_said, joined_port, port_of_items, port_by_items, is_name_list, listed_ports, ports_of, port_names, names_where, is_joined, without_name}

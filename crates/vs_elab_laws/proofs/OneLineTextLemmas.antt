@@ -4,7 +4,7 @@ use Rattle.std.specs.Prelude.{◌==◌, ◌/◌, ◌%◌, nat_lt, codes, decimal
 use Rattle.std.specs.Fmt.{digits, digits_onto, digit_glyph, signed_decimal}
 use Rattle.std.specs.List.{flat_map}
 use Rattle.std.proofs.lemmas.Bool.{and_parts, and_from, cond_both, eqb-true}
-use Rattle.vs_lexer.specs.NameLines.{is_one_line}
+use Rattle.vs_syntax.specs.vs_lexer.specs.NameLines.{is_one_line}
 use Rattle.vs_elaborate.specs.vs_scopes.specs.Printed.{is_simple, escaped_byte, printed_name, PathName, printed_turn, printed_part}
 use Rattle.vs_elaborate.specs.vs_scopes.specs.Generate.{numbered_name}
 use Rattle.vs_elab_laws.proofs.GoodTextLemmas.{both}

@@ -19,7 +19,7 @@ use Rattle.vs_design.specs.declared.design.Entry.{Entry}
 use Rattle.vs_design.specs.declared.design.Entry.TheVariants.{Enter, Declare, Leave}
 use Rattle.vs_design.specs.Parts.{Parts}
 use Rattle.vs_design.specs.WellFormed.{numbers}
-use Rattle.vs_width_selects.specs.Environment.{Environment}
+use Rattle.vs_elab_operands.specs.vs_width_selects.specs.Environment.{Environment}
 use Rattle.vs_elab_operands.specs.vs_widths.specs.Expressions.{meant, name_meant}
 use Rattle.vs_elab_operands.specs.vs_widths.specs.Lefts.{name_aimed, expr_aimed}
 use Rattle.vs_elab_operands.specs.vs_widths.specs.declared.kinds.AssignmentKind.TheVariants.{Procedural, Continuous}

@@ -3,8 +3,8 @@ use Rattle.std.proofs.Common.{◌≡◌, ℕ, List, [], ◌∷◌, ◌++◌, ℤ
 use Rattle.std.specs.List.{AllZip}
 use Rattle.std.specs.declared.vec.Vec.{Vec}
 use Rattle.std.specs.declared.alloc.Global.{Global}
-use Rattle.vs_logic4.specs.declared.edge.Edge.{Edge}
-use Rattle.vs_logic4.specs.declared.edge.Edge.TheVariants.{Any}
+use Rattle.vs_design.specs.vs_logic4.specs.declared.edge.Edge.{Edge}
+use Rattle.vs_design.specs.vs_logic4.specs.declared.edge.Edge.TheVariants.{Any}
 use Rattle.vs_syntax.specs.declared.tree.EventControl.{EventControl}
 use Rattle.vs_syntax.specs.declared.tree.EventExpr.{EventExpr}
 use Rattle.vs_syntax.specs.declared.tree.Separator.{Separator}
@@ -25,8 +25,8 @@ use Rattle.vs_design.specs.declared.write.Part.{Part}
 use Rattle.vs_design.specs.Statements.{all_reads, assignment_reads, arg_reads, statement_reads, statement_reads_step}
 use Rattle.vs_design.specs.Uses.{bits_from, joined, reads, target_reads}
 use Rattle.vs_design.specs.WellFormed.{aim_width}
-use Rattle.vs_width_selects.specs.vs_eval.specs.Targets.{parts_from}
-use Rattle.vs_width_selects.specs.Environment.{Environment}
+use Rattle.vs_elab_operands.specs.vs_width_selects.specs.vs_eval.specs.Targets.{parts_from}
+use Rattle.vs_elab_operands.specs.vs_width_selects.specs.Environment.{Environment}
 use Rattle.vs_elab_operands.specs.vs_widths.specs.declared.kinds.AssignmentKind.TheVariants.{Event}
 use Rattle.vs_elab_operands.specs.vs_widths.specs.Lefts.{Aimed, name_aimed}
 use Rattle.vs_elab_operands.specs.Statements.{event_aimed, watched, watched_width, IsTerm, AreTerms, no_terms, more_terms, AreEvents, are_star, are_grouped, are_name, are_terms, level_term}

@@ -7,10 +7,10 @@ use Rattle.std.specs.Str.{bytes_eq}
 use Rattle.vs_syntax.specs.declared.tree.Module.{Module}
 use Rattle.vs_syntax.specs.Same.{Pairwise, no_pair, pair_more, SameOption, both_absent, both_there, SameValue, SameModule}
 use Rattle.vs_design.specs.declared.design.ScopeKind.{ScopeKind}
-use Rattle.vs_width_selects.specs.declared.bindings.Binding.{Binding}
-use Rattle.vs_width_selects.specs.declared.bindings.Binding.TheVariants as b
-use Rattle.vs_width_selects.specs.declared.constants.Const.{Const}
-use Rattle.vs_width_selects.specs.Environment.{Environment}
+use Rattle.vs_elab_operands.specs.vs_width_selects.specs.declared.bindings.Binding.{Binding}
+use Rattle.vs_elab_operands.specs.vs_width_selects.specs.declared.bindings.Binding.TheVariants as b
+use Rattle.vs_elab_operands.specs.vs_width_selects.specs.declared.constants.Const.{Const}
+use Rattle.vs_elab_operands.specs.vs_width_selects.specs.Environment.{Environment}
 use Rattle.vs_elab_operands.specs.vs_widths.specs.Names.{meaning_of}
 use Rattle.vs_elab_pieces.specs.Pieces.{Piece, pieces_of, block_pieces}
 use Rattle.vs_elaborate.specs.vs_scopes.specs.Printed.{PathName, plainly, Path, same_path, printed, printed_name, printed_part}

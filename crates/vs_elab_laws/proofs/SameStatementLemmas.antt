@@ -7,7 +7,7 @@ use Rattle.std.specs.List.{AllZip, flat_map}
 use Rattle.std.specs.declared.vec.Vec.{Vec}
 use Rattle.std.specs.declared.boxed.Box.{Box}
 use Rattle.std.specs.declared.alloc.Global.{Global}
-use Rattle.vs_logic4.specs.declared.case.CaseKind.{CaseKind}
+use Rattle.vs_design.specs.vs_logic4.specs.declared.case.CaseKind.{CaseKind}
 use Rattle.vs_syntax.specs.declared.tree.CaseLabel.{CaseLabel}
 use Rattle.vs_syntax.specs.declared.tree.Argument.{Argument}
 use Rattle.vs_syntax.specs.declared.tree.DelayValue.{DelayValue}
@@ -33,10 +33,10 @@ use Rattle.vs_design.specs.declared.statement.Statement.{Statement}
 use Rattle.vs_design.specs.declared.statement.Statement.TheVariants as d
 use Rattle.vs_design.specs.Uses.{joined}
 use Rattle.vs_design.specs.WellFormed.{numbers, counts_from}
-use Rattle.vs_width_selects.specs.Environment.{Environment}
-use Rattle.vs_width_selects.specs.Constants.{constant_finding, natural_at}
-use Rattle.vs_width_selects.specs.Findings.{Finding, Has, together, alike}
-use Rattle.vs_width_selects.specs.Meants.{own}
+use Rattle.vs_elab_operands.specs.vs_width_selects.specs.Environment.{Environment}
+use Rattle.vs_elab_operands.specs.vs_width_selects.specs.Constants.{constant_finding, natural_at}
+use Rattle.vs_elab_operands.specs.vs_width_selects.specs.Findings.{Finding, Has, together, alike}
+use Rattle.vs_elab_operands.specs.vs_width_selects.specs.Meants.{own}
 use Rattle.vs_elab_operands.specs.vs_widths.specs.Expressions.{meant, name_meant}
 use Rattle.vs_elab_operands.specs.vs_widths.specs.Typing.{IsTypedAs}
 use Rattle.vs_elab_operands.specs.vs_widths.specs.declared.kinds.AssignmentKind.TheVariants.{Procedural}

@@ -1,8 +1,8 @@
 -- Assignments of sources that say the same are one in a design.
 use Rattle.std.proofs.Common.{◌≡◌, ℕ, ◌+◌, Bool, false, List, [], ◌∷◌, ◌++◌, pos, map, max, refl, ap, ap₂, sym, subst, ◌∙◌}
 use Rattle.std.specs.List.{AllZip}
-use Rattle.vs_logic4.specs.declared.digit.Digit.{Digit}
-use Rattle.vs_logic4.specs.Parts.{selected}
+use Rattle.vs_design.specs.vs_logic4.specs.declared.digit.Digit.{Digit}
+use Rattle.vs_design.specs.vs_logic4.specs.Parts.{selected}
 use Rattle.vs_syntax.specs.declared.tree.Expr.{Expr}
 use Rattle.vs_syntax.specs.Same.{SameExpr, SameLeft}
 use Rattle.vs_design.specs.declared.expression.Typed.{Typed}
@@ -11,12 +11,12 @@ use Rattle.vs_design.specs.declared.statement.Target.{Target}
 use Rattle.vs_design.specs.Stores.{Store}
 use Rattle.vs_design.specs.Uses.{joined, aim_reads}
 use Rattle.vs_design.specs.WellFormed.{aim_width}
-use Rattle.vs_width_selects.specs.vs_eval.specs.Targets.{part_at, parts_from}
-use Rattle.vs_width_selects.specs.Each.{Each, each_none, each_more}
-use Rattle.vs_width_selects.specs.Environment.{Environment}
-use Rattle.vs_width_selects.specs.Findings.{Finding, Has, Lacks}
-use Rattle.vs_width_selects.specs.Meants.{Meant}
-use Rattle.vs_width_selects.specs.Selects.{Named}
+use Rattle.vs_elab_operands.specs.vs_width_selects.specs.vs_eval.specs.Targets.{part_at, parts_from}
+use Rattle.vs_elab_operands.specs.vs_width_selects.specs.Each.{Each, each_none, each_more}
+use Rattle.vs_elab_operands.specs.vs_width_selects.specs.Environment.{Environment}
+use Rattle.vs_elab_operands.specs.vs_width_selects.specs.Findings.{Finding, Has, Lacks}
+use Rattle.vs_elab_operands.specs.vs_width_selects.specs.Meants.{Meant}
+use Rattle.vs_elab_operands.specs.vs_width_selects.specs.Selects.{Named}
 use Rattle.vs_elab_operands.specs.vs_widths.specs.declared.kinds.AssignmentKind.{AssignmentKind}
 use Rattle.vs_elab_operands.specs.vs_widths.specs.Aiming.{IsPlace, IsTarget}
 use Rattle.vs_elab_operands.specs.vs_widths.specs.Lefts.{Aimed, name_aimed}

@@ -4,8 +4,8 @@ use Rattle.std.specs.List.{list_all}
 use Rattle.std.specs.declared.vec.Vec.{Vec}
 use Rattle.std.specs.declared.boxed.Box.{Box}
 use Rattle.std.specs.declared.alloc.Global.{Global}
-use Rattle.vs_logic4.specs.declared.operators.Unary.{Unary}
-use Rattle.vs_logic4.specs.declared.operators.Binary.{Binary}
+use Rattle.vs_design.specs.vs_logic4.specs.declared.operators.Unary.{Unary}
+use Rattle.vs_design.specs.vs_logic4.specs.declared.operators.Binary.{Binary}
 use Rattle.vs_syntax.specs.declared.tree.Expr.{Expr, Expr-F, map-Expr, roll-Expr, fold-roll-Expr, para-roll-Expr}
 use Rattle.vs_syntax.specs.declared.tree.Expr.TheVariants as e
 use Rattle.vs_syntax.specs.declared.tree.Expr.TheVariants.{rolls-Name, rolls-Select, rolls-Group, rolls-Unary, rolls-Chain, rolls-Choice, rolls-Concat, rolls-Repeat, rolls-Cast}
@@ -18,9 +18,9 @@ use Rattle.vs_syntax.specs.declared.tree.Left.TheVariants.{rolls-Name as rolls-P
 use Rattle.vs_syntax.specs.declared.tree.Left.TheOpen as g
 use Rattle.vs_syntax.specs.Same.{SameExpr, same_number, same_name, same_select, SameSelects, same_no_select, same_more_selects, SameSecond, same_no_second, same_second, SameLeft, same_place, same_places, SameLefts, same_no_left, same_more_lefts, same_group, same_unary, same_chain, same_choice, same_concat, same_repeat, same_cast, SameLinks, same_no_link, same_link, SamePairs, same_no_pair, same_pair, SameExprs, same_no_expr, same_more_exprs}
 use Rattle.vs_design.specs.declared.expression.Typed.{Typed}
-use Rattle.vs_width_selects.specs.Environment.{Environment}
-use Rattle.vs_width_selects.specs.Meants.{Meant}
-use Rattle.vs_width_selects.specs.Selects.{Select, select_meant}
+use Rattle.vs_elab_operands.specs.vs_width_selects.specs.Environment.{Environment}
+use Rattle.vs_elab_operands.specs.vs_width_selects.specs.Meants.{Meant}
+use Rattle.vs_elab_operands.specs.vs_width_selects.specs.Selects.{Select, select_meant}
 use Rattle.vs_elab_operands.specs.vs_widths.specs.declared.kinds.AssignmentKind.{AssignmentKind}
 use Rattle.vs_elab_operands.specs.vs_widths.specs.Lefts.{Aimed, aimed, aimed_step, name_aimed, concat_aimed, is_left, is_left_step, as_left, as_left_step, expr_aimed, no_target}
 use Rattle.vs_elab_operands.specs.vs_widths.proofs.ExprLemmas.{as_left_Name, as_left_Select, as_left_Concat}

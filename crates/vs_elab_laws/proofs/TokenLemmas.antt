@@ -2,10 +2,10 @@
 use Rattle.std.proofs.Common.{◌≡◌, ℕ, ◌&&◌, Bool, true, false, List, [], ◌∷◌, if◌then◌else◌, refl, ap₂, ◌∙◌}
 use Rattle.std.specs.List.{list_all}
 use Rattle.std.specs.Str.{bytes_eq}
-use Rattle.vs_logic4.proofs.Basics.{and_left, and_right}
-use Rattle.vs_lexer.specs.vs_lex_tokens.specs.declared.token.Kind.{Kind}
-use Rattle.vs_lexer.specs.vs_lex_tokens.specs.declared.token.Kind.TheVariants as k
-use Rattle.vs_lexer.specs.Tokens.{Lexeme}
+use Rattle.vs_design.specs.vs_logic4.proofs.Basics.{and_left, and_right}
+use Rattle.vs_syntax.specs.vs_lexer.specs.vs_lex_tokens.specs.declared.token.Kind.{Kind}
+use Rattle.vs_syntax.specs.vs_lexer.specs.vs_lex_tokens.specs.declared.token.Kind.TheVariants as k
+use Rattle.vs_syntax.specs.vs_lexer.specs.Tokens.{Lexeme}
 use Rattle.vs_lex_names.specs.PrintableNames.{name_passes, token_passes}
 use Rattle.vs_syntax.specs.Symbols.{Symbol, a_name, symbol_named, system_names, symbol_of, symbols}
 use Rattle.vs_syntax.specs.SourceNames.{NamesAreTokens, declared_names}

@@ -6,4 +6,4 @@ pub use Rattle.vs_elaborate.specs.vs_elab_path_laws
 pub use Rattle.vs_elaborate
 pub use Rattle.vs_lex_names
 pub use Rattle.vs_elaborate.specs.vs_scopes
-pub use Rattle.vs_width_selects
+pub use Rattle.vs_elab_operands.specs.vs_width_selects

@@ -1,7 +1,7 @@
 -- Names of a design, as those of its source that they print.
 use Rattle.std.specs.Prelude.{◌≡◌, ℕ, ℤ, Bool, true, IsTrue, List, ◌++◌, Option, None}
 use Rattle.std.specs.List.{All, list_all}
-use Rattle.vs_lexer.specs.Tokens.{Lexeme}
+use Rattle.vs_syntax.specs.vs_lexer.specs.Tokens.{Lexeme}
 use Rattle.vs_lex_names.specs.PrintableNames.{token_passes}
 use Rattle.vs_syntax.specs.declared.tree.Module.{Module}
 use Rattle.vs_syntax.specs.declared.tree.Source.{Source}

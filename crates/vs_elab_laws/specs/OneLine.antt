@@ -1,7 +1,7 @@
 -- Names without a line feed.
 use Rattle.std.specs.Prelude.{IsTrue, List, ◌++◌}
 use Rattle.std.specs.List.{list_all}
-use Rattle.vs_lexer.specs.NameLines.{is_one_line}
+use Rattle.vs_syntax.specs.vs_lexer.specs.NameLines.{is_one_line}
 use Rattle.vs_syntax.specs.declared.tree.Module.{Module}
 use Rattle.vs_syntax.specs.SourceNames.{declared_names}
 use Rattle.vs_elab_pieces.specs.Uses.{names_used_among}

@@ -4,8 +4,8 @@ use Rattle.std.specs.List.{AllZip}
 use Rattle.std.specs.declared.vec.Vec.{Vec}
 use Rattle.std.specs.declared.boxed.Box.{Box}
 use Rattle.std.specs.declared.alloc.Global.{Global}
-use Rattle.vs_logic4.specs.declared.case.CaseKind.{CaseKind}
-use Rattle.vs_logic4.specs.declared.digit.Digit.{Digit}
+use Rattle.vs_design.specs.vs_logic4.specs.declared.case.CaseKind.{CaseKind}
+use Rattle.vs_design.specs.vs_logic4.specs.declared.digit.Digit.{Digit}
 use Rattle.vs_design.specs.declared.expression.Typed.{Typed}
 use Rattle.vs_design.specs.declared.statement.Aim.{Aim}
 use Rattle.vs_design.specs.declared.statement.EventTerm.{EventTerm}
@@ -24,9 +24,9 @@ use Rattle.vs_design.specs.Parts.{Parts}
 use Rattle.vs_design.specs.Stores.{Store}
 use Rattle.vs_design.specs.Uses.{reads, writes, aim_range, target_reads}
 use Rattle.vs_design.specs.WellFormed.{size_of, aim_width, numbers}
-use Rattle.vs_width_selects.specs.vs_eval.specs.Values.{value_of}
-use Rattle.vs_width_selects.specs.vs_eval.specs.Targets.{part_at, assigned}
-use Rattle.vs_width_selects.specs.Layers.{layer_of}
+use Rattle.vs_elab_operands.specs.vs_width_selects.specs.vs_eval.specs.Values.{value_of}
+use Rattle.vs_elab_operands.specs.vs_width_selects.specs.vs_eval.specs.Targets.{part_at, assigned}
+use Rattle.vs_elab_operands.specs.vs_width_selects.specs.Layers.{layer_of}
 use Rattle.vs_elab_operands.specs.vs_widths.specs.Aiming.{is_fixed}
 use Rattle.vs_elab_operands.specs.vs_elab_listed.specs.Outlines.{declared}
 

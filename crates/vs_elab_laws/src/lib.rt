@@ -5,4 +5,5 @@
 mod laws;
 
 pub use laws::{names_are_of_source, names_of_modules_are_tokens, names_of_one_line, one_design};
+pub use vs_elaborate;
 pub use vs_lex_names;

@@ -7,3 +7,4 @@ pub mod passes
 pub use Rattle.vs_elab_listed
 pub use Rattle.vs_scopes
 pub use Rattle.vs_widths
+pub use Rattle.vs_width_selects

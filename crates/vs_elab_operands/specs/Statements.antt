@@ -49,9 +49,9 @@ use Rattle.vs_design.specs.declared.statement.FormatArg.TheVariants as made
 use Rattle.vs_design.specs.declared.statement.CallKind.{CallKind}
 use Rattle.vs_design.specs.declared.statement.CallKind.TheVariants as call
 use Rattle.vs_design.specs.declared.statement.Call.{Call}
-use Rattle.vs_strobe.specs.declared.fault.FormatReason.{FormatReason}
-use Rattle.vs_strobe.specs.declared.fault.FormatReason.TheVariants.{BadDirective, TooFewArguments, TooManyArguments}
-use Rattle.vs_strobe.specs.Pieces.{format_fault}
+use Rattle.vs_scopes.specs.vs_strobe.specs.declared.fault.FormatReason.{FormatReason}
+use Rattle.vs_scopes.specs.vs_strobe.specs.declared.fault.FormatReason.TheVariants.{BadDirective, TooFewArguments, TooManyArguments}
+use Rattle.vs_scopes.specs.vs_strobe.specs.Pieces.{format_fault}
 use Rattle.vs_design.specs.declared.statement.Statement.{Statement}
 use Rattle.vs_design.specs.declared.statement.Statement.TheVariants as d
 use Rattle.vs_scopes.specs.vs_width_selects.specs.declared.faults.WidthReason.{WidthReason}

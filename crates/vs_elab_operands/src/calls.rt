@@ -2,7 +2,7 @@
 ghost use Rattle.std.specs.Prelude.{◌≡◌, ◌<◌, ◌≤◌, ◌^◌, None, length, IfOk, MatchResult};
 ghost use Rattle.std.specs.List.{list_any, AllZip};
 ghost use Rattle.vs_scopes.specs.vs_width_selects.specs.Environment.{Environment};
-ghost use Rattle.vs_strobe.specs.Pieces.{format_fault};
+ghost use Rattle.vs_scopes.specs.vs_strobe.specs.Pieces.{format_fault};
 ghost use Rattle.vs_widths.specs.Names.{meaning_of};
 ghost use Rattle.vs_scopes.specs.Printed.{Path, printed};
 ghost use Rattle.vs_scopes.specs.passes.Answers.{Elaborates, Refuses};
@@ -16,8 +16,8 @@ use crate::views::View;
 use std::alloc::{AllocError, Global};
 use vs_design::{Call, CallKind, FormatArg};
 use vs_elab_listed::path;
+use vs_scopes::vs_strobe::{Format, FormatFault};
 use vs_scopes::{BodyFault, Reason, print_path};
-use vs_strobe::{Format, FormatFault};
 use vs_syntax::{Argument, PrintArguments, PrintTask};
 use vs_widths::Levels;
 

@@ -18,5 +18,6 @@ pub use faults::{StatementFault, deeper};
 pub use operands::{delay, due, operand};
 pub use views::{Ratio, View};
 pub use vs_elab_listed;
+pub use vs_scopes;
 pub use vs_scopes::vs_width_selects;
 pub use vs_widths;

@@ -6,3 +6,4 @@ mod adding;
 mod own;
 
 pub use adding::{add, list_scope};
+pub use vs_elab_entered;

@@ -1,1 +1,2 @@
 pub mod passes
+pub use Rattle.vs_elab_operands

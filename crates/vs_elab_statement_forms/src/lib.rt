@@ -11,3 +11,4 @@ pub use around::{
 };
 pub use numbers::{PROCEDURAL, numbered, take_number};
 pub use simple::{assign, finish, later, null, print};
+pub use vs_elab_operands;

@@ -8,8 +8,8 @@ use Rattle.vs_design.specs.declared.range.BitRange.{BitRange}
 use Rattle.vs_design.specs.declared.signal.Signal.{Signal}
 use Rattle.vs_design.specs.Uses.{writes}
 use Rattle.vs_design.specs.WellFormed.{driven}
-use Rattle.vs_scopes.proofs.Folds.{flat_more}
-use Rattle.vs_scopes.proofs.AnswerLemmas.{flat_split}
+use Rattle.vs_elab_operands.specs.vs_scopes.proofs.Folds.{flat_more}
+use Rattle.vs_elab_operands.specs.vs_scopes.proofs.AnswerLemmas.{flat_split}
 use Rattle.vs_elaborate.specs.passes.Filling.{IsDrivenTwice}
 use Rattle.vs_elab_contents.specs.Marks.{AreWithin, Marks, MarksAll, SharesBit}
 use Rattle.vs_elab_contents.proofs.MarkLemmas.{shares_more, get_front}

@@ -18,29 +18,29 @@ use Rattle.vs_syntax.specs.declared.tree.Direction.TheVariants.{Input, Output}
 use Rattle.vs_design.specs.WellFormed.{counts_from}
 use Rattle.vs_design.specs.declared.design.Assign.{Assign}
 use Rattle.vs_design.specs.declared.design.Process.{Process}
-use Rattle.vs_scopes.specs.declared.faults.Reason.{Reason}
-use Rattle.vs_scopes.specs.declared.faults.ElabFault.{ElabFault}
+use Rattle.vs_elab_operands.specs.vs_scopes.specs.declared.faults.Reason.{Reason}
+use Rattle.vs_elab_operands.specs.vs_scopes.specs.declared.faults.ElabFault.{ElabFault}
 use Rattle.vs_elab_operands.specs.vs_widths.specs.declared.kinds.AssignmentKind.TheVariants.{Continuous}
-use Rattle.vs_scopes.specs.Printed.{Path, own_name, port_assign_name, part_name}
+use Rattle.vs_elab_operands.specs.vs_scopes.specs.Printed.{Path, own_name, port_assign_name, part_name}
 use Rattle.std.specs.declared.vec.Vec.{Vec}
 use Rattle.std.specs.declared.alloc.Global.{Global}
 use Rattle.std.specs.Borrow.{Bor}
-use Rattle.vs_scopes.specs.vs_width_selects.specs.Environment.{Environment}
+use Rattle.vs_elab_operands.specs.vs_scopes.specs.vs_width_selects.specs.Environment.{Environment}
 use Rattle.vs_elab_operands.specs.vs_widths.specs.Names.{meaning_of, nested_names}
-use Rattle.vs_scopes.specs.Declarations.{Bindings}
+use Rattle.vs_elab_operands.specs.vs_scopes.specs.Declarations.{Bindings}
 use Rattle.vs_elab_path_laws.specs.vs_elab_pieces.specs.Reads.{read_piece}
 use Rattle.vs_elab_path_laws.specs.vs_elab_pieces.specs.declared.scope.ScopePiece.{ScopePiece as FoundPiece}
 use Rattle.vs_elab_path_laws.specs.vs_elab_pieces.specs.declared.scope.ScopePiece.TheVariants as p
-use Rattle.vs_scopes.specs.declared.ports.ModulePort.{ModulePort as FoundPort}
-use Rattle.vs_scopes.specs.passes.Parts.{read_port, read_ends}
+use Rattle.vs_elab_operands.specs.vs_scopes.specs.declared.ports.ModulePort.{ModulePort as FoundPort}
+use Rattle.vs_elab_operands.specs.vs_scopes.specs.passes.Parts.{read_port, read_ends}
 use Rattle.vs_elab_operands.specs.vs_elab_listed.specs.declared.opened.ListedScope.{ListedScope as FoundScope}
 use Rattle.vs_elab_operands.specs.vs_elab_listed.specs.Opened.{IsWithin, IsOutermost}
-use Rattle.vs_scopes.specs.Scopes.{Scope, environment}
-use Rattle.vs_scopes.specs.passes.Answers.{Told}
-use Rattle.vs_scopes.proofs.Folds.{any_push}
+use Rattle.vs_elab_operands.specs.vs_scopes.specs.Scopes.{Scope, environment}
+use Rattle.vs_elab_operands.specs.vs_scopes.specs.passes.Answers.{Told}
+use Rattle.vs_elab_operands.specs.vs_scopes.proofs.Folds.{any_push}
 use Rattle.std.proofs.lemmas.Bool.{or_left as left_true, or_right as right_true}
 use Rattle.vs_design.specs.vs_logic4.proofs.Basics.{take_push}
-use Rattle.vs_scopes.proofs.AnswerLemmas.{told_by}
+use Rattle.vs_elab_operands.specs.vs_scopes.proofs.AnswerLemmas.{told_by}
 use Rattle.vs_elab_operands.specs.Statements.{IsAssignment}
 use Rattle.vs_elab_operands.specs.Members.{Assignment, named_signal, assignment_of, PortDriver, connected, port_of, of_text, Behavior, setting, port_drivers, drivers_in, behaviors_by_item, behaviors_in, port_setting, drivers_of, port_drivers_of, behaviors_of}
 use Rattle.vs_elab_operands.specs.Processes.{kind_of, statements_of, HasBehaviorFault}

@@ -15,17 +15,17 @@ use Rattle.vs_design.specs.Parts.{Parts}
 use Rattle.vs_design.specs.WellFormed.{WellFormed, is_sound_assign, share_a_bit, driven, declared_in as declared_by_outline}
 use Rattle.vs_design.specs.declared.signal.Signal.{Signal}
 use Rattle.vs_design.specs.declared.design.Assign.{Assign}
-use Rattle.vs_scopes.specs.vs_width_selects.specs.declared.bindings.Binding.TheVariants as b
+use Rattle.vs_elab_operands.specs.vs_scopes.specs.vs_width_selects.specs.declared.bindings.Binding.TheVariants as b
 use Rattle.vs_elab_operands.specs.vs_widths.specs.Names.{meaning_of}
 use Rattle.vs_elab_path_laws.specs.vs_elab_pieces.specs.Reads.{read_piece}
-use Rattle.vs_scopes.specs.declared.faults.Reason.{Reason}
-use Rattle.vs_scopes.specs.declared.faults.Reason.TheVariants.{NoModule, Inside, PortMismatch, ParameterMismatch, DeclaredTwice, DrivenTwice, Limit, Width, Endless, Unnamed, Timescales, Format}
-use Rattle.vs_scopes.specs.declared.faults.ElabFault.{ElabFault}
-use Rattle.vs_scopes.specs.declared.faults.ElabFault.TheVariants.{Memory, At}
-use Rattle.vs_scopes.specs.Printed.{Path, same_path, printed}
-use Rattle.vs_scopes.specs.Ports.{names_where, is_joined, without_name}
-use Rattle.vs_scopes.specs.Declarations.{DeclaredName, declared_by_port, declared_among, not_joined, declaration_fault, names_in}
-use Rattle.vs_scopes.specs.Scopes.{Scope, declarations_of, names_of, all_names_of, named, environment, environment_at, has_wrong_end, scopes_of, signal_count, signal_paths}
+use Rattle.vs_elab_operands.specs.vs_scopes.specs.declared.faults.Reason.{Reason}
+use Rattle.vs_elab_operands.specs.vs_scopes.specs.declared.faults.Reason.TheVariants.{NoModule, Inside, PortMismatch, ParameterMismatch, DeclaredTwice, DrivenTwice, Limit, Width, Endless, Unnamed, Timescales, Format}
+use Rattle.vs_elab_operands.specs.vs_scopes.specs.declared.faults.ElabFault.{ElabFault}
+use Rattle.vs_elab_operands.specs.vs_scopes.specs.declared.faults.ElabFault.TheVariants.{Memory, At}
+use Rattle.vs_elab_operands.specs.vs_scopes.specs.Printed.{Path, same_path, printed}
+use Rattle.vs_elab_operands.specs.vs_scopes.specs.Ports.{names_where, is_joined, without_name}
+use Rattle.vs_elab_operands.specs.vs_scopes.specs.Declarations.{DeclaredName, declared_by_port, declared_among, not_joined, declaration_fault, names_in}
+use Rattle.vs_elab_operands.specs.vs_scopes.specs.Scopes.{Scope, declarations_of, names_of, all_names_of, named, environment, environment_at, has_wrong_end, scopes_of, signal_count, signal_paths}
 use Rattle.std.proofs.lemmas.Bool.{or_left as left_true, or_right as right_true}
 use Rattle.vs_elab_path_laws.specs.Laws.{HasTurnsThatFit, DeclareOnce, HaveCountedPieces, scope_paths}
 use Rattle.vs_elab_path_laws.proofs.PathsDiffer.{paths_differ, paths_not_same}

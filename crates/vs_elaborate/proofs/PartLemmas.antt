@@ -14,11 +14,11 @@ use Rattle.vs_syntax.specs.declared.tree.Direction.{Direction}
 use Rattle.vs_syntax.specs.declared.tree.Direction.TheVariants.{Input, Output}
 use Rattle.vs_design.specs.declared.design.Assign.{Assign}
 use Rattle.vs_design.specs.declared.design.Process.{Process}
-use Rattle.vs_scopes.specs.vs_width_selects.specs.Environment.{Environment}
-use Rattle.vs_scopes.specs.Printed.{Path, same_path, printed_name, own_name, port_assign_name, part_name}
-use Rattle.vs_scopes.specs.Ports.{ModulePort, port_names, names_where, is_joined}
-use Rattle.vs_scopes.specs.Declarations.{DeclaredName, declared_by_port, declared_among, not_joined, names_in}
-use Rattle.vs_scopes.specs.Scopes.{Scope, all_names_of}
+use Rattle.vs_elab_operands.specs.vs_scopes.specs.vs_width_selects.specs.Environment.{Environment}
+use Rattle.vs_elab_operands.specs.vs_scopes.specs.Printed.{Path, same_path, printed_name, own_name, port_assign_name, part_name}
+use Rattle.vs_elab_operands.specs.vs_scopes.specs.Ports.{ModulePort, port_names, names_where, is_joined}
+use Rattle.vs_elab_operands.specs.vs_scopes.specs.Declarations.{DeclaredName, declared_by_port, declared_among, not_joined, names_in}
+use Rattle.vs_elab_operands.specs.vs_scopes.specs.Scopes.{Scope, all_names_of}
 use Rattle.vs_elab_path_laws.specs.Laws.{HasTurnsThatFit, scope_paths}
 use Rattle.vs_elab_path_laws.proofs.PathsLists.{each_append, distinct_append, distinct_left}
 use Rattle.vs_elab_path_laws.proofs.PathsParts.{IsPartAt, parts_differ}

@@ -1,9 +1,9 @@
-pub use Rattle.vs_scopes.specs.Printed
-pub use Rattle.vs_scopes.specs.Ranges
-pub use Rattle.vs_scopes.specs.Connections
-pub use Rattle.vs_scopes.specs.Parameters
-pub use Rattle.vs_scopes.specs.Scopes
-pub use Rattle.vs_scopes.specs.Texts
+pub use Rattle.vs_elab_operands.specs.vs_scopes.specs.Printed
+pub use Rattle.vs_elab_operands.specs.vs_scopes.specs.Ranges
+pub use Rattle.vs_elab_operands.specs.vs_scopes.specs.Connections
+pub use Rattle.vs_elab_operands.specs.vs_scopes.specs.Parameters
+pub use Rattle.vs_elab_operands.specs.vs_scopes.specs.Scopes
+pub use Rattle.vs_elab_operands.specs.vs_scopes.specs.Texts
 pub use Rattle.vs_elab_operands.specs.vs_elab_listed.specs.Outlines
 pub use Rattle.vs_elab_operands.specs.vs_elab_listed.specs.ScopeFaults
 pub use Rattle.vs_elab_operands.specs.Members
@@ -16,4 +16,4 @@ pub mod Faults
 pub mod DesignOf
 pub mod passes
 pub use Rattle.vs_elab_path_laws
-pub use Rattle.vs_scopes
+pub use Rattle.vs_elab_operands.specs.vs_scopes

@@ -10,5 +10,5 @@ mod source;
 mod timescales;
 
 pub use source::elaborate;
-pub use vs_scopes;
-pub use vs_scopes::{ElabFault, Reason, fault_text};
+pub use vs_elab_operands::vs_scopes;
+pub use vs_elab_operands::vs_scopes::{ElabFault, Reason, fault_text};

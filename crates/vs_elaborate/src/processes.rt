@@ -3,10 +3,10 @@ ghost use Rattle.std.specs.Prelude.{◌≡◌, ◌∷◌, [], Some, length, IfEr
 ghost use Rattle.std.specs.List.{flat_map};
 ghost use Rattle.vs_elab_path_laws.specs.vs_elab_pieces.specs.Pieces.{blocks_of};
 ghost use Rattle.vs_elab_path_laws.specs.vs_elab_pieces.specs.Reads.{read_piece};
-ghost use Rattle.vs_scopes.specs.Printed.{Path};
-ghost use Rattle.vs_scopes.specs.Scopes.{Scope};
-ghost use Rattle.vs_scopes.specs.passes.Answers.{Grows};
-ghost use Rattle.vs_scopes.specs.passes.Parts.{read_port};
+ghost use Rattle.vs_elab_operands.specs.vs_scopes.specs.Printed.{Path};
+ghost use Rattle.vs_elab_operands.specs.vs_scopes.specs.Scopes.{Scope};
+ghost use Rattle.vs_elab_operands.specs.vs_scopes.specs.passes.Answers.{Grows};
+ghost use Rattle.vs_elab_operands.specs.vs_scopes.specs.passes.Parts.{read_port};
 ghost use Rattle.vs_elab_operands.specs.Members.{Behavior, setting, behaviors_by_item, behaviors_in, port_setting};
 ghost use Rattle.vs_elab_operands.specs.Processes.{kind_of};
 ghost use Rattle.vs_elab_operands.specs.Surroundings.{Surroundings};
@@ -21,9 +21,9 @@ use std::alloc::Global;
 use vs_design::{Process, ProcessKind, Statement};
 use vs_elab_contents::Contents;
 use vs_elab_operands::StatementFault;
+use vs_elab_operands::vs_scopes::{ElabFault, ModulePort, print_part};
 use vs_elab_path_laws::vs_elab_pieces::ScopePiece;
 use vs_elab_statements::{repeat_body, run_body, set_body};
-use vs_scopes::{ElabFault, ModulePort, print_part};
 use vs_syntax::{Declarator, Expr, Item};
 
 /// Adds a process of a scope whose first one has this number in the design.

@@ -15,7 +15,7 @@ use vs_design::{Assign, Design, Signal, writes};
 use vs_elab_contents::{mark_ranges, no_marks};
 use vs_elab_hierarchy::open_all;
 use vs_elab_operands::vs_elab_listed::fault_at;
-use vs_scopes::{ElabFault, PartName, PathName, Reason};
+use vs_elab_operands::vs_scopes::{ElabFault, PartName, PathName, Reason};
 use vs_syntax::Source;
 
 /// Sees that no bit of a net is driven twice.

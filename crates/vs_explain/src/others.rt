@@ -6,7 +6,7 @@ use vs_cert_check::{Broken, check_all};
 use vs_design::Design;
 use vs_explain_certificate::put_named_in;
 use vs_explain_certificate::vs_certificate::from_json;
-use vs_explain_places::put_named;
+use vs_explain_limit::vs_explain_places::put_named;
 use vs_explain_text::vs_explain_outline::{Page, SourceText};
 use vs_simulate::design_of;
 

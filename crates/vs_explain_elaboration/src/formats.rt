@@ -2,7 +2,7 @@
 
 use crate::names::regions_of;
 use vs_explain_outline::{LandmarkKind, Page, SourceText, is_marked};
-use vs_strobe::FormatReason;
+use vs_scopes::vs_strobe::FormatReason;
 use vs_syntax::vs_lexer::{Kind, Mark, Token};
 
 /// What a format string asks for.

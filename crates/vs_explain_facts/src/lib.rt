@@ -22,3 +22,4 @@ pub use parts::Part;
 pub use points::{Moment, Point};
 pub use question::Question;
 pub use texts::{Term, TextFacts, TextKind};
+pub use vs_certificate;

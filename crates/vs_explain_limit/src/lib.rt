@@ -4,3 +4,4 @@
 mod limit;
 
 pub use limit::{Taken, explain_steps};
+pub use vs_explain_places;

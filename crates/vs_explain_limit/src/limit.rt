@@ -3,7 +3,7 @@
 use std::alloc::{AllocError, Global};
 use vs_design::{Assign, Design, Statement, has_control};
 use vs_explain_facts::{Part, driven_by, read_by};
-use vs_explain_outline::{Page, SourceText};
+use vs_explain_places::vs_explain_outline::{Page, SourceText};
 use vs_explain_places::{found, put_marked};
 
 /// How many processes and assignments are told.

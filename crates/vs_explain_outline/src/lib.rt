@@ -17,3 +17,4 @@ pub use paths::{PathPart, first_part, last_name, ordinal_of, scope_of};
 pub use places::{Spot, spot_of};
 pub use scan::outline_of;
 pub use source::{SourceText, is_marked};
+pub use vs_lexer;

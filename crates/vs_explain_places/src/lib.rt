@@ -8,3 +8,4 @@ mod statements;
 pub use marks::{is_declaration, put_code, put_statement};
 pub use named::{found, place_of, put_marked, put_named};
 pub use statements::statement_tokens;
+pub use vs_explain_outline;

@@ -4,8 +4,8 @@ use crate::named::found;
 use crate::statements::statement_tokens;
 use std::alloc::{AllocError, Global};
 use vs_design::Process;
+use vs_explain_outline::vs_lexer::{Kind, Mark, Word};
 use vs_explain_outline::{Page, SourceText};
-use vs_lexer::{Kind, Mark, Word};
 
 /// How many bytes of a statement are shown.
 const SHOWN: usize = 48;

@@ -3,7 +3,7 @@
 use std::alloc::{AllocError, Global};
 use vs_design::{Process, Statement};
 use vs_explain_outline::SourceText;
-use vs_lexer::{Kind, Mark, Word};
+use vs_explain_outline::vs_lexer::{Kind, Mark, Word};
 
 /// A walk through the tokens of a process, beside its statements in a design.
 #[derive(Drop)]

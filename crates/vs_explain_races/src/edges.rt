@@ -3,9 +3,11 @@
 use std::alloc::{AllocError, Global};
 use vs_design::vs_logic4::Unary;
 use vs_design::{ProcessKind, Typed, reads};
-use vs_explain_facts::{Question, TextFacts, TextKind, entry_of, mode_word, root_of};
-use vs_explain_outline::Page;
-use vs_explain_places::{found, put_marked, put_named};
+use vs_explain_spots::vs_explain_facts::{
+    Question, TextFacts, TextKind, entry_of, mode_word, root_of,
+};
+use vs_explain_spots::vs_explain_outline::Page;
+use vs_explain_spots::vs_explain_places::{found, put_marked, put_named};
 use vs_explain_spots::{
     Site, mark_assign, mark_site, mark_term, put_path, put_short, put_signal, sentence_of, term_of,
     text_at, turning_in, turning_of, unsized_of, waiter_of,

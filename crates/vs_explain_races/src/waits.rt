@@ -3,9 +3,9 @@
 use std::alloc::{AllocError, Global};
 use vs_design::vs_logic4::Edge;
 use vs_design::{ProcessKind, Statement};
-use vs_explain_facts::{Course, Question, TextFacts, TextKind};
-use vs_explain_outline::Page;
-use vs_explain_places::{found, put_marked};
+use vs_explain_spots::vs_explain_facts::{Course, Question, TextFacts, TextKind};
+use vs_explain_spots::vs_explain_outline::Page;
+use vs_explain_spots::vs_explain_places::{found, put_marked};
 use vs_explain_spots::{
     ClockForm, Site, common, edge_of, form_of, has_clocks, mark_site, mark_term, push_edge,
     put_path, put_residues, put_rule, put_short, put_site, put_times, text_at, turning_of,

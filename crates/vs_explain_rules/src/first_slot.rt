@@ -5,9 +5,9 @@ use std::alloc::{AllocError, Global};
 use vs_design::Statement;
 use vs_design::vs_logic4::Edge;
 use vs_explain_facts::{Facts, Part, Point, Question, TextKind};
-use vs_explain_outline::Page;
+use vs_explain_places::vs_explain_outline::Page;
 use vs_explain_places::{is_declaration, put_marked};
-use vs_explain_spots::Site;
+use vs_explain_writers::vs_explain_spots::Site;
 use vs_explain_writers::{
     Story, Wanted, bit_given, is_turned, name_of, put_anew, put_maybe, put_story, put_subject,
     write_of,

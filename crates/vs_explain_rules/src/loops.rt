@@ -2,13 +2,13 @@
 
 use crate::cycles::{Hop, cycle_at, driver_named, is_real};
 use std::alloc::{AllocError, Global};
-use vs_certificate::Certificate;
 use vs_design::Typed;
 use vs_design::vs_logic4::{Binary, Unary};
+use vs_explain_facts::vs_certificate::Certificate;
 use vs_explain_facts::{Facts, Part, Question};
-use vs_explain_outline::Page;
 use vs_explain_places::put_marked;
-use vs_explain_spots::{Site, mark_site, unsized_of};
+use vs_explain_places::vs_explain_outline::Page;
+use vs_explain_writers::vs_explain_spots::{Site, mark_site, unsized_of};
 use vs_explain_writers::{Story, name_of, put_anew, put_story, put_subject};
 
 /// The right side of the assignment that a driver is, at its own size.

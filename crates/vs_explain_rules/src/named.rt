@@ -1,8 +1,8 @@
 //! Names that a certificate lacks, has twice, or has too many, in the rule K1.
 
-use vs_certificate::Certificate;
+use vs_explain_facts::vs_certificate::Certificate;
 use vs_explain_facts::{Question, times_named};
-use vs_explain_outline::{Page, first_part};
+use vs_explain_places::vs_explain_outline::{Page, first_part};
 use vs_explain_writers::put_subject;
 
 /// The first name of a certificate, where it has one.

@@ -1,8 +1,8 @@
 //! Where the connections of ports stand in the source.
 
 use std::alloc::{AllocError, Global};
+use vs_explain_outline::vs_lexer::{Kind, Mark};
 use vs_explain_outline::{DeclaredKind, LandmarkKind, SourceText, last_name, ordinal_of, scope_of};
-use vs_lexer::{Kind, Mark};
 
 /// What comes behind the last colon of a name.
 fn behind_colon(name: &[u8]) -> &[u8] {

@@ -18,3 +18,6 @@ pub use spots::{
     put_site, term_of, text_at, waiter_of,
 };
 pub use times::{common, edge_of, edge_times, free_before, in_order, push_times, put_times};
+pub use vs_explain_facts;
+pub use vs_explain_outline;
+pub use vs_explain_places;

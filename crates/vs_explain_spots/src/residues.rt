@@ -1,8 +1,8 @@
 //! At which residues processes can run, by what a certificate claims.
 
 use std::alloc::{AllocError, Global};
-use vs_certificate::{Certificate, ClaimedKind};
 use vs_design::vs_logic4::Edge;
+use vs_explain_facts::vs_certificate::{Certificate, ClaimedKind};
 use vs_explain_facts::{Question, TextFacts, entry_of, process_of, root_of};
 use vs_explain_outline::Page;
 

@@ -3,9 +3,9 @@
 use crate::connections::connection_of;
 use vs_design::Statement;
 use vs_explain_facts::{Point, Question, TextFacts};
+use vs_explain_outline::vs_lexer::{Kind, Mark, Word};
 use vs_explain_outline::{Page, last_name};
 use vs_explain_places::{found, put_code, put_marked, put_named, put_statement, statement_tokens};
-use vs_lexer::{Kind, Mark, Word};
 
 /// A statement of a process, by its number.
 #[derive(Clone, Copy, PartialEq, Eq)]

@@ -9,6 +9,7 @@ mod writes;
 
 pub use claimed::{put_anew, put_subject};
 pub use story::{Story, name_of, put_maybe, put_story};
+pub use vs_explain_spots;
 pub use ways::put_ways;
 pub use writers::put_writers;
 pub use writes::{Wanted, bit_given, is_turned, write_of};

@@ -1,7 +1,7 @@
 //! What is said of a cause: what is wrong, and what mends it.
 
-use vs_explain_facts::Question;
-use vs_explain_outline::Page;
+use vs_explain_spots::vs_explain_facts::Question;
+use vs_explain_spots::vs_explain_outline::Page;
 use vs_explain_spots::{Site, mark_site, sentence_of};
 
 /// A cause in a sentence, and what mends it in one; `%` stands for the name of a signal.

@@ -2,7 +2,7 @@
 
 use vs_design::vs_logic4::{Unary, Vec4};
 use vs_design::{Aim, Signal, Statement, Target, Typed};
-use vs_explain_facts::{Facts, Point};
+use vs_explain_spots::vs_explain_facts::{Facts, Point};
 use vs_explain_spots::{Site, unsized_of};
 
 /// Which writes are looked for.

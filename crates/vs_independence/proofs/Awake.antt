@@ -3,10 +3,10 @@ use Rattle.std.proofs.Common.{◌≡◌, ℕ, ◌||◌, ◌⊎◌, Bool, true, f
 use Rattle.vs_design.specs.Parts.{Parts}
 use Rattle.vs_design.specs.Stores.{Store, put, is_changed}
 use Rattle.vs_design.specs.declared.range.BitRange.{BitRange}
-use Rattle.vs_flatcode.specs.declared.gait.Gait.{Gait}
-use Rattle.vs_flatcode.specs.declared.gait.Gait.TheVariants.{Fresh}
-use Rattle.vs_flatcode.specs.Places.{Place, going, sleeping, inactive, waiting, ended, Todo}
-use Rattle.vs_flatcode.specs.Steps.{Next, on, after, wait}
+use Rattle.vs_process.specs.vs_flatcode.specs.declared.gait.Gait.{Gait}
+use Rattle.vs_process.specs.vs_flatcode.specs.declared.gait.Gait.TheVariants.{Fresh}
+use Rattle.vs_process.specs.vs_flatcode.specs.Places.{Place, going, sleeping, inactive, waiting, ended, Todo}
+use Rattle.vs_process.specs.vs_flatcode.specs.Steps.{Next, on, after, wait}
 use Rattle.vs_law_threads.specs.Blocks.{sources, Roles, NamesSources, IsSource, puts_out, home, control}
 use Rattle.vs_independence.specs.Discipline.{here}
 use Rattle.vs_independence.proofs.BlocksAt.{place_after}
@@ -20,7 +20,7 @@ use Rattle.vs_law_threads.proofs.Texts.{Text, home_stays, home_wakes}
 use Rattle.vs_law_threads.specs.Threads.{Thread, log_behind, writes}
 use Rattle.vs_design.specs.Writes.{Write, names}
 use Rattle.std.proofs.lemmas.Map.Keys.{any_passes_from_place as at_any}
-use Rattle.vs_logic4.proofs.Basics.{element_of as any_at}
+use Rattle.vs_design.specs.vs_logic4.proofs.Basics.{element_of as any_at}
 use Rattle.vs_law_threads.proofs.Lists.{at_each, at_same, contains_at, place_of, at}
 use Rattle.std.proofs.lemmas.Bool.{cases_Bool, cond_both, false≢true, or_cases, or_left, or_right, true≢false}
 use Rattle.vs_process.specs.Executions.{is_first}

@@ -2,8 +2,8 @@
 use Rattle.std.proofs.Common.{◌≡◌, ℕ, zero, suc, ◌+◌, ◌<◌, ◌&&◌, ◌||◌, not, Bool, true, false, Option, Some, None, List, [], ◌∷◌, length, map, get_or, slice_get, slice_set, refl, sym, ◌∙◌, ap, subst, inl, inr, arith}
 use Rattle.vs_design.specs.Parts.{Parts}
 use Rattle.vs_design.specs.Stores.{Store, put, start_store}
-use Rattle.vs_flatcode.specs.Places.{Todo, Place, going, waiting, ended, is_inside}
-use Rattle.vs_flatcode.specs.Steps.{Out, step, goes}
+use Rattle.vs_process.specs.vs_flatcode.specs.Places.{Todo, Place, going, waiting, ended, is_inside}
+use Rattle.vs_process.specs.vs_flatcode.specs.Steps.{Out, step, goes}
 use Rattle.vs_process.specs.Executions.{is_combinational, is_free, is_kept_out, is_step_of}
 use Rattle.vs_process.specs.declared.moves.Grain.TheVariants.{Block}
 use Rattle.vs_independence.proofs.Running.{BlockBare}
@@ -11,8 +11,8 @@ use Rattle.vs_law_threads.proofs.BlockRuns.{BlockStep, view_sized}
 use Rattle.vs_design.specs.declared.statement.EventTerm.{EventTerm}
 use Rattle.vs_independence.proofs.BlockSteps.{Exclusive, bare_step, lies_other}
 use Rattle.vs_law_threads.proofs.Fares.{Fares, OwnStep, fares_still, fares_written, is_awake, own_step, fresh, unfed, fed, woken, inside}
-use Rattle.vs_flatcode.specs.declared.gait.Gait.TheVariants.{Fresh, Inside, Woken}
-use Rattle.vs_flatcode.specs.declared.gait.Gait.{Gait}
+use Rattle.vs_process.specs.vs_flatcode.specs.declared.gait.Gait.TheVariants.{Fresh, Inside, Woken}
+use Rattle.vs_process.specs.vs_flatcode.specs.declared.gait.Gait.{Gait}
 use Rattle.vs_law_threads.specs.Blocks.{IsBlock, Roles, outputs, puts_out, sizes}
 use Rattle.vs_law_threads.specs.vs_law_writes.specs.Laws.{LiesIn}
 use Rattle.vs_process.specs.declared.moves.Move.{Move}

@@ -14,7 +14,7 @@ use Rattle.vs_law_threads.proofs.Bits.{by_bit}
 use Rattle.vs_law_threads.proofs.Held.{HasBlock, held, puts_covered}
 use Rattle.vs_independence.specs.Discipline.{IsOrdered}
 use Rattle.vs_process.proofs.Lists.{none_from}
-use Rattle.vs_logic4.proofs.Basics.{element_of as any_at}
+use Rattle.vs_design.specs.vs_logic4.proofs.Basics.{element_of as any_at}
 use Rattle.std.proofs.lemmas.Bool.{cases_Bool, cases_eq, false_from_ne_true, true≢false}
 use Rattle.vs_law_threads.proofs.Lists.{contains_at}
 use Rattle.vs_process.proofs.Ranges.{covered_fixes, fixed_write, same_content}

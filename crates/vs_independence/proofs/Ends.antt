@@ -11,7 +11,7 @@ use Rattle.std.specs.Prelude.{is_none}
 use Rattle.vs_design.specs.Parts.{Parts}
 use Rattle.vs_design.specs.Stores.{Store, put, is_driven, start_store, word_in}
 use Rattle.vs_process.specs.declared.moves.Move.TheVariants.{EndSlot}
-use Rattle.vs_flatcode.specs.Places.{Place, ended, is_going}
+use Rattle.vs_process.specs.vs_flatcode.specs.Places.{Place, ended, is_going}
 use Rattle.vs_process.specs.States.{State, Update, is_due, activated, start}
 use Rattle.vs_process.specs.Executions.{is_enabled, ends, next_time, slot_behind, places_at, time_at}
 use Rattle.vs_law_threads.specs.Threads.{Thread, writes, any_names, IsThread}
@@ -34,7 +34,7 @@ use Rattle.vs_independence.proofs.History.{History, alters, Seen, altered, alter
 use Rattle.vs_law_threads.specs.Blocks.{IsSource, Roles, Start, sources}
 use Rattle.vs_independence.proofs.Owed.{Owed, owed_begins, Due}
 use Rattle.vs_law_threads.proofs.Texts.{Text}
-use Rattle.vs_flatcode.specs.Steps.{assignment}
+use Rattle.vs_process.specs.vs_flatcode.specs.Steps.{assignment}
 use Rattle.vs_independence.proofs.Compare.{Comparing, Hangs, compared}
 use Rattle.vs_law_threads.proofs.Held.{HasBlock, held}
 use Rattle.vs_design.specs.Uses.{all_words, covers}
@@ -44,7 +44,7 @@ use Rattle.vs_process.proofs.Stores.{shape}
 use Rattle.vs_design.specs.declared.design.Assign.{Assign}
 use Rattle.vs_process.proofs.Ranges.{assigned_fixed}
 use Rattle.vs_process.specs.vs_eval.specs.Values.{target_value}
-use Rattle.vs_logic4.proofs.Basics.{same_tests as same_test}
+use Rattle.vs_design.specs.vs_logic4.proofs.Basics.{same_tests as same_test}
 use Rattle.vs_independence.proofs.InnerMoves.{AtEnd, at_end, all_idle, sure, quiet_moment, stopped_still, stops_of, late_of}
 
 -- the last state of a slot

@@ -2,19 +2,19 @@
 use Rattle.std.proofs.Common.{◌≡◌, ℕ, ◌⊎◌, Bool, true, false, not, Option, Some, None, option_map, List, map, slice_get, refl, sym, ◌∙◌, ap, ap₂, subst, inl, inr, if◌then◌else◌}
 use Rattle.std.specs.List.{Contains}
 use Rattle.std.proofs.lemmas.Bool.{cases_Bool, true≢false, false≢true}
-use Rattle.vs_logic4.specs.declared.digit.Digit.{Digit}
-use Rattle.vs_logic4.specs.declared.digit.Digit.TheVariants as digit
-use Rattle.vs_logic4.specs.declared.edge.Edge.{Edge}
-use Rattle.vs_logic4.specs.declared.edge.Edge.TheVariants.{Any, Posedge, Negedge}
+use Rattle.vs_design.specs.vs_logic4.specs.declared.digit.Digit.{Digit}
+use Rattle.vs_design.specs.vs_logic4.specs.declared.digit.Digit.TheVariants as digit
+use Rattle.vs_design.specs.vs_logic4.specs.declared.edge.Edge.{Edge}
+use Rattle.vs_design.specs.vs_logic4.specs.declared.edge.Edge.TheVariants.{Any, Posedge, Negedge}
 use Rattle.vs_design.specs.declared.statement.EventTerm.{EventTerm}
 use Rattle.vs_design.specs.Parts.{Parts}
 use Rattle.vs_design.specs.Stores.{Store, content, chosen_bits, chosen_words, words_in, same_words, start_store}
-use Rattle.vs_flatcode.specs.declared.gait.Gait.TheVariants.{Woken}
-use Rattle.vs_flatcode.specs.Places.{Todo, Place, going, waiting, sleeping, inactive, ended, active_at}
+use Rattle.vs_process.specs.vs_flatcode.specs.declared.gait.Gait.TheVariants.{Woken}
+use Rattle.vs_process.specs.vs_flatcode.specs.Places.{Todo, Place, going, waiting, sleeping, inactive, ended, active_at}
 use Rattle.vs_process.specs.vs_edges.specs.Waking.{lowest_digit, is_edge_of, wakes_by, wakes, wake_any}
 use Rattle.vs_process.specs.States.{State, wakened, triggered}
 use Rattle.vs_process.proofs.Lists.{none_at}
-use Rattle.vs_logic4.proofs.Basics.{element_of as any_at}
+use Rattle.vs_design.specs.vs_logic4.proofs.Basics.{element_of as any_at}
 use Rattle.vs_process.proofs.Stores.{shape}
 use Rattle.vs_design.proofs.Stores.{slice_get-changed_at as changed_same}
 use Rattle.vs_process.proofs.Values.{not_changed}

@@ -17,17 +17,17 @@ use Rattle.vs_independence.proofs.Compare.{Comparing, Hangs, compared, compared_
 use Rattle.std.specs.List.{Contains, list_any}
 use Rattle.vs_law_threads.proofs.Assigns.{DrivesWell}
 use Rattle.vs_law_threads.proofs.Fares.{Fares, Follows, agree_then, covered_puts, or_last, or_none, or_some, fed, fresh, unfed, woken, inside}
-use Rattle.vs_flatcode.specs.declared.gait.Gait.TheVariants.{Fresh, Inside, Woken}
-use Rattle.vs_flatcode.specs.declared.gait.Gait.{Gait}
+use Rattle.vs_process.specs.vs_flatcode.specs.declared.gait.Gait.TheVariants.{Fresh, Inside, Woken}
+use Rattle.vs_process.specs.vs_flatcode.specs.declared.gait.Gait.{Gait}
 use Rattle.vs_law_threads.proofs.Held.{HasBlock, held}
-use Rattle.vs_flatcode.specs.Places.{Place, Todo, is_going, ended, going}
+use Rattle.vs_process.specs.vs_flatcode.specs.Places.{Place, Todo, is_going, ended, going}
 use Rattle.vs_independence.proofs.Running.{Sources}
 use Rattle.vs_law_threads.specs.Threads.{Thread, writes}
 use Rattle.std.proofs.lemmas.Bool.{and_from, false_from_ne_true, true≢false}
 use Rattle.std.proofs.lemmas.Map.Keys.{any_passes_from_place as at_any}
-use Rattle.vs_logic4.proofs.Basics.{element_of as any_at}
+use Rattle.vs_design.specs.vs_logic4.proofs.Basics.{element_of as any_at}
 use Rattle.vs_process.proofs.Ranges.{assigned_fixed, covered_signal, covers_signal, fixed_write}
-use Rattle.vs_flatcode.specs.Steps.{assignment}
+use Rattle.vs_process.specs.vs_flatcode.specs.Steps.{assignment}
 use Rattle.vs_law_threads.proofs.Lists.{contains_at}
 use Rattle.vs_process.specs.vs_eval.specs.Laws.{digit_in, digit_of}
 use Rattle.vs_process.proofs.Digits.{same_stores}

@@ -3,8 +3,8 @@ use Rattle.std.proofs.Common.{◌≡◌, ℕ, zero, suc, ◌&&◌, ◌||◌, ◌
 use Rattle.vs_design.specs.Parts.{Parts}
 use Rattle.vs_design.specs.Stores.{Store, put, is_changed, chosen_bits, chosen_words, content, words_in, same_words}
 use Rattle.vs_design.specs.declared.range.BitRange.{BitRange}
-use Rattle.vs_flatcode.specs.Places.{Place, going, sleeping, inactive, waiting, ended}
-use Rattle.vs_flatcode.specs.Steps.{step}
+use Rattle.vs_process.specs.vs_flatcode.specs.Places.{Place, going, sleeping, inactive, waiting, ended}
+use Rattle.vs_process.specs.vs_flatcode.specs.Steps.{step}
 use Rattle.vs_law_threads.specs.Blocks.{sources, Roles, puts_out, control}
 use Rattle.std.specs.List.{Contains, list_any}
 use Rattle.vs_law_threads.specs.Threads.{IsThread, IsFiredBy, Fired, Thread, iterate, log_behind, opening, store_behind, turn_at, turn}

@@ -5,14 +5,14 @@ use Rattle.vs_independence.proofs.FirstQuiet.{Unstarted}
 use Rattle.vs_independence.proofs.Moves.{log_names}
 use Rattle.std.proofs.Common.{◌≡◌, ℕ, ◌||◌, ◌⊎◌, Bool, true, false, Option, Some, None, List, [], ◌∷◌, map, get_or, slice_get, zero, refl, sym, ◌∙◌, ap, subst, inl, inr, suc}
 use Rattle.vs_design.specs.declared.design.Process.{Process}
-use Rattle.vs_flatcode.specs.declared.gait.Gait.TheVariants.{Fresh}
+use Rattle.vs_process.specs.vs_flatcode.specs.declared.gait.Gait.TheVariants.{Fresh}
 use Rattle.vs_design.specs.Parts.{Parts}
 use Rattle.vs_design.specs.Stores.{Store}
 use Rattle.vs_design.specs.declared.range.BitRange.{BitRange}
 use Rattle.vs_process.specs.States.{State, start, performed, activated}
-use Rattle.vs_flatcode.specs.declared.gait.Gait.{Gait}
-use Rattle.vs_flatcode.specs.Places.{active_at, flat, start_place, Todo, Place, going, ended, is_going, is_inside, todo_of}
-use Rattle.vs_flatcode.specs.Steps.{Out, step, goes}
+use Rattle.vs_process.specs.vs_flatcode.specs.declared.gait.Gait.{Gait}
+use Rattle.vs_process.specs.vs_flatcode.specs.Places.{active_at, flat, start_place, Todo, Place, going, ended, is_going, is_inside, todo_of}
+use Rattle.vs_process.specs.vs_flatcode.specs.Steps.{Out, step, goes}
 use Rattle.vs_law_threads.specs.Threads.{Thread, found, is_timed, IsThread, IsEarly, early_turn, turn, writes}
 use Rattle.vs_law_threads.specs.Blocks.{cold, sources, Roles, StartsAs, IsSource, control, puts_out}
 use Rattle.vs_independence.specs.Discipline.{Reaches, IsOrdered}

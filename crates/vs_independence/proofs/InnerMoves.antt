@@ -6,17 +6,17 @@ use Rattle.vs_law_threads.specs.Blocks.{cold, sources}
 use Rattle.std.proofs.Common.{◌≡◌, ℕ, ◌==◌, ◌<◌, ◌⊎◌, Bool, true, false, ◌&&◌, ◌||◌, not, Option, Some, None, is_some, List, [], ◌∷◌, map, get_or, slice_get, ltb, leb, ltb-true, eqb-true, arith, refl, sym, ◌∙◌, ap, subst, inl, inr, take, slice_set}
 use Rattle.std.specs.List.{list_any}
 use Rattle.std.proofs.lemmas.Bool.{and_parts, or_parts, or_cases, not-true, not_from_true, true≢false, false≢true, cases_Bool, false_from_ne_true, or_left, or_right}
-use Rattle.vs_logic4.specs.declared.digit.Digit.{Digit}
+use Rattle.vs_design.specs.vs_logic4.specs.declared.digit.Digit.{Digit}
 use Rattle.vs_design.specs.Parts.{Parts}
 use Rattle.vs_design.specs.Stores.{Store, put, is_driven, is_changed}
 use Rattle.vs_process.specs.declared.moves.Move.{Move}
 use Rattle.vs_process.specs.declared.moves.Move.TheVariants.{Step, Evaluate, Propagate, Make, Rouse, Activate, EndSlot}
-use Rattle.vs_flatcode.specs.Places.{Place, going, sleeping, inactive, waiting, ended, is_going, is_inactive, Todo, is_inside}
+use Rattle.vs_process.specs.vs_flatcode.specs.Places.{Place, going, sleeping, inactive, waiting, ended, is_going, is_inactive, Todo, is_inside}
 use Rattle.vs_process.specs.States.{State, AssignState, Update, is_due, activated, stepped, evaluate, propagate, propagate_value, make, roused, wakened, settled, start}
 use Rattle.vs_process.specs.Executions.{is_first, is_busy, has_inactive, has_due, is_enabled, apply, is_step_of}
 use Rattle.vs_process.proofs.Lists.{none_at}
 use Rattle.std.proofs.lemmas.Map.Keys.{any_passes_from_place as at_any}
-use Rattle.vs_logic4.proofs.Basics.{element_of as any_at}
+use Rattle.vs_design.specs.vs_logic4.proofs.Basics.{element_of as any_at}
 use Rattle.vs_law_threads.specs.Threads.{Thread, IsThread}
 use Rattle.vs_law_threads.proofs.Stores.{names_some}
 use Rattle.vs_law_threads.proofs.Threads.{not_inactive, rouse_thread, is_stopped, not_going}
@@ -29,7 +29,7 @@ use Rattle.vs_independence.proofs.FirstQuiet.{AtFirst, first_quiet, is_cold}
 use Rattle.vs_design.specs.declared.range.BitRange.{BitRange}
 use Rattle.vs_independence.proofs.BlocksAt.{BlocksAt, IsFree, NoneInside, blocks_behind, blocks_mapped, blocks_still, mapped_place, text_at, woken_more}
 use Rattle.vs_law_threads.proofs.Fares.{Fares, is_awake, or_last, or_some, fresh, unfed, fed, woken, inside}
-use Rattle.vs_flatcode.specs.declared.gait.Gait.{Gait}
+use Rattle.vs_process.specs.vs_flatcode.specs.declared.gait.Gait.{Gait}
 use Rattle.vs_independence.proofs.History.{History, alters, change_named, history_still, put_log}
 use Rattle.vs_law_threads.specs.Blocks.{IsSource, Roles, Start, sources}
 use Rattle.vs_independence.proofs.Owed.{Owed, owed_begins, owed_like, owed_made, owed_still}
@@ -40,7 +40,7 @@ use Rattle.vs_independence.proofs.Moves.{runs_as, evaluate_runs, propagate_runs,
 use Rattle.std.proofs.Math.ListN.{get_or-map}
 use Rattle.std.proofs.lemmas.Option.{get_or_from_slice_get}
 use Rattle.vs_independence.specs.Discipline.{here}
-use Rattle.vs_logic4.proofs.Basics.{all_at as all_get, pending_of}
+use Rattle.vs_design.specs.vs_logic4.proofs.Basics.{all_at as all_get, pending_of}
 use Rattle.vs_process.proofs.Permitted.{some_of}
 
 -- nothing is left to do but a change of region

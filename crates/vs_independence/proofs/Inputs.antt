@@ -4,7 +4,7 @@ use Rattle.std.proofs.lemmas.Bool.{true≢false}
 use Rattle.vs_design.specs.declared.statement.EventTerm.{EventTerm}
 use Rattle.vs_design.specs.Parts.{Parts}
 use Rattle.vs_design.specs.Stores.{Store}
-use Rattle.vs_flatcode.specs.Places.{Place}
+use Rattle.vs_process.specs.vs_flatcode.specs.Places.{Place}
 use Rattle.vs_process.specs.States.{State}
 use Rattle.vs_law_threads.specs.Edges.{Copies, IsHeard, IsRoot}
 use Rattle.vs_law_threads.specs.Threads.{Thread, iterate, turn, Fired, given, opening, IsTimed, Fires, Awaits, MayOpen, IsThread, writes}

@@ -5,15 +5,15 @@ use Rattle.std.proofs.Math.ListN.{get_or-map}
 use Rattle.std.proofs.lemmas.Bool.{false_from_ne_true, or_left, or_right, true≢false, false≢true, cases_Bool}
 use Rattle.std.proofs.lemmas.List.{length-set, length-map, get_or-set_same, get_or-set_other}
 use Rattle.std.proofs.lemmas.Option.{slice_get_within, get_or_from_slice_get}
-use Rattle.vs_logic4.specs.declared.digit.Digit.{Digit}
+use Rattle.vs_design.specs.vs_logic4.specs.declared.digit.Digit.{Digit}
 use Rattle.vs_design.specs.Parts.{Parts}
 use Rattle.vs_design.specs.Stores.{Store, put, is_changed, is_driven, word_in}
 use Rattle.vs_design.specs.Uses.{writes_signal}
 use Rattle.vs_design.specs.Writes.{Write, names}
 use Rattle.vs_process.specs.vs_eval.specs.Targets.{assigned}
-use Rattle.vs_flatcode.specs.Places.{Todo, Place, going, sleeping, inactive, waiting, ended, is_going, todo_of}
-use Rattle.vs_flatcode.specs.declared.gait.Gait.{Gait}
-use Rattle.vs_flatcode.specs.Steps.{Out, step}
+use Rattle.vs_process.specs.vs_flatcode.specs.Places.{Todo, Place, going, sleeping, inactive, waiting, ended, is_going, todo_of}
+use Rattle.vs_process.specs.vs_flatcode.specs.declared.gait.Gait.{Gait}
+use Rattle.vs_process.specs.vs_flatcode.specs.Steps.{Out, step}
 use Rattle.vs_process.specs.States.{State, AssignState, Update, Called, touched, wakened, place_behind, performed, written_behind, calls_behind, updates_behind, evaluate, propagate_value, settled, roused}
 use Rattle.vs_process.proofs.Lists.{set_cases}
 use Rattle.vs_process.proofs.WellFormed.{is_sound_place, is_sound_todo}

@@ -2,7 +2,7 @@
 use Rattle.std.proofs.Common.{◌≡◌, ℕ, ◌⊎◌, true, Option, Some, None, option_map, List, map, slice_get, slice_set, refl, sym, ◌∙◌, ap, subst, inl, inr, Bool, false}
 use Rattle.std.specs.List.{list_any, Contains}
 use Rattle.std.proofs.lemmas.Bool.{cases_Bool, false_from_ne_true, or_from, true≢false}
-use Rattle.vs_logic4.specs.declared.digit.Digit.{Digit}
+use Rattle.vs_design.specs.vs_logic4.specs.declared.digit.Digit.{Digit}
 use Rattle.vs_design.specs.declared.design.Assign.{Assign}
 use Rattle.vs_design.specs.declared.range.BitRange.{BitRange}
 use Rattle.vs_design.specs.declared.statement.Target.{Target}
@@ -16,7 +16,7 @@ use Rattle.vs_process.specs.vs_eval.specs.Targets.{assigned}
 use Rattle.vs_process.specs.States.{State, AssignState, touched, evaluated, settled, wakened}
 use Rattle.vs_process.proofs.Digits.{digit-put, kept_digit, laid, unnamed_keeps}
 use Rattle.vs_process.proofs.Lists.{map_cases, set_cases}
-use Rattle.vs_logic4.proofs.Basics.{element_of as any_at}
+use Rattle.vs_design.specs.vs_logic4.proofs.Basics.{element_of as any_at}
 use Rattle.vs_process.proofs.Ranges.{assigned_fixed, covered_signal, fixed_write, uncovered_keeps}
 use Rattle.vs_process.proofs.Stores.{put_other}
 use Rattle.vs_process.proofs.Values.{not_changed}
@@ -29,7 +29,7 @@ use Rattle.vs_law_threads.proofs.Feeds.{changed_into}
 use Rattle.vs_law_threads.proofs.Lists.{contains_at}
 use Rattle.vs_independence.proofs.Running.{Stirred, IsCalm, IsStirred, Nets, by_write, by_start, IsAwake, Rests, by_rest, IsRested}
 use Rattle.vs_law_threads.specs.Blocks.{control, puts_into, puts_out}
-use Rattle.vs_flatcode.specs.Places.{Place, ended}
+use Rattle.vs_process.specs.vs_flatcode.specs.Places.{Place, ended}
 use Rattle.vs_law_threads.proofs.Texts.{Text, home_stays}
 use Rattle.std.proofs.Math.ListN.{get_or-map}
 

@@ -12,10 +12,10 @@ use Rattle.vs_design.specs.Uses.{covers, writes_signal}
 use Rattle.vs_design.specs.Uses as uses
 use Rattle.vs_process.specs.vs_eval.specs.Laws.{digit_of, digit_in}
 use Rattle.vs_process.specs.vs_edges.specs.Waking.{wakes}
-use Rattle.vs_flatcode.specs.Places.{Todo, Place, waiting, ended, is_going}
+use Rattle.vs_process.specs.vs_flatcode.specs.Places.{Todo, Place, waiting, ended, is_going}
 use Rattle.vs_process.specs.States.{State, AssignState, Update, Called}
 use Rattle.vs_process.proofs.Lists.{none_from}
-use Rattle.vs_logic4.proofs.Basics.{element_of as any_at}
+use Rattle.vs_design.specs.vs_logic4.proofs.Basics.{element_of as any_at}
 use Rattle.vs_process.proofs.Values.{not_changed, same_unchanged}
 use Rattle.vs_process.proofs.Assigns.{AssignsSound, assign_of, drives}
 use Rattle.vs_process.proofs.Ranges.{same_content}

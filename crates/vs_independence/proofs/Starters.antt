@@ -1,7 +1,7 @@
 -- Blocks that an update of the first slot wakes: what they are shown stays until the updates are activated.
 use Rattle.vs_law_threads.proofs.Fares.{fresh, unfed, fed, woken, inside}
-use Rattle.vs_flatcode.specs.Places.{Todo, going, waiting, is_going, is_inactive}
-use Rattle.vs_flatcode.specs.declared.gait.Gait.{Gait}
+use Rattle.vs_process.specs.vs_flatcode.specs.Places.{Todo, going, waiting, is_going, is_inactive}
+use Rattle.vs_process.specs.vs_flatcode.specs.declared.gait.Gait.{Gait}
 use Rattle.std.proofs.Common.{◌≡◌, ℕ, ◌||◌, ◌⊎◌, Bool, true, false, Option, Some, None, List, map, slice_get, slice_set, refl, sym, ◌∙◌, ap, subst, inl, inr, if◌then◌else◌}
 use Rattle.vs_design.specs.Parts.{Parts}
 use Rattle.vs_design.specs.Stores.{Store, put, start_store, is_changed, is_driven, changes_nothing, word_in}
@@ -10,19 +10,19 @@ use Rattle.vs_design.specs.declared.design.Assign.{Assign}
 use Rattle.vs_process.specs.States.{AssignState, evaluated, start_assign, touched, wakened, settled}
 use Rattle.vs_process.proofs.Assigns.{driven, left_unchanged, AssignsSound, assign_driven, link_of}
 use Rattle.vs_design.specs.declared.range.BitRange.{BitRange}
-use Rattle.vs_logic4.specs.declared.digit.Digit.{Digit}
+use Rattle.vs_design.specs.vs_logic4.specs.declared.digit.Digit.{Digit}
 use Rattle.vs_law_threads.proofs.Fares.{Fares, is_awake}
 use Rattle.vs_law_threads.specs.vs_law_writes.specs.Laws.{LiesIn}
 use Rattle.vs_independence.proofs.Moves.{OutputsUndriven}
-use Rattle.vs_flatcode.specs.Places.{Place}
+use Rattle.vs_process.specs.vs_flatcode.specs.Places.{Place}
 use Rattle.vs_design.specs.declared.statement.Target.{Target}
 use Rattle.vs_law_threads.proofs.Texts.{Text}
 use Rattle.vs_design.specs.Writes.{Write, names}
 use Rattle.vs_process.proofs.Lists.{map_cases, none_at, set_cases}
-use Rattle.vs_logic4.proofs.Basics.{element_of as any_at, same_lists as same_gets}
+use Rattle.vs_design.specs.vs_logic4.proofs.Basics.{element_of as any_at, same_lists as same_gets}
 use Rattle.vs_process.specs.vs_eval.specs.Targets.{assigned}
 use Rattle.vs_process.proofs.Ranges.{assigned_names}
-use Rattle.vs_flatcode.specs.Steps.{assignment}
+use Rattle.vs_process.specs.vs_flatcode.specs.Steps.{assignment}
 use Rattle.vs_law_threads.proofs.Assigns.{assigns_behind}
 use Rattle.std.proofs.lemmas.Bool.{cases_Bool, false_from_ne_true, true≢false}
 use Rattle.vs_independence.proofs.Awake.{changed_awake}

@@ -7,8 +7,8 @@ use Rattle.std.proofs.lemmas.List.Folds.{list_any-append, list_all-append}
 use Rattle.vs_design.specs.Parts.{Parts}
 use Rattle.vs_design.specs.Stores.{Store, put}
 use Rattle.vs_design.specs.Writes.{Write, names}
-use Rattle.vs_flatcode.specs.vs_strobe.specs.Lines.{Format}
-use Rattle.vs_flatcode.specs.Places.{Place}
+use Rattle.vs_process.specs.vs_flatcode.specs.vs_strobe.specs.Lines.{Format}
+use Rattle.vs_process.specs.vs_flatcode.specs.Places.{Place}
 use Rattle.vs_process.specs.States.{State, Update, Called, updates_behind, calls_behind}
 use Rattle.vs_process.proofs.Stores.{put_other, put_local}
 use Rattle.vs_law_threads.specs.Threads.{store_behind, Thread, IsThread, log_behind, writes, any_names}

@@ -4,8 +4,8 @@ use Rattle.std.proofs.Math.ListN.{get_or-map}
 use Rattle.vs_design.specs.Parts.{Parts}
 use Rattle.vs_design.specs.Stores.{Store, start_store}
 use Rattle.vs_process.specs.vs_edges.specs.Waking.{wakes}
-use Rattle.vs_flatcode.specs.declared.gait.Gait.TheVariants.{Woken}
-use Rattle.vs_flatcode.specs.Places.{Place, going, sleeping, inactive, waiting, ended, active_at}
+use Rattle.vs_process.specs.vs_flatcode.specs.declared.gait.Gait.TheVariants.{Woken}
+use Rattle.vs_process.specs.vs_flatcode.specs.Places.{Place, going, sleeping, inactive, waiting, ended, active_at}
 use Rattle.vs_process.specs.States.{State, wakened}
 use Rattle.vs_process.proofs.Lists.{none_from}
 use Rattle.vs_process.proofs.Stores.{shape}

@@ -4,8 +4,8 @@ use Rattle.std.proofs.lemmas.Bool.{cases_lt, false≢true}
 use Rattle.vs_design.specs.Parts.{Parts}
 use Rattle.vs_design.specs.Stores.{Store}
 use Rattle.vs_design.specs.Traces.{Line}
-use Rattle.vs_flatcode.specs.Places.{Place, going, sleeping, inactive, waiting, ended}
-use Rattle.vs_flatcode.specs.Steps.{step}
+use Rattle.vs_process.specs.vs_flatcode.specs.Places.{Place, going, sleeping, inactive, waiting, ended}
+use Rattle.vs_process.specs.vs_flatcode.specs.Steps.{step}
 use Rattle.vs_process.specs.States.{State, roused}
 use Rattle.vs_process.specs.Executions.{line_by}
 use Rattle.vs_law_threads.specs.Threads.{Thread, Fired, turn, turn_at, iterate, opening, is_timed, MayOpen, IsThread, writes}

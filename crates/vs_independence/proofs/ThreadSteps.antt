@@ -2,8 +2,8 @@
 use Rattle.std.proofs.Common.{◌≡◌, ℕ, Bool, true, false, Some, None, slice_get, sym, ◌∙◌, ap, subst}
 use Rattle.vs_design.specs.Parts.{Parts}
 use Rattle.vs_design.specs.Stores.{is_changed}
-use Rattle.vs_flatcode.specs.Places.{Place, going, sleeping, inactive, waiting, ended, is_going, todo_of}
-use Rattle.vs_flatcode.specs.Steps.{step, Out}
+use Rattle.vs_process.specs.vs_flatcode.specs.Places.{Place, going, sleeping, inactive, waiting, ended, is_going, todo_of}
+use Rattle.vs_process.specs.vs_flatcode.specs.Steps.{step, Out}
 use Rattle.vs_law_threads.specs.Reads.{mute}
 use Rattle.vs_independence.proofs.Running.{Apart, Running, agrees, reads_agree}
 use Rattle.vs_law_threads.specs.Blocks.{IsSource}

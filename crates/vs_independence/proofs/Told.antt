@@ -4,18 +4,18 @@ use Rattle.std.specs.List.{list_any}
 use Rattle.std.proofs.lemmas.Bool.{and_parts, or_cases, not_from_true, ne_eqb, true≢false, false≢true, cases_Bool}
 use Rattle.std.proofs.lemmas.List.Elements.{filter-append}
 use Rattle.std.proofs.lemmas.Option.{get_or_from_slice_get}
-use Rattle.vs_logic4.specs.declared.digit.Digit.{Digit}
+use Rattle.vs_design.specs.vs_logic4.specs.declared.digit.Digit.{Digit}
 use Rattle.vs_design.specs.Parts.{Parts}
 use Rattle.vs_design.specs.Stores.{is_changed}
 use Rattle.vs_design.specs.Traces.{Line}
-use Rattle.vs_flatcode.specs.declared.gait.Gait.{Gait}
-use Rattle.vs_flatcode.specs.Places.{Todo, Place, going, sleeping, inactive, waiting, ended, is_going, is_inactive, todo_of}
-use Rattle.vs_flatcode.specs.Steps.{Out, step}
+use Rattle.vs_process.specs.vs_flatcode.specs.declared.gait.Gait.{Gait}
+use Rattle.vs_process.specs.vs_flatcode.specs.Places.{Todo, Place, going, sleeping, inactive, waiting, ended, is_going, is_inactive, todo_of}
+use Rattle.vs_process.specs.vs_flatcode.specs.Steps.{Out, step}
 use Rattle.vs_process.specs.declared.moves.Move.{Move}
 use Rattle.vs_process.specs.declared.moves.Move.TheVariants.{Step, Evaluate, Propagate, Make, Rouse, Activate, EndSlot}
 use Rattle.vs_process.specs.States.{State, AssignState, Update, activated, evaluate, is_due, make, performed, propagate, propagate_value, roused, stepped}
 use Rattle.vs_process.specs.Executions.{apply, is_enabled, is_first, line_by, step_lines}
-use Rattle.vs_logic4.proofs.Basics.{element_of as any_at}
+use Rattle.vs_design.specs.vs_logic4.proofs.Basics.{element_of as any_at}
 use Rattle.vs_law_threads.specs.Blocks.{Roles}
 use Rattle.vs_law_threads.specs.Threads.{Thread, place_shows, todo_shows, turn}
 use Rattle.vs_law_threads.proofs.Lists.{at, at_each}
@@ -30,7 +30,7 @@ use Rattle.vs_independence.proofs.BlocksAt.{BlocksAt, block_made, text_at}
 use Rattle.vs_independence.proofs.Making.{GoesFrom, GoesOn, Making, activate_makes, block_makes, evaluate_makes, is_settled, make_makes, none_makes, propagate_makes, stopped_at}
 use Rattle.vs_independence.proofs.Inner.{Setting}
 use Rattle.vs_independence.proofs.InnerMoves.{AtActivate, AtEnd, AtRouse, IsInner, all_idle, at_activate, at_end, at_rouse, block_active, going_place}
-use Rattle.vs_logic4.proofs.Basics.{all_at as all_get, pending_of}
+use Rattle.vs_design.specs.vs_logic4.proofs.Basics.{all_at as all_get, pending_of}
 use Rattle.vs_process.proofs.Permitted.{some_of}
 use Rattle.vs_independence.proofs.Tells.{Tells, place_lines, tells_fired, tells_rouses, tells_turns, turn_lines}
 

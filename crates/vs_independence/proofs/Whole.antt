@@ -11,7 +11,7 @@ use Rattle.vs_design.specs.WellFormed.{WellFormed}
 use Rattle.vs_process.specs.declared.moves.Grain.{Grain}
 use Rattle.vs_process.specs.declared.moves.Move.{Move}
 use Rattle.vs_process.specs.declared.moves.Move.TheVariants.{Step, Evaluate, Propagate, Make, Rouse, Activate, EndSlot}
-use Rattle.vs_flatcode.specs.Places.{ended, active_at, is_going, start_place, going, perform}
+use Rattle.vs_process.specs.vs_flatcode.specs.Places.{ended, active_at, is_going, start_place, going, perform}
 use Rattle.vs_process.specs.States.{State, AssignState, start, start_assign, woken_at}
 use Rattle.vs_process.specs.Executions.{allowed, apply, after, Legal, slot_behind, strobe_line, ended_slot, slots, is_complete, is_by, finish_time, trace, ends, is_enabled, is_free, next_time, places_at}
 use Rattle.vs_process.proofs.Times.{enabled_of}
@@ -39,14 +39,14 @@ use Rattle.vs_design.specs.declared.range.BitRange.{BitRange}
 use Rattle.vs_independence.proofs.BlocksAt.{Blocked, BlocksAt, kept_out, mapped_place, text_at, woken_more}
 use Rattle.vs_law_threads.specs.Blocks.{Roles, puts_out}
 use Rattle.vs_law_threads.proofs.Fares.{Fares, fares_later, fares_still, home_asleep, is_awake, or_some, fresh}
-use Rattle.vs_flatcode.specs.declared.gait.Gait.TheVariants.{Fresh}
+use Rattle.vs_process.specs.vs_flatcode.specs.declared.gait.Gait.TheVariants.{Fresh}
 use Rattle.vs_design.specs.declared.design.Process.{Process}
 use Rattle.vs_design.specs.Stores.{Store, start_store}
 use Rattle.vs_law_threads.proofs.Texts.{Text}
-use Rattle.vs_flatcode.specs.Steps.{goes}
+use Rattle.vs_process.specs.vs_flatcode.specs.Steps.{goes}
 use Rattle.vs_law_threads.proofs.Held.{into_puts}
 use Rattle.vs_law_threads.proofs.Outputs.{outputs_undriven}
-use Rattle.vs_logic4.proofs.Basics.{or_false}
+use Rattle.vs_design.specs.vs_logic4.proofs.Basics.{or_false}
 use Rattle.std.proofs.lemmas.Option.{get_or_from_slice_get}
 
 -- the moves up to the beginning of the slot that goes on

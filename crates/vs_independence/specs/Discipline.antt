@@ -7,7 +7,7 @@ use Rattle.vs_design.specs.Parts.{Parts}
 use Rattle.vs_design.specs.Traces.{SameTrace}
 use Rattle.vs_design.specs.Uses.{reads, writes as target_writes, writes_signal}
 use Rattle.vs_design.specs.WellFormed.{WellFormed}
-use Rattle.vs_flatcode.specs.Places.{ended, is_going}
+use Rattle.vs_process.specs.vs_flatcode.specs.Places.{ended, is_going}
 use Rattle.vs_process.specs.declared.moves.Grain.{Grain}
 use Rattle.vs_process.specs.declared.moves.Grain.TheVariants.{Block}
 use Rattle.vs_process.specs.declared.moves.Move.{Move}

@@ -6,7 +6,7 @@ use Rattle.vs_design.specs.Parts.{Parts}
 use Rattle.vs_design.specs.Traces.{Line, Slot}
 use Rattle.vs_design.specs.Uses.{writes_signal}
 use Rattle.vs_design.specs.WellFormed.{WellFormed}
-use Rattle.vs_flatcode.specs.Places.{ended, is_going}
+use Rattle.vs_process.specs.vs_flatcode.specs.Places.{ended, is_going}
 use Rattle.vs_process.specs.declared.moves.Grain.{Grain}
 use Rattle.vs_process.specs.declared.moves.Move.{Move}
 use Rattle.vs_process.specs.declared.moves.Move.TheVariants.{Step, EndSlot}

@@ -1,2 +1,3 @@
 pub mod Discipline
 pub mod Displays
+pub use Rattle.vs_process

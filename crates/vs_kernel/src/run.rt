@@ -9,10 +9,10 @@ ghost use Rattle.vs_vcd_writing.specs.Progress.{is_write_fault};
 use crate::outcome::Outcome;
 use std::alloc::Global;
 use vs_design::Design;
-use vs_process::{Code, blocks_exclude, inside_follows, none_inside_first};
 use vs_run_moves::{Run, codes_of, scripts_of};
 use vs_run_policies::Pick;
 use vs_run_updates::Due;
+use vs_run_updates::vs_process::{Code, blocks_exclude, inside_follows, none_inside_first};
 use vs_run_updates::vs_time_wheel::EventQueue;
 use vs_vcd_writing::{Sink, WriterFault};
 

@@ -1,7 +1,7 @@
 -- The designs are well formed, and what folds give at their statements.
 use Rattle.std.proofs.Common.{◌≡◌, ◌&&◌, ℕ, true, List, [], ◌∷◌, ◌++◌, sym, ◌∙◌, ap}
 use Rattle.std.specs.declared.alloc.Global.{Global}
-use Rattle.vs_logic4.specs.declared.digit.Digit.TheVariants.{One}
+use Rattle.vs_design.specs.vs_logic4.specs.declared.digit.Digit.TheVariants.{One}
 use Rattle.vs_design.specs.declared.expression.Typed.{Typed}
 use Rattle.vs_design.specs.declared.signal.Signal.{Signal}
 use Rattle.vs_design.specs.declared.statement.Call.{Call}

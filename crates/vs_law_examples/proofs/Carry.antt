@@ -13,15 +13,15 @@ use Rattle.vs_design.specs.declared.expression.Typed.TheVariants as e
 use Rattle.vs_design.specs.declared.expression.Typed.TheOpen as t
 use Rattle.vs_design.specs.Uses.{reads, reads_step, slice_range, whole, writes as target_writes}
 use Rattle.vs_design.specs.WellFormed.{WellFormed, size_step, size_of, is_sound_assign}
-use Rattle.vs_process.specs.declared.moves.Grain.{Grain}
-use Rattle.vs_process.specs.declared.moves.Move.{Move}
-use Rattle.vs_process.specs.declared.moves.Move.TheVariants.{Step, Evaluate, Propagate, Make, Rouse, Activate, EndSlot}
-use Rattle.vs_process.specs.vs_flatcode.specs.Places.{Place, ended, waiting}
-use Rattle.vs_process.specs.States.{AssignState, State, Update, evaluate, make, propagate, propagate_value, roused, stepped, triggered, wakened}
+use Rattle.vs_independence.specs.vs_process.specs.declared.moves.Grain.{Grain}
+use Rattle.vs_independence.specs.vs_process.specs.declared.moves.Move.{Move}
+use Rattle.vs_independence.specs.vs_process.specs.declared.moves.Move.TheVariants.{Step, Evaluate, Propagate, Make, Rouse, Activate, EndSlot}
+use Rattle.vs_independence.specs.vs_process.specs.vs_flatcode.specs.Places.{Place, ended, waiting}
+use Rattle.vs_independence.specs.vs_process.specs.States.{AssignState, State, Update, evaluate, make, propagate, propagate_value, roused, stepped, triggered, wakened}
 use Rattle.vs_design.specs.Stores.{put}
 use Rattle.vs_design.specs.Writes.{names}
-use Rattle.vs_eval.specs.Targets.{assigned}
-use Rattle.vs_process.specs.Executions.{after, ends, next_time, places_at}
+use Rattle.vs_law_threads.specs.vs_eval.specs.Targets.{assigned}
+use Rattle.vs_independence.specs.vs_process.specs.Executions.{after, ends, next_time, places_at}
 use Rattle.vs_law_examples.specs.Carry.{ACarryIsDisciplined, carried, carrying, first_assign, low_bit, second_assign}
 use Rattle.vs_independence.specs.Discipline.{BeginsSlot, IsOrdered, KeepsApart}
 use Rattle.vs_law_threads.specs.Bits.{SharesBit}
@@ -34,7 +34,7 @@ use Rattle.vs_law_threads.proofs.Lists.{place_of}
 use Rattle.vs_law_threads.proofs.Threads.{timed_thread}
 use Rattle.std.proofs.lemmas.Map.Keys.{any_passes_from_place as at_any}
 use Rattle.vs_law_examples.proofs.Race.{reads_operand, size_operand}
-use Rattle.vs_logic4.proofs.Basics.{declared_at}
+use Rattle.vs_design.specs.vs_logic4.proofs.Basics.{declared_at}
 
 -- ---- it is well formed
 

@@ -9,12 +9,12 @@ use Rattle.vs_design.specs.declared.statement.Statement.TheOpen as f
 use Rattle.vs_design.specs.declared.statement.Statement.TheFolds.{fold-roll-Statement}
 use Rattle.vs_design.specs.Traces.{Line}
 use Rattle.vs_design.specs.WellFormed.{WellFormed, is_sound_call, is_sound_statement, numbers, numbers_step, sound_step}
-use Rattle.vs_logic4.specs.declared.digit.Digit.TheVariants.{Zero}
-use Rattle.vs_process.specs.declared.moves.Grain.{Grain}
-use Rattle.vs_process.specs.declared.moves.Grain.TheVariants as grain
-use Rattle.vs_process.specs.declared.moves.Move.{Move}
-use Rattle.vs_process.specs.declared.moves.Move.TheVariants.{Step, EndSlot}
-use Rattle.vs_process.specs.Executions.{after, Legal, is_complete}
+use Rattle.vs_design.specs.vs_logic4.specs.declared.digit.Digit.TheVariants.{Zero}
+use Rattle.vs_independence.specs.vs_process.specs.declared.moves.Grain.{Grain}
+use Rattle.vs_independence.specs.vs_process.specs.declared.moves.Grain.TheVariants as grain
+use Rattle.vs_independence.specs.vs_process.specs.declared.moves.Move.{Move}
+use Rattle.vs_independence.specs.vs_process.specs.declared.moves.Move.TheVariants.{Step, EndSlot}
+use Rattle.vs_independence.specs.vs_process.specs.Executions.{after, Legal, is_complete}
 use Rattle.vs_independence.specs.Displays.{DisplaySlot, DisplaysAlike, SameDisplays, displays, lines_of_process}
 use Rattle.vs_law_examples.specs.Race.{initially, set_to}
 use Rattle.vs_law_examples.specs.Lines.{printing, prints_bit}

@@ -11,9 +11,9 @@ use Rattle.std.proofs.lemmas.List.{get_or_past, length-map, length-set}
 use Rattle.std.proofs.lemmas.List.Elements.{All-nil, All-cons}
 use Rattle.vs_design.specs.declared.design.Process.{Process}
 use Rattle.vs_design.specs.declared.design.ProcessKind.TheVariants.{Always}
-use Rattle.vs_process.specs.declared.moves.Move.TheVariants.{Step, Evaluate, Propagate, Make, Rouse, Activate, EndSlot}
-use Rattle.vs_process.specs.States.{start, evaluate, propagate, make, stepped, AssignState, Update, place_behind, propagate_value, roused, woken_at, triggered}
-use Rattle.vs_process.specs.vs_flatcode.specs.Steps.{step}
+use Rattle.vs_independence.specs.vs_process.specs.declared.moves.Move.TheVariants.{Step, Evaluate, Propagate, Make, Rouse, Activate, EndSlot}
+use Rattle.vs_independence.specs.vs_process.specs.States.{start, evaluate, propagate, make, stepped, AssignState, Update, place_behind, propagate_value, roused, woken_at, triggered}
+use Rattle.vs_independence.specs.vs_process.specs.vs_flatcode.specs.Steps.{step}
 use Rattle.vs_design.specs.declared.range.BitRange.{BitRange}
 use Rattle.vs_design.specs.declared.signal.Signal.{Signal}
 use Rattle.vs_design.specs.declared.statement.EventTerm.{EventTerm}
@@ -27,36 +27,36 @@ use Rattle.vs_design.specs.Uses.{covers, reads, whole, is_of}
 use Rattle.vs_law_threads.specs.Bits.{meet_in}
 use Rattle.vs_design.specs.Uses as uses
 use Rattle.vs_design.specs.WellFormed.{WellFormed, are_sound_terms, is_sound_process, is_sound_statement, numbers, numbers_step, sound_step, counts_from, is_forever}
-use Rattle.vs_process.specs.vs_flatcode.specs.Places.{ended, Place, todo_of, waiting}
-use Rattle.vs_process.specs.vs_flatcode.specs.Steps.{assignment}
-use Rattle.vs_process.specs.declared.moves.Grain.TheVariants.{Block}
-use Rattle.vs_process.specs.Executions.{after, ends, is_combinational, next_time, places_at}
-use Rattle.vs_process.specs.States.{State}
+use Rattle.vs_independence.specs.vs_process.specs.vs_flatcode.specs.Places.{ended, Place, todo_of, waiting}
+use Rattle.vs_independence.specs.vs_process.specs.vs_flatcode.specs.Steps.{assignment}
+use Rattle.vs_independence.specs.vs_process.specs.declared.moves.Grain.TheVariants.{Block}
+use Rattle.vs_independence.specs.vs_process.specs.Executions.{after, ends, is_combinational, next_time, places_at}
+use Rattle.vs_independence.specs.vs_process.specs.States.{State}
 use Rattle.vs_law_threads.specs.vs_law_writes.specs.Writes.{statement_writes, statement_writes_step}
 use Rattle.vs_law_threads.specs.Blocks.{Start, cold, starter, Roles, sources, control, home, outputs, puts_out, puts_into, woken_on, sizes, AgreeOn, Arrives, IsBlock, SameOutputs, IsSource}
 use Rattle.vs_law_examples.specs.Mirror.{ABlockIsDisciplined, change, copied, mirroring, one_of, watching}
 use Rattle.vs_law_examples.specs.Race.{name, operand, target}
 use Rattle.vs_law_threads.specs.Threads.{Awaits, Fired, found, IsThread, Thread, any_names, early_at, early_turn, iterate, opening, place_reads, turn, turn_at, writes}
 use Rattle.vs_law_examples.proofs.Race.{numbers_assign, reads_operand, size_operand, sound_assign}
-use Rattle.vs_process.proofs.Ranges.{IsFixed, assigned_fixed, covered_fixes, fixed_write}
-use Rattle.vs_process.specs.declared.moves.Move.{Move}
+use Rattle.vs_independence.specs.vs_process.proofs.Ranges.{IsFixed, assigned_fixed, covered_fixes, fixed_write}
+use Rattle.vs_independence.specs.vs_process.specs.declared.moves.Move.{Move}
 use Rattle.vs_design.specs.Writes.{Write, names}
 use Rattle.vs_law_threads.proofs.Threads.{is_stopped, stopped_stays, stays_from}
 use Rattle.vs_law_threads.proofs.Held.{puts_covered}
 use Rattle.vs_law_threads.proofs.Named.{named}
 use Rattle.vs_law_threads.proofs.Settle.{same_fixed}
-use Rattle.vs_process.proofs.Stores.{shape-put}
-use Rattle.vs_eval.specs.Values.{target_value}
-use Rattle.vs_process.proofs.Values.{target_value_unchanged}
-use Rattle.vs_process.proofs.Digits.{put_again}
+use Rattle.vs_independence.specs.vs_process.proofs.Stores.{shape-put}
+use Rattle.vs_law_threads.specs.vs_eval.specs.Values.{target_value}
+use Rattle.vs_independence.specs.vs_process.proofs.Values.{target_value_unchanged}
+use Rattle.vs_independence.specs.vs_process.proofs.Digits.{put_again}
 use Rattle.vs_independence.specs.Discipline.{BeginsSlot, Disciplined, KeepsApart}
-use Rattle.vs_eval.specs.Targets.{assigned}
+use Rattle.vs_law_threads.specs.vs_eval.specs.Targets.{assigned}
 use Rattle.vs_independence.proofs.Whole.{independent}
 use Rattle.vs_independence.proofs.Moves.{length_behind, performed_is}
 use Rattle.std.proofs.lemmas.Option.{none-some}
 use Rattle.vs_law_threads.proofs.Assigns.{places_behind}
 use Rattle.vs_law_examples.specs.Rise.{terms}
-use Rattle.vs_logic4.proofs.Basics.{declared_at}
+use Rattle.vs_design.specs.vs_logic4.proofs.Basics.{declared_at}
 
 -- ---- folds
 

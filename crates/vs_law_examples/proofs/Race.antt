@@ -3,8 +3,8 @@ use Rattle.std.proofs.Common.{◌≡◌, ℕ, true, false, Option, Some, None, L
 use Rattle.std.specs.declared.alloc.Global.{Global}
 use Rattle.std.specs.List.{IsDistinct}
 use Rattle.std.proofs.lemmas.List.Elements.{All-nil, All-cons}
-use Rattle.vs_logic4.specs.declared.digit.Digit.{Digit}
-use Rattle.vs_logic4.specs.declared.digit.Digit.TheVariants.{Zero, One}
+use Rattle.vs_design.specs.vs_logic4.specs.declared.digit.Digit.{Digit}
+use Rattle.vs_design.specs.vs_logic4.specs.declared.digit.Digit.TheVariants.{Zero, One}
 use Rattle.vs_design.specs.declared.design.Process.{Process}
 use Rattle.vs_design.specs.declared.range.BitRange.{BitRange}
 use Rattle.vs_design.specs.declared.signal.Signal.{Signal}
@@ -22,12 +22,12 @@ use Rattle.vs_design.specs.Stores.{Store, word_of}
 use Rattle.vs_design.specs.Traces.{Slot, SameSlots}
 use Rattle.vs_design.specs.Uses.{reads, reads_step, whole}
 use Rattle.vs_design.specs.WellFormed.{WellFormed, size_step, size_of, is_sound_assignment, sound_step, is_sound_statement, numbers_step, numbers, is_sound_process}
-use Rattle.vs_eval.specs.Values.{value_of, value_step}
-use Rattle.vs_process.specs.declared.moves.Grain.{Grain}
-use Rattle.vs_process.specs.declared.moves.Grain.TheVariants as grain
-use Rattle.vs_process.specs.declared.moves.Move.{Move}
-use Rattle.vs_process.specs.declared.moves.Move.TheVariants.{Step, EndSlot}
-use Rattle.vs_process.specs.Executions.{after, Legal, is_complete, trace}
+use Rattle.vs_law_threads.specs.vs_eval.specs.Values.{value_of, value_step}
+use Rattle.vs_independence.specs.vs_process.specs.declared.moves.Grain.{Grain}
+use Rattle.vs_independence.specs.vs_process.specs.declared.moves.Grain.TheVariants as grain
+use Rattle.vs_independence.specs.vs_process.specs.declared.moves.Move.{Move}
+use Rattle.vs_independence.specs.vs_process.specs.declared.moves.Move.TheVariants.{Step, EndSlot}
+use Rattle.vs_independence.specs.vs_process.specs.Executions.{after, Legal, is_complete, trace}
 use Rattle.vs_independence.specs.Discipline.{Independent}
 use Rattle.vs_law_examples.specs.Race.{operand, initially, racing, set_to, target, two_initials}
 

@@ -5,8 +5,8 @@ use Rattle.std.specs.List.{list_any, IsDistinct, Contains}
 use Rattle.std.proofs.lemmas.Bool.{or_cases, false≢true, true≢false}
 use Rattle.std.proofs.lemmas.List.Elements.{All-nil, All-cons}
 use Rattle.std.proofs.lemmas.Option.{none-some, same_Some}
-use Rattle.vs_logic4.specs.declared.digit.Digit.{Digit}
-use Rattle.vs_logic4.specs.declared.digit.Digit.TheVariants.{One}
+use Rattle.vs_design.specs.vs_logic4.specs.declared.digit.Digit.{Digit}
+use Rattle.vs_design.specs.vs_logic4.specs.declared.digit.Digit.TheVariants.{One}
 use Rattle.vs_design.specs.declared.design.Process.{Process}
 use Rattle.vs_design.specs.declared.range.BitRange.{BitRange}
 use Rattle.vs_design.specs.declared.statement.EventTerm.{EventTerm}
@@ -21,14 +21,14 @@ use Rattle.vs_design.specs.Statements.{event_terms, event_terms_step, listens}
 use Rattle.vs_design.specs.Uses.{is_of, reads}
 use Rattle.vs_design.specs.WellFormed.{WellFormed, sound_step, is_sound_statement, numbers_step, numbers, is_sound_process}
 use Rattle.vs_design.specs.Stores.{Store, put, word_of}
-use Rattle.vs_eval.specs.Values.{operand_value, value_of, value_step}
-use Rattle.vs_process.specs.declared.moves.Grain.{Grain}
-use Rattle.vs_process.specs.declared.moves.Grain.TheVariants as grain
-use Rattle.vs_process.specs.declared.moves.Move.{Move}
-use Rattle.vs_process.specs.declared.moves.Move.TheVariants.{Step, EndSlot}
-use Rattle.vs_process.specs.Executions.{after as state_after, Legal}
-use Rattle.vs_process.specs.States.{State}
-use Rattle.vs_process.specs.vs_flatcode.specs.Places.{ended}
+use Rattle.vs_law_threads.specs.vs_eval.specs.Values.{operand_value, value_of, value_step}
+use Rattle.vs_independence.specs.vs_process.specs.declared.moves.Grain.{Grain}
+use Rattle.vs_independence.specs.vs_process.specs.declared.moves.Grain.TheVariants as grain
+use Rattle.vs_independence.specs.vs_process.specs.declared.moves.Move.{Move}
+use Rattle.vs_independence.specs.vs_process.specs.declared.moves.Move.TheVariants.{Step, EndSlot}
+use Rattle.vs_independence.specs.vs_process.specs.Executions.{after as state_after, Legal}
+use Rattle.vs_independence.specs.vs_process.specs.States.{State}
+use Rattle.vs_independence.specs.vs_process.specs.vs_flatcode.specs.Places.{ended}
 use Rattle.vs_independence.specs.Discipline.{BeginsSlot, IsOrdered, KeepsApart, Reaches, here, through as reaches_through, past}
 use Rattle.vs_law_threads.specs.Threads.{any_names, is_timed, Awaits, Fired, IsFiredBy, IsThread, IsTimed, MayOpen, Thread, opening}
 use Rattle.vs_law_threads.specs.Edges.{one_bit, Copies, itself, through, IsHeard, IsRoot}
@@ -37,7 +37,7 @@ use Rattle.vs_law_examples.specs.Race.{operand, initially, set_to, target}
 use Rattle.vs_law_threads.specs.Blocks.{IsSource, no_blocks}
 use Rattle.vs_law_examples.specs.Rise.{ARiseIsDisciplined, rise, sets_late, copies_bit, copies_then, rising, Fires}
 use Rattle.vs_law_examples.proofs.Race.{value_number, size_number, reads_number, reads_operand, size_operand, sound_assign, numbers_assign, terms_assign}
-use Rattle.vs_logic4.proofs.Basics.{declared_at}
+use Rattle.vs_design.specs.vs_logic4.proofs.Basics.{declared_at}
 use Rattle.vs_law_examples.proofs.RiseThreads.{begins, sets_now, listens_first, hears, set_write, Good, all_good, Begun, begun, Shape, shape_of, timed_shape, IsSet, IsCopied, none_written, wrote, none_made, one_in, IsReading, reading, hearing, first_starts}
 
 -- ---- it is well formed

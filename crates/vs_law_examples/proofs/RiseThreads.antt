@@ -4,25 +4,25 @@ use Rattle.std.specs.declared.alloc.Global.{Global}
 use Rattle.std.specs.List.{list_any, Contains}
 use Rattle.std.proofs.lemmas.Bool.{cond_both, or_cases, false≢true, true≢false}
 use Rattle.std.proofs.lemmas.Option.{none-some, same_Some}
-use Rattle.vs_logic4.specs.declared.digit.Digit.TheVariants.{One}
+use Rattle.vs_design.specs.vs_logic4.specs.declared.digit.Digit.TheVariants.{One}
 use Rattle.vs_design.specs.declared.range.BitRange.{BitRange}
 use Rattle.vs_design.specs.declared.statement.EventTerm.{EventTerm}
 use Rattle.vs_design.specs.declared.statement.Statement.{Statement, out-Statement}
 use Rattle.vs_design.specs.declared.statement.Statement.TheOpen as f
 use Rattle.vs_design.specs.Uses.{whole}
 use Rattle.vs_design.specs.Stores.{Store, put}
-use Rattle.vs_process.specs.declared.moves.Grain.{Grain}
-use Rattle.vs_process.specs.declared.moves.Move.{Move}
-use Rattle.vs_process.specs.declared.moves.Move.TheVariants.{Step, Evaluate, Propagate, Make, Rouse, Activate, EndSlot}
-use Rattle.vs_process.specs.Executions.{after as state_after, Legal, is_enabled, apply, ends, next_time, places_at}
-use Rattle.vs_process.specs.States.{start, touched, performed, updates_behind, State, wakened, written_behind, place_behind, stepped, evaluate, propagate, make, roused, activated, woken_at, triggered}
+use Rattle.vs_independence.specs.vs_process.specs.declared.moves.Grain.{Grain}
+use Rattle.vs_independence.specs.vs_process.specs.declared.moves.Move.{Move}
+use Rattle.vs_independence.specs.vs_process.specs.declared.moves.Move.TheVariants.{Step, Evaluate, Propagate, Make, Rouse, Activate, EndSlot}
+use Rattle.vs_independence.specs.vs_process.specs.Executions.{after as state_after, Legal, is_enabled, apply, ends, next_time, places_at}
+use Rattle.vs_independence.specs.vs_process.specs.States.{start, touched, performed, updates_behind, State, wakened, written_behind, place_behind, stepped, evaluate, propagate, make, roused, activated, woken_at, triggered}
 use Rattle.vs_design.specs.Writes.{Write, names}
-use Rattle.vs_process.specs.vs_edges.specs.Waking.{wake_any}
-use Rattle.vs_process.specs.vs_flatcode.specs.declared.gait.Gait.TheVariants.{Fresh, Woken}
-use Rattle.vs_process.specs.vs_flatcode.specs.Places.{perform, Todo, Place, going, sleeping, waiting, ended, todo_of, is_going}
-use Rattle.vs_process.specs.vs_flatcode.specs.Steps.{Out, goes, on, after, wait, step, assignment}
-use Rattle.vs_process.proofs.Times.{enabled_of}
-use Rattle.vs_process.specs.vs_flatcode.specs.declared.gait.Gait.{Gait}
+use Rattle.vs_independence.specs.vs_process.specs.vs_edges.specs.Waking.{wake_any}
+use Rattle.vs_independence.specs.vs_process.specs.vs_flatcode.specs.declared.gait.Gait.TheVariants.{Fresh, Woken}
+use Rattle.vs_independence.specs.vs_process.specs.vs_flatcode.specs.Places.{perform, Todo, Place, going, sleeping, waiting, ended, todo_of, is_going}
+use Rattle.vs_independence.specs.vs_process.specs.vs_flatcode.specs.Steps.{Out, goes, on, after, wait, step, assignment}
+use Rattle.vs_independence.specs.vs_process.proofs.Times.{enabled_of}
+use Rattle.vs_independence.specs.vs_process.specs.vs_flatcode.specs.declared.gait.Gait.{Gait}
 use Rattle.vs_independence.specs.Discipline.{IsAtStart}
 use Rattle.vs_law_threads.specs.Threads.{Fired, IsThread, IsTimed, MayOpen, Thread, iterate, place_reads, moved, opening, todo_reads, turn, turn_at, writes}
 use Rattle.vs_independence.proofs.InnerMoves.{at_end}

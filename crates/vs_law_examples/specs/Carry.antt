@@ -3,7 +3,7 @@ use Rattle.std.specs.Prelude.{ℕ, pos, Some, None, false, [], ◌∷◌}
 use Rattle.std.specs.declared.alloc.Global.{Global}
 use Rattle.std.proofs.Common.{lit<, lit≤, refl}
 use denote.RawPtr.{null_ptr}
-use Rattle.vs_logic4.specs.declared.operators.Binary.TheVariants.{And}
+use Rattle.vs_design.specs.vs_logic4.specs.declared.operators.Binary.TheVariants.{And}
 use Rattle.vs_design.specs.declared.signal.Signal.{Signal}
 use Rattle.vs_design.specs.declared.signal.SignalKind.TheVariants.{Reg, Wire}
 use Rattle.vs_design.specs.declared.design.Assign.{Assign}
@@ -15,7 +15,7 @@ use Rattle.vs_design.specs.declared.expression.Typed.{Typed}
 use Rattle.vs_design.specs.declared.expression.Typed.TheVariants as e
 use Rattle.vs_design.specs.Parts.{Parts}
 use Rattle.vs_design.specs.WellFormed.{WellFormed}
-use Rattle.vs_process.specs.declared.moves.Grain.{Grain}
+use Rattle.vs_independence.specs.vs_process.specs.declared.moves.Grain.{Grain}
 use Rattle.vs_independence.specs.Discipline.{Disciplined}
 use Rattle.vs_law_examples.specs.Race.{bit, boxed, letter, name, nanosecond, operand, path, target_at}
 

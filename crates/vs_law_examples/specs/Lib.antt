@@ -3,3 +3,4 @@ pub mod Carry
 pub mod Rise
 pub mod Mirror
 pub mod Lines
+pub use Rattle.vs_independence

@@ -3,7 +3,7 @@ use Rattle.std.specs.Prelude.{ℕ, Vec, true, false, [], ◌∷◌}
 use Rattle.std.specs.declared.alloc.Global.{Global}
 use Rattle.std.proofs.Common.{lit<, lit≤, refl}
 use denote.RawPtr.{null_ptr}
-use Rattle.vs_logic4.specs.declared.digit.Digit.TheVariants.{Zero}
+use Rattle.vs_design.specs.vs_logic4.specs.declared.digit.Digit.TheVariants.{Zero}
 use Rattle.vs_design.specs.declared.statement.CallKind.TheVariants.{Display}
 use Rattle.vs_design.specs.declared.statement.FormatArg.{FormatArg}
 use Rattle.vs_design.specs.declared.statement.FormatArg.TheVariants.{Value}
@@ -11,7 +11,7 @@ use Rattle.vs_design.specs.declared.statement.Statement.{Statement}
 use Rattle.vs_design.specs.declared.statement.Statement.TheVariants as y
 use Rattle.vs_design.specs.Parts.{Parts}
 use Rattle.vs_design.specs.WellFormed.{WellFormed}
-use Rattle.vs_process.specs.declared.moves.Grain.{Grain}
+use Rattle.vs_independence.specs.vs_process.specs.declared.moves.Grain.{Grain}
 use Rattle.vs_independence.specs.Displays.{DisplaysAlike}
 use Rattle.vs_law_examples.specs.Race.{letter, operand, set_to, two_initials}
 

@@ -4,7 +4,7 @@ use Rattle.std.specs.declared.alloc.Global.{Global}
 use Rattle.std.specs.Prelude.{Vec}
 use Rattle.std.proofs.Common.{lit<, lit≤, refl}
 use denote.RawPtr.{null_ptr}
-use Rattle.vs_logic4.specs.declared.edge.Edge.TheVariants.{Any}
+use Rattle.vs_design.specs.vs_logic4.specs.declared.edge.Edge.TheVariants.{Any}
 use Rattle.vs_design.specs.declared.signal.SignalKind.TheVariants.{Reg}
 use Rattle.vs_design.specs.declared.design.Entry.TheVariants.{Enter, Declare, Leave}
 use Rattle.vs_design.specs.declared.design.ProcessKind.TheVariants.{Always}
@@ -15,7 +15,7 @@ use Rattle.vs_design.specs.declared.statement.Statement.TheVariants as y
 use Rattle.vs_design.specs.Parts.{Parts}
 use Rattle.vs_design.specs.Uses.{whole}
 use Rattle.vs_design.specs.WellFormed.{WellFormed}
-use Rattle.vs_process.specs.declared.moves.Grain.TheVariants.{Block}
+use Rattle.vs_independence.specs.vs_process.specs.declared.moves.Grain.TheVariants.{Block}
 use Rattle.vs_independence.specs.Discipline.{Disciplined, Independent}
 use Rattle.vs_law_examples.specs.Race.{bit, boxed, letter, name, nanosecond, operand, target}
 

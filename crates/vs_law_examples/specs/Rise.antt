@@ -3,8 +3,8 @@ use Rattle.std.specs.Prelude.{Vec, ◌≡◌, Some, List, [], ◌∷◌, slice_g
 use Rattle.std.specs.declared.alloc.Global.{Global}
 use Rattle.std.proofs.Common.{lit<, lit≤, refl}
 use denote.RawPtr.{null_ptr}
-use Rattle.vs_logic4.specs.declared.digit.Digit.TheVariants.{One}
-use Rattle.vs_logic4.specs.declared.edge.Edge.TheVariants.{Posedge}
+use Rattle.vs_design.specs.vs_logic4.specs.declared.digit.Digit.TheVariants.{One}
+use Rattle.vs_design.specs.vs_logic4.specs.declared.edge.Edge.TheVariants.{Posedge}
 use Rattle.vs_design.specs.declared.signal.SignalKind.TheVariants.{Reg}
 use Rattle.vs_design.specs.declared.design.Entry.TheVariants.{Enter, Declare, Leave}
 use Rattle.vs_design.specs.declared.design.ScopeKind.TheVariants.{Module}
@@ -15,9 +15,9 @@ use Rattle.vs_design.specs.declared.statement.Statement.TheVariants as y
 use Rattle.vs_design.specs.Parts.{Parts}
 use Rattle.vs_design.specs.Uses.{whole}
 use Rattle.vs_design.specs.WellFormed.{WellFormed}
-use Rattle.vs_process.specs.declared.moves.Grain.{Grain}
-use Rattle.vs_process.specs.declared.moves.Move.{Move}
-use Rattle.vs_process.specs.Executions.{after, Legal}
+use Rattle.vs_independence.specs.vs_process.specs.declared.moves.Grain.{Grain}
+use Rattle.vs_independence.specs.vs_process.specs.declared.moves.Move.{Move}
+use Rattle.vs_independence.specs.vs_process.specs.Executions.{after, Legal}
 use Rattle.vs_independence.specs.Discipline.{Disciplined}
 use Rattle.vs_law_threads.specs.Edges.{one_bit}
 use Rattle.vs_law_examples.specs.Race.{bit, boxed, initially, letter, nanosecond, operand, set_to, target}

@@ -3,12 +3,12 @@ use Rattle.std.proofs.Common.{◌≡◌, ℕ, zero, suc, ◌+◌, ◌*◌, ◌%�
 use Rattle.std.specs.Str.{bytes_eq}
 use Rattle.std.proofs.lemmas.Bool.{cases_Bool, cond_both, true≢false, false≢true}
 use Rattle.std.proofs.lemmas.Option.{none-some, same_Some}
-use Rattle.vs_logic4.specs.declared.digit.Digit.{Digit}
-use Rattle.vs_logic4.specs.declared.digit.Digit.TheVariants.{Zero, One, X, Z}
-use Rattle.vs_logic4.specs.declared.edge.Edge.{Edge}
-use Rattle.vs_logic4.specs.declared.edge.Edge.TheVariants.{Any, Posedge, Negedge}
-use Rattle.vs_logic4.specs.Edges.{is_edge}
-use Rattle.vs_logic4.specs.Tables.{not_digit}
+use Rattle.vs_design.specs.vs_logic4.specs.declared.digit.Digit.{Digit}
+use Rattle.vs_design.specs.vs_logic4.specs.declared.digit.Digit.TheVariants.{Zero, One, X, Z}
+use Rattle.vs_design.specs.vs_logic4.specs.declared.edge.Edge.{Edge}
+use Rattle.vs_design.specs.vs_logic4.specs.declared.edge.Edge.TheVariants.{Any, Posedge, Negedge}
+use Rattle.vs_design.specs.vs_logic4.specs.Edges.{is_edge}
+use Rattle.vs_design.specs.vs_logic4.specs.Tables.{not_digit}
 use Rattle.vs_design.specs.declared.design.Process.{Process}
 use Rattle.vs_design.specs.declared.range.Bits.{Bits}
 use Rattle.vs_design.specs.declared.range.BitRange.{BitRange}
@@ -16,29 +16,29 @@ use Rattle.vs_design.specs.declared.statement.EventTerm.{EventTerm}
 use Rattle.vs_design.specs.Parts.{Parts}
 use Rattle.vs_design.specs.Stores.{Store, changed_at, chosen_bits, chosen_words, content, start_store, words_in}
 use Rattle.vs_design.specs.WellFormed.{WellFormed}
-use Rattle.vs_process.specs.vs_edges.specs.Waking.{lowest_digit, is_edge_of, wakes, wakes_by}
-use Rattle.vs_process.specs.vs_eval.specs.Laws.{digit_of, digit_in}
+use Rattle.vs_independence.specs.vs_process.specs.vs_edges.specs.Waking.{lowest_digit, is_edge_of, wakes, wakes_by}
+use Rattle.vs_independence.specs.vs_process.specs.vs_eval.specs.Laws.{digit_of, digit_in}
 use Rattle.vs_flatcode.specs.Places.{Place, going, sleeping, inactive, waiting, ended, is_going}
-use Rattle.vs_process.specs.Executions.{is_level}
-use Rattle.vs_process.specs.States.{State, start}
-use Rattle.vs_process.proofs.Assigns.{AssignsSound}
-use Rattle.vs_process.proofs.Stores.{shape}
-use Rattle.vs_law_threads.specs.Threads.{Thread, turn_at, turn, iterate, writes}
-use Rattle.vs_law_threads.proofs.Settle.{AllIdle}
-use Rattle.vs_law_threads.proofs.Threads.{is_stopped}
+use Rattle.vs_independence.specs.vs_process.specs.Executions.{is_level}
+use Rattle.vs_independence.specs.vs_process.specs.States.{State, start}
+use Rattle.vs_independence.specs.vs_process.proofs.Assigns.{AssignsSound}
+use Rattle.vs_independence.specs.vs_process.proofs.Stores.{shape}
+use Rattle.vs_rules.specs.vs_law_threads.specs.Threads.{Thread, turn_at, turn, iterate, writes}
+use Rattle.vs_rules.specs.vs_law_threads.proofs.Settle.{AllIdle}
+use Rattle.vs_rules.specs.vs_law_threads.proofs.Threads.{is_stopped}
 use Rattle.vs_rules.specs.Claims.{Name, times_in}
 use Rattle.vs_rules.specs.Claims.{Claims, Kind, block, edges, delays, ProcessClaim, kind_in, kind_for, kind_of, is_block_kind, blocks_of, claim_of, IsWriter, IsSecond, IsEdge, IsDelay, HasLists, IsSequential, IsSignalNamed, process_names, IsRootOf, IsRoot}
 use Rattle.vs_rules.specs.Constants.{bit_of, Gives, IsKnown, IsClock}
 use Rattle.vs_rules.specs.Constants as k
 use Rattle.vs_rules.specs.Slots.{counts, phase}
-use Rattle.vs_law_threads.specs.Edges.{one_bit, IsBit, Copies}
-use Rattle.vs_law_threads.specs.Threads.{found, opening, IsTimed}
-use Rattle.vs_law_threads.specs.Edges as a
+use Rattle.vs_rules.specs.vs_law_threads.specs.Edges.{one_bit, IsBit, Copies}
+use Rattle.vs_rules.specs.vs_law_threads.specs.Threads.{found, opening, IsTimed}
+use Rattle.vs_rules.specs.vs_law_threads.specs.Edges as a
 use Rattle.vs_rules.specs.Verdict.{Keeping}
 use Rattle.vs_law_rules.proofs.Beginning.{Beginning, Placed, AllStopped, closed_of, start_stands}
 use Rattle.vs_law_rules.proofs.Walks.{Stands, Closed, Walked, walked_iterate}
-use Rattle.vs_law_threads.proofs.Links.{copies_bit, root_bit}
-use Rattle.vs_law_threads.proofs.Threads.{stopped_stays as stopped_turn}
+use Rattle.vs_rules.specs.vs_law_threads.proofs.Links.{copies_bit, root_bit}
+use Rattle.vs_rules.specs.vs_law_threads.proofs.Threads.{stopped_stays as stopped_turn}
 
 -- ---- what is known where a slot begins
 
@@ -246,7 +246,7 @@ pub edge_of : (t : EventTerm) (old new : Store) (a z : Digit) → is_level t ≡
     wakes old new t ≡ true → is_edge t.edge a z ≡ true
 edge_of t old new a z level is_old is_new h = by_edge t.edge level h
   where
-    by_edge : (edge : Edge) → Rattle.vs_process.specs.Executions.is_any edge ≡ false → wakes_by edge old new t ≡ true → is_edge edge a z ≡ true
+    by_edge : (edge : Edge) → Rattle.vs_independence.specs.vs_process.specs.Executions.is_any edge ≡ false → wakes_by edge old new t ≡ true → is_edge edge a z ≡ true
     by_edge Any level h = absurd (true≢false level)
     by_edge Posedge level h = edge_between Posedge (lowest_digit (content t.range old)) (lowest_digit (content t.range new)) a z (content_digit t.range new z is_new) (content_digit t.range old a is_old) h
     by_edge Negedge level h = edge_between Negedge (lowest_digit (content t.range old)) (lowest_digit (content t.range new)) a z (content_digit t.range new z is_new) (content_digit t.range old a is_old) h
@@ -272,7 +272,7 @@ edge_counts Negedge a Z h = refl
 -- ---- clocks
 
 -- the edge by which a clock gets a digit fires in its phase
-pub edge_phase : (edge : Edge) (a z digit : Digit) (offset half time : ℕ) → IsKnown digit → is_edge edge a z ≡ true → Rattle.vs_process.specs.Executions.is_any edge ≡ false →
+pub edge_phase : (edge : Edge) (a z digit : Digit) (offset half time : ℕ) → IsKnown digit → is_edge edge a z ≡ true → Rattle.vs_independence.specs.vs_process.specs.Executions.is_any edge ≡ false →
     ((z ≡ digit) × (time % (2 * half) ≡ offset % (2 * half))) ⊎ ((z ≡ not_digit digit) × (time % (2 * half) ≡ (offset + half) % (2 * half))) → time % (2 * half) ≡ phase edge digit offset half % (2 * half)
 edge_phase Any a z digit offset half time known e level h = absurd (true≢false level)
 edge_phase Posedge a z _ offset half time k.zero e level (inl (same, at)) = absurd (true≢false (sym (edge_counts Posedge a Zero (subst (λ x. is_edge Posedge a x ≡ true) same e))))

@@ -4,8 +4,8 @@ use Rattle.std.proofs.lemmas.Bool.{cases_Bool, eqb-false, false≢true}
 use Rattle.std.proofs.lemmas.Option.{none-some, same_Some}
 use Rattle.std.specs.List.{list_any}
 use Rattle.std.specs.Prelude.{slice_index_or}
-use Rattle.vs_logic4.specs.declared.digit.Digit.{Digit}
-use Rattle.vs_logic4.specs.Parts.{digit_at, selected}
+use Rattle.vs_design.specs.vs_logic4.specs.declared.digit.Digit.{Digit}
+use Rattle.vs_design.specs.vs_logic4.specs.Parts.{digit_at, selected}
 use Rattle.vs_design.specs.declared.expression.Typed.{Typed}
 use Rattle.vs_design.specs.declared.statement.Aim.{Aim}
 use Rattle.vs_design.specs.declared.statement.Aim.TheVariants.{Fixed, Chosen}
@@ -18,17 +18,17 @@ use Rattle.vs_design.specs.declared.range.BitRange.{BitRange}
 use Rattle.vs_design.specs.Uses.{aim_range, is_of, reads}
 use Rattle.vs_design.specs.WellFormed.{aim_width}
 use Rattle.vs_design.specs.Writes.{Write, names}
-use Rattle.vs_process.specs.vs_eval.specs.Laws.{digit_of}
-use Rattle.vs_process.specs.vs_eval.specs.Targets.{part_at, parts_from}
-use Rattle.vs_process.specs.vs_eval.specs.Values.{target_value}
+use Rattle.vs_independence.specs.vs_process.specs.vs_eval.specs.Laws.{digit_of}
+use Rattle.vs_independence.specs.vs_process.specs.vs_eval.specs.Targets.{part_at, parts_from}
+use Rattle.vs_independence.specs.vs_process.specs.vs_eval.specs.Values.{target_value}
 use Rattle.vs_flatcode.specs.Nexts.{erased}
 use Rattle.vs_flatcode.specs.Places.{perform, turns, Todo}
 use Rattle.vs_flatcode.specs.Steps.{assignment, step, statement_step}
-use Rattle.vs_process.proofs.Digits.{laid, laid_part, laid_there, digit-put, unnamed_keeps}
-use Rattle.vs_process.proofs.Values.{target_value_unchanged}
+use Rattle.vs_independence.specs.vs_process.proofs.Digits.{laid, laid_part, laid_there, digit-put, unnamed_keeps}
+use Rattle.vs_independence.specs.vs_process.proofs.Values.{target_value_unchanged}
 use Rattle.vs_rules.specs.Paths.{Bit}
 use Rattle.vs_rules.specs.Constants.{any_aims, bit_of, digit_there, given_by, is_nothing, place_gives, places_give, GivesDigit, Gives, statement_assigns}
-use Rattle.vs_logic4.proofs.Basics.{same_self as both_same}
+use Rattle.vs_design.specs.vs_logic4.proofs.Basics.{same_self as both_same}
 
 -- what some parts name their places name
 names_parts : (from : ℕ) (aims : List Aim) (digits : List Digit) (store : Store) (time v : ℕ) → names (parts_from from aims digits store time) v ≡ any_aims v aims

@@ -21,8 +21,8 @@ use Rattle.vs_flatcode.specs.Nexts.{statement_nexts}
 use Rattle.vs_flatcode.specs.Places.{perform, turns, Todo, flat}
 use Rattle.vs_flatcode.specs.Steps.{Next, on, wait}
 use Rattle.vs_flatcode.proofs.Shapes.{flat-Block, flat-rolled}
-use Rattle.vs_logic4.proofs.Basics.{element_of as any_at}
-use Rattle.vs_law_threads.proofs.Lists.{contains_at}
+use Rattle.vs_design.specs.vs_logic4.proofs.Basics.{element_of as any_at}
+use Rattle.vs_rules.specs.vs_law_threads.proofs.Lists.{contains_at}
 use Rattle.vs_rules.specs.Points.{Goes, Point, first_todo}
 use Rattle.vs_rules.specs.Points as r
 use Rattle.vs_law_rules.proofs.Apart.{HeardStands}

@@ -2,16 +2,16 @@
 use Rattle.std.proofs.Common.{◌≡◌, ℕ, zero, suc, ◌⊎◌, true, false, Option, Some, None, List, [], ◌∷◌, refl, sym, ◌∙◌, ap, subst, inl, inr}
 use Rattle.std.proofs.lemmas.Bool.{cases_Bool, or_cases, true≢false, false≢true}
 use Rattle.std.specs.List.{list_any}
-use Rattle.vs_logic4.specs.declared.digit.Digit.{Digit}
+use Rattle.vs_design.specs.vs_logic4.specs.declared.digit.Digit.{Digit}
 use Rattle.vs_design.specs.Parts.{Parts}
 use Rattle.vs_design.specs.Stores.{Store, put, word_in}
 use Rattle.vs_design.specs.Writes.{Write, names}
-use Rattle.vs_process.specs.vs_eval.specs.Laws.{digit_of, digit_in}
+use Rattle.vs_independence.specs.vs_process.specs.vs_eval.specs.Laws.{digit_of, digit_in}
 use Rattle.vs_flatcode.specs.Nexts.{erased}
 use Rattle.vs_flatcode.specs.Places.{Todo, Place, going, sleeping, inactive, waiting, ended}
 use Rattle.vs_flatcode.specs.Steps.{step}
-use Rattle.vs_process.proofs.Stores.{put_other}
-use Rattle.vs_law_threads.specs.Threads.{Thread, store_behind, log_behind, turn_at, turn, iterate, writes}
+use Rattle.vs_independence.specs.vs_process.proofs.Stores.{put_other}
+use Rattle.vs_rules.specs.vs_law_threads.specs.Threads.{Thread, store_behind, log_behind, turn_at, turn, iterate, writes}
 use Rattle.vs_rules.specs.Claims.{Claims}
 use Rattle.vs_rules.specs.Constants.{bit_of, Gives}
 use Rattle.vs_rules.specs.Paths.{WritesNow}

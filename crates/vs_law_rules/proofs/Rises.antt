@@ -2,10 +2,10 @@
 use Rattle.std.proofs.Common.{subst}
 use Rattle.vs_design.specs.Parts.{Parts}
 use Rattle.vs_law_rules.specs.Laws.{TimeRises}
-use Rattle.vs_process.specs.declared.moves.Grain.{Grain}
-use Rattle.vs_process.specs.declared.moves.Move.TheVariants.{EndSlot}
-use Rattle.vs_process.specs.Executions.{after}
-use Rattle.vs_process.proofs.Times.{Above, enabled_of, next_above, timed}
+use Rattle.vs_independence.specs.vs_process.specs.declared.moves.Grain.{Grain}
+use Rattle.vs_independence.specs.vs_process.specs.declared.moves.Move.TheVariants.{EndSlot}
+use Rattle.vs_independence.specs.vs_process.specs.Executions.{after}
+use Rattle.vs_independence.specs.vs_process.proofs.Times.{Above, enabled_of, next_above, timed}
 
 pub time_rises : (grain : Grain) (d : Parts) → TimeRises grain d
 time_rises grain d moves t legal is =

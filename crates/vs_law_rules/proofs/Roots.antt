@@ -19,17 +19,17 @@ use Rattle.vs_design.specs.Parts.{Parts}
 use Rattle.vs_design.specs.Stores.{Store, start_words, word_of}
 use Rattle.vs_design.specs.Uses.{aim_range, reads, reads_step, is_of, whole, slice_range, writes, writes_signal}
 use Rattle.vs_design.specs.WellFormed.{WellFormed}
-use Rattle.vs_process.specs.vs_eval.specs.Values.{bits_value, value_of, value_step}
-use Rattle.vs_logic4.specs.declared.digit.Digit.{Digit}
-use Rattle.vs_process.proofs.Assigns.{driven}
-use Rattle.vs_process.proofs.WellFormed.{net_of}
+use Rattle.vs_independence.specs.vs_process.specs.vs_eval.specs.Values.{bits_value, value_of, value_step}
+use Rattle.vs_design.specs.vs_logic4.specs.declared.digit.Digit.{Digit}
+use Rattle.vs_independence.specs.vs_process.proofs.Assigns.{driven}
+use Rattle.vs_independence.specs.vs_process.proofs.WellFormed.{net_of}
 use Rattle.vs_rules.specs.Claims.{Name, times_in}
 use Rattle.vs_rules.specs.Claims.{Claims, EdgeClaim, IsSignalNamed, edge_names, names_of_edge, signal_names, process_names, HasKind, IsRootOf}
 use Rattle.vs_rules.specs.Paths.{ListsSignal}
 use Rattle.vs_rules.specs.Constants.{IsWhole, IsWholeLayer, IsWholeSelect, IsWholeSlice, IsWholeTarget}
 use Rattle.vs_rules.specs.Rules.{K1_Name, IsEdgeSignal, IsCopy, CopiesRoot, itself, copy}
-use Rattle.vs_law_threads.specs.Edges.{IsBit, IsLink, Copies}
-use Rattle.vs_law_threads.specs.Edges as a
+use Rattle.vs_rules.specs.vs_law_threads.specs.Edges.{IsBit, IsLink, Copies}
+use Rattle.vs_rules.specs.vs_law_threads.specs.Edges as a
 use Rattle.vs_rules.specs.Verdict.{Keeping}
 use Rattle.vs_law_rules.proofs.Words.{lists_signal}
 

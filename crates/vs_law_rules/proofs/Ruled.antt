@@ -7,23 +7,23 @@ use Rattle.vs_design.specs.Parts.{Parts}
 use Rattle.vs_design.specs.WellFormed.{WellFormed}
 use Rattle.vs_flatcode.specs.declared.gait.Gait.{Gait}
 use Rattle.vs_flatcode.specs.Places.{Todo, Place, going, sleeping, inactive, waiting, ended, start_place, is_going}
-use Rattle.vs_process.specs.declared.moves.Grain.{Grain}
-use Rattle.vs_process.specs.declared.moves.Move.{Move}
-use Rattle.vs_process.specs.declared.moves.Move.TheVariants.{Step, Evaluate, Propagate, Make, Rouse, Activate, EndSlot}
-use Rattle.vs_process.specs.States.{State, start, roused, wakened, woken_at}
-use Rattle.vs_process.specs.Executions.{after as reached, Legal}
-use Rattle.vs_process.proofs.Idle.{after_sound}
-use Rattle.vs_process.proofs.Times.{enabled_of}
+use Rattle.vs_independence.specs.vs_process.specs.declared.moves.Grain.{Grain}
+use Rattle.vs_independence.specs.vs_process.specs.declared.moves.Move.{Move}
+use Rattle.vs_independence.specs.vs_process.specs.declared.moves.Move.TheVariants.{Step, Evaluate, Propagate, Make, Rouse, Activate, EndSlot}
+use Rattle.vs_independence.specs.vs_process.specs.States.{State, start, roused, wakened, woken_at}
+use Rattle.vs_independence.specs.vs_process.specs.Executions.{after as reached, Legal}
+use Rattle.vs_independence.specs.vs_process.proofs.Idle.{after_sound}
+use Rattle.vs_independence.specs.vs_process.proofs.Times.{enabled_of}
 use Rattle.vs_independence.specs.Discipline.{IsAtStart, BeginsSlot}
 use Rattle.vs_independence.proofs.InnerMoves.{at_end, all_idle}
-use Rattle.vs_law_threads.proofs.Settle.{AllIdle}
-use Rattle.vs_law_threads.proofs.Threads.{is_stopped}
+use Rattle.vs_rules.specs.vs_law_threads.proofs.Settle.{AllIdle}
+use Rattle.vs_rules.specs.vs_law_threads.proofs.Threads.{is_stopped}
 use Rattle.vs_rules.specs.Claims.{Claims, blocks_of, kind_of, IsBlock, IsSequential, signal_name}
 use Rattle.vs_design.specs.declared.signal.Signal.{Signal}
 use Rattle.vs_design.specs.declared.statement.EventTerm.{EventTerm}
 use Rattle.vs_rules.specs.Paths.{HasTerm}
-use Rattle.vs_law_threads.specs.Blocks.{puts_out}
-use Rattle.vs_law_threads.specs.Edges.{Copies, IsHeard}
+use Rattle.vs_rules.specs.vs_law_threads.specs.Blocks.{puts_out}
+use Rattle.vs_rules.specs.vs_law_threads.specs.Edges.{Copies, IsHeard}
 use Rattle.vs_independence.specs.Discipline.{KeepsApart}
 use Rattle.vs_rules.specs.Verdict.{Keeping}
 use Rattle.vs_law_rules.proofs.Apart.{keeps_apart, sequential_of}
@@ -34,26 +34,26 @@ use Rattle.vs_law_rules.proofs.Waits.{heard_signal}
 use Rattle.vs_law_rules.proofs.Beginning.{Placed, beginning, end_rests, placed_steady, start_placed}
 use Rattle.vs_law_rules.proofs.Boundary.{IsSteady, holds_after}
 use Rattle.vs_law_rules.proofs.Cones.{is_block, delay_alone, out_writes}
-use Rattle.vs_process.proofs.WellFormed.{variable_undriven}
-use Rattle.vs_law_threads.specs.Blocks.{IsSource as IsFree}
+use Rattle.vs_independence.specs.vs_process.proofs.WellFormed.{variable_undriven}
+use Rattle.vs_rules.specs.vs_law_threads.specs.Blocks.{IsSource as IsFree}
 use Rattle.vs_rules.specs.Rules.{IsSoundRoot}
 use Rattle.vs_law_rules.specs.Laws.{ClocksTurn, TimeRises, IsRuled, RulesDiscipline, RulesMakeIndependent, start_in, roles_of}
 use Rattle.vs_rules.specs.Claims.{Kind, Start, EdgeClaim, block, edges, delays, cold, sources, starter, is_block_kind, HasStart, IsRoot as Claimed}
 use Rattle.std.specs.List.{Contains}
 use Rattle.vs_design.specs.declared.range.BitRange.{BitRange}
 use Rattle.vs_design.specs.Uses.{writes}
-use Rattle.vs_law_threads.specs.Bits.{meet_in}
-use Rattle.vs_logic4.proofs.Basics.{element_of as any_at}
-use Rattle.vs_law_threads.proofs.Lists.{contains_at}
-use Rattle.vs_law_threads.specs.Blocks.{control, puts_into}
-use Rattle.vs_law_threads.specs.Blocks as a
+use Rattle.vs_rules.specs.vs_law_threads.specs.Bits.{meet_in}
+use Rattle.vs_design.specs.vs_logic4.proofs.Basics.{element_of as any_at}
+use Rattle.vs_rules.specs.vs_law_threads.proofs.Lists.{contains_at}
+use Rattle.vs_rules.specs.vs_law_threads.specs.Blocks.{control, puts_into}
+use Rattle.vs_rules.specs.vs_law_threads.specs.Blocks as a
 use Rattle.vs_independence.specs.Discipline.{Disciplined as IsDisciplined, Leads, stays, goes_through, goes_past}
 use Rattle.vs_rules.specs.Drivers.{Driver, Passes}
 use Rattle.vs_rules.specs.Drivers as v
 use Rattle.vs_rules.specs.Paths.{writes_of}
 use Rattle.vs_law_rules.proofs.Cones.{ControlNames}
 use Rattle.vs_law_rules.proofs.Started.{starts_moved}
-use Rattle.vs_law_threads.specs.Blocks.{StartsAs}
+use Rattle.vs_rules.specs.vs_law_threads.specs.Blocks.{StartsAs}
 use Rattle.vs_independence.proofs.Whole.{independent}
 use Rattle.vs_law_rules.proofs.Cold.{starts_cold}
 use Rattle.vs_law_rules.proofs.Fire.{Begun}
@@ -133,7 +133,7 @@ begun grain d c formed r up b h = record {
   rules = r;
   begin = beginning grain d c up r.edges r.residues b h;
   absent = λ i none. subst (λ (s : State). get_or s.places i ended ≡ ended) h.is (holds_after grain d (λ time p. p ≡ ended) ended_steady i (absent_start d.processes i none) h.moves h.legal);
-  assigns = subst (λ (s : State). Rattle.vs_process.proofs.Assigns.AssignsSound d s.store s.assigns) h.is (after_sound d formed h.moves).assigns;
+  assigns = subst (λ (s : State). Rattle.vs_independence.specs.vs_process.proofs.Assigns.AssignsSound d s.store s.assigns) h.is (after_sound d formed h.moves).assigns;
   idle = subst (λ (s : State). 0 < s.time → AllIdle s.assigns) h.is (idle_at_start grain d h.moves h.legal h.at_start);
   rest = λ k blk. subst (λ (s : State). 0 < s.time → is_going (get_or s.places k ended) ≡ false) h.is (rest_at_start grain d c k (shape_at d c r k blk) h.moves h.legal h.at_start);
 }

@@ -2,7 +2,7 @@
 use Rattle.std.proofs.Common.{◌≡◌, ℕ, zero, suc, ◌+◌, ◌<◌, ◌==◌, ◌⊎◌, true, false, Option, Some, None, List, [], ◌∷◌, map, get_or, slice_get, refl, sym, ◌∙◌, ap, subst, inl, inr}
 use Rattle.std.proofs.lemmas.Bool.{cond_both, false≢true, false_from_ne_true, or_cases, or_right}
 use Rattle.std.proofs.lemmas.Option.{get_or_from_slice_get}
-use Rattle.vs_process.specs.vs_edges.specs.Waking.{wake_any}
+use Rattle.vs_independence.specs.vs_process.specs.vs_edges.specs.Waking.{wake_any}
 use Rattle.vs_design.specs.Parts.{Parts}
 use Rattle.vs_design.specs.Stores.{Store}
 use Rattle.vs_design.specs.WellFormed.{WellFormed}
@@ -12,23 +12,23 @@ use Rattle.vs_flatcode.specs.declared.gait.Gait.TheVariants.{Woken}
 use Rattle.vs_flatcode.specs.Nexts.{erased, erased_next}
 use Rattle.vs_flatcode.specs.Places.{Todo, Place, going, sleeping, inactive, waiting, ended, active_at, stepped_gait, is_going, todo_of}
 use Rattle.vs_flatcode.specs.Steps.{Next, on, after, wait, step}
-use Rattle.vs_process.specs.declared.moves.Grain.{Grain}
-use Rattle.vs_process.specs.declared.moves.Move.{Move}
-use Rattle.vs_process.specs.declared.moves.Move.TheVariants.{Step, Evaluate, Propagate, Make, Rouse, Activate, EndSlot}
-use Rattle.vs_process.specs.States.{AssignState, Update, start, place_behind, roused, woken_at, wakened, performed, stepped, evaluate, propagate, propagate_value, make, without, activated}
-use Rattle.vs_process.specs.Executions.{after as reached, Legal}
+use Rattle.vs_independence.specs.vs_process.specs.declared.moves.Grain.{Grain}
+use Rattle.vs_independence.specs.vs_process.specs.declared.moves.Move.{Move}
+use Rattle.vs_independence.specs.vs_process.specs.declared.moves.Move.TheVariants.{Step, Evaluate, Propagate, Make, Rouse, Activate, EndSlot}
+use Rattle.vs_independence.specs.vs_process.specs.States.{AssignState, Update, start, place_behind, roused, woken_at, wakened, performed, stepped, evaluate, propagate, propagate_value, make, without, activated}
+use Rattle.vs_independence.specs.vs_process.specs.Executions.{after as reached, Legal}
 use Rattle.std.proofs.lemmas.Map.Keys.{any_passes_from_place as at_any}
-use Rattle.vs_process.proofs.Times.{enabled_of}
-use Rattle.vs_law_threads.specs.Threads.{any_names}
-use Rattle.vs_process.proofs.Permitted.{some_of}
-use Rattle.vs_law_threads.proofs.Threads.{is_stopped}
+use Rattle.vs_independence.specs.vs_process.proofs.Times.{enabled_of}
+use Rattle.vs_rules.specs.vs_law_threads.specs.Threads.{any_names}
+use Rattle.vs_independence.specs.vs_process.proofs.Permitted.{some_of}
+use Rattle.vs_rules.specs.vs_law_threads.proofs.Threads.{is_stopped}
 use Rattle.vs_rules.specs.Points.{Goes, Point, first_todo}
 use Rattle.vs_rules.proofs.Points.{step_follows}
 use Rattle.vs_rules.specs.Claims.{Claims, IsWriter, IsSecond, IsRoot}
 use Rattle.vs_rules.specs.Paths.{Path, begins, goes, is_zero_time, IsPoint, IsSlot0, IsLate, WritesNow, WritesLater}
 use Rattle.vs_rules.specs.Rules.{IsSoundRoot, NeverLater}
 use Rattle.vs_rules.specs.Claims.{blocking}
-use Rattle.vs_logic4.specs.declared.digit.Digit.{Digit}
+use Rattle.vs_design.specs.vs_logic4.specs.declared.digit.Digit.{Digit}
 use Rattle.vs_rules.specs.Verdict.{Keeping}
 use Rattle.vs_law_rules.proofs.Boundary.{IsSteady, holds_after}
 use Rattle.vs_law_rules.proofs.Beginning.{IsBeginning, start_begins}

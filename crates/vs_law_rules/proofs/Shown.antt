@@ -2,8 +2,8 @@
 use Rattle.std.proofs.Common.{◌≡◌, true, refl, inr}
 use Rattle.vs_design.specs.Parts.{Parts}
 use Rattle.vs_design.specs.WellFormed.{WellFormed}
-use Rattle.vs_process.specs.States.{State}
-use Rattle.vs_process.specs.declared.moves.Grain.{Grain}
+use Rattle.vs_independence.specs.vs_process.specs.States.{State}
+use Rattle.vs_independence.specs.vs_process.specs.declared.moves.Grain.{Grain}
 use Rattle.vs_independence.specs.Discipline.{BeginsSlot}
 use Rattle.vs_independence.specs.Displays.{ShowsApart}
 use Rattle.vs_independence.proofs.Shown.{displays_alike}

@@ -4,9 +4,9 @@ use Rattle.std.proofs.lemmas.Int.{ints}
 use Rattle.std.proofs.lemmas.Bool.{and_parts, or_cases, false≢true, ltb-true}
 use Rattle.std.proofs.lemmas.Option.{none-some, same_Some}
 use Rattle.std.specs.List.{list_any}
-use Rattle.vs_logic4.specs.declared.digit.Digit.{Digit}
-use Rattle.vs_logic4.specs.Lengths.{length-selected}
-use Rattle.vs_logic4.specs.Parts.{digit_at, selected}
+use Rattle.vs_design.specs.vs_logic4.specs.declared.digit.Digit.{Digit}
+use Rattle.vs_design.specs.vs_logic4.specs.Lengths.{length-selected}
+use Rattle.vs_design.specs.vs_logic4.specs.Parts.{digit_at, selected}
 use Rattle.vs_design.specs.declared.statement.Aim.{Aim}
 use Rattle.vs_design.specs.declared.statement.Aim.TheVariants.{Fixed, Chosen}
 use Rattle.vs_design.specs.declared.statement.Statement.{Statement}
@@ -16,12 +16,12 @@ use Rattle.vs_design.specs.Stores.{Store}
 use Rattle.vs_design.specs.Uses.{bits_from, has_bit}
 use Rattle.vs_design.specs.WellFormed.{aim_width}
 use Rattle.vs_design.specs.Writes.{Write}
-use Rattle.vs_process.specs.vs_eval.specs.Targets.{part_at, parts_from}
-use Rattle.vs_process.specs.vs_eval.specs.Values.{target_value}
+use Rattle.vs_independence.specs.vs_process.specs.vs_eval.specs.Targets.{part_at, parts_from}
+use Rattle.vs_independence.specs.vs_process.specs.vs_eval.specs.Values.{target_value}
 use Rattle.vs_flatcode.specs.Nexts.{erased}
 use Rattle.vs_flatcode.specs.Places.{perform, turns, Todo}
 use Rattle.vs_flatcode.specs.Steps.{assignment, step, statement_step}
-use Rattle.vs_process.proofs.Digits.{laid, laid_part, laid_there, Fixes}
+use Rattle.vs_independence.specs.vs_process.proofs.Digits.{laid, laid_part, laid_there, Fixes}
 use Rattle.vs_rules.specs.Blocks.{is_sure, statement_surely, todo_surely}
 use Rattle.vs_rules.specs.Paths.{Bit}
 

@@ -29,10 +29,10 @@ use Rattle.vs_flatcode.specs.declared.gait.Gait.{Gait}
 use Rattle.vs_flatcode.specs.declared.gait.Gait.TheVariants.{Fresh}
 use Rattle.vs_flatcode.specs.Places.{ended, active_at, start_place, todo_of}
 use Rattle.std.proofs.Common.{get_or}
-use Rattle.vs_law_threads.specs.vs_law_writes.specs.Writes.{statement_writes, statement_writes_step}
-use Rattle.vs_law_threads.specs.Threads.{own_reads, item_reads, todo_reads}
+use Rattle.vs_rules.specs.vs_law_threads.specs.vs_law_writes.specs.Writes.{statement_writes, statement_writes_step}
+use Rattle.vs_rules.specs.vs_law_threads.specs.Threads.{own_reads, item_reads, todo_reads}
 use Rattle.vs_rules.specs.Paths.{inner_step, own_step_reads, text_reads, text_reads_step, statement_now, statement_later, todo_now, todo_later, reads_for, reads_of, writes_of, IsPoint, WritesNow, WritesLater, Writes}
-use Rattle.vs_law_threads.specs.Blocks.{outputs_for as writes_for}
+use Rattle.vs_rules.specs.vs_law_threads.specs.Blocks.{outputs_for as writes_for}
 
 -- all elements of a list are in another one
 abbrev pub Sub : {A : Type 0} → List A → List A → Type 0

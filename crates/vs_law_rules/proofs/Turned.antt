@@ -4,12 +4,12 @@ use Rattle.std.specs.Prelude.{sum}
 use Rattle.std.specs.List.{list_all}
 use Rattle.std.proofs.Math.Nat.{add-mod_right}
 use Rattle.std.proofs.lemmas.Bool.{and_parts, eqb-true}
-use Rattle.vs_logic4.specs.declared.digit.Digit.{Digit}
-use Rattle.vs_logic4.specs.declared.operators.Unary.TheVariants as u
-use Rattle.vs_logic4.specs.Operators.{unary}
-use Rattle.vs_logic4.specs.Parts.{selected}
-use Rattle.vs_logic4.specs.Tables.{not_digit}
-use Rattle.vs_logic4.specs.Vectors.{resized}
+use Rattle.vs_design.specs.vs_logic4.specs.declared.digit.Digit.{Digit}
+use Rattle.vs_design.specs.vs_logic4.specs.declared.operators.Unary.TheVariants as u
+use Rattle.vs_design.specs.vs_logic4.specs.Operators.{unary}
+use Rattle.vs_design.specs.vs_logic4.specs.Parts.{selected}
+use Rattle.vs_design.specs.vs_logic4.specs.Tables.{not_digit}
+use Rattle.vs_design.specs.vs_logic4.specs.Vectors.{resized}
 use Rattle.vs_design.specs.declared.expression.Slice.{Slice}
 use Rattle.vs_design.specs.declared.expression.Typed.{Typed, Typed-F}
 use Rattle.vs_design.specs.declared.expression.Typed.TheOpen as t
@@ -26,10 +26,10 @@ use Rattle.vs_design.specs.declared.statement.Target.{Target}
 use Rattle.vs_design.specs.Parts.{Parts}
 use Rattle.vs_design.specs.Stores.{Store, put}
 use Rattle.vs_design.specs.WellFormed.{aim_width, is_sound_statement, is_sound_target, is_source, is_variable_aim, sound_step}
-use Rattle.vs_process.specs.vs_eval.specs.Targets.{part_at, parts_from}
-use Rattle.vs_process.specs.vs_eval.specs.Values.{target_value, value_of, value_step}
+use Rattle.vs_independence.specs.vs_process.specs.vs_eval.specs.Targets.{part_at, parts_from}
+use Rattle.vs_independence.specs.vs_process.specs.vs_eval.specs.Values.{target_value, value_of, value_step}
 use Rattle.vs_flatcode.specs.Steps.{assignment}
-use Rattle.vs_law_threads.specs.Edges.{one_bit}
+use Rattle.vs_rules.specs.vs_law_threads.specs.Edges.{one_bit}
 use Rattle.vs_rules.proofs.Points.{mod_sum}
 use Rattle.vs_rules.specs.Constants.{IsBare, itself, inside, IsKnown, IsInverse, IsInverseLayer, IsWholeTarget, TurnsForever}
 use Rattle.vs_rules.specs.Constants as k

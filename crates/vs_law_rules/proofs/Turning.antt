@@ -3,8 +3,8 @@ use Rattle.std.proofs.Common.{◌≡◌, ℕ, zero, suc, ◌+◌, ◌*◌, ◌%�
 use Rattle.std.specs.List.{list_any}
 use Rattle.std.proofs.lemmas.Bool.{cond_both, eqb-true, false≢true}
 use Rattle.std.proofs.lemmas.Option.{same_Some}
-use Rattle.vs_logic4.specs.declared.digit.Digit.{Digit}
-use Rattle.vs_logic4.specs.Tables.{not_digit}
+use Rattle.vs_design.specs.vs_logic4.specs.declared.digit.Digit.{Digit}
+use Rattle.vs_design.specs.vs_logic4.specs.Tables.{not_digit}
 use Rattle.vs_design.specs.declared.expression.Typed.{Typed}
 use Rattle.vs_design.specs.declared.statement.Statement.{Statement}
 use Rattle.vs_design.specs.declared.statement.Target.{Target}
@@ -15,15 +15,15 @@ use Rattle.vs_flatcode.specs.declared.gait.Gait.{Gait}
 use Rattle.vs_flatcode.specs.declared.gait.Gait.TheVariants.{Woken}
 use Rattle.vs_flatcode.specs.Places.{perform, Todo, Place, going, sleeping, inactive, waiting, ended, active_at}
 use Rattle.vs_flatcode.specs.Steps.{goes, on, after, assignment, Out, step}
-use Rattle.vs_process.specs.States.{place_behind, paused, roused, woken_at, wakened}
-use Rattle.vs_process.proofs.Digits.{digit-put}
-use Rattle.vs_process.proofs.Stores.{shape-put}
-use Rattle.vs_process.specs.vs_eval.specs.Laws.{digit_of}
+use Rattle.vs_independence.specs.vs_process.specs.States.{place_behind, paused, roused, woken_at, wakened}
+use Rattle.vs_independence.specs.vs_process.proofs.Digits.{digit-put}
+use Rattle.vs_independence.specs.vs_process.proofs.Stores.{shape-put}
+use Rattle.vs_independence.specs.vs_process.specs.vs_eval.specs.Laws.{digit_of}
 use Rattle.std.specs.Prelude.{option_map}
-use Rattle.vs_process.proofs.Digits.{laid}
-use Rattle.vs_law_threads.specs.Edges.{one_bit}
-use Rattle.vs_law_threads.specs.Threads.{Thread, store_behind, log_behind, turn_at, turn, iterate, writes}
-use Rattle.vs_law_threads.proofs.Threads.{is_stopped}
+use Rattle.vs_independence.specs.vs_process.proofs.Digits.{laid}
+use Rattle.vs_rules.specs.vs_law_threads.specs.Edges.{one_bit}
+use Rattle.vs_rules.specs.vs_law_threads.specs.Threads.{Thread, store_behind, log_behind, turn_at, turn, iterate, writes}
+use Rattle.vs_rules.specs.vs_law_threads.proofs.Threads.{is_stopped}
 use Rattle.vs_independence.proofs.Times.{is_after}
 use Rattle.vs_rules.specs.Constants.{bit_of, GivesDigit, IsKnown}
 use Rattle.vs_rules.specs.Paths.{IsSlot0, WritesNow}

@@ -1,3 +1,3 @@
 pub mod Laws
 pub use Rattle.vs_independence
-pub use Rattle.vs_process
+pub use Rattle.vs_independence.specs.vs_process

@@ -1,11 +1,11 @@
 -- Run slots, write slots and firing slots of designs that say the same.
 use Rattle.std.proofs.Common.{ℕ, Option, Some, None, List, subst}
 use Rattle.std.specs.List.{Contains}
-use Rattle.vs_logic4.specs.declared.edge.Edge.{Edge}
+use Rattle.vs_design.specs.vs_logic4.specs.declared.edge.Edge.{Edge}
 use Rattle.vs_design.specs.declared.statement.EventTerm.{EventTerm}
 use Rattle.vs_design.specs.Parts.{Parts}
-use Rattle.vs_flatcode.specs.Places.{Todo}
-use Rattle.vs_flatcode.specs.Steps.{Next}
+use Rattle.vs_law_threads.specs.vs_flatcode.specs.Places.{Todo}
+use Rattle.vs_law_threads.specs.vs_flatcode.specs.Steps.{Next}
 use Rattle.vs_rules.specs.Claims.{Claims, Kind, block, edges, delays, kind_of}
 use Rattle.vs_rules.specs.Constants.{bit_of}
 use Rattle.vs_rules.specs.Controls.{list_of}

@@ -8,7 +8,7 @@ use Rattle.std.specs.List.{list_any}
 use Rattle.std.specs.declared.vec.Vec.{Vec}
 use Rattle.std.specs.declared.boxed.Box.{Box}
 use Rattle.std.specs.declared.alloc.Global.{Global}
-use Rattle.vs_logic4.specs.declared.case.CaseKind.{CaseKind}
+use Rattle.vs_design.specs.vs_logic4.specs.declared.case.CaseKind.{CaseKind}
 use Rattle.vs_design.specs.declared.expression.Typed.{Typed}
 use Rattle.vs_design.specs.declared.statement.EventTerm.{EventTerm}
 use Rattle.vs_design.specs.declared.statement.Statement.{Statement}
@@ -20,12 +20,12 @@ use Rattle.vs_design.specs.declared.statement.Statement.TheViews.{out-Statement,
 use Rattle.vs_design.specs.declared.statement.Ticks.{Ticks}
 use Rattle.vs_design.specs.Uses.{joined}
 use Rattle.vs_design.specs.WellFormed.{numbers, numbers_step, counts_from}
-use Rattle.vs_flatcode.specs.Drafts.{flat_all, numbers_all, numbers_in, numbers_inside}
-use Rattle.vs_flatcode.specs.Landings.{todo_behind}
-use Rattle.vs_flatcode.specs.Nexts.{past, statement_nexts}
-use Rattle.vs_flatcode.specs.Numbers.{number_of, number_next, once_where, times_here, times_in}
-use Rattle.vs_flatcode.specs.Places.{Item, perform, turns, Todo, flat}
-use Rattle.vs_flatcode.specs.Steps.{Next, on, after, wait, is_default}
+use Rattle.vs_law_threads.specs.vs_flatcode.specs.Drafts.{flat_all, numbers_all, numbers_in, numbers_inside}
+use Rattle.vs_law_threads.specs.vs_flatcode.specs.Landings.{todo_behind}
+use Rattle.vs_law_threads.specs.vs_flatcode.specs.Nexts.{past, statement_nexts}
+use Rattle.vs_law_threads.specs.vs_flatcode.specs.Numbers.{number_of, number_next, once_where, times_here, times_in}
+use Rattle.vs_law_threads.specs.vs_flatcode.specs.Places.{Item, perform, turns, Todo, flat}
+use Rattle.vs_law_threads.specs.vs_flatcode.specs.Steps.{Next, on, after, wait, is_default}
 use Rattle.vs_law_threads.proofs.Todos.{flat_each}
 use Rattle.vs_rules.specs.Points.{Among, Goes, Point}
 use Rattle.vs_law_source.proofs.Alike.{Choice}

@@ -3,22 +3,22 @@ use Rattle.std.proofs.Common.{◌≡◌, ℕ, zero, suc, Bool, true, false, ◌|
 use Rattle.std.specs.Prelude.{find}
 use Rattle.std.specs.List.{AllZip, list_any}
 use Rattle.vs_syntax.specs.Same.{no_pair, pair_more, SameOption, both_absent, both_there}
-use Rattle.vs_logic4.specs.declared.case.CaseKind.{CaseKind}
-use Rattle.vs_logic4.specs.declared.digit.Digit.{Digit}
-use Rattle.vs_logic4.specs.declared.digit.Digit.TheVariants.{Zero, One, X, Z}
-use Rattle.vs_logic4.specs.Cases.{matches}
-use Rattle.vs_logic4.specs.Comparisons.{truth}
-use Rattle.vs_logic4.specs.Vectors.{resized}
+use Rattle.vs_design.specs.vs_logic4.specs.declared.case.CaseKind.{CaseKind}
+use Rattle.vs_design.specs.vs_logic4.specs.declared.digit.Digit.{Digit}
+use Rattle.vs_design.specs.vs_logic4.specs.declared.digit.Digit.TheVariants.{Zero, One, X, Z}
+use Rattle.vs_design.specs.vs_logic4.specs.Cases.{matches}
+use Rattle.vs_design.specs.vs_logic4.specs.Comparisons.{truth}
+use Rattle.vs_design.specs.vs_logic4.specs.Vectors.{resized}
 use Rattle.vs_design.specs.declared.expression.Typed.{Typed}
 use Rattle.vs_design.specs.declared.statement.Statement.{Statement}
 use Rattle.vs_design.specs.declared.statement.Statement.TheOpen.{Statement-F}
 use Rattle.vs_design.specs.declared.statement.Statement.TheViews.{out-Statement}
 use Rattle.vs_design.specs.declared.statement.Target.{Target}
 use Rattle.vs_design.specs.Stores.{Store}
-use Rattle.vs_eval.specs.Targets.{assigned}
-use Rattle.vs_eval.specs.Values.{target_value, value_of}
-use Rattle.vs_flatcode.specs.Places.{Item, perform, turns, Todo, flat}
-use Rattle.vs_flatcode.specs.Steps.{Next, on, after, wait, Out, assignment, branch, item_matches, is_default, first_of, flat_item, taken, turns_for, repeated, statement_step, step}
+use Rattle.vs_law_threads.specs.vs_eval.specs.Targets.{assigned}
+use Rattle.vs_law_threads.specs.vs_eval.specs.Values.{target_value, value_of}
+use Rattle.vs_law_threads.specs.vs_flatcode.specs.Places.{Item, perform, turns, Todo, flat}
+use Rattle.vs_law_threads.specs.vs_flatcode.specs.Steps.{Next, on, after, wait, Out, assignment, branch, item_matches, is_default, first_of, flat_item, taken, turns_for, repeated, statement_step, step}
 use Rattle.vs_law_threads.specs.Threads.{store_behind}
 use Rattle.vs_elab_laws.specs.Same.{SameTyped, SameSides}
 use Rattle.vs_elab_laws.proofs.PairLemmas.{pair_append}

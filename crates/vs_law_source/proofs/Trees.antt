@@ -4,10 +4,10 @@ use Rattle.std.proofs.lemmas.Option.{none-some, same_Some}
 use Rattle.std.specs.List.{AllZip, list_any}
 use Rattle.std.specs.declared.boxed.Box.{Box}
 use Rattle.std.specs.declared.alloc.Global.{Global}
-use Rattle.vs_logic4.specs.declared.digit.Digit.{Digit}
-use Rattle.vs_logic4.specs.declared.operators.Unary.{Unary}
-use Rattle.vs_logic4.specs.declared.operators.Unary.TheVariants as u
-use Rattle.vs_logic4.specs.Parts.{selected}
+use Rattle.vs_design.specs.vs_logic4.specs.declared.digit.Digit.{Digit}
+use Rattle.vs_design.specs.vs_logic4.specs.declared.operators.Unary.{Unary}
+use Rattle.vs_design.specs.vs_logic4.specs.declared.operators.Unary.TheVariants as u
+use Rattle.vs_design.specs.vs_logic4.specs.Parts.{selected}
 use Rattle.vs_design.specs.declared.expression.Slice.{Slice}
 use Rattle.vs_design.specs.declared.expression.Typed.{Typed, Typed-F, fold-roll-Typed, map-Typed}
 use Rattle.vs_design.specs.declared.expression.Typed.TheOpen as t
@@ -19,8 +19,8 @@ use Rattle.vs_design.specs.declared.statement.Target.{Target}
 use Rattle.vs_design.specs.Parts.{Parts}
 use Rattle.vs_design.specs.Uses.{aim_range, covers, is_of, reads}
 use Rattle.vs_design.specs.WellFormed.{aim_width, size_of, size_step}
-use Rattle.vs_eval.specs.Values.{target_value}
-use Rattle.vs_width_selects.specs.Layers.{FixedBits, slice_bits, Layer, name, select, inverse, bits, other, brought, operator_layer, layer_step, layer_of}
+use Rattle.vs_law_threads.specs.vs_eval.specs.Values.{target_value}
+use Rattle.vs_elab_laws.specs.vs_width_selects.specs.Layers.{FixedBits, slice_bits, Layer, name, select, inverse, bits, other, brought, operator_layer, layer_step, layer_of}
 use Rattle.vs_elab_laws.specs.Same.{SameAim, SameTarget, SameSides}
 use Rattle.vs_rules.specs.Blocks.{is_sure}
 use Rattle.vs_rules.specs.Constants.{IsWholeSlice, IsWholeTarget, IsWholeSelect, IsWholeLayer, IsWhole, IsInverseLayer, IsInverse, digit_there, place_gives, any_aims, places_give, is_nothing, given}

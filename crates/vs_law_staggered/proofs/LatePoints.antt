@@ -3,7 +3,7 @@ use Rattle.std.proofs.Common.{◌≡◌, ℕ, zero, suc, ◌⊎◌, Bool, true, 
 use Rattle.std.proofs.lemmas.Bool.{false≢true}
 use Rattle.std.specs.declared.alloc.Global.{Global}
 use Rattle.std.specs.List.{Contains}
-use Rattle.vs_logic4.specs.declared.digit.Digit.TheVariants.{One}
+use Rattle.vs_design.specs.vs_logic4.specs.declared.digit.Digit.TheVariants.{One}
 use Rattle.vs_design.specs.declared.range.BitRange.{BitRange}
 use Rattle.vs_design.specs.declared.statement.EventTerm.{EventTerm}
 use Rattle.vs_design.specs.declared.statement.Statement.{out-Statement}
@@ -13,16 +13,16 @@ use Rattle.vs_flatcode.specs.Landings.{todo_behind}
 use Rattle.vs_flatcode.specs.Places.{perform, Todo}
 use Rattle.vs_flatcode.specs.Steps.{Next, on, after, wait}
 use Rattle.vs_rules.specs.vs_law_threads.specs.Blocks.{outputs}
-use Rattle.vs_law_examples.specs.Mirror.{one_of}
-use Rattle.vs_law_examples.specs.Race.{operand, target, the_bit}
-use Rattle.vs_law_examples.proofs.Race.{reads_number, reads_operand}
+use Rattle.vs_law_witnesses.specs.vs_law_examples.specs.Mirror.{one_of}
+use Rattle.vs_law_witnesses.specs.vs_law_examples.specs.Race.{operand, target, the_bit}
+use Rattle.vs_law_witnesses.specs.vs_law_examples.proofs.Race.{reads_number, reads_operand}
 use Rattle.vs_rules.specs.Controls.{controls_of}
 use Rattle.vs_rules.specs.Paths.{IsPoint, IsPrologue, IsSlot0, ListsSignal, Path, ReadsNow, ShowsNow, Writes, WritesAny, WritesLater, WritesNow, HasTerm, is_plain, is_zero_time}
 use Rattle.vs_rules.specs.Points.{Among, Goes, Point, first_todo}
 use Rattle.vs_rules.specs.Rules.{IsEdgeSignal}
 use Rattle.vs_rules.specs.Slots.{DelayEnds}
 use Rattle.vs_rules.proofs.Places.{closed_paths, closed_points}
-use Rattle.vs_law_rules.proofs.Texts.{none_in}
+use Rattle.vs_law_witnesses.specs.vs_law_rules.proofs.Texts.{none_in}
 use Rattle.vs_law_witnesses.proofs.Texts.{controls_assign, controls_delay, no_signal, one_in, one_signal, only, plain_is_still, reads_source, writes_assign, writes_delay, writes_event}
 use Rattle.vs_law_staggered.specs.Roots.{rise_of, sets, sets_late, ticks_before}
 use Rattle.vs_law_staggered.specs.Late.{answers, copies, copies_late, reading_late}

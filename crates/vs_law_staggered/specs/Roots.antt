@@ -3,8 +3,8 @@ use Rattle.std.specs.Prelude.{ℕ, zero, suc, Vec, true, false, not, Some, None,
 use Rattle.std.specs.declared.alloc.Global.{Global}
 use Rattle.std.proofs.Common.{lit<, lit≤, refl}
 use denote.RawPtr.{null_ptr}
-use Rattle.vs_logic4.specs.declared.digit.Digit.TheVariants.{One}
-use Rattle.vs_logic4.specs.declared.edge.Edge.TheVariants.{Posedge}
+use Rattle.vs_design.specs.vs_logic4.specs.declared.digit.Digit.TheVariants.{One}
+use Rattle.vs_design.specs.vs_logic4.specs.declared.edge.Edge.TheVariants.{Posedge}
 use Rattle.vs_design.specs.declared.design.Entry.TheVariants.{Enter, Declare, Leave}
 use Rattle.vs_design.specs.declared.design.ScopeKind.TheVariants.{Module}
 use Rattle.vs_design.specs.declared.expression.Typed.TheVariants as e
@@ -17,11 +17,11 @@ use Rattle.vs_design.specs.declared.statement.Statement.TheVariants as y
 use Rattle.vs_design.specs.declared.statement.Ticks.{Ticks}
 use Rattle.vs_design.specs.Parts.{Parts}
 use Rattle.vs_design.specs.Uses.{whole}
-use Rattle.vs_law_rules.specs.vs_independence.specs.Displays.{DisplaysAlike}
-use Rattle.vs_law_rules.specs.vs_process.specs.declared.moves.Grain.{Grain}
-use Rattle.vs_law_examples.specs.Lines.{two_letters}
-use Rattle.vs_law_examples.specs.Mirror.{one_of}
-use Rattle.vs_law_examples.specs.Race.{bit, boxed, initially, letter, nanosecond, operand, target}
+use Rattle.vs_law_witnesses.specs.vs_law_rules.specs.vs_independence.specs.Displays.{DisplaysAlike}
+use Rattle.vs_law_witnesses.specs.vs_law_rules.specs.vs_process.specs.declared.moves.Grain.{Grain}
+use Rattle.vs_law_witnesses.specs.vs_law_examples.specs.Lines.{two_letters}
+use Rattle.vs_law_witnesses.specs.vs_law_examples.specs.Mirror.{one_of}
+use Rattle.vs_law_witnesses.specs.vs_law_examples.specs.Race.{bit, boxed, initially, letter, nanosecond, operand, target}
 use Rattle.vs_rules.specs.Claims.{Claims, blocks_of, edges, delays, blocking, net}
 use Rattle.vs_law_witnesses.specs.Block.{the_net_assign}
 use Rattle.vs_law_witnesses.specs.Kept.{KeepsRules}

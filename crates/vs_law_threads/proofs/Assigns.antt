@@ -3,7 +3,7 @@ use Rattle.std.proofs.Common.{◌≡◌, Option, Some, None, List, map, refl}
 use Rattle.vs_design.specs.Parts.{Parts}
 use Rattle.vs_design.specs.Stores.{Store, put}
 use Rattle.vs_design.specs.Writes.{Write}
-use Rattle.vs_flatcode.specs.Places.{Place}
+use Rattle.vs_process.specs.vs_flatcode.specs.Places.{Place}
 use Rattle.vs_process.specs.States.{State, AssignState, touched, wakened, written_behind}
 use Rattle.vs_law_threads.specs.Threads.{store_behind}
 use Rattle.vs_process.proofs.Assigns.{DrivesApart}

@@ -8,11 +8,11 @@ use Rattle.vs_design.specs.Stores.{Store, put, start_store}
 use Rattle.vs_design.specs.Uses.{covers}
 use Rattle.vs_design.specs.Writes.{Write, names}
 use Rattle.vs_process.specs.vs_eval.specs.Laws.{digit_of}
-use Rattle.vs_flatcode.specs.declared.gait.Gait.{Gait}
-use Rattle.vs_flatcode.specs.declared.gait.Gait.TheVariants.{Woken, Inside}
-use Rattle.vs_flatcode.specs.Landings.{todo_behind}
-use Rattle.vs_flatcode.specs.Places.{Todo, Place, perform, going, sleeping, inactive, waiting, ended, active_at, flat, stepped_gait, todo_of}
-use Rattle.vs_flatcode.specs.Steps.{Next, on, after, wait, Out, goes, step}
+use Rattle.vs_process.specs.vs_flatcode.specs.declared.gait.Gait.{Gait}
+use Rattle.vs_process.specs.vs_flatcode.specs.declared.gait.Gait.TheVariants.{Woken, Inside}
+use Rattle.vs_process.specs.vs_flatcode.specs.Landings.{todo_behind}
+use Rattle.vs_process.specs.vs_flatcode.specs.Places.{Todo, Place, perform, going, sleeping, inactive, waiting, ended, active_at, flat, stepped_gait, todo_of}
+use Rattle.vs_process.specs.vs_flatcode.specs.Steps.{Next, on, after, wait, Out, goes, step}
 use Rattle.vs_process.specs.States.{Update, Called, calls_behind, place_behind, updates_behind}
 use Rattle.vs_process.proofs.Stores.{put_other, shape-put}
 use Rattle.vs_law_writes.specs.Laws.{LiesIn, IsLeft, start, behind}

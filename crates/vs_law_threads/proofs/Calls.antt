@@ -6,7 +6,7 @@ use Rattle.std.proofs.lemmas.List.Elements.{filter-append}
 use Rattle.std.proofs.lemmas.List.{append-nil}
 use Rattle.vs_design.specs.Stores.{Store}
 use Rattle.vs_design.specs.Traces.{times_in}
-use Rattle.vs_flatcode.specs.vs_strobe.specs.Lines.{Format}
+use Rattle.vs_process.specs.vs_flatcode.specs.vs_strobe.specs.Lines.{Format}
 use Rattle.vs_process.specs.States.{Called, calls_behind}
 use Rattle.vs_process.specs.Executions.{strobe_line}
 use Rattle.vs_law_threads.proofs.Stores.{filter_hit, filter_miss}

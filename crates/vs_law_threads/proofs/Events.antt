@@ -23,13 +23,13 @@ use Rattle.vs_design.specs.Writes.{Write}
 use Rattle.vs_process.specs.vs_eval.specs.Targets.{assigned}
 use Rattle.vs_process.specs.vs_eval.specs.Values.{value_of}
 use Rattle.vs_process.specs.vs_edges.specs.Waking.{wake_any}
-use Rattle.vs_flatcode.specs.declared.gait.Gait.{Gait}
-use Rattle.vs_flatcode.specs.declared.gait.Gait.TheVariants.{Fresh, Woken}
-use Rattle.vs_flatcode.specs.Places.{Item, perform, turns, Todo, Place, going, sleeping, inactive, waiting, ended, active_at, stepped_gait, start_place, todo_of, flat}
-use Rattle.vs_flatcode.specs.Steps.{Next, on, after, wait, step, statement_step, flat_item, turns_for, repeated}
+use Rattle.vs_process.specs.vs_flatcode.specs.declared.gait.Gait.{Gait}
+use Rattle.vs_process.specs.vs_flatcode.specs.declared.gait.Gait.TheVariants.{Fresh, Woken}
+use Rattle.vs_process.specs.vs_flatcode.specs.Places.{Item, perform, turns, Todo, Place, going, sleeping, inactive, waiting, ended, active_at, stepped_gait, start_place, todo_of, flat}
+use Rattle.vs_process.specs.vs_flatcode.specs.Steps.{Next, on, after, wait, step, statement_step, flat_item, turns_for, repeated}
 use Rattle.vs_process.specs.declared.moves.Move.{Move}
 use Rattle.vs_process.specs.declared.moves.Move.TheVariants.{Step, Evaluate, Propagate, Make, Rouse, Activate, EndSlot}
-use Rattle.vs_flatcode.specs.Drafts.{flat_all}
+use Rattle.vs_process.specs.vs_flatcode.specs.Drafts.{flat_all}
 use Rattle.vs_process.specs.States.{State, AssignState, Update, wakened, written_behind, place_behind, paused, stepped, evaluate, propagate, propagate_value, make, roused, woken_at, triggered}
 use Rattle.vs_process.specs.Executions as executions
 use Rattle.vs_process.specs.Executions.{apply, ends, next_time, places_at}

@@ -8,10 +8,10 @@ use Rattle.vs_design.specs.Stores.{Store, put, is_changed, start_store, word_in}
 use Rattle.vs_design.specs.Uses.{covers, is_of}
 use Rattle.vs_design.specs.Writes.{Write, names}
 use Rattle.vs_process.specs.vs_eval.specs.Laws.{digit_in}
-use Rattle.vs_flatcode.specs.declared.gait.Gait.{Gait}
-use Rattle.vs_flatcode.specs.declared.gait.Gait.TheVariants.{Fresh, Woken, Inside}
-use Rattle.vs_flatcode.specs.Places.{Todo, Place, perform, going, waiting, flat, stepped_gait, todo_of, is_inside, is_going}
-use Rattle.vs_flatcode.specs.Steps.{Out, goes, on, wait, step}
+use Rattle.vs_process.specs.vs_flatcode.specs.declared.gait.Gait.{Gait}
+use Rattle.vs_process.specs.vs_flatcode.specs.declared.gait.Gait.TheVariants.{Fresh, Woken, Inside}
+use Rattle.vs_process.specs.vs_flatcode.specs.Places.{Todo, Place, perform, going, waiting, flat, stepped_gait, todo_of, is_inside, is_going}
+use Rattle.vs_process.specs.vs_flatcode.specs.Steps.{Out, goes, on, wait, step}
 use Rattle.vs_process.specs.States.{place_behind, wakened}
 use Rattle.vs_process.proofs.Ranges.{covers_signal, same_content}
 use Rattle.vs_process.proofs.Values.{same_unchanged, unchanged, not_changed}

@@ -15,9 +15,9 @@ use Rattle.vs_design.specs.Statements.{has_control, has_control_step}
 use Rattle.vs_design.specs.Stores.{Store}
 use Rattle.vs_design.proofs.StatementLemmas.{control_Block}
 use Rattle.vs_process.specs.vs_eval.specs.Values.{value_of}
-use Rattle.vs_flatcode.specs.Places.{Item, perform, turns, Todo, flat}
-use Rattle.vs_flatcode.specs.Steps.{Next, on, step, statement_step, flat_item, turns_for, repeated}
-use Rattle.vs_flatcode.specs.Drafts.{flat_all}
+use Rattle.vs_process.specs.vs_flatcode.specs.Places.{Item, perform, turns, Todo, flat}
+use Rattle.vs_process.specs.vs_flatcode.specs.Steps.{Next, on, step, statement_step, flat_item, turns_for, repeated}
+use Rattle.vs_process.specs.vs_flatcode.specs.Drafts.{flat_all}
 use Rattle.vs_process.proofs.Lists.{none_at}
 use Rattle.vs_process.proofs.WellFormed.{branch_each}
 use Rattle.vs_law_threads.proofs.Todos.{flat_each, taken_each}

@@ -12,7 +12,7 @@ use Rattle.vs_design.specs.Stores.{Store, put, is_changed, is_driven, changes_no
 use Rattle.vs_design.specs.Uses.{reads, writes_signal}
 use Rattle.vs_process.specs.vs_eval.specs.Targets.{assigned}
 use Rattle.vs_process.specs.vs_eval.specs.Values.{target_value}
-use Rattle.vs_flatcode.specs.Steps.{assignment}
+use Rattle.vs_process.specs.vs_flatcode.specs.Steps.{assignment}
 use Rattle.vs_process.specs.States.{AssignState}
 use Rattle.vs_design.specs.vs_logic4.proofs.Basics.{same_lists as same_gets}
 use Rattle.vs_process.proofs.Ranges.{assigned_fixed, assigned_names, same_sizes}

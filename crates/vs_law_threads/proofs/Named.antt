@@ -24,14 +24,14 @@ use Rattle.vs_design.specs.Statements.{all_reads, arg_reads, statement_reads, st
 use Rattle.vs_design.specs.Stores.{Store, is_changed}
 use Rattle.vs_design.specs.Uses.{joined, reads}
 use Rattle.vs_process.specs.vs_eval.specs.Values.{value_of}
-use Rattle.vs_flatcode.specs.vs_strobe.specs.declared.piece.FormatPiece.{FormatPiece}
-use Rattle.vs_flatcode.specs.vs_strobe.specs.declared.piece.FormatPiece.TheVariants.{Byte, Path, Shown}
-use Rattle.vs_flatcode.specs.vs_strobe.specs.Lines.{Format, arg_value, format_of_call, full_line, is_signed, pieces_text}
-use Rattle.vs_flatcode.specs.vs_strobe.specs.Values.{shown_text}
-use Rattle.vs_flatcode.specs.Drafts.{flat_all}
-use Rattle.vs_flatcode.specs.Landings.{todo_behind}
-use Rattle.vs_flatcode.specs.Places.{Item, perform, turns, Todo, flat}
-use Rattle.vs_flatcode.specs.Steps.{Out, display_line, flat_item, repeated, statement_step, step, strobe_call, turns_for}
+use Rattle.vs_process.specs.vs_flatcode.specs.vs_strobe.specs.declared.piece.FormatPiece.{FormatPiece}
+use Rattle.vs_process.specs.vs_flatcode.specs.vs_strobe.specs.declared.piece.FormatPiece.TheVariants.{Byte, Path, Shown}
+use Rattle.vs_process.specs.vs_flatcode.specs.vs_strobe.specs.Lines.{Format, arg_value, format_of_call, full_line, is_signed, pieces_text}
+use Rattle.vs_process.specs.vs_flatcode.specs.vs_strobe.specs.Values.{shown_text}
+use Rattle.vs_process.specs.vs_flatcode.specs.Drafts.{flat_all}
+use Rattle.vs_process.specs.vs_flatcode.specs.Landings.{todo_behind}
+use Rattle.vs_process.specs.vs_flatcode.specs.Places.{Item, perform, turns, Todo, flat}
+use Rattle.vs_process.specs.vs_flatcode.specs.Steps.{Out, display_line, flat_item, repeated, statement_step, step, strobe_call, turns_for}
 use Rattle.vs_process.proofs.Values.{value_unchanged}
 use Rattle.vs_process.proofs.WellFormed.{branch_each}
 use Rattle.vs_law_writes.specs.Laws.{IsLeft, start, behind}

@@ -23,8 +23,8 @@ use Rattle.vs_design.specs.Writes.{Write}
 use Rattle.vs_process.specs.vs_eval.specs.Targets.{assigned}
 use Rattle.vs_process.specs.vs_eval.specs.Values.{target_value, value_of}
 use Rattle.vs_process.specs.vs_eval.proofs.WritesHold.{parts_same}
-use Rattle.vs_flatcode.specs.Places.{perform, turns, Todo, flat}
-use Rattle.vs_flatcode.specs.Steps.{Out, assignment, step, statement_step, goes, on, branch, item_matches, is_default, first_of, flat_item, taken, turns_for, repeated}
+use Rattle.vs_process.specs.vs_flatcode.specs.Places.{perform, turns, Todo, flat}
+use Rattle.vs_process.specs.vs_flatcode.specs.Steps.{Out, assignment, step, statement_step, goes, on, branch, item_matches, is_default, first_of, flat_item, taken, turns_for, repeated}
 use Rattle.vs_process.proofs.Values.{target_value_unchanged, value_unchanged}
 use Rattle.vs_process.proofs.WellFormed.{is_sound_todo}
 use Rattle.vs_law_writes.specs.Laws.{HasPart}

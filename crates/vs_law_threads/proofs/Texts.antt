@@ -16,10 +16,10 @@ use Rattle.vs_design.specs.Parts.{Parts}
 use Rattle.vs_design.specs.Statements.{has_control}
 use Rattle.vs_design.specs.Stores.{Store, is_changed}
 use Rattle.vs_process.specs.vs_edges.specs.Waking.{wakes, wakes_by, wake_any}
-use Rattle.vs_flatcode.specs.declared.gait.Gait.{Gait}
-use Rattle.vs_flatcode.specs.declared.gait.Gait.TheVariants.{Woken}
-use Rattle.vs_flatcode.specs.Places.{Todo, Place, perform, going, waiting, active_at, flat, stepped_gait, todo_of}
-use Rattle.vs_flatcode.specs.Steps.{on, wait, goes, step, statement_step}
+use Rattle.vs_process.specs.vs_flatcode.specs.declared.gait.Gait.{Gait}
+use Rattle.vs_process.specs.vs_flatcode.specs.declared.gait.Gait.TheVariants.{Woken}
+use Rattle.vs_process.specs.vs_flatcode.specs.Places.{Todo, Place, perform, going, waiting, active_at, flat, stepped_gait, todo_of}
+use Rattle.vs_process.specs.vs_flatcode.specs.Steps.{on, wait, goes, step, statement_step}
 use Rattle.vs_process.specs.States.{place_behind, terms_of, wakened}
 use Rattle.vs_process.specs.Executions.{is_any, is_level, waits_for_levels, is_block_body, is_always, is_combinational}
 use Rattle.vs_law_threads.specs.Blocks.{home, control, place_for, text_place, control_place}

@@ -5,8 +5,8 @@ use Rattle.std.proofs.lemmas.Bool.{or_parts, or_right, cases_lt, true≢false, f
 use Rattle.vs_design.specs.Parts.{Parts}
 use Rattle.vs_design.specs.Stores.{Store}
 use Rattle.vs_design.specs.Writes.{Write, names}
-use Rattle.vs_flatcode.specs.Places.{Place, going, sleeping, inactive, waiting, ended, is_going, is_inactive}
-use Rattle.vs_flatcode.specs.Steps.{step}
+use Rattle.vs_process.specs.vs_flatcode.specs.Places.{Place, going, sleeping, inactive, waiting, ended, is_going, is_inactive}
+use Rattle.vs_process.specs.vs_flatcode.specs.Steps.{step}
 use Rattle.vs_process.specs.States.{State, roused}
 use Rattle.vs_process.proofs.Stores.{put_other}
 use Rattle.vs_law_threads.specs.Threads.{store_behind, Thread, log_behind, turn_at, turn, iterate, Fired, opening, found, is_timed, IsTimed, MayOpen, IsThread, writes}

@@ -13,9 +13,9 @@ use Rattle.vs_design.specs.Parts.{Parts}
 use Rattle.vs_design.specs.Stores.{Store, put, changes_nothing, is_changed, is_driven, start_store}
 use Rattle.vs_design.specs.Uses.{covers, is_of, writes, writes_signal}
 use Rattle.vs_process.specs.vs_eval.specs.Laws.{digit_of}
-use Rattle.vs_flatcode.specs.declared.gait.Gait.TheVariants.{Woken}
-use Rattle.vs_flatcode.specs.Places.{is_going, is_inactive, Place, perform, going, waiting, ended, flat, todo_of}
-use Rattle.vs_flatcode.specs.Steps.{assignment}
+use Rattle.vs_process.specs.vs_flatcode.specs.declared.gait.Gait.TheVariants.{Woken}
+use Rattle.vs_process.specs.vs_flatcode.specs.Places.{is_going, is_inactive, Place, perform, going, waiting, ended, flat, todo_of}
+use Rattle.vs_process.specs.vs_flatcode.specs.Steps.{assignment}
 use Rattle.vs_process.specs.States.{Update, activated, start, terms_of}
 use Rattle.vs_process.specs.Executions.{is_combinational}
 use Rattle.vs_law_writes.specs.Writes.{statement_writes}

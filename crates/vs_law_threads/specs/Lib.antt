@@ -6,6 +6,6 @@ pub mod Threads
 pub mod Blocks
 pub mod Reads
 pub use Rattle.vs_process.specs.vs_eval
-pub use Rattle.vs_flatcode
+pub use Rattle.vs_process.specs.vs_flatcode
 pub use Rattle.vs_law_writes
 pub use Rattle.vs_process

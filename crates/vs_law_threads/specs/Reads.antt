@@ -6,10 +6,10 @@ use Rattle.vs_design.specs.declared.statement.Statement.{Statement}
 use Rattle.vs_design.specs.Statements.{statement_reads}
 use Rattle.vs_design.specs.Stores.{Store, is_changed}
 use Rattle.vs_design.specs.Uses.{joined}
-use Rattle.vs_flatcode.specs.vs_strobe.specs.Lines.{Format, full_line}
-use Rattle.vs_flatcode.specs.Landings.{todo_behind}
-use Rattle.vs_flatcode.specs.Places.{Item, perform, turns, Todo, flat}
-use Rattle.vs_flatcode.specs.Steps.{Out, step}
+use Rattle.vs_process.specs.vs_flatcode.specs.vs_strobe.specs.Lines.{Format, full_line}
+use Rattle.vs_process.specs.vs_flatcode.specs.Landings.{todo_behind}
+use Rattle.vs_process.specs.vs_flatcode.specs.Places.{Item, perform, turns, Todo, flat}
+use Rattle.vs_process.specs.vs_flatcode.specs.Steps.{Out, step}
 use Rattle.vs_law_writes.specs.Laws.{IsLeft}
 use Rattle.vs_law_threads.specs.Threads.{todo_reads}
 

@@ -18,8 +18,8 @@ use Rattle.vs_design.specs.declared.range.BitRange.{BitRange}
 use Rattle.vs_design.specs.Statements.{all_reads, assignment_reads, call_reads}
 use Rattle.vs_design.specs.Uses.{joined, reads}
 use Rattle.vs_design.specs.Writes.{Write, names}
-use Rattle.vs_flatcode.specs.Places.{perform, turns, Todo, Place, going, sleeping, inactive, waiting, ended}
-use Rattle.vs_flatcode.specs.Steps.{Out, step}
+use Rattle.vs_process.specs.vs_flatcode.specs.Places.{perform, turns, Todo, Place, going, sleeping, inactive, waiting, ended}
+use Rattle.vs_process.specs.vs_flatcode.specs.Steps.{Out, step}
 use Rattle.vs_process.specs.vs_edges.specs.Waking.{wakes}
 use Rattle.vs_process.specs.States.{State, Update, Called, place_behind, updates_behind, calls_behind, roused, triggered}
 use Rattle.vs_law_threads.specs.Edges.{Copies}

@@ -4,6 +4,5 @@
 mod laws;
 
 pub use laws::{processes_read_what_is_named, steps_read_what_is_named};
-pub use vs_flatcode;
 pub use vs_law_writes;
-pub use vs_process::vs_eval;
+pub use vs_process::{vs_eval, vs_flatcode};

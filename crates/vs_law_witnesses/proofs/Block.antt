@@ -5,7 +5,7 @@ use Rattle.std.proofs.lemmas.List.Elements.{All-nil, All-cons}
 use Rattle.std.proofs.lemmas.Option.{none-some, same_Some}
 use Rattle.std.specs.declared.alloc.Global.{Global}
 use Rattle.std.specs.List.{All, Contains, IsDistinct}
-use Rattle.vs_logic4.specs.declared.digit.Digit.TheVariants.{One}
+use Rattle.vs_design.specs.vs_logic4.specs.declared.digit.Digit.TheVariants.{One}
 use Rattle.vs_design.specs.declared.design.Assign.{Assign}
 use Rattle.vs_design.specs.declared.design.Process.{Process}
 use Rattle.vs_design.specs.declared.range.BitRange.{BitRange}

@@ -5,8 +5,8 @@ use Rattle.std.proofs.lemmas.List.Elements.{All-nil, All-cons}
 use Rattle.std.proofs.lemmas.Option.{none-some, same_Some}
 use Rattle.std.specs.declared.alloc.Global.{Global}
 use Rattle.std.specs.List.{Contains, IsDistinct}
-use Rattle.vs_logic4.specs.declared.edge.Edge.TheVariants.{Any}
-use Rattle.vs_logic4.specs.declared.operators.Binary.TheVariants.{And, Or}
+use Rattle.vs_design.specs.vs_logic4.specs.declared.edge.Edge.TheVariants.{Any}
+use Rattle.vs_design.specs.vs_logic4.specs.declared.operators.Binary.TheVariants.{And, Or}
 use Rattle.vs_design.specs.declared.design.Process.{Process}
 use Rattle.vs_design.specs.declared.design.ProcessKind.TheVariants.{Always, Initial}
 use Rattle.vs_design.specs.declared.range.BitRange.{BitRange}

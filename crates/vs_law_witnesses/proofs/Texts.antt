@@ -5,10 +5,10 @@ use Rattle.std.specs.List.{Contains, list_all}
 use Rattle.std.specs.Str.{bytes_eq}
 use Rattle.std.specs.declared.alloc.Global.{Global}
 use Rattle.std.specs.declared.vec.Vec.{Vec}
-use Rattle.vs_logic4.specs.declared.digit.Digit.{Digit}
-use Rattle.vs_logic4.specs.declared.operators.Binary.{Binary}
-use Rattle.vs_logic4.specs.declared.operators.Unary.TheVariants as u
-use Rattle.vs_logic4.specs.Operators.{sizing_of, unary}
+use Rattle.vs_design.specs.vs_logic4.specs.declared.digit.Digit.{Digit}
+use Rattle.vs_design.specs.vs_logic4.specs.declared.operators.Binary.{Binary}
+use Rattle.vs_design.specs.vs_logic4.specs.declared.operators.Unary.TheVariants as u
+use Rattle.vs_design.specs.vs_logic4.specs.Operators.{sizing_of, unary}
 use Rattle.vs_design.specs.declared.expression.Typed.{Typed, fold-roll-Typed}
 use Rattle.vs_design.specs.declared.expression.Typed.TheVariants as e
 use Rattle.vs_design.specs.declared.expression.Typed.TheOpen as t

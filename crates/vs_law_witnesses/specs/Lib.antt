@@ -5,3 +5,6 @@ pub mod Block
 pub mod Race
 pub mod Swap
 pub mod Mixer
+pub use Rattle.vs_law_examples
+pub use Rattle.vs_law_rules
+pub use Rattle.vs_law_writes

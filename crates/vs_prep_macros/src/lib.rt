@@ -16,6 +16,7 @@ pub use expansion::{Expander, Site};
 pub use fault::{Fault, Halt, Spot};
 pub use scan::{behind_blank, behind_space, split_name, trimmed, wanted_name};
 pub use table::Macros;
+pub use vs_prep_pieces;
 
 /// The most bytes of a text: 4 MiB. No expansion has more either.
 pub const TEXT_LIMIT: usize = 4194304;

@@ -5,8 +5,8 @@ use Rattle.std.specs.Prelude.{Option, None}
 use Rattle.std.specs.Io.KnownBytes.{Keeps, append_known}
 use Rattle.std.proofs.KnownBytes.{Appends-kept}
 use Rattle.vs_design.specs.Parts.{Parts}
-use Rattle.vs_process.specs.declared.moves.Move.{Move}
-use Rattle.vs_propose.specs.vs_rules.specs.Claims.{Claims}
+use Rattle.vs_certified.specs.vs_process.specs.declared.moves.Move.{Move}
+use Rattle.vs_race.specs.vs_propose.specs.vs_rules.specs.Claims.{Claims}
 use Rattle.vs_certified.specs.vs_kernel.specs.Runs.{HasBegun, RanTo}
 use Rattle.vs_certified.specs.vs_kernel.specs.declared.outcome.Outcome.{Outcome}
 use Rattle.vs_certified.specs.Certified.{HasBegunCertifiedRun, IsCertifiedRun, StandsFor, is_before_run}

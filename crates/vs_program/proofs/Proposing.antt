@@ -1,11 +1,11 @@
 -- Lemmas on proposals.
-use Rattle.vs_certificate.specs.declared.members.Certificate.{Certificate}
-use Rattle.vs_certificate.specs.Reading as certificates
-use Rattle.vs_certificate.specs.declared.members.ClaimedGrain.{ClaimedGrain}
+use Rattle.vs_program_words.specs.vs_certificate.specs.declared.members.Certificate.{Certificate}
+use Rattle.vs_program_words.specs.vs_certificate.specs.Reading as certificates
+use Rattle.vs_program_words.specs.vs_certificate.specs.declared.members.ClaimedGrain.{ClaimedGrain}
 use Rattle.vs_design.specs.Parts.{Parts}
-use Rattle.vs_propose.specs.Proposals.{IsProposal}
-use Rattle.vs_propose.specs.declared.proposal.Proposal.{Proposal}
-use Rattle.vs_propose.specs.declared.proposal.Proposal.TheVariants.{Made, NotMade}
+use Rattle.vs_race.specs.vs_propose.specs.Proposals.{IsProposal}
+use Rattle.vs_race.specs.vs_propose.specs.declared.proposal.Proposal.{Proposal}
+use Rattle.vs_race.specs.vs_propose.specs.declared.proposal.Proposal.TheVariants.{Made, NotMade}
 use Rattle.vs_program.specs.Texts.{ReadsBack}
 use Rattle.vs_program.specs.passes.Proposing.{IsShort}
 

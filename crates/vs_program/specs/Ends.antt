@@ -3,14 +3,14 @@ use Rattle.std.specs.Borrow.{Bor}
 use Rattle.std.specs.Prelude.{ℕ, ◌≡◌, ◌≤◌, ◌⊎◌, true, false, Option, None, List, [], ◌∷◌, length}
 use Rattle.std.specs.Io.KnownBytes.{Appends, Keeps, append_known}
 use Rattle.clap.specs.declared.error.kind.ErrorKind.{ErrorKind}
-use Rattle.vs_certificate.specs.declared.members.ClaimedGrain.{ClaimedGrain}
-use Rattle.vs_certificate.specs.declared.fault.CertFault.TheVariants.{NotJson}
+use Rattle.vs_program_words.specs.vs_certificate.specs.declared.members.ClaimedGrain.{ClaimedGrain}
+use Rattle.vs_program_words.specs.vs_certificate.specs.declared.fault.CertFault.TheVariants.{NotJson}
 use Rattle.vs_design.specs.Parts.{Parts}
 use Rattle.vs_certified.specs.vs_vcd_writing.specs.Sinks.{AppendsPart}
 use Rattle.vs_certified.specs.vs_kernel.specs.declared.outcome.Outcome.{Outcome}
 use Rattle.vs_certified.specs.vs_cert_check.specs.declared.verdict.Verdict.{Verdict}
-use Rattle.vs_propose.specs.declared.proposal.Proposal.{Proposal}
-use Rattle.vs_propose.specs.Proposals.{IsProposal}
+use Rattle.vs_race.specs.vs_propose.specs.declared.proposal.Proposal.{Proposal}
+use Rattle.vs_race.specs.vs_propose.specs.Proposals.{IsProposal}
 use Rattle.vs_explain.specs.vs_simulate.specs.Honesty.{Defines, IsRun, HasBegunRun, SimulationFails}
 use Rattle.vs_explain.specs.vs_simulate.specs.Listing.{IsListed, HasBegunListing}
 use Rattle.vs_certified.specs.Certified.{IsCertifiedRun, HasBegunCertifiedRun, CertifyingFails, is_before_run}

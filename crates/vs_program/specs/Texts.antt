@@ -2,15 +2,15 @@
 use Rattle.std.specs.Prelude.{ℕ, ◌<◌, List, length, [], ◌∷◌, ◌++◌, codes, decimal}
 use Rattle.std.specs.List.{flat_map}
 use Rattle.serde_json.specs.Written.{compact_text}
-use Rattle.vs_certificate.specs.JsonValue.{value_of}
-use Rattle.vs_certificate.specs.Reading as certificates
+use Rattle.vs_program_words.specs.vs_certificate.specs.JsonValue.{value_of}
+use Rattle.vs_program_words.specs.vs_certificate.specs.Reading as certificates
 use Rattle.vs_elaborate.specs.vs_scopes.specs.Texts.{shown_byte}
 use Rattle.vs_certified.specs.declared.fault.CertifiedFault.{CertifiedFault}
 use Rattle.vs_certified.specs.declared.fault.CertifiedFault.TheVariants.{Simulation, Certificate, Rejected}
 use Rattle.vs_certified.specs.vs_cert_check.specs.declared.verdict.Verdict.{Verdict}
 use Rattle.vs_certified.specs.vs_cert_check.specs.declared.verdict.Verdict.TheVariants.{Yes, No}
-use Rattle.vs_propose.specs.declared.proposal.Proposal.{Proposal}
-use Rattle.vs_propose.specs.declared.proposal.Proposal.TheVariants.{Made, NotMade}
+use Rattle.vs_race.specs.vs_propose.specs.declared.proposal.Proposal.{Proposal}
+use Rattle.vs_race.specs.vs_propose.specs.declared.proposal.Proposal.TheVariants.{Made, NotMade}
 use Rattle.vs_syntax.specs.vs_lexer.specs.Faults as lexer
 use Rattle.vs_parser.specs.Faults as parser
 use Rattle.vs_elaborate.specs.vs_scopes.specs.Texts as elaborate

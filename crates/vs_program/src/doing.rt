@@ -13,15 +13,15 @@ use crate::choosing::read_choices;
 use crate::racing::tell_race;
 use crate::texts::{is_too_long, proposal_line, verdict_line};
 use std::alloc::Global;
-use vs_certificate::{CertFault, ClaimedGrain, written_reads_back};
 use vs_certified::vs_cert_check::Verdict;
 use vs_certified::vs_kernel::{Outcome, RunFault};
 use vs_certified::vs_vcd_writing::{Sink, WriteFault, write_all};
 use vs_certified::{CertifiedFault, certified, judge};
 use vs_explain::vs_simulate::{Policy, SimFault, design_of, list_design, simulate};
+use vs_program_words::vs_certificate::{CertFault, ClaimedGrain, written_reads_back};
 use vs_program_words::{Order, OutputText, Request, Subcommand};
-use vs_propose::{Proposal, propose};
 use vs_race::Race;
+use vs_race::vs_propose::{Proposal, propose};
 use vs_run_turns::Dropped;
 
 /// What a call did.

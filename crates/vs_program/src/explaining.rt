@@ -4,16 +4,16 @@ use crate::doing::Done;
 use crate::input::Kept;
 use std::alloc::{AllocError, Global};
 use std::io::Write;
-use vs_certificate::{CertFault, to_json};
 use vs_certified::CertifiedFault;
 use vs_certified::vs_cert_check::Verdict;
 use vs_certified::vs_kernel::Outcome;
 use vs_explain::{
     explain, explain_after, explain_certificate, explain_limit, explain_others, explain_rule,
 };
+use vs_program_words::vs_certificate::{CertFault, to_json};
 use vs_program_words::{Order, Request, Subcommand};
-use vs_propose::{Proposal, Refusal};
 use vs_race::Race;
+use vs_race::vs_propose::{Proposal, Refusal};
 
 // The top that a call asks for.
 fn top_of<'a>(call: Subcommand<'a>) -> &'a [u8] {

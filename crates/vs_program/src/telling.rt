@@ -22,7 +22,7 @@ use vs_certified::vs_cert_check::Verdict;
 use vs_certified::vs_kernel::Outcome;
 use vs_certified::vs_vcd_writing::{Counted, WriteFault, write_all};
 use vs_program_words::WordsFault;
-use vs_propose::Proposal;
+use vs_race::vs_propose::Proposal;
 
 /// One line on standard error, and the exit status that goes with it.
 pub(crate) fn tell<E: Write>(err: &mut E, text: &[u8], status: u8) -> u8

@@ -5,6 +5,7 @@ mod choices;
 mod options;
 mod words;
 
+pub use vs_certificate;
 pub use words::{
     Call, Hunt, Order, OutputText, Request, Sources, Subcommand, WordsFault, read_words,
 };

@@ -6,3 +6,4 @@ mod search;
 
 pub use proposal::{Proposal, Refusal};
 pub use search::propose;
+pub use vs_certificate;

@@ -9,9 +9,9 @@ use Rattle.vs_design.specs.declared.range.BitRange.{BitRange}
 use Rattle.vs_design.specs.Parts.{Parts}
 use Rattle.vs_design.specs.Uses.{covers, has_bit, has_word, is_of}
 use Rattle.vs_process.specs.declared.moves.Grain.TheVariants.{Block}
-use Rattle.vs_rules.specs.Claims.{Claims}
-use Rattle.vs_rules.specs.Drivers.{Driver, IsDriver, DriverReads, DriverWrites, DriverNeeds}
-use Rattle.vs_rules.specs.Drivers as drivers
+use Rattle.vs_slots_ranges.specs.vs_rules.specs.Claims.{Claims}
+use Rattle.vs_slots_ranges.specs.vs_rules.specs.Drivers.{Driver, IsDriver, DriverReads, DriverWrites, DriverNeeds}
+use Rattle.vs_slots_ranges.specs.vs_rules.specs.Drivers as drivers
 use Rattle.vs_propose_order.specs.Order.{Needs}
 use Rattle.vs_slots_cones.specs.declared.writers.Written.{Written}
 use Rattle.vs_slots_cones.specs.Names.{AreMaps}

@@ -16,18 +16,18 @@ use Rattle.vs_design.specs.Kinds.{is_variable}
 use Rattle.vs_design.specs.Parts.{Parts}
 use Rattle.vs_design.specs.WellFormed.{WellFormed}
 use Rattle.vs_process.specs.vs_flatcode.specs.Steps.{wait}
-use Rattle.vs_rules.specs.vs_law_threads.specs.Blocks.{outputs_for}
-use Rattle.vs_rules.specs.Claims.{Name, Claims, Kind, Mode, SignalClaim, ProcessClaim, EdgeClaim, names_process, writer_in, second_in, mode_in, times_in, place_of, all_names, edge_names, names_of_edge, edge_signals, process_names, signal_names}
-use Rattle.vs_rules.specs.Claims.{assign_name, process_name, signal_name, claim_for, claim_of, kind_for, kind_of, IsSignalNamed, IsAssignNamed, IsProcessNamed, IsSecond, IsBlock, IsDelay, IsSequential, HasMode, HasKind, IsRootOf, IsRoot}
-use Rattle.vs_rules.specs.Claims as k
-use Rattle.vs_rules.specs.Limits.{IsCertificate}
-use Rattle.vs_rules.specs.Paths.{Bit, IsBit, Has, Writes, HasTerm}
-use Rattle.vs_rules.specs.Drivers.{Driver, IsDriver, DriverReads, WritesBit, IsSource, StandsBefore}
-use Rattle.vs_rules.specs.Drivers as x
-use Rattle.vs_rules.specs.Rules.{K1_Signal, K1_Assign, K1_Process, K1_Name, K2, K3, IsAsModeSays, K4, IsSelf, IsCovered, IsDriven, K6, K7, K8, K9, BlockNeeds, K10_Signal, K10_Process}
-use Rattle.vs_rules.specs.Blocks.{K5, K11}
-use Rattle.vs_rules.proofs.Past.{past_points, end_next}
-use Rattle.vs_rules.specs.Verdict.{k1, k2, k3, k4, k5, k6, k7, k8, k9, k10, k11, Subject, signal, assign, process, listed, OfSignal, OfProcess, numbers, subjects, Disciplined, IsAccepted}
+use Rattle.vs_slots_ranges.specs.vs_rules.specs.vs_law_threads.specs.Blocks.{outputs_for}
+use Rattle.vs_slots_ranges.specs.vs_rules.specs.Claims.{Name, Claims, Kind, Mode, SignalClaim, ProcessClaim, EdgeClaim, names_process, writer_in, second_in, mode_in, times_in, place_of, all_names, edge_names, names_of_edge, edge_signals, process_names, signal_names}
+use Rattle.vs_slots_ranges.specs.vs_rules.specs.Claims.{assign_name, process_name, signal_name, claim_for, claim_of, kind_for, kind_of, IsSignalNamed, IsAssignNamed, IsProcessNamed, IsSecond, IsBlock, IsDelay, IsSequential, HasMode, HasKind, IsRootOf, IsRoot}
+use Rattle.vs_slots_ranges.specs.vs_rules.specs.Claims as k
+use Rattle.vs_slots_ranges.specs.vs_rules.specs.Limits.{IsCertificate}
+use Rattle.vs_slots_ranges.specs.vs_rules.specs.Paths.{Bit, IsBit, Has, Writes, HasTerm}
+use Rattle.vs_slots_ranges.specs.vs_rules.specs.Drivers.{Driver, IsDriver, DriverReads, WritesBit, IsSource, StandsBefore}
+use Rattle.vs_slots_ranges.specs.vs_rules.specs.Drivers as x
+use Rattle.vs_slots_ranges.specs.vs_rules.specs.Rules.{K1_Signal, K1_Assign, K1_Process, K1_Name, K2, K3, IsAsModeSays, K4, IsSelf, IsCovered, IsDriven, K6, K7, K8, K9, BlockNeeds, K10_Signal, K10_Process}
+use Rattle.vs_slots_ranges.specs.vs_rules.specs.Blocks.{K5, K11}
+use Rattle.vs_slots_ranges.specs.vs_rules.proofs.Past.{past_points, end_next}
+use Rattle.vs_slots_ranges.specs.vs_rules.specs.Verdict.{k1, k2, k3, k4, k5, k6, k7, k8, k9, k10, k11, Subject, signal, assign, process, listed, OfSignal, OfProcess, numbers, subjects, Disciplined, IsAccepted}
 use Rattle.vs_propose_assigns.specs.Claimed.{name_at, name_or_empty, mode_at, entry_of, IsPlain}
 use Rattle.vs_propose_assigns.specs.Needs.{ReadsFrom, IsOrder}
 use Rattle.vs_propose_assigns.specs.Settling.{Settles}

@@ -8,10 +8,10 @@ use Rattle.vs_design.specs.declared.design.Assign.{Assign}
 use Rattle.vs_design.specs.declared.signal.Signal.{Signal}
 use Rattle.vs_design.specs.Parts.{Parts}
 use Rattle.vs_design.specs.WellFormed.{WellFormed}
-use Rattle.vs_rules.specs.Certificates.{name_from, signal_claim, claims_of}
-use Rattle.vs_rules.specs.Claims.{Name, Claims, SignalClaim, place_of, assign_name, signal_name, signal_names, IsSignalNamed, IsAssignNamed}
-use Rattle.vs_rules.specs.Drivers.{assign, StandsBefore}
-use Rattle.vs_rules.specs.Rules.{K4}
+use Rattle.vs_slots_ranges.specs.vs_rules.specs.Certificates.{name_from, signal_claim, claims_of}
+use Rattle.vs_slots_ranges.specs.vs_rules.specs.Claims.{Name, Claims, SignalClaim, place_of, assign_name, signal_name, signal_names, IsSignalNamed, IsAssignNamed}
+use Rattle.vs_slots_ranges.specs.vs_rules.specs.Drivers.{assign, StandsBefore}
+use Rattle.vs_slots_ranges.specs.vs_rules.specs.Rules.{K4}
 use Rattle.vs_propose_assigns.specs.Claimed.{HasTexts}
 use Rattle.vs_propose_assigns.specs.Needs.{ReadsFrom, IsOrder}
 use Rattle.vs_propose_assigns.specs.Settling.{Settles}

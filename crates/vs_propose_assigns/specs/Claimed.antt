@@ -3,7 +3,7 @@ use Rattle.std.specs.Prelude.{ℕ, ◌≡◌, Bool, true, false, Option, Some, N
 use Rattle.vs_design.specs.declared.signal.Signal.{Signal}
 use Rattle.vs_design.specs.Kinds.{is_variable}
 use Rattle.vs_design.specs.Parts.{Parts}
-use Rattle.vs_rules.specs.Claims.{Name, Claims, Mode, net, unwritten, SignalClaim, assign_name, IsSignalNamed, IsAssignNamed}
+use Rattle.vs_slots_ranges.specs.vs_rules.specs.Claims.{Name, Claims, Mode, net, unwritten, SignalClaim, assign_name, IsSignalNamed, IsAssignNamed}
 
 -- names of a design are texts
 pub record HasTexts (d : Parts) : Type 0 where

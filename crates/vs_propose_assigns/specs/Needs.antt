@@ -6,7 +6,7 @@ use Rattle.std.specs.declared.alloc.Global.{Global}
 use Rattle.vs_design.specs.declared.range.BitRange.{BitRange}
 use Rattle.vs_design.specs.Parts.{Parts}
 use Rattle.vs_propose_order.specs.Order.{Needs, IsSorted}
-use Rattle.vs_rules.specs.Drivers.{assign, DriverReads, DriverWrites}
+use Rattle.vs_slots_ranges.specs.vs_rules.specs.Drivers.{assign, DriverReads, DriverWrites}
 use Rattle.vs_slots_cones.specs.declared.writers.Written.{Written}
 use Rattle.vs_slots_ranges.specs.Ranges.{Share}
 

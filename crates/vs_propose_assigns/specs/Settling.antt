@@ -4,10 +4,10 @@ use Rattle.vs_certificate.specs.declared.members.Certificate.{Certificate}
 use Rattle.vs_certificate.specs.JsonValue.{value_of}
 use Rattle.vs_certificate.specs.Reading.{IsSound}
 use Rattle.vs_design.specs.Parts.{Parts}
-use Rattle.vs_rules.specs.Certificates.{claims_of}
-use Rattle.vs_rules.specs.Claims.{Claims}
-use Rattle.vs_rules.specs.Drivers.{assign}
-use Rattle.vs_rules.specs.Rules.{K1_Signal, K1_Assign, K4}
+use Rattle.vs_slots_ranges.specs.vs_rules.specs.Certificates.{claims_of}
+use Rattle.vs_slots_ranges.specs.vs_rules.specs.Claims.{Claims}
+use Rattle.vs_slots_ranges.specs.vs_rules.specs.Drivers.{assign}
+use Rattle.vs_slots_ranges.specs.vs_rules.specs.Rules.{K1_Signal, K1_Assign, K4}
 
 -- each signal and each continuous assignment is listed as K1 asks, and each continuous assignment keeps K4, by the order that is claimed
 pub record Settles (d : Parts) (c : Claims) : Type 0 where

@@ -3,14 +3,14 @@ ghost use Rattle.std.specs.Prelude.{◌≡◌, [], map, IfOk, IsUtf8, string_byt
 ghost use Rattle.vs_design.specs.Kinds.{is_variable};
 ghost use Rattle.vs_propose_assigns.specs.Claimed.{HasTexts, name_at, mode_at, entry_of};
 ghost use Rattle.vs_propose_assigns.specs.Settling.{CanSettle};
-ghost use Rattle.vs_rules.specs.Certificates.{name_from, mode_from, signal_claim, claims_of};
-ghost use Rattle.vs_rules.specs.Verdict.{IsAccepted};
+ghost use Rattle.vs_slots_ranges.specs.vs_rules.specs.Certificates.{name_from, mode_from, signal_claim, claims_of};
+ghost use Rattle.vs_slots_ranges.specs.vs_rules.specs.Verdict.{IsAccepted};
 
 use crate::order::assign_order;
 use std::alloc::{AllocError, Global};
 use vs_certificate::{Certificate, ClaimedGrain, SignalEntry, SignalMode, Version};
 use vs_design::{Design, Signal, SignalKind};
-use vs_rules::tested_are_certificates;
+use vs_slots_ranges::vs_rules::tested_are_certificates;
 
 /// A name as the text of a certificate: nothing, where its bytes are no text.
 pub fn text_of(alloc: Global, name: &[u8]) -> Result<String, AllocError>

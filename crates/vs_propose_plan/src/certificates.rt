@@ -3,11 +3,11 @@ ghost use Rattle.std.specs.Prelude.{◌≡◌, IfOk, IfSome};
 
 use crate::plans::{EdgePlan, KindPlan, Plan, SignalPlan};
 use std::alloc::{AllocError, Global};
-use vs_certificate::{
-    Certificate, ClaimedGrain, ClaimedKind, EdgeSignal, ProcessEntry, SignalEntry, Version,
-};
 use vs_design::{Design, Process, Signal};
 use vs_propose_assigns::text_of;
+use vs_propose_assigns::vs_certificate::{
+    Certificate, ClaimedGrain, ClaimedKind, EdgeSignal, ProcessEntry, SignalEntry, Version,
+};
 use vs_propose_texts::text_lists;
 
 // The path of a signal.

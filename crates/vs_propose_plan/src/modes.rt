@@ -4,8 +4,8 @@ use crate::plans::SignalPlan;
 use crate::readers::{Readers, is_private, readers_of};
 use crate::writers::Writer;
 use std::alloc::{AllocError, Global};
-use vs_certificate::SignalMode;
 use vs_design::{Design, SignalKind};
+use vs_propose_assigns::vs_certificate::SignalMode;
 use vs_propose_texts::{TextFacts, TextKind};
 
 // Whether one process may be the second of a signal whose writer is another one.

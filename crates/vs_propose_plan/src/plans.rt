@@ -6,8 +6,8 @@ use crate::modes::signal_plans;
 use crate::starts::kind_plans;
 use crate::writers::writers_of;
 use std::alloc::{AllocError, Global};
-use vs_certificate::{SignalMode, Start};
 use vs_design::Design;
+use vs_propose_assigns::vs_certificate::{SignalMode, Start};
 use vs_propose_texts::{TextFacts, text_facts};
 
 /// What is to be claimed of a signal. Processes go by their numbers.

@@ -3,12 +3,12 @@ use Rattle.std.proofs.Common.{◌≡◌, ℕ, List, subst}
 use Rattle.vs_design.specs.vs_logic4.specs.declared.digit.Digit.{Digit}
 use Rattle.vs_design.specs.Parts.{Parts}
 use Rattle.vs_design.specs.Traces.{SameTrace}
-use Rattle.vs_process.specs.declared.moves.Grain.{Grain}
-use Rattle.vs_process.specs.Executions.{trace}
-use Rattle.vs_vcd_writing.specs.Shown.{Shows, ShowsOne}
-use Rattle.vs_vcd_writing.specs.Text.{vcd_text}
-use Rattle.vs_independence.specs.Discipline.{Independent}
-use Rattle.vs_simulate.specs.Honesty.{Defines}
+use Rattle.vs_law_rules.specs.vs_process.specs.declared.moves.Grain.{Grain}
+use Rattle.vs_law_rules.specs.vs_process.specs.Executions.{trace}
+use Rattle.vs_vcd_law.specs.vs_vcd_writing.specs.Shown.{Shows, ShowsOne}
+use Rattle.vs_vcd_law.specs.vs_vcd_writing.specs.Text.{vcd_text}
+use Rattle.vs_law_rules.specs.vs_independence.specs.Discipline.{Independent}
+use Rattle.vs_certified.specs.vs_simulate.specs.Honesty.{Defines}
 use Rattle.vs_certified.proofs.CertifiedLemmas.{legal_at}
 use Rattle.vs_certified.proofs.TraceLemmas.{text_same}
 use Rattle.vs_race_shown.specs.declared.witness.Witness.{Witness}

@@ -1,13 +1,13 @@
 -- Two executions of one design that differ.
 use Rattle.std.specs.Prelude.{ℕ, List}
-use Rattle.vs_certificate.specs.declared.members.Certificate.{Certificate}
-use Rattle.vs_certificate.specs.declared.members.ClaimedGrain.TheVariants.{Block}
+use Rattle.vs_propose.specs.vs_certificate.specs.declared.members.Certificate.{Certificate}
+use Rattle.vs_propose.specs.vs_certificate.specs.declared.members.ClaimedGrain.TheVariants.{Block}
 use Rattle.vs_design.specs.Parts.{Parts}
 use Rattle.vs_design.specs.Traces.{SameTrace}
-use Rattle.vs_process.specs.declared.moves.Grain.{Grain}
-use Rattle.vs_process.specs.Executions.{trace}
-use Rattle.vs_independence.specs.Discipline.{Independent}
-use Rattle.vs_simulate.specs.Honesty.{Defines}
+use Rattle.vs_law_rules.specs.vs_process.specs.declared.moves.Grain.{Grain}
+use Rattle.vs_law_rules.specs.vs_process.specs.Executions.{trace}
+use Rattle.vs_law_rules.specs.vs_independence.specs.Discipline.{Independent}
+use Rattle.vs_certified.specs.vs_simulate.specs.Honesty.{Defines}
 use Rattle.vs_propose.specs.Proposals.{IsMade}
 use Rattle.vs_propose.specs.vs_rules.specs.Certificates.{claims_of}
 use Rattle.vs_race_shown.specs.declared.witness.Witness.{Witness}

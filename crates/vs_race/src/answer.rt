@@ -1,6 +1,6 @@
 //! What a search for a race answers.
-use vs_certificate::Certificate;
 use vs_propose::Proposal;
+use vs_propose::vs_certificate::Certificate;
 use vs_race_shown::Witness;
 
 /// A search that found nothing.

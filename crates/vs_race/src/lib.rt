@@ -7,6 +7,7 @@ mod racing;
 
 pub use answer::{Missed, Race};
 pub use racing::race;
-pub use vs_race_orders::{Search, Span, choices_of};
+pub use vs_certified::vs_simulate;
+pub use vs_propose;
 pub use vs_race_shown::Witness;
-pub use vs_simulate;
+pub use vs_race_shown::vs_race_orders::{Search, Span, choices_of};

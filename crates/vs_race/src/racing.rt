@@ -2,21 +2,21 @@
 ghost use Rattle.std.specs.Prelude.{◌≡◌, ◌<◌, ◌^◌, IfOk, IfErr, true};
 ghost use Rattle.vs_design.specs.OneLine.{HasNamesOfOneLine};
 ghost use Rattle.vs_vcd_law.specs.Conditions.{IsOutlined};
-ghost use Rattle.vs_simulate.specs.Honesty.{SimulationFails, is_refusal};
+ghost use Rattle.vs_certified.specs.vs_simulate.specs.Honesty.{SimulationFails, is_refusal};
 ghost use Rattle.vs_race.specs.Races.{IsAnswer};
 ghost use Rattle.vs_race.specs.passes.Sightings.{IsSighting};
 
 use crate::answer::{Missed, Race};
 use std::alloc::{AllocError, Global};
-use vs_certificate::ClaimedGrain;
+use vs_certified::vs_simulate::{SimFault, design_of, names_of_one_line};
 use vs_design::Design;
 use vs_law_rules::rules_make_independent;
+use vs_propose::vs_certificate::ClaimedGrain;
 use vs_propose::{Proposal, propose};
-use vs_race_orders::{Search, Sought, find};
+use vs_race_shown::vs_race_orders::{Search, Sought, find};
+use vs_race_shown::vs_read_back::outline_is_in_order;
 use vs_race_shown::{Witness, witness_of};
-use vs_read_back::outline_is_in_order;
-use vs_simulate::{SimFault, design_of, names_of_one_line};
-use vs_vcd_writing::shows_one_value;
+use vs_vcd_law::vs_vcd_writing::shows_one_value;
 
 /// What the orders of a search show.
 #[derive(Drop)]

@@ -13,10 +13,10 @@ use vs_run_events::Region;
 use vs_run_events::vs_run_assigns::Forms;
 use vs_run_policies::{Listed, Pick};
 use vs_run_processes::vs_process::Code;
+use vs_run_start::vs_run_updates::Due;
+use vs_run_start::vs_run_updates::vs_time_wheel::{EventQueue, Wheel};
 use vs_run_start::{codes_of, running_of, scripts_of};
 use vs_run_steps::RunState;
-use vs_run_updates::Due;
-use vs_run_updates::vs_time_wheel::{EventQueue, Wheel};
 use vs_vcd_writing::WriterFault;
 
 /// The first time that no run reaches, in ticks.

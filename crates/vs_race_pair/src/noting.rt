@@ -9,9 +9,9 @@ use vs_design::{Design, Statement, Store, Target, Typed};
 use vs_eval_resolved::vs_eval::{cut_value, write_of};
 use vs_flatcode::TextMap;
 use vs_run_events::vs_run_listed::Event;
+use vs_run_start::vs_run_updates::Due;
+use vs_run_start::vs_run_updates::vs_time_wheel::EventQueue;
 use vs_run_steps::RunState;
-use vs_run_updates::Due;
-use vs_run_updates::vs_time_wheel::EventQueue;
 
 /// The most bits of a word.
 const WIDEST: u32 = 64;

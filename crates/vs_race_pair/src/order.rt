@@ -13,10 +13,10 @@ use vs_run_events::{
 };
 use vs_run_policies::Pick;
 use vs_run_processes::vs_process::is_combinational;
+use vs_run_start::vs_run_updates::Due;
+use vs_run_start::vs_run_updates::vs_time_wheel::EventQueue;
 use vs_run_steps::RunState;
 use vs_run_steps::vs_run_turns::Dropped;
-use vs_run_updates::Due;
-use vs_run_updates::vs_time_wheel::EventQueue;
 use vs_vcd_writing::WriterFault;
 
 /// What a policy chooses from.

@@ -3,9 +3,9 @@
 use std::alloc::{AllocError, Global};
 use vs_run_events::vs_run_assigns::needs;
 use vs_run_processes::Wait;
+use vs_run_start::vs_run_updates::Due;
+use vs_run_start::vs_run_updates::vs_time_wheel::EventQueue;
 use vs_run_steps::RunState;
-use vs_run_updates::Due;
-use vs_run_updates::vs_time_wheel::EventQueue;
 
 /// What is kept of the events of a slot so far, by their numbers.
 #[derive(Drop)]

@@ -14,17 +14,17 @@ use Rattle.vs_design.specs.Traces.{Slot}
 use Rattle.vs_process.specs.declared.moves.Grain.TheVariants.{Statement}
 use Rattle.vs_process.specs.declared.moves.Move.{Move}
 use Rattle.vs_process.specs.Executions.{after, is_complete, slots, trace}
-use Rattle.vs_vcd_writing.specs.Codes.{shown}
-use Rattle.vs_vcd_writing.specs.Shown.{Shows, slot_at}
-use Rattle.vs_vcd_writing.specs.Text.{vcd_header, vcd_slots, vcd_text}
-use Rattle.vs_vcd_writing.specs.Values.{shown_value}
+use Rattle.vs_kernel.specs.vs_vcd_writing.specs.Codes.{shown}
+use Rattle.vs_kernel.specs.vs_vcd_writing.specs.Shown.{Shows, slot_at}
+use Rattle.vs_kernel.specs.vs_vcd_writing.specs.Text.{vcd_header, vcd_slots, vcd_text}
+use Rattle.vs_kernel.specs.vs_vcd_writing.specs.Values.{shown_value}
 use Rattle.vs_vcd_law.specs.vs_vcd_reading.specs.declared.dump.Dump.{Dump}
 use Rattle.vs_vcd_law.specs.vs_vcd_reading.specs.Layout.{IsDump}
 use Rattle.vs_vcd_law.specs.vs_vcd_reading.specs.Plain.{PlainDump, plain_dump}
 use Rattle.vs_vcd_law.specs.Conditions.{IsOutlined}
 use Rattle.vs_vcd_law.specs.Values.{values_at}
-use Rattle.vs_run_dumps.specs.ReadBack.{CompleteRunsEndSlots, DumpsReadBack, ReadsBack, dump_so_far}
-use Rattle.vs_run_dumps.proofs.ClockLemmas.{BeginsAtZero, clocked}
+use Rattle.vs_read_back.specs.vs_run_dumps.specs.ReadBack.{CompleteRunsEndSlots, DumpsReadBack, ReadsBack, dump_so_far}
+use Rattle.vs_read_back.specs.vs_run_dumps.proofs.ClockLemmas.{BeginsAtZero, clocked}
 use Rattle.vs_kernel.specs.Runs.{RanTo, text_so_far}
 use Rattle.vs_kernel.specs.Shows.{DumpsShow}
 use Rattle.vs_kernel.specs.declared.outcome.Outcome.{Outcome}

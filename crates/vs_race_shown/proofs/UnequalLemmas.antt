@@ -6,7 +6,7 @@ use Rattle.std.proofs.lemmas.List.{drop_more}
 use Rattle.std.specs.Prelude.{IfSome, if◌then◌else◌, slice_get}
 use Rattle.vs_design.specs.vs_logic4.specs.declared.digit.Digit.{Digit}
 use Rattle.vs_design.specs.declared.signal.Signal.{Signal}
-use Rattle.vs_vcd_writing.specs.Codes.{is_array, shown_from}
+use Rattle.vs_kernel.specs.vs_vcd_writing.specs.Codes.{is_array, shown_from}
 use Rattle.vs_race_shown.specs.declared.unequal.Unequal.{Unequal}
 use Rattle.vs_race_shown.specs.passes.Unequal.{AreUnequal}
 

@@ -6,8 +6,8 @@ use Rattle.vs_design.specs.Parts.{Parts}
 use Rattle.vs_process.specs.declared.moves.Grain.TheVariants.{Statement, Block}
 use Rattle.vs_process.specs.declared.moves.Move.{Move}
 use Rattle.vs_process.specs.Executions.{after, Legal, is_complete, trace}
-use Rattle.vs_vcd_writing.specs.Shown.{Shows}
-use Rattle.vs_vcd_writing.specs.Text.{vcd_text}
+use Rattle.vs_kernel.specs.vs_vcd_writing.specs.Shown.{Shows}
+use Rattle.vs_kernel.specs.vs_vcd_writing.specs.Text.{vcd_text}
 use Rattle.vs_race_shown.specs.declared.witness.Witness.{Witness}
 
 -- an execution of a design that is permitted at both grains and complete to a moment, and whose value change dump shows a signal with this value,

@@ -7,4 +7,6 @@ mod values;
 mod witness;
 
 pub use shown::witness_of;
+pub use vs_race_orders;
+pub use vs_read_back;
 pub use witness::Witness;

@@ -1,1 +1,2 @@
 pub mod ReadBack
+pub use Rattle.vs_run_dumps

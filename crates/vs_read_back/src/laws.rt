@@ -1,6 +1,6 @@
 //! What a run of a source wrote, read back.
 ghost use Rattle.std.specs.Prelude.{ℕ, List};
-ghost use Rattle.vs_vcd_law.specs.Conditions.{IsOutlined};
+ghost use Rattle.vs_run_dumps.specs.vs_vcd_law.specs.Conditions.{IsOutlined};
 ghost use Rattle.vs_simulate.specs.Honesty.{Defines};
 ghost use Rattle.vs_read_back.specs.ReadBack.{RunsReadBack};
 

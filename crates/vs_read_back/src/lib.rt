@@ -5,3 +5,5 @@ mod laws;
 mod ranges;
 
 pub use laws::{dumps_of_runs_are_read, outline_is_in_order};
+pub use vs_run_dumps;
+pub use vs_simulate;

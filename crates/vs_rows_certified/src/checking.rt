@@ -5,9 +5,9 @@ use std::alloc::Global;
 use vs_cert_check::{Verdict, check};
 use vs_certificate::{Certificate, from_json};
 use vs_design::Design;
-use vs_elaborate::elaborate;
 use vs_lexer::lex;
-use vs_parser::parse;
+use vs_program::vs_elaborate::elaborate;
+use vs_program::vs_parser::parse;
 use vs_row_files::Text;
 
 /// The design that a source and a top define, where they define one.

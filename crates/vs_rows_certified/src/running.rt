@@ -2,8 +2,8 @@
 
 use std::alloc::Global;
 use vs_kernel::Outcome;
+use vs_kernel::vs_vcd_writing::Counted;
 use vs_program::{Policy, simulate};
-use vs_vcd_writing::Counted;
 
 /// How many steps a run may take.
 const STEPS: u64 = 10_000;

@@ -3,10 +3,10 @@
 use crate::showing::{show_assigns, show_outline, show_processes, show_signals};
 use vs_design::Design;
 use vs_elaborate::{elaborate, fault_text};
-use vs_lexer::lex;
 use vs_parser::parse;
 use vs_row_files::Text;
 use vs_syntax::Source;
+use vs_syntax::vs_lexer::lex;
 
 /// What is asked of a source.
 #[derive(Clone, Copy)]

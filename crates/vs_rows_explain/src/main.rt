@@ -4,11 +4,11 @@
 use std::alloc::{AllocError, Global};
 use std::io;
 use vs_certificate::from_json;
+use vs_explain::vs_simulate::list_design;
 use vs_explain::{
     explain, explain_after, explain_certificate, explain_limit, explain_others, explain_rule,
 };
 use vs_row_files::{Answers, Text, compare_files, first_and_rest};
-use vs_simulate::list_design;
 use vs_vcd_writing::Counted;
 
 /// Who explains.

@@ -4,9 +4,9 @@ use crate::generated::{module_item_shown, source_shown};
 use crate::instances::header_shown;
 use crate::statements::statement_shown;
 use crate::trees::{left_shown, shown};
-use vs_lexer::lex;
 use vs_parser::parse;
 use vs_row_files::Text;
+use vs_syntax::vs_lexer::lex;
 use vs_syntax::{Item, ModuleItem, Source, Stmt};
 
 /// What is asked of a source text.

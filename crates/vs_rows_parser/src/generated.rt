@@ -1,7 +1,7 @@
 //! Sources as text: directives, items and generate constructs.
 use crate::trees::{form_shown, item_shown, name_shown, range_shown, shown_behind, shown_between};
-use vs_lexer::{Directive, ImplicitNet};
 use vs_row_files::Text;
+use vs_syntax::vs_lexer::{Directive, ImplicitNet};
 use vs_syntax::{Local, LocalDeclaration, LoopHeader, ModuleItem, Source};
 
 /// Names of a declaration in a block, each with the range of its words.

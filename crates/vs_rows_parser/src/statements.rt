@@ -4,8 +4,8 @@ use crate::tasks::{later_sign, task_shown};
 use crate::trees::{
     left_shown, list_shown, selected_shown, shown, shown_behind, shown_between, sides_shown,
 };
-use vs_logic4::{CaseKind, Edge};
 use vs_row_files::Text;
+use vs_syntax::vs_logic4::{CaseKind, Edge};
 use vs_syntax::{CaseLabel, DelayValue, EventControl, EventExpr, ForHeader, Separator, Stmt};
 
 /// A delay, an expression in parentheses in them.

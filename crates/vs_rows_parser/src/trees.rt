@@ -1,8 +1,8 @@
 //! Declarations, assignments and expressions as text.
 use crate::instances::{constants_shown, instances_shown, port_form_shown};
 use crate::statements::simple_shown;
-use vs_logic4::{Binary, Unary};
 use vs_row_files::Text;
+use vs_syntax::vs_logic4::{Binary, Unary};
 use vs_syntax::{Declarator, Expr, Form, Item, Left, NetAssignment, PartSelect, Range};
 
 /// How deep expressions are shown.

@@ -7,11 +7,11 @@ use families::put_design;
 use std::alloc::{AllocError, Global};
 use std::io;
 use vs_cert_check::{Verdict, check};
-use vs_certificate::{Certificate, ClaimedGrain, from_json, to_json};
 use vs_design::Design;
 use vs_elaborate::elaborate;
 use vs_lexer::lex;
 use vs_parser::parse;
+use vs_propose::vs_certificate::{Certificate, ClaimedGrain, from_json, to_json};
 use vs_propose::{Proposal, propose};
 use vs_row_files::{Answers, Text, compare_files};
 

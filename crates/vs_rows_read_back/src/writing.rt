@@ -1,8 +1,8 @@
 //! A plain writer of dumps, by what `docs/vcd.md` says of the layout alone.
 ghost use Rattle.std.specs.Prelude.{◌<◌, length};
 
+use vs_design::vs_logic4::{Digit, Vec4};
 use vs_design::{Magnitude, ScopeKind, SignalKind, TimeUnit};
-use vs_logic4::{Digit, Vec4};
 use vs_row_files::Text;
 use vs_vcd_reading::{Declaration, Dump, Moment, ValueChange, Variable};
 

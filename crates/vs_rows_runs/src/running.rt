@@ -4,12 +4,12 @@ use std::alloc::Global;
 use std::io::{self, ErrorKind, Write};
 use std::test::Fail;
 use vs_design::Design;
+use vs_kernel::vs_vcd_writing::Counted;
 use vs_kernel::{Outcome, RunFault};
 use vs_lexer::lex;
 use vs_program::vs_elaborate::elaborate;
 use vs_program::vs_parser::parse;
 use vs_program::{Policy, SimFault, simulate};
-use vs_vcd_writing::Counted;
 
 /// A writer that takes so many bytes, and behind these fails, or takes none.
 #[derive(Drop)]

@@ -1,8 +1,8 @@
 //! Calls with the arguments that rows write.
 use std::alloc::Global;
 use std::process::Abort;
+use vs_design::vs_logic4::Vec4;
 use vs_design::{Call, CallKind, FormatArg, Operand, Typed};
-use vs_logic4::Vec4;
 
 /// The vector of these 1 to 64 digits, the highest first; anything else is x.
 fn vector(digits: &str) -> Vec4 {

@@ -1,8 +1,8 @@
 //! Slots of a run that is made by hand, and their dump.
 use crate::small_design::{put, three_signals};
 use std::alloc::Global;
+use vs_design::vs_logic4::Vec4;
 use vs_design::{Design, Store};
-use vs_logic4::Vec4;
 use vs_vcd_writing::{Sink, Writer, WriterFault};
 
 pub static DUMP: &[u8] =

@@ -3,7 +3,7 @@ use crate::dump_slots::{DUMP, Slot, slots_of_a_dump, write_dump};
 use std::alloc::Global;
 use std::process::Abort;
 use std::test::Fail;
-use vs_logic4::Vec4;
+use vs_design::vs_logic4::Vec4;
 use vs_vcd_writing::{Counted, Sink, WriterFault, shows_values_at_slot_ends};
 
 // The dump of the module with these slots, up to an end.

@@ -4,9 +4,9 @@ use crate::process_steps::steps_of_a_body;
 use crate::small_design::{put, three_signals};
 use std::alloc::{AllocError, Global};
 use std::process::Abort;
+use vs_design::vs_logic4::Vec4;
 use vs_design::{CallKind, Design, Store};
 use vs_flatcode::vs_strobe::{Format, FormatFault, FormatReason, full_line, line};
-use vs_logic4::Vec4;
 
 /// What is asked of a text.
 #[derive(Clone, Copy)]

@@ -6,10 +6,10 @@ use crate::calls::call;
 use crate::small_design::target_a;
 use std::alloc::Global;
 use std::process::Abort;
+use vs_design::vs_logic4::Vec4;
 use vs_design::{CallKind, Design, Statement, Store, Ticks, Typed};
 use vs_flatcode::vs_strobe::full_line;
 use vs_flatcode::{Action, Code, Cursor, Script, compile};
-use vs_logic4::Vec4;
 
 /// `1'b1`.
 fn one() -> Typed {

@@ -7,11 +7,11 @@ use crate::small_design::{target_a, three_signals};
 use std::alloc::{AllocError, Global};
 use std::process::Abort;
 use std::test::Fail;
+use vs_design::vs_logic4::Vec4;
 use vs_design::{Design, Part, Write};
 use vs_flatcode::{Spot, spot_of};
-use vs_logic4::Vec4;
+use vs_run_updates::vs_time_wheel::{EventQueue, ListQueue, Wheel};
 use vs_run_updates::{Bits, Due, Regions, Update};
-use vs_time_wheel::{EventQueue, ListQueue, Wheel};
 
 // A write that tells a number: that of the word of its part.
 fn numbered(alloc: Global, number: usize) -> Write {

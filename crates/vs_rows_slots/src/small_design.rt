@@ -4,11 +4,11 @@ ghost use Rattle.vs_rows_slots.specs.ThreeSignals.{AreSignals, IsOutline};
 
 use std::alloc::{AllocError, Global};
 use std::process::Abort;
+use vs_design::vs_logic4::Vec4;
 use vs_design::{
     Aim, Bounds, DEFAULT_TIMESCALE, Design, Entry, Magnitude, Part, ScopeKind, Signal, SignalKind,
     Slice, Store, Target, TimeSpan, TimeUnit, Timescale, Write,
 };
-use vs_logic4::Vec4;
 
 fn variable(
     alloc: Global,

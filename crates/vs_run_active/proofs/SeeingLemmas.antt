@@ -1,7 +1,7 @@
 -- Watchers that see a word wake what all of a row wake.
 use Rattle.std.proofs.Common.{◌≡◌, ℕ, ◌==◌, not, Bool, true, false, if◌then◌else◌, List, [], ◌∷◌, bit_and, refl, sym, ◌∙◌, ap}
 use Rattle.std.proofs.lemmas.Bool.{and_right}
-use Rattle.vs_run_processes.specs.vs_process.specs.States.{AssignState}
+use Rattle.vs_run_wakes.specs.vs_run_processes.specs.vs_process.specs.States.{AssignState}
 use Rattle.vs_run_tables.specs.declared.watchers.Watcher.{Watcher}
 use Rattle.vs_run_tables.specs.Groups.{spelled, spelled_one}
 use Rattle.vs_run_tables.specs.Words.{seeing, sees_word}

@@ -4,14 +4,14 @@ use Rattle.vs_design.specs.vs_logic4.specs.declared.digit.Digit.{Digit}
 use Rattle.vs_design.specs.vs_logic4.specs.declared.edge.Edge.{Edge}
 use Rattle.vs_design.specs.vs_logic4.specs.declared.edge.Edge.TheVariants.{Any, Posedge, Negedge}
 use Rattle.vs_design.specs.Parts.{Parts}
-use Rattle.vs_edges.specs.declared.masks.WordChange.{WordChange}
-use Rattle.vs_edges.specs.Differences.{word_changes}
-use Rattle.vs_edges.specs.Masks.{AreEdges, IsChangeOf, has_bits}
-use Rattle.vs_run_processes.specs.vs_process.specs.States.{AssignState}
-use Rattle.vs_run_processes.specs.declared.process.Process.{Process}
-use Rattle.vs_run_processes.specs.Standings.{GoneOn, gone_on}
+use Rattle.vs_run_wakes.specs.vs_edges.specs.declared.masks.WordChange.{WordChange}
+use Rattle.vs_run_wakes.specs.vs_edges.specs.Differences.{word_changes}
+use Rattle.vs_run_wakes.specs.vs_edges.specs.Masks.{AreEdges, IsChangeOf, has_bits}
+use Rattle.vs_run_wakes.specs.vs_run_processes.specs.vs_process.specs.States.{AssignState}
+use Rattle.vs_run_wakes.specs.vs_run_processes.specs.declared.process.Process.{Process}
+use Rattle.vs_run_wakes.specs.vs_run_processes.specs.Standings.{GoneOn, gone_on}
 use Rattle.vs_run_active.specs.Waiting.{AreWaiting, places_of, waits_for}
-use Rattle.vs_run_processes.specs.Triggers.{triggered_by}
+use Rattle.vs_run_wakes.specs.vs_run_processes.specs.Triggers.{triggered_by}
 use Rattle.vs_run_tables.specs.declared.rows.Row.{Row}
 use Rattle.vs_run_tables.specs.declared.tables.Tables.{Tables}
 use Rattle.vs_run_tables.specs.declared.watchers.ListedTerm.{ListedTerm}

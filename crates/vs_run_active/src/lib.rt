@@ -13,3 +13,5 @@ pub use assigns::Assigns;
 pub use events::Events;
 pub use processes::Processes;
 pub use queue::Queue;
+pub use vs_process;
+pub use vs_run_tables;

@@ -4,16 +4,16 @@ use Rattle.std.proofs.lemmas.Bool.{cases_lt}
 use Rattle.std.proofs.lemmas.Int.{ints}
 use Rattle.std.proofs.lemmas.List.{get_or_default}
 use Rattle.std.proofs.lemmas.Option.{slice_get-get_or}
-use Rattle.vs_logic4.specs.declared.digit.Digit.{Digit}
-use Rattle.vs_logic4.specs.declared.digit.Digit.TheVariants.{X}
-use Rattle.vs_logic4.specs.Lengths.{length-selected, length-with_part}
-use Rattle.vs_logic4.specs.Parts.{digit_at, selected, with_part}
-use Rattle.vs_logic4.specs.PlaneLaws.{length-digits_of_planes, same_from_planes}
-use Rattle.vs_logic4.specs.Planes.{digits_of_planes, unknown_plane, value_plane}
-use Rattle.vs_logic4.specs.Sameness.{same_digits_self, same_digits-true}
-use Rattle.vs_logic4.specs.Vectors.{same_digits}
-use Rattle.vs_logic4.proofs.Parts.{get_or-selected}
-use Rattle.vs_logic4.proofs.Properties.{get_or-with_part, same_digits_make_equal_lem, selected-with_part, slice_get-with_part}
+use Rattle.vs_design.specs.vs_logic4.specs.declared.digit.Digit.{Digit}
+use Rattle.vs_design.specs.vs_logic4.specs.declared.digit.Digit.TheVariants.{X}
+use Rattle.vs_design.specs.vs_logic4.specs.Lengths.{length-selected, length-with_part}
+use Rattle.vs_design.specs.vs_logic4.specs.Parts.{digit_at, selected, with_part}
+use Rattle.vs_design.specs.vs_logic4.specs.PlaneLaws.{length-digits_of_planes, same_from_planes}
+use Rattle.vs_design.specs.vs_logic4.specs.Planes.{digits_of_planes, unknown_plane, value_plane}
+use Rattle.vs_design.specs.vs_logic4.specs.Sameness.{same_digits_self, same_digits-true}
+use Rattle.vs_design.specs.vs_logic4.specs.Vectors.{same_digits}
+use Rattle.vs_design.specs.vs_logic4.proofs.Parts.{get_or-selected}
+use Rattle.vs_design.specs.vs_logic4.proofs.Properties.{get_or-with_part, same_digits_make_equal_lem, selected-with_part, slice_get-with_part}
 use Rattle.vs_design.specs.declared.write.Part.{Part}
 use Rattle.vs_design.specs.Behind.{is_kept, behind}
 use Rattle.vs_design.specs.Stores.{Store, changes_nothing, overlaid, word_of}

@@ -1,14 +1,14 @@
 -- Lemmas on how continuous assignments are evaluated and driven.
 use Rattle.std.proofs.Common.{◌≡◌, ℕ, zero, suc, ◌+◌, ◌^◌, ◌<◌, ◌≤◌, ◌==◌, pos, Bool, false, not, Some, List, [], ◌∷◌, ◌++◌, length, slice_get, sym, ◌∙◌, ap, subst, arith}
 use Rattle.std.proofs.lemmas.Option.{none-some, same_Some}
-use Rattle.vs_logic4.specs.declared.digit.Digit.{Digit}
-use Rattle.vs_logic4.specs.declared.edge.Edge.TheVariants.{Any}
-use Rattle.vs_logic4.specs.Extensions.{length-resized}
-use Rattle.vs_logic4.specs.Parts.{selected}
-use Rattle.vs_logic4.specs.PlaneLaws.{unknown_plane-lt, value_plane-lt}
-use Rattle.vs_logic4.specs.Planes.{ArePlanes, digits_of_planes, unknown_plane, value_plane}
-use Rattle.vs_logic4.specs.Vectors.{resized, same_digits}
-use Rattle.vs_logic4.proofs.Properties.{resized-own_width}
+use Rattle.vs_design.specs.vs_logic4.specs.declared.digit.Digit.{Digit}
+use Rattle.vs_design.specs.vs_logic4.specs.declared.edge.Edge.TheVariants.{Any}
+use Rattle.vs_design.specs.vs_logic4.specs.Extensions.{length-resized}
+use Rattle.vs_design.specs.vs_logic4.specs.Parts.{selected}
+use Rattle.vs_design.specs.vs_logic4.specs.PlaneLaws.{unknown_plane-lt, value_plane-lt}
+use Rattle.vs_design.specs.vs_logic4.specs.Planes.{ArePlanes, digits_of_planes, unknown_plane, value_plane}
+use Rattle.vs_design.specs.vs_logic4.specs.Vectors.{resized, same_digits}
+use Rattle.vs_design.specs.vs_logic4.proofs.Properties.{resized-own_width}
 use Rattle.vs_design.specs.declared.design.Assign.{Assign}
 use Rattle.vs_design.specs.declared.expression.Operand.{Operand}
 use Rattle.vs_design.specs.declared.signal.Signal.{Signal}
@@ -17,18 +17,18 @@ use Rattle.vs_design.specs.InOrder.{IsStoreOf, numbered_word, words_before}
 use Rattle.vs_design.specs.Parts.{Parts}
 use Rattle.vs_design.specs.Stores.{Store, changes_nothing, word_of}
 use Rattle.vs_design.proofs.InOrderLemmas.{word_numbered}
-use Rattle.vs_process.specs.vs_edges.specs.declared.masks.WordChange.{WordChange}
-use Rattle.vs_process.specs.vs_edges.specs.Masks.{AreEdgesOf, IsChangeOf}
+use Rattle.vs_run_active.specs.vs_process.specs.vs_edges.specs.declared.masks.WordChange.{WordChange}
+use Rattle.vs_run_active.specs.vs_process.specs.vs_edges.specs.Masks.{AreEdgesOf, IsChangeOf}
 use Rattle.vs_eval_resolved.specs.vs_eval.specs.Targets.{assigned}
 use Rattle.vs_eval_resolved.specs.vs_eval.specs.Values.{operand_value, target_value, value_of}
 use Rattle.vs_eval_resolved.specs.Meant.{IsWordOf, Meaning}
 use Rattle.vs_eval_resolved.proofs.MeantLemmas.{word_named}
 use Rattle.vs_eval_resolved.proofs.WordLemmas.{all_selected}
-use Rattle.vs_process.specs.vs_flatcode.specs.declared.spot.Spot.{Spot}
-use Rattle.vs_process.specs.vs_flatcode.specs.Spots.{IsSpotIn, SpotHolds, spot_part, spot_write}
-use Rattle.vs_process.specs.vs_flatcode.proofs.SpotLemmas.{spots_hold}
+use Rattle.vs_run_active.specs.vs_process.specs.vs_flatcode.specs.declared.spot.Spot.{Spot}
+use Rattle.vs_run_active.specs.vs_process.specs.vs_flatcode.specs.Spots.{IsSpotIn, SpotHolds, spot_part, spot_write}
+use Rattle.vs_run_active.specs.vs_process.specs.vs_flatcode.proofs.SpotLemmas.{spots_hold}
 use Rattle.vs_run_assigns.specs.declared.forms.Form.{Form}
-use Rattle.vs_process.specs.States.{State, written}
+use Rattle.vs_run_active.specs.vs_process.specs.States.{State, written}
 use Rattle.vs_run_steps.proofs.RunsLemmas.{planes_hold}
 use Rattle.vs_run_steps.specs.vs_run_writes.proofs.FastLemmas.{word_differs}
 use Rattle.vs_run_assigns.specs.Evaluations.{HasDigits, IsDriven, IsEvaluation}

@@ -2,10 +2,10 @@
 use Rattle.std.proofs.Common.{◌≡◌, ℕ, zero, suc, ◌+◌, ◌≤◌, ◌<◌, ◌||◌, Bool, true, false, Option, Some, None, List, [], ◌∷◌, length, slice_get, get_or, is_some, if◌then◌else◌, refl, sym, ◌∙◌, ap, subst, arith}
 use Rattle.std.proofs.lemmas.Option.{none-some, same_Some, slice_get_past}
 use Rattle.vs_design.specs.Parts.{Parts}
-use Rattle.vs_process.specs.declared.moves.Move.{Move}
-use Rattle.vs_process.specs.declared.moves.Move.TheVariants.{Evaluate, Propagate}
-use Rattle.vs_process.specs.Executions.{apply, if_some, is_enabled}
-use Rattle.vs_process.specs.States.{AssignState, State}
+use Rattle.vs_run_active.specs.vs_process.specs.declared.moves.Move.{Move}
+use Rattle.vs_run_active.specs.vs_process.specs.declared.moves.Move.TheVariants.{Evaluate, Propagate}
+use Rattle.vs_run_active.specs.vs_process.specs.Executions.{apply, if_some, is_enabled}
+use Rattle.vs_run_active.specs.vs_process.specs.States.{AssignState, State}
 use Rattle.vs_run_steps.specs.vs_run_turns.specs.Turns.{is_silent}
 use Rattle.vs_run_steps.specs.vs_run_turns.proofs.MadeLemmas.{made_more}
 use Rattle.vs_run_wakes.specs.Changes.{MarkChanges}

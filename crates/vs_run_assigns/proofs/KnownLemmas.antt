@@ -1,20 +1,20 @@
 -- The continuous assignments of a state to which moves of a design lead.
 use Rattle.std.proofs.Common.{◌≡◌, inl, inr, ℕ, Bool, true, false, Option, Some, None, List, [], ◌∷◌, map, length, slice_get, slice_set, if◌then◌else◌, refl, sym, ◌∙◌, ap, subst}
 use Rattle.std.proofs.lemmas.Option.{none-some, same_Some}
-use Rattle.vs_logic4.specs.declared.digit.Digit.{Digit}
-use Rattle.vs_logic4.specs.Extensions.{length-resized}
+use Rattle.vs_design.specs.vs_logic4.specs.declared.digit.Digit.{Digit}
+use Rattle.vs_design.specs.vs_logic4.specs.Extensions.{length-resized}
 use Rattle.vs_design.specs.Parts.{Parts}
 use Rattle.vs_design.specs.Stores.{Store, changes_nothing, put}
 use Rattle.vs_design.specs.Writes.{Write}
 use Rattle.vs_eval_resolved.specs.vs_eval.specs.Targets.{assigned}
 use Rattle.vs_eval_resolved.specs.vs_eval.specs.Values.{target_value, value_of}
-use Rattle.vs_process.specs.vs_flatcode.specs.Places.{Place, todo_of}
-use Rattle.vs_process.specs.vs_flatcode.specs.Steps.{step}
-use Rattle.vs_process.proofs.Lists.{map_cases, set_cases}
-use Rattle.vs_process.specs.declared.moves.Move.{Move}
-use Rattle.vs_process.specs.declared.moves.Move.TheVariants.{Step, Evaluate, Propagate, Make, Rouse, Activate, EndSlot}
-use Rattle.vs_process.specs.Executions.{after, apply}
-use Rattle.vs_process.specs.States.{AssignState, State, Update, evaluate, evaluated, make, propagate, propagate_value, settled, start_assign, stepped, touched, written_behind}
+use Rattle.vs_run_active.specs.vs_process.specs.vs_flatcode.specs.Places.{Place, todo_of}
+use Rattle.vs_run_active.specs.vs_process.specs.vs_flatcode.specs.Steps.{step}
+use Rattle.vs_run_active.specs.vs_process.proofs.Lists.{map_cases, set_cases}
+use Rattle.vs_run_active.specs.vs_process.specs.declared.moves.Move.{Move}
+use Rattle.vs_run_active.specs.vs_process.specs.declared.moves.Move.TheVariants.{Step, Evaluate, Propagate, Make, Rouse, Activate, EndSlot}
+use Rattle.vs_run_active.specs.vs_process.specs.Executions.{after, apply}
+use Rattle.vs_run_active.specs.vs_process.specs.States.{AssignState, State, Update, evaluate, evaluated, make, propagate, propagate_value, settled, start_assign, stepped, touched, written_behind}
 use Rattle.vs_run_assigns.specs.Known.{AreAssigns, IsAssign}
 
 -- ---- one continuous assignment

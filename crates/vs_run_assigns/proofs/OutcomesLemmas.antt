@@ -1,9 +1,9 @@
 -- What the evaluation of a continuous assignment has come to.
 use Rattle.std.proofs.Common.{◌≡◌, ℕ, Bool, false}
 use Rattle.std.proofs.lemmas.Bool.{false≢true}
-use Rattle.vs_process.specs.declared.moves.Move.TheVariants.{Evaluate}
-use Rattle.vs_process.specs.Executions.{apply}
-use Rattle.vs_process.specs.States.{State}
+use Rattle.vs_run_active.specs.vs_process.specs.declared.moves.Move.TheVariants.{Evaluate}
+use Rattle.vs_run_active.specs.vs_process.specs.Executions.{apply}
+use Rattle.vs_run_active.specs.vs_process.specs.States.{State}
 use Rattle.vs_run_assigns.specs.declared.assigns.Evaluated.{Evaluated}
 use Rattle.vs_run_assigns.specs.declared.assigns.Evaluated.TheVariants.{Same, Waits, Written}
 use Rattle.vs_run_assigns.specs.Outcomes.{HasCome}

@@ -1,22 +1,22 @@
 -- The moves of a continuous assignment in a run.
 use Rattle.std.proofs.Common.{◌≡◌, ℕ, Bool, true, false, not, Option, Some, None, List, ◌∷◌, length, slice_get, refl, sym, ◌∙◌, ap, subst, arith}
 use Rattle.std.proofs.lemmas.Bool.{false≢true}
-use Rattle.vs_logic4.specs.declared.digit.Digit.{Digit}
-use Rattle.vs_logic4.specs.Extensions.{length-resized}
+use Rattle.vs_design.specs.vs_logic4.specs.declared.digit.Digit.{Digit}
+use Rattle.vs_design.specs.vs_logic4.specs.Extensions.{length-resized}
 use Rattle.vs_design.specs.declared.design.Assign.{Assign}
 use Rattle.vs_design.specs.declared.statement.Target.{Target}
 use Rattle.vs_design.specs.Parts.{Parts}
 use Rattle.vs_design.specs.Stores.{Store, changed_at, changes_nothing}
 use Rattle.vs_eval_resolved.specs.vs_eval.specs.Targets.{assigned}
 use Rattle.vs_eval_resolved.specs.vs_eval.specs.Values.{target_value, value_of}
-use Rattle.vs_process.specs.declared.moves.Move.{Move}
-use Rattle.vs_process.specs.declared.moves.Move.TheVariants.{Evaluate, Propagate}
-use Rattle.vs_process.specs.Executions.{apply, if_some, is_enabled}
-use Rattle.vs_process.specs.States.{AssignState, State, settled, written}
+use Rattle.vs_run_active.specs.vs_process.specs.declared.moves.Move.{Move}
+use Rattle.vs_run_active.specs.vs_process.specs.declared.moves.Move.TheVariants.{Evaluate, Propagate}
+use Rattle.vs_run_active.specs.vs_process.specs.Executions.{apply, if_some, is_enabled}
+use Rattle.vs_run_active.specs.vs_process.specs.States.{AssignState, State, settled, written}
 use Rattle.vs_run_active.specs.declared.queue.Queue.{Queue}
 use Rattle.vs_run_active.specs.Left.{valued}
 use Rattle.vs_run_active.specs.Wakes.{AreWatched}
-use Rattle.vs_run_tables.specs.declared.watchers.ListedTerm.{ListedTerm}
+use Rattle.vs_run_active.specs.vs_run_tables.specs.declared.watchers.ListedTerm.{ListedTerm}
 use Rattle.vs_run_active.proofs.WatchedLemmas.{watched_assigns}
 use Rattle.vs_run_steps.specs.vs_run_turns.specs.Turns.{AreMade, IsReached}
 use Rattle.vs_run_steps.specs.vs_run_turns.proofs.AssignLemmas.{driven, evaluated_none, evaluated_some, propagated}

@@ -1,12 +1,12 @@
 -- What the evaluation of a continuous assignment gives, and what its update writes.
 use Rattle.std.specs.Prelude.{ℕ, ◌≡◌, not, Bool, Some, List, length, slice_get}
-use Rattle.vs_logic4.specs.declared.digit.Digit.{Digit}
+use Rattle.vs_design.specs.vs_logic4.specs.declared.digit.Digit.{Digit}
 use Rattle.vs_design.specs.declared.design.Assign.{Assign}
 use Rattle.vs_design.specs.Parts.{Parts}
 use Rattle.vs_design.specs.Stores.{Store, changes_nothing}
 use Rattle.vs_eval_resolved.specs.vs_eval.specs.Targets.{assigned}
 use Rattle.vs_eval_resolved.specs.vs_eval.specs.Values.{target_value}
-use Rattle.vs_process.specs.States.{State, written}
+use Rattle.vs_run_active.specs.vs_process.specs.States.{State, written}
 
 -- the digits are the value of a continuous assignment in a store at a time, and it is told whether they would change anything (clause 6.1)
 pub record IsEvaluation (d : Parts) (j : ℕ) (store : Store) (time : ℕ) (digits : List Digit) (differs : Bool) : Type 0 where

@@ -1,11 +1,11 @@
 -- The continuous assignments of a group, and what they have to do.
 use Rattle.std.specs.Prelude.{ℕ, List, length, get_or, is_some, slice_get, if◌then◌else◌}
-use Rattle.vs_process.specs.declared.moves.Move.{Move}
-use Rattle.vs_process.specs.declared.moves.Move.TheVariants.{Evaluate, Propagate}
-use Rattle.vs_process.specs.Executions.{if_some}
-use Rattle.vs_process.specs.States.{AssignState}
-use Rattle.vs_run_tables.specs.declared.tables.Tables.{Tables}
-use Rattle.vs_run_tables.specs.Groups.{group_members, no_group}
+use Rattle.vs_run_active.specs.vs_process.specs.declared.moves.Move.{Move}
+use Rattle.vs_run_active.specs.vs_process.specs.declared.moves.Move.TheVariants.{Evaluate, Propagate}
+use Rattle.vs_run_active.specs.vs_process.specs.Executions.{if_some}
+use Rattle.vs_run_active.specs.vs_process.specs.States.{AssignState}
+use Rattle.vs_run_active.specs.vs_run_tables.specs.declared.tables.Tables.{Tables}
+use Rattle.vs_run_active.specs.vs_run_tables.specs.Groups.{group_members, no_group}
 
 -- the members of a group
 abbrev pub members_in : Tables → ℕ → List ℕ

@@ -1,9 +1,9 @@
 -- Moves of the members of a group, one after another.
 use Rattle.std.specs.Prelude.{ℕ, ◌≡◌, ◌<◌, ◌≤◌, true, Some, List, slice_get}
 use Rattle.vs_design.specs.Parts.{Parts}
-use Rattle.vs_process.specs.declared.moves.Move.{Move}
-use Rattle.vs_process.specs.Executions.{is_enabled}
-use Rattle.vs_process.specs.States.{State}
+use Rattle.vs_run_active.specs.vs_process.specs.declared.moves.Move.{Move}
+use Rattle.vs_run_active.specs.vs_process.specs.Executions.{is_enabled}
+use Rattle.vs_run_active.specs.vs_process.specs.States.{State}
 use Rattle.vs_run_steps.specs.declared.run.RunState.{RunState}
 use Rattle.vs_run_steps.specs.Runs.{IsRunOf, marks_of, state_of}
 use Rattle.vs_run_steps.specs.vs_run_turns.specs.Turns.{AreMade}

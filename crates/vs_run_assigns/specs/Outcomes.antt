@@ -1,8 +1,8 @@
 -- What the evaluation of a continuous assignment has come to.
 use Rattle.std.specs.Prelude.{ℕ, ◌≡◌, Bool, true}
-use Rattle.vs_process.specs.declared.moves.Move.TheVariants.{Evaluate}
-use Rattle.vs_process.specs.Executions.{apply}
-use Rattle.vs_process.specs.States.{State}
+use Rattle.vs_run_active.specs.vs_process.specs.declared.moves.Move.TheVariants.{Evaluate}
+use Rattle.vs_run_active.specs.vs_process.specs.Executions.{apply}
+use Rattle.vs_run_active.specs.vs_process.specs.States.{State}
 use Rattle.vs_run_assigns.specs.declared.assigns.Evaluated.{Evaluated}
 use Rattle.vs_run_assigns.specs.declared.assigns.Evaluated.TheVariants.{Same, Waits, Written}
 use Rattle.vs_run_steps.specs.vs_run_turns.specs.Turns.{AreMade}

@@ -1,11 +1,11 @@
 -- The evaluation of a continuous assignment that is a copy, or has another fixed place.
 use Rattle.std.specs.Prelude.{ℕ, ◌≡◌, ◌==◌, not, Some, slice_get}
-use Rattle.vs_logic4.specs.declared.edge.Edge.TheVariants.{Any}
-use Rattle.vs_logic4.specs.Planes.{ArePlanes, digits_of_planes}
+use Rattle.vs_design.specs.vs_logic4.specs.declared.edge.Edge.TheVariants.{Any}
+use Rattle.vs_design.specs.vs_logic4.specs.Planes.{ArePlanes, digits_of_planes}
 use Rattle.vs_design.specs.declared.design.Assign.{Assign}
 use Rattle.vs_design.specs.Parts.{Parts}
 use Rattle.vs_design.specs.Stores.{Store}
-use Rattle.vs_process.specs.vs_edges.specs.Masks.{AreEdgesOf}
+use Rattle.vs_run_active.specs.vs_process.specs.vs_edges.specs.Masks.{AreEdgesOf}
 use Rattle.vs_run_assigns.specs.declared.evaluation.Copied.{Copied}
 use Rattle.vs_run_assigns.specs.declared.evaluation.Placed.{Placed}
 use Rattle.vs_run_assigns.specs.Evaluations.{IsEvaluation}

@@ -1,7 +1,7 @@
 //! The moves of a continuous assignment.
 ghost use Rattle.std.specs.Prelude.{◌≡◌, ◌<◌, ◌≤◌, true, false, Some, slice_get, IfOk, OnOk};
 ghost use Rattle.vs_design.specs.declared.design.Assign as design_assign;
-ghost use Rattle.vs_process.specs.Executions as executions;
+ghost use Rattle.vs_run_active.specs.vs_process.specs.Executions as executions;
 ghost use Rattle.vs_run_assigns.specs.Evaluations.{IsEvaluation};
 ghost use Rattle.vs_run_assigns.specs.Forms.{IsPlaceOf};
 ghost use Rattle.vs_run_assigns.specs.Outcomes.{HasCome};
@@ -12,9 +12,9 @@ ghost use Rattle.vs_run_wakes.specs.Changes.{MarkChanges};
 use crate::evaluation::{copy_evaluation, drive, evaluation_any, spot_evaluation};
 use crate::forms::Forms;
 use std::alloc::AllocError;
-use vs_logic4::Vec4;
-use vs_process::Move;
-use vs_process::vs_flatcode::Spot;
+use vs_design::vs_logic4::Vec4;
+use vs_run_active::vs_process::Move;
+use vs_run_active::vs_process::vs_flatcode::Spot;
 use vs_run_steps::RunState;
 use vs_run_updates::Due;
 use vs_run_updates::vs_time_wheel::EventQueue;

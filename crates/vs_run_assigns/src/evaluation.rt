@@ -1,9 +1,9 @@
 //! What the evaluations of continuous assignments give, and how they are driven.
 ghost use Rattle.std.specs.Prelude.{◌≡◌, ◌+◌, ◌≤◌, pos, Some, length, slice_get, IfOk, IfSome, OnOk};
-ghost use Rattle.vs_logic4.specs.Parts.{selected};
+ghost use Rattle.vs_design.specs.vs_logic4.specs.Parts.{selected};
 ghost use Rattle.vs_design.specs.declared.design.Assign as design_assign;
 ghost use Rattle.vs_design.specs.InOrder.{IsStoreOf, numbered_word};
-ghost use Rattle.vs_process.specs.vs_edges.specs.Masks.{IsChangeOf};
+ghost use Rattle.vs_run_active.specs.vs_process.specs.vs_edges.specs.Masks.{IsChangeOf};
 ghost use Rattle.vs_run_assigns.specs.Evaluations.{HasDigits, IsDriven, IsEvaluation};
 ghost use Rattle.vs_run_assigns.specs.Placed.{IsCopied, IsPlaced};
 ghost use Rattle.vs_run_steps.specs.Runs.{Agrees, Keeps, Plan, state_of};
@@ -11,10 +11,10 @@ ghost use Rattle.vs_run_steps.specs.Runs.{Agrees, Keeps, Plan, state_of};
 use crate::forms::{Form, Forms};
 use std::alloc::AllocError;
 use vs_design::Store;
+use vs_design::vs_logic4::Vec4;
 use vs_eval_resolved::vs_eval::{cut_value, write_of};
-use vs_logic4::Vec4;
-use vs_process::vs_edges::WordChange;
-use vs_process::vs_flatcode::Spot;
+use vs_run_active::vs_process::vs_edges::WordChange;
+use vs_run_active::vs_process::vs_flatcode::Spot;
 use vs_run_steps::RunState;
 use vs_run_updates::Due;
 use vs_run_updates::vs_time_wheel::EventQueue;

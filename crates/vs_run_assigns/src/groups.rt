@@ -1,6 +1,6 @@
 //! The moves of the continuous assignments of a group.
 ghost use Rattle.std.specs.Prelude.{◌≡◌, ◌<◌, ◌≤◌, true, slice_get, IfOk, OnOk};
-ghost use Rattle.vs_process.specs.Executions as executions;
+ghost use Rattle.vs_run_active.specs.vs_process.specs.Executions as executions;
 ghost use Rattle.vs_run_assigns.specs.Members.{group_move, members_in};
 ghost use Rattle.vs_run_assigns.specs.MembersMade.{HasBegun};
 ghost use Rattle.vs_run_steps.specs.Runs.{IsRunOf, marks_of, state_of};
@@ -10,7 +10,7 @@ ghost use Rattle.vs_run_wakes.specs.Changes.{MarkChanges};
 use crate::assigns::{evaluate_alone, is_pending, needs, update_member};
 use crate::forms::Forms;
 use std::alloc::AllocError;
-use vs_process::Move;
+use vs_run_active::vs_process::Move;
 use vs_run_steps::RunState;
 use vs_run_updates::Due;
 use vs_run_updates::vs_time_wheel::EventQueue;

@@ -9,12 +9,12 @@ use Rattle.std.proofs.lemmas.Bool.{and_parts, false≢true, or_parts}
 use Rattle.std.proofs.lemmas.Option.{none-some, same_Some}
 use Rattle.vs_design.specs.Parts.{Parts}
 use Rattle.vs_design.specs.Stores.{changed_at}
-use Rattle.vs_process.specs.vs_flatcode.specs.declared.gait.Gait.TheVariants.{Woken}
-use Rattle.vs_process.specs.vs_flatcode.specs.Places.{Place, is_going}
-use Rattle.vs_process.specs.vs_flatcode.specs.Texts.{Text}
-use Rattle.vs_process.specs.declared.moves.Move.TheVariants.{Rouse, Activate, EndSlot}
-use Rattle.vs_process.specs.Executions.{apply, ends, has_due, is_busy, is_enabled, next_time, next_update, places_at, time_at}
-use Rattle.vs_process.specs.States.{AssignState, Called, State, Update, activated, is_due, roused, woken_at}
+use Rattle.vs_run_updates.specs.vs_process.specs.vs_flatcode.specs.declared.gait.Gait.TheVariants.{Woken}
+use Rattle.vs_run_updates.specs.vs_process.specs.vs_flatcode.specs.Places.{Place, is_going}
+use Rattle.vs_run_updates.specs.vs_process.specs.vs_flatcode.specs.Texts.{Text}
+use Rattle.vs_run_updates.specs.vs_process.specs.declared.moves.Move.TheVariants.{Rouse, Activate, EndSlot}
+use Rattle.vs_run_updates.specs.vs_process.specs.Executions.{apply, ends, has_due, is_busy, is_enabled, next_time, next_update, places_at, time_at}
+use Rattle.vs_run_updates.specs.vs_process.specs.States.{AssignState, Called, State, Update, activated, is_due, roused, woken_at}
 use Rattle.vs_run_updates.specs.vs_time_wheel.proofs.Bags.{SameBag-from_eq}
 use Rattle.vs_run_updates.specs.vs_time_wheel.specs.Bag.{events_at, least_time}
 use Rattle.vs_run_wakes.specs.vs_run_processes.specs.declared.process.Process.{Process}

@@ -4,10 +4,10 @@ use Rattle.std.specs.declared.alloc.Global.{Global}
 use Rattle.std.specs.declared.vec.Vec.{Vec}
 use Rattle.std.specs.Io.KnownBytes.{Appends}
 use Rattle.vs_design.specs.Parts.{Parts}
-use Rattle.vs_process.specs.declared.moves.Move.{Move}
-use Rattle.vs_process.specs.declared.moves.Move.TheVariants.{Step, EndSlot}
-use Rattle.vs_process.specs.Executions.{apply, move_lines}
-use Rattle.vs_process.specs.States.{State}
+use Rattle.vs_run_updates.specs.vs_process.specs.declared.moves.Move.{Move}
+use Rattle.vs_run_updates.specs.vs_process.specs.declared.moves.Move.TheVariants.{Step, EndSlot}
+use Rattle.vs_run_updates.specs.vs_process.specs.Executions.{apply, move_lines}
+use Rattle.vs_run_updates.specs.vs_process.specs.States.{State}
 use Rattle.vs_run_wakes.specs.vs_run_processes.specs.Taken.{AreTaken, step_text}
 use Rattle.vs_run_steps.specs.declared.run.RunState.{RunState}
 use Rattle.vs_run_steps.specs.Runs.{Agrees, IsRunOf, Plan, marks_of, plan_of, state_of}

@@ -7,10 +7,10 @@ use Rattle.std.proofs.lemmas.Option.{none-some, same_Some}
 use Rattle.vs_design.specs.Parts.{Parts}
 use Rattle.vs_design.specs.Writes.{Write}
 use Rattle.vs_run_updates.specs.vs_time_wheel.proofs.Bags.{SameBag-from_eq}
-use Rattle.vs_process.specs.declared.moves.Move.TheVariants.{Make}
-use Rattle.vs_process.specs.Executions.{apply, if_some, is_first}
-use Rattle.vs_process.specs.States.{State, Update, without, written}
-use Rattle.vs_process.proofs.Lists.{none_at}
+use Rattle.vs_run_updates.specs.vs_process.specs.declared.moves.Move.TheVariants.{Make}
+use Rattle.vs_run_updates.specs.vs_process.specs.Executions.{apply, if_some, is_first}
+use Rattle.vs_run_updates.specs.vs_process.specs.States.{State, Update, without, written}
+use Rattle.vs_run_updates.specs.vs_process.proofs.Lists.{none_at}
 use Rattle.vs_run_steps.specs.declared.run.RunState.{RunState}
 use Rattle.vs_run_steps.specs.Runs.{Agrees, Keeps, state_of}
 use Rattle.vs_run_steps.proofs.RunsLemmas.{keeps_regions}

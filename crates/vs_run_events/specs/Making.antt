@@ -1,7 +1,7 @@
 -- Nonblocking updates that are made.
 use Rattle.std.specs.Prelude.{◌≡◌, Bool, true, false, List, [], get_or}
 use Rattle.vs_design.specs.Writes.{Write}
-use Rattle.vs_process.specs.States.{State, written}
+use Rattle.vs_run_updates.specs.vs_process.specs.States.{State, written}
 use Rattle.vs_run_updates.specs.declared.update.Update.{Update}
 use Rattle.vs_run_updates.specs.declared.update.Update.TheVariants as u
 use Rattle.vs_run_updates.specs.Updates.{bits_write}

@@ -1,10 +1,10 @@
 -- What is active in a run.
 use Rattle.std.specs.Prelude.{ℕ, ◌≡◌, Bool, true, Option, List, slice_get}
 use Rattle.std.specs.Io.KnownBytes.{Appends}
-use Rattle.vs_process.specs.declared.moves.Move.{Move}
-use Rattle.vs_process.specs.declared.moves.Move.TheVariants.{Step, Evaluate, Propagate, Make, Rouse, Activate, EndSlot}
-use Rattle.vs_process.specs.Executions.{apply, is_enabled, move_lines}
-use Rattle.vs_process.specs.States.{AssignState, State}
+use Rattle.vs_run_updates.specs.vs_process.specs.declared.moves.Move.{Move}
+use Rattle.vs_run_updates.specs.vs_process.specs.declared.moves.Move.TheVariants.{Step, Evaluate, Propagate, Make, Rouse, Activate, EndSlot}
+use Rattle.vs_run_updates.specs.vs_process.specs.Executions.{apply, is_enabled, move_lines}
+use Rattle.vs_run_updates.specs.vs_process.specs.States.{AssignState, State}
 use Rattle.vs_run_assigns.specs.vs_run_tables.specs.declared.tables.Tables.{Tables}
 use Rattle.vs_run_updates.specs.Regions.{Waiting, place_of_number}
 use Rattle.vs_run_updates.specs.Updates.{is_there}

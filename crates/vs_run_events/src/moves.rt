@@ -1,6 +1,6 @@
 //! The moves of events.
 ghost use Rattle.std.specs.Prelude.{◌≡◌, ◌<◌, ◌≤◌, ◌^◌, false, true, Bool, Some, List, IfOk, OnOk, OnErr};
-ghost use Rattle.vs_process.specs.Executions as executions;
+ghost use Rattle.vs_run_updates.specs.vs_process.specs.Executions as executions;
 ghost use Rattle.vs_run_events.specs.Leaving.{changed_each};
 ghost use Rattle.vs_run_events.specs.Making.{WritesUpdate};
 ghost use Rattle.vs_run_events.specs.Running.{IsActive, IsMade, IsSingle, move_of, region_move};

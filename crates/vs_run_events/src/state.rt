@@ -2,9 +2,9 @@
 ghost use Rattle.std.specs.Prelude.{◌≡◌, false, true, slice_get, IfNone, IfSome, MatchOption};
 ghost use Rattle.std.specs.List.{list_any};
 ghost use Rattle.vs_design.specs.Parts.{Parts};
-ghost use Rattle.vs_process.specs.vs_flatcode.specs.Places.{is_going, is_inside};
-ghost use Rattle.vs_process.specs.declared.moves.Move.TheVariants as moves;
-ghost use Rattle.vs_process.specs.Executions as executions;
+ghost use Rattle.vs_run_updates.specs.vs_process.specs.vs_flatcode.specs.Places.{is_going, is_inside};
+ghost use Rattle.vs_run_updates.specs.vs_process.specs.declared.moves.Move.TheVariants as moves;
+ghost use Rattle.vs_run_updates.specs.vs_process.specs.Executions as executions;
 ghost use Rattle.vs_run_events.specs.Running.{IsActive, IsChoice, region_move};
 ghost use Rattle.vs_run_steps.specs.Runs.{IsRunOf, state_of};
 ghost use Rattle.vs_run_updates.specs.Active.{is_active};

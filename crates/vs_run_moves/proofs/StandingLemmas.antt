@@ -19,7 +19,7 @@ use Rattle.vs_run_steps.specs.vs_run_turns.proofs.TurnsLemmas.{all_then, once_pa
 use Rattle.vs_vcd_writing.specs.Progress.{Progress}
 use Rattle.vs_vcd_writing.specs.Sinks.{AppendsPart}
 use Rattle.vs_run_steps.specs.declared.run.RunState.{RunState}
-use Rattle.vs_run_active.specs.declared.queue.Queue.{Queue}
+use Rattle.vs_run_start.specs.vs_run_active.specs.declared.queue.Queue.{Queue}
 use Rattle.vs_run_events.specs.vs_run_listed.specs.declared.event.Event.{Event}
 use Rattle.vs_run_events.specs.vs_run_listed.specs.declared.event.Event.TheVariants as e
 use Rattle.vs_run_events.specs.Running.{IsMade, IsSingle, move_of}

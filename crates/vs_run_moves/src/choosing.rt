@@ -13,9 +13,9 @@ use std::alloc::AllocError;
 use vs_run_events::vs_run_listed::Event;
 use vs_run_events::{is_active, is_going, is_inside, lost_event};
 use vs_run_policies::Pick;
+use vs_run_start::vs_run_updates::Due;
+use vs_run_start::vs_run_updates::vs_time_wheel::EventQueue;
 use vs_run_steps::RunState;
-use vs_run_updates::Due;
-use vs_run_updates::vs_time_wheel::EventQueue;
 
 /// Whether the event of a process is still active after its move.
 fn goes_on<Q: EventQueue<Due>>(run: &RunState<Q>, event: Event) -> bool {

@@ -12,10 +12,10 @@ use std::alloc::Global;
 use std::marker::Model;
 use vs_run_events::vs_run_assigns::Forms;
 use vs_run_events::vs_run_listed::{Agenda, Event};
+use vs_run_start::vs_run_updates::Due;
+use vs_run_start::vs_run_updates::vs_time_wheel::EventQueue;
 use vs_run_steps::RunState;
 use vs_run_steps::vs_run_turns::Recorder;
-use vs_run_updates::Due;
-use vs_run_updates::vs_time_wheel::EventQueue;
 use vs_vcd_writing::{Sink, WriterFault};
 
 /// A run: its state, what records its dump, and where a policy chooses, the combinational block that has taken a step since its control.

@@ -23,10 +23,10 @@ use vs_run_events::vs_run_listed::Event;
 use vs_run_events::vs_run_wakes::clear;
 use vs_run_events::{Region, first_event, leave, next_region, run_event};
 use vs_run_policies::Pick;
+use vs_run_start::vs_run_updates::Due;
+use vs_run_start::vs_run_updates::vs_time_wheel::EventQueue;
 use vs_run_steps::vs_run_turns::Recorder;
 use vs_run_steps::{Called, RunState};
-use vs_run_updates::Due;
-use vs_run_updates::vs_time_wheel::EventQueue;
 use vs_vcd_writing::{Sink, WriterFault, write_all};
 
 /// Writes the lines of calls of `$strobe`, in their order (IEEE 1364-2005, clause 17.1.2).

@@ -20,10 +20,10 @@ use vs_run_events::vs_run_listed::Agenda;
 use vs_run_events::vs_run_wakes::no_marks;
 use vs_run_processes::vs_process::is_combinational;
 use vs_run_start::running_of;
+use vs_run_start::vs_run_updates::Due;
+use vs_run_start::vs_run_updates::vs_time_wheel::EventQueue;
 use vs_run_steps::RunState;
 use vs_run_steps::vs_run_turns::Recorder;
-use vs_run_updates::Due;
-use vs_run_updates::vs_time_wheel::EventQueue;
 use vs_vcd_writing::{Sink, WriterFault};
 
 /// For each process whether it is a combinational block.

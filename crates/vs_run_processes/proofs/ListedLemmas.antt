@@ -4,7 +4,7 @@ use Rattle.std.specs.List.{list_any}
 use Rattle.std.proofs.Math.Bool.{or-false}
 use Rattle.vs_design.specs.Stores.{changed_at}
 use Rattle.vs_process.specs.Executions.{if_some}
-use Rattle.vs_flatcode.specs.Places.{Place}
+use Rattle.vs_process.specs.vs_flatcode.specs.Places.{Place}
 use Rattle.vs_run_processes.specs.Triggers.{changed_all}
 use Rattle.vs_run_processes.specs.Listed.{is_number, names, Lists, count}
 use Rattle.vs_design.specs.vs_logic4.proofs.Basics.{and_false, and_true, or-true as or_true}

@@ -5,15 +5,15 @@ use Rattle.std.proofs.lemmas.Option.{none-some, slice_get_past}
 use Rattle.vs_design.specs.vs_logic4.specs.declared.digit.Digit.{Digit}
 use Rattle.vs_design.specs.declared.statement.EventTerm.{EventTerm}
 use Rattle.vs_process.specs.vs_edges.specs.Waking.{word_wakes}
-use Rattle.vs_flatcode.specs.declared.gait.Gait.{Gait}
-use Rattle.vs_flatcode.specs.declared.gait.Gait.TheVariants.{Fresh, Woken, Inside}
-use Rattle.vs_flatcode.specs.declared.script.Instruction.{Instruction}
-use Rattle.vs_flatcode.specs.Links.{Link, todo_from, todo_within}
-use Rattle.vs_flatcode.specs.Places.{Todo, active_at, is_going, is_inactive, is_inside, waiting}
-use Rattle.vs_flatcode.specs.Scripts.{IsScriptOf, todo_on}
-use Rattle.vs_flatcode.specs.Steps.{has_nothing}
-use Rattle.vs_flatcode.specs.Texts.{AreApart, HasControl, Text}
-use Rattle.vs_flatcode.proofs.ControlLemmas.{controls_apart}
+use Rattle.vs_process.specs.vs_flatcode.specs.declared.gait.Gait.{Gait}
+use Rattle.vs_process.specs.vs_flatcode.specs.declared.gait.Gait.TheVariants.{Fresh, Woken, Inside}
+use Rattle.vs_process.specs.vs_flatcode.specs.declared.script.Instruction.{Instruction}
+use Rattle.vs_process.specs.vs_flatcode.specs.Links.{Link, todo_from, todo_within}
+use Rattle.vs_process.specs.vs_flatcode.specs.Places.{Todo, active_at, is_going, is_inactive, is_inside, waiting}
+use Rattle.vs_process.specs.vs_flatcode.specs.Scripts.{IsScriptOf, todo_on}
+use Rattle.vs_process.specs.vs_flatcode.specs.Steps.{has_nothing}
+use Rattle.vs_process.specs.vs_flatcode.specs.Texts.{AreApart, HasControl, Text}
+use Rattle.vs_process.specs.vs_flatcode.proofs.ControlLemmas.{controls_apart}
 use Rattle.vs_process.specs.States.{due_of, roused, terms_of, triggered, woken_at}
 use Rattle.vs_run_processes.specs.declared.process.Process.{Process}
 use Rattle.vs_run_processes.specs.declared.process.Wait.{Wait}

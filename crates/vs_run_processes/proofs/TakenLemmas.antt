@@ -3,12 +3,12 @@ use Rattle.std.proofs.Common.{◌≡◌, ℕ, zero, suc, ◌<◌, ◌||◌, Bool
 use Rattle.std.specs.Prelude.{slice_set}
 use Rattle.vs_design.specs.Stores.{put}
 use Rattle.vs_design.specs.Writes.{Write}
-use Rattle.vs_flatcode.specs.vs_strobe.specs.Lines.{Format}
-use Rattle.vs_flatcode.specs.declared.gait.Gait.{Gait}
-use Rattle.vs_flatcode.specs.declared.gait.Gait.TheVariants.{Fresh, Woken, Inside}
-use Rattle.vs_flatcode.specs.Places.{Place, Todo, active_at, going, is_going, stepped_gait}
-use Rattle.vs_flatcode.specs.Scripts.{IsStep}
-use Rattle.vs_flatcode.specs.Steps.{Next, Out, goes, has_nothing}
+use Rattle.vs_process.specs.vs_flatcode.specs.vs_strobe.specs.Lines.{Format}
+use Rattle.vs_process.specs.vs_flatcode.specs.declared.gait.Gait.{Gait}
+use Rattle.vs_process.specs.vs_flatcode.specs.declared.gait.Gait.TheVariants.{Fresh, Woken, Inside}
+use Rattle.vs_process.specs.vs_flatcode.specs.Places.{Place, Todo, active_at, going, is_going, stepped_gait}
+use Rattle.vs_process.specs.vs_flatcode.specs.Scripts.{IsStep}
+use Rattle.vs_process.specs.vs_flatcode.specs.Steps.{Next, Out, goes, has_nothing}
 use Rattle.vs_process.specs.Executions.{if_some}
 use Rattle.vs_process.specs.States.{State, calls_behind, performed, place_behind, stepped, updates_behind, wakened, written}
 use Rattle.vs_run_processes.specs.Taken.{AreTaken, left_by, line_at, placed, text_of_line}

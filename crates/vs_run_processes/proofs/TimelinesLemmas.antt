@@ -6,9 +6,9 @@ use Rattle.vs_time_wheel.specs.declared.timing.Timed.{Timed}
 use Rattle.vs_time_wheel.specs.Bag.{events_at, least_time, SameBag}
 use Rattle.vs_time_wheel.proofs.Bags.{IsLeast, least_time-from, events_at-append, events_at-here, events_at-apart}
 use Rattle.vs_design.specs.declared.statement.Statement.{Statement}
-use Rattle.vs_flatcode.specs.declared.gait.Gait.{Gait}
-use Rattle.vs_flatcode.specs.declared.gait.Gait.TheVariants.{Fresh, Woken}
-use Rattle.vs_flatcode.specs.Places.{Place, Todo, going, sleeping, inactive, waiting, ended, active_at, is_going, is_inactive, start_place, flat}
+use Rattle.vs_process.specs.vs_flatcode.specs.declared.gait.Gait.{Gait}
+use Rattle.vs_process.specs.vs_flatcode.specs.declared.gait.Gait.TheVariants.{Fresh, Woken}
+use Rattle.vs_process.specs.vs_flatcode.specs.Places.{Place, Todo, going, sleeping, inactive, waiting, ended, active_at, is_going, is_inactive, start_place, flat}
 use Rattle.vs_process.proofs.Lists.{set_same}
 use Rattle.vs_process.specs.Executions.{if_some, earlier, next_wake}
 use Rattle.vs_process.specs.States.{roused, woken_at, due_of}

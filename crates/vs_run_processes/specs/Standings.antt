@@ -3,10 +3,10 @@ use Rattle.std.specs.Prelude.{ℕ, ◌≡◌, ◌==◌, ◌⊎◌, Bool, true, f
 use Rattle.vs_design.specs.vs_logic4.specs.declared.digit.Digit.{Digit}
 use Rattle.vs_design.specs.declared.statement.EventTerm.{EventTerm}
 use Rattle.vs_process.specs.vs_edges.specs.Waking.{word_wakes}
-use Rattle.vs_flatcode.specs.declared.gait.Gait.TheVariants.{Woken}
-use Rattle.vs_flatcode.specs.Places.{Todo, Place, sleeping, inactive, waiting, active_at, is_going}
-use Rattle.vs_flatcode.specs.Scripts.{todo_on}
-use Rattle.vs_flatcode.specs.Texts.{AreApart, HasControl, Text}
+use Rattle.vs_process.specs.vs_flatcode.specs.declared.gait.Gait.TheVariants.{Woken}
+use Rattle.vs_process.specs.vs_flatcode.specs.Places.{Todo, Place, sleeping, inactive, waiting, active_at, is_going}
+use Rattle.vs_process.specs.vs_flatcode.specs.Scripts.{todo_on}
+use Rattle.vs_process.specs.vs_flatcode.specs.Texts.{AreApart, HasControl, Text}
 use Rattle.vs_process.specs.States.{roused, woken_at}
 use Rattle.vs_run_processes.specs.declared.process.Process.{Process}
 use Rattle.vs_run_processes.specs.declared.process.Wait.{Wait}

@@ -1,11 +1,11 @@
 -- Steps of one process that are taken one after another.
 use Rattle.std.specs.Prelude.{ℕ, zero, suc, ◌≡◌, ◌<◌, ◌||◌, true, Option, Some, None, List, [], ◌++◌, length, slice_get, slice_set}
 use Rattle.vs_design.specs.Writes.{Write}
-use Rattle.vs_flatcode.specs.vs_strobe.specs.Lines.{Format}
-use Rattle.vs_flatcode.specs.declared.gait.Gait.{Gait}
-use Rattle.vs_flatcode.specs.Places.{Place, Todo, active_at, going, todo_of}
-use Rattle.vs_flatcode.specs.Scripts.{IsStep}
-use Rattle.vs_flatcode.specs.Steps.{Next, Out, goes, step}
+use Rattle.vs_process.specs.vs_flatcode.specs.vs_strobe.specs.Lines.{Format}
+use Rattle.vs_process.specs.vs_flatcode.specs.declared.gait.Gait.{Gait}
+use Rattle.vs_process.specs.vs_flatcode.specs.Places.{Place, Todo, active_at, going, todo_of}
+use Rattle.vs_process.specs.vs_flatcode.specs.Scripts.{IsStep}
+use Rattle.vs_process.specs.vs_flatcode.specs.Steps.{Next, Out, goes, step}
 use Rattle.vs_process.specs.declared.moves.Move.TheVariants.{Step}
 use Rattle.vs_process.specs.Executions.{apply, is_enabled}
 use Rattle.vs_process.specs.States.{State, calls_behind, place_behind, updates_behind, written, written_behind}

@@ -2,7 +2,7 @@
 use Rattle.std.specs.Prelude.{ℕ, ◌≡◌, ◌==◌, Bool, true, false, List, slice_set}
 use Rattle.vs_time_wheel.specs.declared.timing.Timed.{Timed}
 use Rattle.vs_time_wheel.specs.Bag.{events_at}
-use Rattle.vs_flatcode.specs.Places.{Place, sleeping, is_going, is_inactive}
+use Rattle.vs_process.specs.vs_flatcode.specs.Places.{Place, sleeping, is_going, is_inactive}
 use Rattle.vs_run_processes.specs.Listed.{Lists}
 
 -- whether the delay of a process ends at a time

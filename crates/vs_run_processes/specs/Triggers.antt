@@ -3,7 +3,7 @@ use Rattle.std.specs.Prelude.{ℕ, Option, List, [], ◌∷◌, if◌then◌else
 use Rattle.vs_design.specs.vs_logic4.specs.declared.digit.Digit.{Digit}
 use Rattle.vs_design.specs.Stores.{changed_at}
 use Rattle.vs_process.specs.vs_edges.specs.Waking.{word_wakes}
-use Rattle.vs_flatcode.specs.Places.{Place}
+use Rattle.vs_process.specs.vs_flatcode.specs.Places.{Place}
 use Rattle.vs_process.specs.States.{terms_of, triggered}
 
 -- a process behind the change of one word of a signal: it becomes active where it waits for that (clause 9.7.2)

@@ -1,14 +1,14 @@
 //! Where a process of a run stands in its script, and what it waits for (IEEE 1364-2005, clauses 9.7 and 11.3).
 ghost use Rattle.std.specs.Prelude.{ℕ, List, ◌≡◌, ◌<◌, ◌^◌, ◌&&◌, not};
 ghost use Rattle.vs_design.specs.declared.statement.Statement.{Statement};
-ghost use Rattle.vs_flatcode.specs.Places.{Todo, is_going, is_inactive, is_inside, start_place, stepped_gait};
-ghost use Rattle.vs_flatcode.specs.Scripts.{StartsWith, todo_on};
-ghost use Rattle.vs_flatcode.specs.Steps.{has_nothing};
+ghost use Rattle.vs_process.specs.vs_flatcode.specs.Places.{Todo, is_going, is_inactive, is_inside, start_place, stepped_gait};
+ghost use Rattle.vs_process.specs.vs_flatcode.specs.Scripts.{StartsWith, todo_on};
+ghost use Rattle.vs_process.specs.vs_flatcode.specs.Steps.{has_nothing};
 ghost use Rattle.vs_process.specs.States as states;
 ghost use Rattle.vs_run_processes.specs.Standings.{ActiveAreTold, IsWaitOf, OthersStay, RousedAreTold, WakesAreTold, WokenAreTold, place_by, place_in, roused_in, triggered_at, waits_at, woken_in};
 
 use vs_design::EventTerm;
-use vs_flatcode::{Gait, Script};
+use vs_process::vs_flatcode::{Gait, Script};
 
 /// What a process waits for.
 #[derive(Clone, Copy)]

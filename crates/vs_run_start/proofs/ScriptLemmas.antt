@@ -9,7 +9,7 @@ use Rattle.vs_design.specs.Parts.{Parts}
 use Rattle.vs_design.specs.WellFormed.{WellFormed, counts_from, is_body_of, is_sound_process, is_sound_statement, numbers}
 use Rattle.vs_flatcode.specs.Scripts.{StartsWith}
 use Rattle.vs_flatcode.specs.Texts.{AreApart, Text}
-use Rattle.vs_run_processes.specs.vs_process.proofs.Lists.{all_slice, map_cases}
+use Rattle.vs_run_wakes.specs.vs_run_processes.specs.vs_process.proofs.Lists.{all_slice, map_cases}
 use Rattle.vs_run_start.specs.Scripts.{AreScripts, IsScriptFor}
 
 -- the statements of a process's body are numbered

@@ -14,19 +14,19 @@ use Rattle.vs_design.proofs.Drivers.{length-start_digits}
 use Rattle.vs_flatcode.specs.Places.{Place, start_place}
 use Rattle.vs_flatcode.specs.Scripts.{StartsWith}
 use Rattle.vs_flatcode.specs.Texts.{HasControl, Text}
-use Rattle.vs_run_processes.specs.vs_process.specs.States.{AssignState, Called, start, start_assign}
-use Rattle.vs_run_processes.specs.declared.process.Process.{Process}
-use Rattle.vs_run_processes.specs.declared.process.Wait.{Wait}
-use Rattle.vs_run_processes.specs.declared.process.Wait.TheVariants.{Nothing, Until, Inactive, Terms}
-use Rattle.vs_run_processes.specs.Standings.{IsWaitOf}
-use Rattle.vs_run_processes.proofs.TimelinesLemmas.{kept_started}
+use Rattle.vs_run_wakes.specs.vs_run_processes.specs.vs_process.specs.States.{AssignState, Called, start, start_assign}
+use Rattle.vs_run_wakes.specs.vs_run_processes.specs.declared.process.Process.{Process}
+use Rattle.vs_run_wakes.specs.vs_run_processes.specs.declared.process.Wait.{Wait}
+use Rattle.vs_run_wakes.specs.vs_run_processes.specs.declared.process.Wait.TheVariants.{Nothing, Until, Inactive, Terms}
+use Rattle.vs_run_wakes.specs.vs_run_processes.specs.Standings.{IsWaitOf}
+use Rattle.vs_run_wakes.specs.vs_run_processes.proofs.TimelinesLemmas.{kept_started}
 use Rattle.vs_run_steps.specs.declared.run.RunState.{RunState}
 use Rattle.vs_run_steps.specs.Runs.{IsRunOf, counters_of, state_of}
-use Rattle.vs_run_tables.specs.declared.watchers.ListedTerm.{ListedTerm}
-use Rattle.vs_run_tables.specs.Rows.{AreRows}
-use Rattle.vs_run_tables.specs.Terms.{TermsAreListed, terms_from}
+use Rattle.vs_run_active.specs.vs_run_tables.specs.declared.watchers.ListedTerm.{ListedTerm}
+use Rattle.vs_run_active.specs.vs_run_tables.specs.Rows.{AreRows}
+use Rattle.vs_run_active.specs.vs_run_tables.specs.Terms.{TermsAreListed, terms_from}
 use Rattle.vs_run_active.specs.Waiting.{IsWaiting, places_of}
-use Rattle.vs_run_tables.specs.Waking.{terms_at}
+use Rattle.vs_run_active.specs.vs_run_tables.specs.Waking.{terms_at}
 use Rattle.vs_run_updates.specs.Regions.{Waiting}
 use Rattle.vs_run_wakes.specs.Touches.{AreOf}
 use Rattle.vs_run_start.specs.Scripts.{AreScripts, IsScriptFor}

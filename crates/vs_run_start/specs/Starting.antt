@@ -4,8 +4,8 @@ use Rattle.vs_design.specs.declared.statement.Statement.{Statement}
 use Rattle.vs_flatcode.specs.Places.{start_place}
 use Rattle.vs_flatcode.specs.Scripts.{StartsWith}
 use Rattle.vs_flatcode.specs.Texts.{Text}
-use Rattle.vs_run_processes.specs.declared.process.Process.{Process}
-use Rattle.vs_run_processes.specs.Standings.{IsWaitOf, place_in}
+use Rattle.vs_run_wakes.specs.vs_run_processes.specs.declared.process.Process.{Process}
+use Rattle.vs_run_wakes.specs.vs_run_processes.specs.Standings.{IsWaitOf, place_in}
 
 -- a process is at the start of a script
 pub record IsStarted (c : Text) (p : Process) : Type 0 where

@@ -6,3 +6,4 @@ mod start;
 
 pub use scripts::{codes_of, scripts_of};
 pub use start::running_of;
+pub use vs_run_updates;

@@ -5,7 +5,7 @@ ghost use Rattle.vs_run_start.specs.Scripts.{AreScripts};
 use std::alloc::{AllocError, Global};
 use vs_design::{Design, Process};
 use vs_flatcode::Script;
-use vs_run_processes::vs_process::{Code, compile};
+use vs_run_wakes::vs_run_processes::vs_process::{Code, compile};
 
 /// The codes of the processes' bodies, one each in order.
 pub fn codes_of<'a>(alloc: Global, processes: &'a [Process]) -> Result<Vec<Code<'a>>, AllocError>

@@ -3,23 +3,23 @@ ghost use Rattle.std.specs.Prelude.{ℕ, ◌≡◌, [], IfOk, length, map};
 ghost use Rattle.std.specs.declared.alloc.Global.{Global};
 ghost use Rattle.std.specs.declared.vec.Vec.{Vec};
 ghost use Rattle.vs_design.specs.Stores.{start_store};
-ghost use Rattle.vs_run_processes.specs.vs_process.specs.States as states;
+ghost use Rattle.vs_run_wakes.specs.vs_run_processes.specs.vs_process.specs.States as states;
 ghost use Rattle.vs_run_start.specs.Scripts.{AreScripts};
 ghost use Rattle.vs_run_start.specs.Starting.{AreCounted, AreStarted};
 ghost use Rattle.vs_run_steps.specs.Runs.{IsRunOf, marks_of, state_of};
-ghost use Rattle.vs_run_tables.specs.Rows.{AreRows};
-ghost use Rattle.vs_run_tables.specs.Terms.{terms_from};
+ghost use Rattle.vs_run_active.specs.vs_run_tables.specs.Rows.{AreRows};
+ghost use Rattle.vs_run_active.specs.vs_run_tables.specs.Terms.{terms_from};
 
 use std::alloc::{AllocError, Global};
 use vs_design::{Design, Store};
 use vs_flatcode::Script;
+use vs_run_active::vs_run_tables::{ListedTerm, Tables, terms_are_listed, terms_of};
 use vs_run_active::{Assigns, Events, Processes, Queue};
-use vs_run_processes::Process as Started;
 use vs_run_steps::RunState;
 use vs_run_steps::vs_run_writes::Watched;
-use vs_run_tables::{ListedTerm, Tables, terms_are_listed, terms_of};
 use vs_run_updates::vs_time_wheel::EventQueue;
 use vs_run_updates::{Due, Regions};
+use vs_run_wakes::vs_run_processes::Process as Started;
 
 /// The tables of a design; of each continuous assignment it is told whether it is a copy that may be woken with others as one.
 fn tables_of(

@@ -3,12 +3,12 @@ use Rattle.std.proofs.Common.{◌≡◌, ℕ, zero, suc, Bool, true, false, Opti
 use Rattle.vs_design.specs.vs_logic4.specs.declared.digit.Digit.{Digit}
 use Rattle.vs_design.specs.Stores.{changed_at, changes_nothing}
 use Rattle.vs_design.specs.Writes.{Write}
-use Rattle.vs_process.specs.vs_eval.specs.Targets.{assigned}
-use Rattle.vs_process.specs.vs_eval.specs.Values.{target_value}
-use Rattle.vs_process.proofs.Lists.{set_same}
-use Rattle.vs_process.specs.declared.moves.Move.TheVariants.{Evaluate, Propagate, Make}
-use Rattle.vs_process.specs.Executions.{apply, if_some, is_enabled}
-use Rattle.vs_process.specs.States.{AssignState, State, Update, evaluate, evaluated, make, propagate, propagate_value, settled, without, written}
+use Rattle.vs_run_processes.specs.vs_process.specs.vs_eval.specs.Targets.{assigned}
+use Rattle.vs_run_processes.specs.vs_process.specs.vs_eval.specs.Values.{target_value}
+use Rattle.vs_run_processes.specs.vs_process.proofs.Lists.{set_same}
+use Rattle.vs_run_processes.specs.vs_process.specs.declared.moves.Move.TheVariants.{Evaluate, Propagate, Make}
+use Rattle.vs_run_processes.specs.vs_process.specs.Executions.{apply, if_some, is_enabled}
+use Rattle.vs_run_processes.specs.vs_process.specs.States.{AssignState, State, Update, evaluate, evaluated, make, propagate, propagate_value, settled, without, written}
 use Rattle.vs_run_turns.specs.Turns.{AreMade}
 
 -- a continuous assignment after an evaluation that leaves this value to be written, or none

@@ -1,7 +1,7 @@
 -- Events that fail.
 use Rattle.std.proofs.Common.{◌≡◌, ℕ, ◌<◌, Bool, false, Option, None, List}
 use Rattle.vs_design.specs.Parts.{Parts}
-use Rattle.vs_process.specs.States.{State}
+use Rattle.vs_run_processes.specs.vs_process.specs.States.{State}
 use Rattle.vs_run_turns.specs.Points.{point}
 use Rattle.vs_run_turns.specs.Turns.{EventTurnedPart}
 use Rattle.vs_run_turns.proofs.TurnsLemmas.{none_made, once_part}

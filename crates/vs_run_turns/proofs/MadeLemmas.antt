@@ -3,9 +3,9 @@ use Rattle.std.proofs.Common.{◌≡◌, ℕ, zero, suc, ◌≤◌, ◌+◌, Boo
 use Rattle.std.specs.Io.KnownBytes.{Appends}
 use Rattle.vs_design.specs.Parts.{Parts}
 use Rattle.vs_design.specs.Traces.{Line}
-use Rattle.vs_process.specs.declared.moves.Move.{Move}
-use Rattle.vs_process.specs.Executions.{apply, is_enabled, move_lines}
-use Rattle.vs_process.specs.States.{State}
+use Rattle.vs_run_processes.specs.vs_process.specs.declared.moves.Move.{Move}
+use Rattle.vs_run_processes.specs.vs_process.specs.Executions.{apply, is_enabled, move_lines}
+use Rattle.vs_run_processes.specs.vs_process.specs.States.{State}
 use Rattle.vs_vcd_writing.specs.Progress.{Progress}
 use Rattle.vs_run_turns.specs.Points.{point}
 use Rattle.vs_run_turns.specs.Prints.{lines_text}

@@ -3,13 +3,13 @@ use Rattle.std.proofs.Common.{◌≡◌, ℕ, Bool, true, Option, Some, None, Li
 use Rattle.std.proofs.lemmas.Bool.{false≢true}
 use Rattle.vs_design.specs.vs_logic4.specs.declared.digit.Digit.{Digit}
 use Rattle.vs_design.specs.Writes.{Write}
-use Rattle.vs_process.specs.vs_flatcode.specs.Places.{Place, todo_of}
-use Rattle.vs_process.specs.vs_flatcode.specs.Steps.{step}
-use Rattle.vs_process.specs.declared.moves.Move.{Move}
-use Rattle.vs_process.specs.declared.moves.Move.TheVariants.{Step, Evaluate, Propagate, Make, Rouse, Activate, EndSlot}
-use Rattle.vs_process.specs.Executions.{apply, ended_slot, move_lines}
-use Rattle.vs_process.specs.States.{State, AssignState, Update, stepped, evaluate, propagate, propagate_value, make, written_behind}
-use Rattle.vs_process.proofs.Times.{behind_time, stepped_over}
+use Rattle.vs_run_processes.specs.vs_process.specs.vs_flatcode.specs.Places.{Place, todo_of}
+use Rattle.vs_run_processes.specs.vs_process.specs.vs_flatcode.specs.Steps.{step}
+use Rattle.vs_run_processes.specs.vs_process.specs.declared.moves.Move.{Move}
+use Rattle.vs_run_processes.specs.vs_process.specs.declared.moves.Move.TheVariants.{Step, Evaluate, Propagate, Make, Rouse, Activate, EndSlot}
+use Rattle.vs_run_processes.specs.vs_process.specs.Executions.{apply, ended_slot, move_lines}
+use Rattle.vs_run_processes.specs.vs_process.specs.States.{State, AssignState, Update, stepped, evaluate, propagate, propagate_value, make, written_behind}
+use Rattle.vs_run_processes.specs.vs_process.proofs.Times.{behind_time, stepped_over}
 use Rattle.vs_run_turns.specs.Insides.{inside_told}
 use Rattle.vs_run_turns.specs.Turns.{is_silent}
 

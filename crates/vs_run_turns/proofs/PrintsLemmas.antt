@@ -3,12 +3,12 @@ use Rattle.std.proofs.Common.{◌≡◌, ℕ, ◌+◌, Option, Some, None, List,
 use Rattle.std.proofs.lemmas.List.{append-nil, map-append, take-append-drop}
 use Rattle.vs_design.specs.Parts.{Parts}
 use Rattle.vs_design.specs.Traces.{Line}
-use Rattle.vs_process.specs.declared.moves.Move.{Move}
-use Rattle.vs_process.specs.declared.moves.Move.TheVariants.{Step}
-use Rattle.vs_process.specs.Executions.{after, line_by, lines_of, move_lines, step_lines}
-use Rattle.vs_process.specs.States.{Called, State}
-use Rattle.vs_process.specs.vs_flatcode.specs.Places.{Place, todo_of}
-use Rattle.vs_process.specs.vs_flatcode.specs.Steps.{step}
+use Rattle.vs_run_processes.specs.vs_process.specs.declared.moves.Move.{Move}
+use Rattle.vs_run_processes.specs.vs_process.specs.declared.moves.Move.TheVariants.{Step}
+use Rattle.vs_run_processes.specs.vs_process.specs.Executions.{after, line_by, lines_of, move_lines, step_lines}
+use Rattle.vs_run_processes.specs.vs_process.specs.States.{Called, State}
+use Rattle.vs_run_processes.specs.vs_process.specs.vs_flatcode.specs.Places.{Place, todo_of}
+use Rattle.vs_run_processes.specs.vs_process.specs.vs_flatcode.specs.Steps.{step}
 use Rattle.vs_run_processes.specs.Taken.{line_at, step_text, text_of_line}
 use Rattle.vs_run_turns.specs.Prints.{lines_text}
 

@@ -4,12 +4,12 @@ use Rattle.std.specs.Io.KnownBytes.{Appends}
 use Rattle.std.proofs.lemmas.List.{append-nil}
 use Rattle.std.proofs.lemmas.Bool.{false≢true}
 use Rattle.vs_design.specs.Parts.{Parts}
-use Rattle.vs_process.specs.vs_flatcode.specs.declared.gait.Gait.TheVariants as gaits
-use Rattle.vs_process.specs.vs_flatcode.specs.Places.{Place, going, sleeping, inactive, waiting, ended, is_going, is_inside}
-use Rattle.vs_process.specs.declared.moves.Move.TheVariants.{Step}
-use Rattle.vs_process.specs.Blocks.{is_step_of_any}
-use Rattle.vs_process.specs.Executions.{apply, if_some, is_enabled}
-use Rattle.vs_process.specs.States.{State}
+use Rattle.vs_run_processes.specs.vs_process.specs.vs_flatcode.specs.declared.gait.Gait.TheVariants as gaits
+use Rattle.vs_run_processes.specs.vs_process.specs.vs_flatcode.specs.Places.{Place, going, sleeping, inactive, waiting, ended, is_going, is_inside}
+use Rattle.vs_run_processes.specs.vs_process.specs.declared.moves.Move.TheVariants.{Step}
+use Rattle.vs_run_processes.specs.vs_process.specs.Blocks.{is_step_of_any}
+use Rattle.vs_run_processes.specs.vs_process.specs.Executions.{apply, if_some, is_enabled}
+use Rattle.vs_run_processes.specs.vs_process.specs.States.{State}
 use Rattle.vs_run_processes.specs.Taken.{AreTaken, step_text}
 use Rattle.vs_vcd_writing.specs.Progress.{Progress}
 use Rattle.vs_vcd_writing.specs.Sinks.{AppendsPart}

@@ -4,14 +4,14 @@ use Rattle.std.specs.Io.KnownBytes.{Appends}
 use Rattle.std.proofs.lemmas.List.{append-nil}
 use Rattle.vs_design.specs.Parts.{Parts}
 use Rattle.vs_design.specs.Traces.{Slot}
-use Rattle.vs_process.specs.declared.moves.Grain.TheVariants.{Statement}
-use Rattle.vs_process.specs.declared.moves.Move.{Move}
-use Rattle.vs_process.specs.declared.moves.Move.TheVariants.{Step, Evaluate, Propagate, Make, Rouse, Activate, EndSlot}
-use Rattle.vs_process.specs.Blocks.{is_step_of_any}
-use Rattle.vs_process.specs.Executions.{apply, ended_slot, is_enabled, move_lines, strobe_lines}
-use Rattle.vs_process.specs.Permitted.{CanGo}
-use Rattle.vs_process.specs.States.{State}
-use Rattle.vs_process.proofs.Permitted.{state_goes}
+use Rattle.vs_run_processes.specs.vs_process.specs.declared.moves.Grain.TheVariants.{Statement}
+use Rattle.vs_run_processes.specs.vs_process.specs.declared.moves.Move.{Move}
+use Rattle.vs_run_processes.specs.vs_process.specs.declared.moves.Move.TheVariants.{Step, Evaluate, Propagate, Make, Rouse, Activate, EndSlot}
+use Rattle.vs_run_processes.specs.vs_process.specs.Blocks.{is_step_of_any}
+use Rattle.vs_run_processes.specs.vs_process.specs.Executions.{apply, ended_slot, is_enabled, move_lines, strobe_lines}
+use Rattle.vs_run_processes.specs.vs_process.specs.Permitted.{CanGo}
+use Rattle.vs_run_processes.specs.vs_process.specs.States.{State}
+use Rattle.vs_run_processes.specs.vs_process.proofs.Permitted.{state_goes}
 use Rattle.std.proofs.lemmas.Bool.{and_parts}
 use Rattle.vs_vcd_writing.specs.Progress.{Progress, vcd_slot}
 use Rattle.vs_vcd_writing.specs.Sinks.{AppendsPart}

@@ -4,10 +4,10 @@ use Rattle.std.specs.Io.KnownBytes.{Appends}
 use Rattle.vs_design.specs.Parts.{Parts}
 use Rattle.vs_design.specs.Stores.{Store}
 use Rattle.vs_design.specs.Traces.{Slot}
-use Rattle.vs_process.specs.declared.moves.Move.{Move}
-use Rattle.vs_process.specs.declared.moves.Move.TheVariants.{EndSlot}
-use Rattle.vs_process.specs.Executions.{ended_slot, strobe_line}
-use Rattle.vs_process.specs.States.{State}
+use Rattle.vs_run_processes.specs.vs_process.specs.declared.moves.Move.{Move}
+use Rattle.vs_run_processes.specs.vs_process.specs.declared.moves.Move.TheVariants.{EndSlot}
+use Rattle.vs_run_processes.specs.vs_process.specs.Executions.{ended_slot, strobe_line}
+use Rattle.vs_run_processes.specs.vs_process.specs.States.{State}
 use Rattle.vs_vcd_writing.specs.Progress.{Progress, is_write_fault, IsSlotAt, WritesPiece, vcd_slot}
 use Rattle.vs_vcd_writing.specs.Sinks.{AppendsPart, failed_after}
 use Rattle.vs_vcd_writing.specs.declared.fault.WriterFault.{WriterFault}

@@ -1,8 +1,8 @@
 -- The combinational block that has taken a step since its control, where the blocks are told.
 use Rattle.std.specs.Prelude.{ℕ, ◌&&◌, Bool, false, Option, Some, None, List, slice_get, if◌then◌else◌}
-use Rattle.vs_process.specs.declared.moves.Move.{Move}
-use Rattle.vs_process.specs.declared.moves.Move.TheVariants.{Step}
-use Rattle.vs_process.specs.vs_flatcode.specs.Places.{Place, is_inside}
+use Rattle.vs_run_processes.specs.vs_process.specs.declared.moves.Move.{Move}
+use Rattle.vs_run_processes.specs.vs_process.specs.declared.moves.Move.TheVariants.{Step}
+use Rattle.vs_run_processes.specs.vs_process.specs.vs_flatcode.specs.Places.{Place, is_inside}
 
 -- whether a place is one of a combinational block that has taken a step since its control
 abbrev pub is_told : Option Bool → Option Place → Bool

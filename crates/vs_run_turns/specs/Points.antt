@@ -1,6 +1,6 @@
 -- Where a run stands.
 use Rattle.std.specs.Prelude.{ℕ, Option, List}
-use Rattle.vs_process.specs.States.{State}
+use Rattle.vs_run_processes.specs.vs_process.specs.States.{State}
 use Rattle.vs_vcd_writing.specs.Progress.{Progress}
 
 -- where a run stands: its state, the combinational block that has taken a step since its control, where there is one, the writer of its dump, where it has one, and the

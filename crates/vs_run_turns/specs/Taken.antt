@@ -1,10 +1,10 @@
 -- Steps of one process that are taken one after another.
 use Rattle.std.specs.Prelude.{ℕ, ◌≡◌, ◌<◌, ◌≤◌, true, false, Option, List, slice_get}
 use Rattle.std.specs.Io.KnownBytes.{Appends}
-use Rattle.vs_process.specs.vs_flatcode.specs.Places.{is_going}
-use Rattle.vs_process.specs.declared.moves.Move.TheVariants.{Step}
-use Rattle.vs_process.specs.Executions.{if_some, is_enabled}
-use Rattle.vs_process.specs.States.{State}
+use Rattle.vs_run_processes.specs.vs_process.specs.vs_flatcode.specs.Places.{is_going}
+use Rattle.vs_run_processes.specs.vs_process.specs.declared.moves.Move.TheVariants.{Step}
+use Rattle.vs_run_processes.specs.vs_process.specs.Executions.{if_some, is_enabled}
+use Rattle.vs_run_processes.specs.vs_process.specs.States.{State}
 use Rattle.vs_run_processes.specs.Taken.{AreTaken, step_text}
 use Rattle.vs_vcd_writing.specs.Sinks.{AppendsPart}
 

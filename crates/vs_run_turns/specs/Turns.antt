@@ -3,11 +3,11 @@ use Rattle.std.specs.Prelude.{ℕ, zero, suc, ◌≡◌, ◌+◌, ◌<◌, ◌�
 use Rattle.std.specs.Io.KnownBytes.{Appends}
 use Rattle.vs_design.specs.Parts.{Parts}
 use Rattle.vs_design.specs.Traces.{Slot}
-use Rattle.vs_process.specs.declared.moves.Move.{Move}
-use Rattle.vs_process.specs.declared.moves.Move.TheVariants.{Step, Evaluate, Propagate, Make, Rouse, Activate, EndSlot}
-use Rattle.vs_process.specs.Blocks.{is_step_of_any}
-use Rattle.vs_process.specs.Executions.{after, apply, ended_slot, is_enabled, move_lines}
-use Rattle.vs_process.specs.States.{State}
+use Rattle.vs_run_processes.specs.vs_process.specs.declared.moves.Move.{Move}
+use Rattle.vs_run_processes.specs.vs_process.specs.declared.moves.Move.TheVariants.{Step, Evaluate, Propagate, Make, Rouse, Activate, EndSlot}
+use Rattle.vs_run_processes.specs.vs_process.specs.Blocks.{is_step_of_any}
+use Rattle.vs_run_processes.specs.vs_process.specs.Executions.{after, apply, ended_slot, is_enabled, move_lines}
+use Rattle.vs_run_processes.specs.vs_process.specs.States.{State}
 use Rattle.vs_vcd_writing.specs.Progress.{Progress}
 use Rattle.vs_vcd_writing.specs.Sinks.{AppendsPart}
 use Rattle.vs_run_turns.specs.Insides.{inside_told}

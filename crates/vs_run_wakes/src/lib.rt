@@ -5,3 +5,5 @@
 mod marks;
 
 pub use marks::{clear, no_marks};
+pub use vs_edges;
+pub use vs_run_processes;

@@ -10,17 +10,17 @@ use Rattle.vs_design.specs.InOrder.{IsStoreOf, sizes_of_signals, word_sizes}
 use Rattle.vs_design.specs.Parts.{Parts}
 use Rattle.vs_design.specs.Stores.{Store, put, word_of}
 use Rattle.vs_design.specs.Writes.{Write}
-use Rattle.vs_edges.specs.declared.masks.WordChange.{WordChange}
-use Rattle.vs_edges.specs.Differences.{HaveOneSize}
-use Rattle.vs_edges.specs.Masks.{IsChangeOf, every_word}
-use Rattle.vs_edges.proofs.StoresLemmas.{put_size}
+use Rattle.vs_run_wakes.specs.vs_edges.specs.declared.masks.WordChange.{WordChange}
+use Rattle.vs_run_wakes.specs.vs_edges.specs.Differences.{HaveOneSize}
+use Rattle.vs_run_wakes.specs.vs_edges.specs.Masks.{IsChangeOf, every_word}
+use Rattle.vs_run_wakes.specs.vs_edges.proofs.StoresLemmas.{put_size}
 use Rattle.vs_flatcode.specs.declared.changes.Change.{Change}
 use Rattle.vs_flatcode.specs.Changes.{changed_part, changed_word, changed_words}
 use Rattle.vs_flatcode.specs.Places.{Place}
 use Rattle.vs_run_active.specs.vs_process.specs.States.{AssignState, State, wakened, written}
 use Rattle.vs_run_wakes.specs.vs_run_processes.specs.declared.process.Process.{Process}
-use Rattle.vs_run_tables.specs.declared.tables.Tables.{Tables}
-use Rattle.vs_run_tables.specs.declared.watchers.ListedTerm.{ListedTerm}
+use Rattle.vs_run_active.specs.vs_run_tables.specs.declared.tables.Tables.{Tables}
+use Rattle.vs_run_active.specs.vs_run_tables.specs.declared.watchers.ListedTerm.{ListedTerm}
 use Rattle.vs_run_wakes.specs.vs_run_processes.specs.Standings.{GoneOn}
 use Rattle.vs_run_active.specs.Waiting.{places_of}
 use Rattle.vs_run_wakes.specs.vs_run_processes.proofs.GoneLemmas.{gone_more, gone_none}

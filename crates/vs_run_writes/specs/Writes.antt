@@ -3,12 +3,12 @@ use Rattle.std.specs.Prelude.{ℕ, ◌≡◌, ◌<◌, List, [], ◌∷◌, map,
 use Rattle.vs_design.specs.Parts.{Parts}
 use Rattle.vs_design.specs.Stores.{Store, put}
 use Rattle.vs_design.specs.Writes.{Write}
-use Rattle.vs_edges.specs.Masks.{every_word}
+use Rattle.vs_run_wakes.specs.vs_edges.specs.Masks.{every_word}
 use Rattle.vs_flatcode.specs.declared.changes.Change.{Change}
 use Rattle.vs_run_active.specs.vs_process.specs.States.{AssignState, State, touched, wakened, written}
 use Rattle.vs_run_wakes.specs.vs_run_processes.specs.declared.process.Process.{Process}
-use Rattle.vs_run_tables.specs.declared.tables.Tables.{Tables}
-use Rattle.vs_run_tables.specs.declared.watchers.ListedTerm.{ListedTerm}
+use Rattle.vs_run_active.specs.vs_run_tables.specs.declared.tables.Tables.{Tables}
+use Rattle.vs_run_active.specs.vs_run_tables.specs.declared.watchers.ListedTerm.{ListedTerm}
 use Rattle.vs_run_wakes.specs.vs_run_processes.specs.Standings.{GoneOn}
 use Rattle.vs_run_active.specs.Waiting.{places_of}
 use Rattle.vs_run_active.specs.Wakes.{AreWatched}

@@ -6,5 +6,5 @@ mod marks;
 mod writes;
 
 pub use vs_run_active;
-pub use vs_run_tables;
+pub use vs_run_active::vs_run_tables;
 pub use writes::Watched;

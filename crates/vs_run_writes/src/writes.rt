@@ -5,7 +5,7 @@ ghost use Rattle.vs_design.specs.vs_logic4.specs.Planes.{ArePlanes, digits_of_pl
 ghost use Rattle.vs_design.specs.declared.signal.Signal.{Signal};
 ghost use Rattle.vs_design.specs.InOrder.{IsStoreOf};
 ghost use Rattle.vs_design.specs.Stores.{put};
-ghost use Rattle.vs_edges.specs.Masks.{IsChangeOf};
+ghost use Rattle.vs_run_wakes.specs.vs_edges.specs.Masks.{IsChangeOf};
 ghost use Rattle.vs_run_wakes.specs.Changes.{MarkChanges};
 ghost use Rattle.vs_flatcode.specs.Spots.{IsSpotIn, spot_write};
 ghost use Rattle.vs_run_writes.specs.Writes.{AreNamed, Follows, Makes, MakesWritten};
@@ -14,10 +14,10 @@ use crate::marks::{mark, mark_signals};
 use std::alloc::AllocError;
 use vs_design::vs_logic4::Vec4;
 use vs_design::{Store, Write};
-use vs_edges::WordChange;
 use vs_flatcode::{Change, Spot, make};
 use vs_run_active::Events;
-use vs_run_tables::Tables;
+use vs_run_active::vs_run_tables::Tables;
+use vs_run_wakes::vs_edges::WordChange;
 
 /// The store, the tables of who watches its signals, what is active, and the marks of the signals that were written.
 #[derive(Drop)]

@@ -11,3 +11,4 @@ pub mod Scopes
 pub mod Texts
 pub mod passes
 pub use Rattle.vs_width_selects
+pub use Rattle.vs_strobe

@@ -23,5 +23,6 @@ pub use texts::{fault_text, push_bytes};
 pub use vs_elab_connections::{
     Given, Parameter, block_parameters, ends, given_alone, given_to, module_parameters,
 };
+pub use vs_strobe;
 pub use vs_width_selects;
 pub use words::WordCount;

@@ -1,2 +1,3 @@
 pub mod Honesty
 pub mod Listing
+pub use Rattle.vs_kernel

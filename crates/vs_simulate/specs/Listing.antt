@@ -11,7 +11,7 @@ use Rattle.vs_design.specs.declared.design.Process.{Process}
 use Rattle.vs_design.specs.declared.design.ProcessKind.{ProcessKind}
 use Rattle.vs_design.specs.declared.design.ProcessKind.TheVariants.{Initial, Always}
 use Rattle.vs_design.specs.Parts.{Parts}
-use Rattle.vs_vcd_writing.specs.Sinks.{AppendsPart}
+use Rattle.vs_kernel.specs.vs_vcd_writing.specs.Sinks.{AppendsPart}
 use Rattle.vs_simulate.specs.Honesty.{Defines}
 
 -- the word of what a signal was declared as

@@ -1,7 +1,7 @@
 //! The listing of a design.
 ghost use Rattle.std.specs.Prelude.{◌≡◌, ◌++◌, ◌∷◌, [], true, false, IfOk, IfErr, OnOk, OnErr};
 ghost use Rattle.std.specs.List.{flat_map};
-ghost use Rattle.vs_vcd_writing.specs.Sinks.{failed_after};
+ghost use Rattle.vs_kernel.specs.vs_vcd_writing.specs.Sinks.{failed_after};
 ghost use Rattle.vs_simulate.specs.Honesty.{SimulationFails, is_refusal, is_write};
 ghost use Rattle.vs_simulate.specs.Listing.{kind_word, sign_word, process_word, spaced, signal_line, assign_line, process_line, listing, IsListed, HasBegunListing};
 
@@ -10,7 +10,7 @@ use crate::simulation::design_of;
 use std::alloc::{AllocError, Global};
 use vs_design::{Assign, Design, Process, ProcessKind, Signal, SignalKind};
 use vs_kernel::RunFault;
-use vs_vcd_writing::{Sink, WriteFault, write_all};
+use vs_kernel::vs_vcd_writing::{Sink, WriteFault, write_all};
 
 fn kind_word(kind: SignalKind) -> &'static [u8]
     ensures { result.now ≡ kind_word kind }

@@ -10,14 +10,14 @@ use crate::fault::SimFault;
 use crate::laws::names_of_one_line;
 use std::alloc::Global;
 use vs_design::Design;
-use vs_elaborate::elaborate;
+use vs_elab_laws::vs_elaborate::elaborate;
+use vs_kernel::vs_vcd_writing::Sink;
 use vs_kernel::{Fifo, Kernel, Lifo, Listed, Outcome, Pick, RunFault, dumps_show_slot_ends};
-use vs_lexer::lex;
 use vs_parser::parse;
 use vs_run_updates::Due;
 use vs_run_updates::vs_process::never_stuck;
 use vs_run_updates::vs_time_wheel::Wheel;
-use vs_vcd_writing::Sink;
+use vs_syntax::vs_lexer::lex;
 
 /// Which enabled item is next.
 #[derive(Clone, Copy)]

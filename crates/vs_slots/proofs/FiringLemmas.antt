@@ -15,10 +15,10 @@ use Rattle.vs_design.specs.Parts.{Parts}
 use Rattle.vs_flatcode.specs.Places.{perform, turns, Todo}
 use Rattle.vs_flatcode.specs.Numbers.{number_next, number_of}
 use Rattle.vs_flatcode.specs.Stops.{Stop, next_statement, IsText}
-use Rattle.vs_rules.specs.Claims.{Claims, Kind, HasLists, IsDelay, IsWriter}
-use Rattle.vs_rules.specs.Constants.{bit_of, given_by, todo_assigns, Gives}
-use Rattle.vs_rules.specs.Paths.{PathFrom, ListsSignal, WritesNow, WritesAny, todo_now, todo_later, statement_now, statement_later, is_plain}
-use Rattle.vs_rules.specs.Slots.{counts, Ends, Fires, HasSlot, RunsByDelays}
+use Rattle.vs_slots_uses.specs.vs_rules.specs.Claims.{Claims, Kind, HasLists, IsDelay, IsWriter}
+use Rattle.vs_slots_uses.specs.vs_rules.specs.Constants.{bit_of, given_by, todo_assigns, Gives}
+use Rattle.vs_slots_uses.specs.vs_rules.specs.Paths.{PathFrom, ListsSignal, WritesNow, WritesAny, todo_now, todo_later, statement_now, statement_later, is_plain}
+use Rattle.vs_slots_uses.specs.vs_rules.specs.Slots.{counts, Ends, Fires, HasSlot, RunsByDelays}
 use Rattle.vs_cert_facts.specs.vs_slots_paths.proofs.EachPoint.{now_here, later_here}
 use Rattle.vs_cert_facts.specs.vs_slots_paths.proofs.Texts.{place_of, place_back}
 use Rattle.vs_slots_constants.specs.Givings.{given_here}

@@ -6,11 +6,11 @@ use Rattle.vs_flatcode.specs.Places.{Todo, flat}
 use Rattle.vs_flatcode.specs.Steps.{Next}
 use Rattle.vs_flatcode.specs.Stops.{Stop, stop_at, stop_statement, stops_tos, stops_behind, IsText}
 use Rattle.vs_flatcode.specs.Ways.{Pause, none, delay, event, next_by}
-use Rattle.vs_rules.specs.Points.{Goes}
-use Rattle.vs_rules.specs.Claims.{Claims, Kind, block, edges, delays, kind_of, HasLists}
-use Rattle.vs_rules.specs.Controls.{controls_of, list_of}
-use Rattle.vs_rules.specs.Paths.{Path, is_plain}
-use Rattle.vs_rules.specs.Slots.{DelayEnds, Ends, HasSlot}
+use Rattle.vs_slots_uses.specs.vs_rules.specs.Points.{Goes}
+use Rattle.vs_slots_uses.specs.vs_rules.specs.Claims.{Claims, Kind, block, edges, delays, kind_of, HasLists}
+use Rattle.vs_slots_uses.specs.vs_rules.specs.Controls.{controls_of, list_of}
+use Rattle.vs_slots_uses.specs.vs_rules.specs.Paths.{Path, is_plain}
+use Rattle.vs_slots_uses.specs.vs_rules.specs.Slots.{DelayEnds, Ends, HasSlot}
 use Rattle.vs_cert_facts.specs.vs_slots_paths.specs.declared.along.Along.TheVariants.{Plain}
 use Rattle.vs_cert_facts.specs.vs_slots_paths.specs.Reaches.{Chart, IsPlace, pause_at, pause_of, places}
 use Rattle.vs_cert_facts.specs.vs_slots_paths.proofs.Join.{same_place}

@@ -7,10 +7,10 @@ use Rattle.vs_design.specs.declared.statement.EventTerm.{EventTerm}
 use Rattle.vs_design.specs.Parts.{Parts}
 use Rattle.vs_flatcode.specs.Places.{Todo}
 use Rattle.vs_flatcode.specs.Stops.{Stop, IsText}
-use Rattle.vs_rules.specs.Claims.{Claims, IsDelay, IsWriter, IsRootOf}
-use Rattle.vs_rules.specs.Constants.{bit_of, Gives}
-use Rattle.vs_rules.specs.Paths.{IsPoint, WritesAny}
-use Rattle.vs_rules.specs.Slots.{counts, phase, Fires, HasSlot, InPhase}
+use Rattle.vs_slots_uses.specs.vs_rules.specs.Claims.{Claims, IsDelay, IsWriter, IsRootOf}
+use Rattle.vs_slots_uses.specs.vs_rules.specs.Constants.{bit_of, Gives}
+use Rattle.vs_slots_uses.specs.vs_rules.specs.Paths.{IsPoint, WritesAny}
+use Rattle.vs_slots_uses.specs.vs_rules.specs.Slots.{counts, phase, Fires, HasSlot, InPhase}
 use Rattle.vs_slots_constants.specs.declared.clocks.Clock.{Clock}
 use Rattle.vs_slots_constants.specs.Givings.{given_here}
 use Rattle.vs_cert_facts.specs.vs_slots_paths.specs.Reaches.{Chart, IsPlace}

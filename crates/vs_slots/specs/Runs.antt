@@ -6,8 +6,8 @@ use Rattle.vs_design.specs.Parts.{Parts}
 use Rattle.vs_flatcode.specs.Numbers.{number_next}
 use Rattle.vs_flatcode.specs.Stops.{Stop, IsText}
 use Rattle.vs_flatcode.specs.Ways.{Pause, none, delay, event, next_by}
-use Rattle.vs_rules.specs.Claims.{Claims, kind_of}
-use Rattle.vs_rules.specs.Slots.{Ends, HasSlot}
+use Rattle.vs_slots_uses.specs.vs_rules.specs.Claims.{Claims, kind_of}
+use Rattle.vs_slots_uses.specs.vs_rules.specs.Slots.{Ends, HasSlot}
 use Rattle.vs_cert_facts.specs.vs_slots_paths.specs.declared.along.Along.TheVariants.{Plain}
 use Rattle.vs_cert_facts.specs.vs_slots_paths.specs.Reaches.{Chart, IsPlace, pause_at, places}
 use Rattle.vs_cert_facts.specs.vs_slots_paths.specs.Ranges.{pause_terms}

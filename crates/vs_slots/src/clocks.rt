@@ -1,7 +1,7 @@
 //! The clocks of a design.
 ghost use Rattle.std.specs.Prelude.{ℕ, ◌≡◌, ◌++◌, ◌↔◌, get_or, IfOk, OnOk};
 ghost use Rattle.std.specs.List.{Contains};
-ghost use Rattle.vs_rules.specs.Paths.{Writes};
+ghost use Rattle.vs_slots_uses.specs.vs_rules.specs.Paths.{Writes};
 ghost use Rattle.vs_slots.specs.Kept.{AreClocks, AreWriterRows, IsClockOf};
 ghost use Rattle.vs_slots.specs.Lists.{signals_of};
 

@@ -2,8 +2,8 @@
 ghost use Rattle.std.specs.Prelude.{ℕ, ◌≡◌, ◌<◌, ◌↔◌, map, IfOk};
 ghost use Rattle.std.specs.List.{Contains};
 ghost use Rattle.vs_design.specs.Tables.{rows};
-ghost use Rattle.vs_rules.specs.Certificates.{residues_from};
-ghost use Rattle.vs_rules.specs.Controls.{list_of};
+ghost use Rattle.vs_slots_uses.specs.vs_rules.specs.Certificates.{residues_from};
+ghost use Rattle.vs_slots_uses.specs.vs_rules.specs.Controls.{list_of};
 ghost use Rattle.vs_cert_facts.specs.vs_slots_paths.specs.Reaches.{places, pause_at, pause_view, IsPlace};
 ghost use Rattle.vs_slots.specs.Lists.{row};
 ghost use Rattle.vs_slots.specs.Controls.{list_by};

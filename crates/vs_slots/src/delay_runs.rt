@@ -1,9 +1,9 @@
 //! The run slots of processes of kind delay.
 ghost use Rattle.std.specs.Prelude.{IfOk, map};
 ghost use Rattle.vs_design.specs.Tables.{rows};
-ghost use Rattle.vs_rules.specs.Certificates.{residues_from};
-ghost use Rattle.vs_rules.specs.Claims.{IsDelay};
-ghost use Rattle.vs_rules.specs.Controls.{controls_in, list_of};
+ghost use Rattle.vs_slots_uses.specs.vs_rules.specs.Certificates.{residues_from};
+ghost use Rattle.vs_slots_uses.specs.vs_rules.specs.Claims.{IsDelay};
+ghost use Rattle.vs_slots_uses.specs.vs_rules.specs.Controls.{controls_in, list_of};
 ghost use Rattle.vs_slots.specs.Runs.{AreListedRuns};
 ghost use Rattle.vs_slots.specs.Kept.{RunsWhere, AreAllRuns};
 

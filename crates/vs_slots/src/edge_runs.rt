@@ -2,7 +2,7 @@
 ghost use Rattle.std.specs.Prelude.{ℕ, ◌<◌, ◌↔◌, IfOk};
 ghost use Rattle.std.specs.List.{Contains};
 ghost use Rattle.vs_design.specs.Tables.{rows};
-ghost use Rattle.vs_rules.specs.Claims.{IsEdge};
+ghost use Rattle.vs_slots_uses.specs.vs_rules.specs.Claims.{IsEdge};
 ghost use Rattle.vs_cert_facts.specs.vs_slots_paths.specs.Ranges.{pause_terms};
 ghost use Rattle.vs_cert_facts.specs.vs_slots_paths.specs.Reaches.{places, pause_at, pause_view, IsPlace};
 ghost use Rattle.vs_slots.specs.Kept.{AreAllRuns, AreFirings, AreTermsIn, RunsWhere};

@@ -2,7 +2,7 @@
 ghost use Rattle.std.specs.Prelude.{ℕ, ◌≡◌, ◌<◌, ◌↔◌, ◌⊎◌, Some, length, slice_get, IfOk, OnOk, IsTrue};
 ghost use Rattle.std.specs.List.{Contains};
 ghost use Rattle.vs_flatcode.specs.Stops.{statement_view};
-ghost use Rattle.vs_rules.specs.Constants.{bit_of};
+ghost use Rattle.vs_slots_uses.specs.vs_rules.specs.Constants.{bit_of};
 ghost use Rattle.vs_slots_constants.specs.Givings.{given_here};
 ghost use Rattle.vs_cert_facts.specs.vs_slots_paths.specs.Ranges.{statement_at};
 ghost use Rattle.vs_slots.specs.Firing.{CountsAt, InPhaseOf, WritesAt};

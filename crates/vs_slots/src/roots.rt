@@ -2,7 +2,7 @@
 ghost use Rattle.std.specs.Prelude.{ℕ, ◌≡◌, ◌↔◌, ◌⊎◌, None, get_or, IfOk, OnOk};
 ghost use Rattle.std.specs.List.{Contains};
 ghost use Rattle.vs_design.specs.Tables.{rows};
-ghost use Rattle.vs_rules.specs.Claims.{IsDelay, IsRoot};
+ghost use Rattle.vs_slots_uses.specs.vs_rules.specs.Claims.{IsDelay, IsRoot};
 ghost use Rattle.vs_slots.specs.Kept.{AreAllRuns, AreClocks, AreFirings, AreTermsIn, AreWrittenPlaces, IsFiring, IsFiringOf, IsTermIn, IsTurned, table_by};
 ghost use Rattle.vs_slots.specs.Lists.{row, IsOneOf};
 

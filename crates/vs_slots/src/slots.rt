@@ -1,7 +1,7 @@
 //! The run slots, write slots and firing slots of a design and a certificate.
 ghost use Rattle.std.specs.Prelude.{ℕ, ◌≡◌, ◌<◌, ◌↔◌, Some, length, slice_get, IfOk};
 ghost use Rattle.std.specs.List.{Contains};
-ghost use Rattle.vs_rules.specs.Slots.{HasWriteSlot};
+ghost use Rattle.vs_slots_uses.specs.vs_rules.specs.Slots.{HasWriteSlot};
 ghost use Rattle.vs_slots.specs.Kept.{AreBothRuns, AreWriteSlots, AreWrittenPlaces, IsKeptRun, IsPlaceWrite, IsWriteBy, IsWriteIn};
 ghost use Rattle.vs_slots.specs.Places.{RunsOf};
 ghost use Rattle.vs_slots.specs.Terms.{TermsFire};

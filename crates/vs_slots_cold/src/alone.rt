@@ -4,7 +4,7 @@ ghost use Rattle.vs_slots_cold.specs.Alone.{arrival, arrived_if};
 
 use std::alloc::{AllocError, Global};
 use vs_design::Store;
-use vs_law_threads::vs_flatcode::{Cursor, Halt};
+use vs_rules::vs_law_threads::vs_flatcode::{Cursor, Halt};
 
 // Steps of a process alone at time 0, at most so many, to its next event control: whether it arrives there.
 pub(crate) fn arrive(

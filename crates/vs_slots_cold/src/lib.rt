@@ -8,4 +8,4 @@ mod settled;
 
 pub use cold::Beginning;
 pub use settled::settled_start;
-pub use vs_law_threads::vs_flatcode;
+pub use vs_rules::vs_law_threads::vs_flatcode;

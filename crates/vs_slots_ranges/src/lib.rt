@@ -6,3 +6,4 @@ mod shares;
 
 pub use covering::covers;
 pub use shares::{has, share};
+pub use vs_rules;

@@ -17,3 +17,4 @@ pub use texts::begins;
 pub use ticks::begins_span;
 pub use times::reaches;
 pub use variables::begins_variable;
+pub use vs_vcd_lines;

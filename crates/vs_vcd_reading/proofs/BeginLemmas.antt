@@ -10,8 +10,8 @@ use Rattle.vs_design.specs.declared.design.ScopeKind.TheVariants.{Module}
 use Rattle.vs_design.specs.declared.timescale.Magnitude.TheVariants.{One}
 use Rattle.vs_design.specs.declared.timescale.TimeSpan.{TimeSpan}
 use Rattle.vs_design.specs.declared.timescale.TimeUnit.TheVariants.{Nanosecond}
-use Rattle.vs_vcd_lines.specs.declared.dump.ValueChange.{ValueChange}
-use Rattle.vs_vcd_lines.specs.Lines.{are_sizes, IsSized}
+use Rattle.vs_vcd_beginnings.specs.vs_vcd_lines.specs.declared.dump.ValueChange.{ValueChange}
+use Rattle.vs_vcd_beginnings.specs.vs_vcd_lines.specs.Lines.{are_sizes, IsSized}
 use Rattle.vs_vcd_reading.specs.Layout.{IsLayout}
 use Rattle.vs_vcd_reading.specs.Faults.{IsBeginning}
 use Rattle.vs_vcd_reading.specs.Steps.{Item, Place, Step, Steps, text_from}

@@ -7,8 +7,8 @@ use Rattle.vs_design.specs.vs_logic4.specs.declared.digit.Digit.{Digit}
 use Rattle.vs_design.specs.vs_logic4.specs.declared.digit.Digit.TheVariants.{X}
 use Rattle.vs_design.specs.declared.design.ScopeKind.{ScopeKind}
 use Rattle.vs_design.specs.declared.design.ScopeKind.TheVariants.{Begin, Module}
-use Rattle.vs_vcd_lines.specs.declared.dump.ValueChange.{ValueChange}
-use Rattle.vs_vcd_lines.specs.Lines.{IsSized}
+use Rattle.vs_vcd_beginnings.specs.vs_vcd_lines.specs.declared.dump.ValueChange.{ValueChange}
+use Rattle.vs_vcd_beginnings.specs.vs_vcd_lines.specs.Lines.{IsSized}
 use Rattle.vs_vcd_reading.specs.Plain.{PlainVariable}
 use Rattle.vs_vcd_reading.specs.Layout.{IsPlainVariable}
 use Rattle.vs_vcd_reading.specs.Bodies.{IsAtTime}

@@ -7,11 +7,11 @@ use Rattle.std.proofs.lemmas.List.{append-nil, length-map}
 use Rattle.std.proofs.lemmas.Option.{slice_get_within}
 use Rattle.std.specs.Fmt.{digits}
 use Rattle.vs_design.specs.vs_logic4.specs.declared.digit.Digit.{Digit}
-use Rattle.vs_vcd_lines.specs.vs_vcd_writing.specs.Text.{time_line}
-use Rattle.vs_vcd_lines.specs.declared.dump.ValueChange.{ValueChange}
-use Rattle.vs_vcd_lines.proofs.CutLemmas.{eqb_not}
-use Rattle.vs_vcd_lines.specs.Cuts.{lacks, IsCut}
-use Rattle.vs_vcd_lines.specs.Lines.{change_line, IsSized}
+use Rattle.vs_vcd_beginnings.specs.vs_vcd_lines.specs.vs_vcd_writing.specs.Text.{time_line}
+use Rattle.vs_vcd_beginnings.specs.vs_vcd_lines.specs.declared.dump.ValueChange.{ValueChange}
+use Rattle.vs_vcd_beginnings.specs.vs_vcd_lines.proofs.CutLemmas.{eqb_not}
+use Rattle.vs_vcd_beginnings.specs.vs_vcd_lines.specs.Cuts.{lacks, IsCut}
+use Rattle.vs_vcd_beginnings.specs.vs_vcd_lines.specs.Lines.{change_line, IsSized}
 use Rattle.vs_vcd_reading.specs.declared.dump.Moment.{Moment}
 use Rattle.vs_vcd_reading.specs.declared.fault.VcdFault.{VcdFault}
 use Rattle.vs_vcd_reading.specs.declared.fault.VcdFault.TheVariants as f

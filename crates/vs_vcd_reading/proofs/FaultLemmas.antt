@@ -2,14 +2,14 @@
 use Rattle.std.proofs.Common.{◌≡◌, ◌⊎◌, inl, inr, ℕ, suc, Bool, true, false, List, [], ◌∷◌, ◌++◌, length, map, refl, sym, ap, subst, ◌∙◌, append_assoc, arith}
 use Rattle.std.proofs.lemmas.Bool.{false≢true}
 use Rattle.std.proofs.lemmas.List.{append-nil}
-use Rattle.vs_vcd_lines.specs.vs_vcd_writing.specs.Text.{end_of_definitions}
-use Rattle.vs_vcd_lines.specs.Cuts.{lacks, IsCut}
+use Rattle.vs_vcd_beginnings.specs.vs_vcd_lines.specs.vs_vcd_writing.specs.Text.{end_of_definitions}
+use Rattle.vs_vcd_beginnings.specs.vs_vcd_lines.specs.Cuts.{lacks, IsCut}
 use Rattle.vs_vcd_reading.specs.declared.fault.VcdFault.{VcdFault}
 use Rattle.vs_vcd_reading.specs.declared.fault.VcdFault.TheVariants as f
 use Rattle.vs_vcd_reading.specs.Plain.{PlainDeclaration, PlainDump, PlainMoment}
 use Rattle.vs_vcd_reading.specs.Plain.{PlainDeclaration as d}
 use Rattle.vs_vcd_reading.specs.Layout.{IsLayout, widths_of}
-use Rattle.vs_vcd_lines.specs.declared.dump.ValueChange.{ValueChange}
+use Rattle.vs_vcd_beginnings.specs.vs_vcd_lines.specs.declared.dump.ValueChange.{ValueChange}
 use Rattle.vs_vcd_reading.specs.Faults.{IsBadInBody, IsBadInHeader, IsBadLine, IsBeginning, IsBody, IsFault, IsLineEnd, IsOfNoCode, IsOfTime}
 use Rattle.vs_vcd_reading.specs.Faults.{IsLineEnd as z}
 use Rattle.vs_vcd_reading.specs.Steps.{Item, Place, Step, Steps, Follows, IsLast, body_items, change_items, declared_items, items_of, later_items, line_of, text_from}

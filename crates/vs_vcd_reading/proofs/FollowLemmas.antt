@@ -1,8 +1,8 @@
 -- Which line a text of the layout can have next.
 use Rattle.std.proofs.Common.{◌≡◌, inl, inr, ℕ, true, List, [], ◌∷◌, ◌++◌, map, refl, sym, ap, subst, ◌∙◌, append_assoc}
 use Rattle.std.proofs.lemmas.Bool.{and_from}
-use Rattle.vs_vcd_lines.specs.Cuts.{lacks}
-use Rattle.vs_vcd_lines.proofs.CutLemmas.{cut_once, lacks_head}
+use Rattle.vs_vcd_beginnings.specs.vs_vcd_lines.specs.Cuts.{lacks}
+use Rattle.vs_vcd_beginnings.specs.vs_vcd_lines.proofs.CutLemmas.{cut_once, lacks_head}
 use Rattle.vs_vcd_beginnings.proofs.TextLemmas.{begins_before}
 use Rattle.vs_vcd_reading.specs.Faults.{are_lines}
 use Rattle.vs_vcd_reading.specs.Steps.{Item, Place, Step, Steps, Follows, line_of, text_from}

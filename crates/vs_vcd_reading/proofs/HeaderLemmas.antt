@@ -8,14 +8,14 @@ use denote.RawPtr.{null_ptr}
 use Rattle.vs_design.specs.declared.design.ScopeKind.{ScopeKind}
 use Rattle.vs_design.specs.declared.design.ScopeKind.TheVariants.{Module}
 use Rattle.vs_design.specs.declared.timescale.TimeSpan.{TimeSpan}
-use Rattle.vs_vcd_lines.specs.vs_vcd_writing.specs.Codes.{code}
-use Rattle.vs_vcd_lines.specs.vs_vcd_writing.specs.Text.{kind_word, range_text, scope_line, scope_word}
-use Rattle.vs_vcd_lines.specs.declared.dump.Declaration.{Declaration}
-use Rattle.vs_vcd_lines.specs.declared.dump.Declaration.TheVariants as v
-use Rattle.vs_vcd_lines.specs.declared.dump.Variable.{Variable}
-use Rattle.vs_vcd_lines.specs.Lines.{declaration_line, span_line, IsDeclaration}
-use Rattle.vs_vcd_lines.specs.Names.{IsScopeName}
-use Rattle.vs_vcd_lines.specs.Cuts.{lacks, IsCut}
+use Rattle.vs_vcd_beginnings.specs.vs_vcd_lines.specs.vs_vcd_writing.specs.Codes.{code}
+use Rattle.vs_vcd_beginnings.specs.vs_vcd_lines.specs.vs_vcd_writing.specs.Text.{kind_word, range_text, scope_line, scope_word}
+use Rattle.vs_vcd_beginnings.specs.vs_vcd_lines.specs.declared.dump.Declaration.{Declaration}
+use Rattle.vs_vcd_beginnings.specs.vs_vcd_lines.specs.declared.dump.Declaration.TheVariants as v
+use Rattle.vs_vcd_beginnings.specs.vs_vcd_lines.specs.declared.dump.Variable.{Variable}
+use Rattle.vs_vcd_beginnings.specs.vs_vcd_lines.specs.Lines.{declaration_line, span_line, IsDeclaration}
+use Rattle.vs_vcd_beginnings.specs.vs_vcd_lines.specs.Names.{IsScopeName}
+use Rattle.vs_vcd_beginnings.specs.vs_vcd_lines.specs.Cuts.{lacks, IsCut}
 use Rattle.vs_vcd_reading.specs.declared.fault.VcdFault.{VcdFault}
 use Rattle.vs_vcd_reading.specs.declared.fault.VcdFault.TheVariants as f
 use Rattle.vs_vcd_reading.specs.declared.header.Header.{Header}

@@ -8,12 +8,12 @@ use Rattle.std.proofs.Math.Seq.{take-length}
 use Rattle.std.proofs.lemmas.Bool.Decides.{Decides-ltb, eqb_tells}
 use Rattle.vs_design.specs.vs_logic4.specs.declared.digit.Digit.{Digit}
 use Rattle.vs_design.specs.vs_logic4.specs.declared.digit.Digit.TheVariants.{Zero, One, X, Z}
-use Rattle.vs_vcd_lines.specs.vs_vcd_writing.specs.Codes.{code, code_with_fuel}
-use Rattle.vs_vcd_lines.specs.vs_vcd_writing.specs.Values.{digit_character}
-use Rattle.vs_vcd_lines.specs.vs_vcd_writing.proofs.CodeLemmas.{code-short, code-injective}
-use Rattle.vs_vcd_lines.specs.Cuts.{lacks, IsCut}
-use Rattle.vs_vcd_lines.proofs.CodeLemmas.{code_above}
-use Rattle.vs_vcd_lines.proofs.CutLemmas.{and_true, cut_once, lacks_head}
+use Rattle.vs_vcd_beginnings.specs.vs_vcd_lines.specs.vs_vcd_writing.specs.Codes.{code, code_with_fuel}
+use Rattle.vs_vcd_beginnings.specs.vs_vcd_lines.specs.vs_vcd_writing.specs.Values.{digit_character}
+use Rattle.vs_vcd_beginnings.specs.vs_vcd_lines.specs.vs_vcd_writing.proofs.CodeLemmas.{code-short, code-injective}
+use Rattle.vs_vcd_beginnings.specs.vs_vcd_lines.specs.Cuts.{lacks, IsCut}
+use Rattle.vs_vcd_beginnings.specs.vs_vcd_lines.proofs.CodeLemmas.{code_above}
+use Rattle.vs_vcd_beginnings.specs.vs_vcd_lines.proofs.CutLemmas.{and_true, cut_once, lacks_head}
 use Rattle.vs_vcd_beginnings.proofs.ValueLemmas.{characters_lack}
 use Rattle.vs_vcd_reading.specs.Faults.{IsShaped}
 use Rattle.vs_vcd_reading.specs.Faults.{IsShaped as sh}

@@ -14,20 +14,20 @@ use Rattle.vs_design.specs.declared.timescale.Magnitude.TheVariants as magnitude
 use Rattle.vs_design.specs.declared.timescale.TimeSpan.{TimeSpan}
 use Rattle.vs_design.specs.declared.timescale.TimeUnit.{TimeUnit}
 use Rattle.vs_design.specs.declared.timescale.TimeUnit.TheVariants as units
-use Rattle.vs_vcd_lines.specs.vs_vcd_writing.specs.Codes.{code}
-use Rattle.vs_vcd_lines.specs.vs_vcd_writing.specs.Text.{magnitude_word, unit_word, kind_word, scope_word, range_text, scope_line, time_line}
-use Rattle.vs_vcd_lines.specs.vs_vcd_writing.specs.Values.{digit_character, shortened, value_change}
-use Rattle.vs_vcd_lines.specs.vs_vcd_writing.proofs.CodeLemmas.{code-injective}
-use Rattle.vs_vcd_lines.specs.declared.dump.ValueChange.{ValueChange}
-use Rattle.vs_vcd_lines.specs.Lines.{span_line, change_line, IsSized}
-use Rattle.vs_vcd_lines.specs.Parts.{IsShape}
-use Rattle.vs_vcd_lines.proofs.ChangeLemmas.{wide_text}
-use Rattle.vs_vcd_lines.proofs.CutLemmas.{cut_once}
-use Rattle.vs_vcd_lines.proofs.LawLemmas.{kind_once, named_once}
-use Rattle.vs_vcd_lines.proofs.LineLemmas.{scope_assoc}
-use Rattle.vs_vcd_lines.proofs.ValueLemmas.{spelled_once}
-use Rattle.vs_vcd_lines.proofs.VariableLemmas.{line_assoc, shape_parts, shape_three}
-use Rattle.vs_vcd_lines.proofs.WordLemmas.{scope_lacks, magnitude_lacks}
+use Rattle.vs_vcd_beginnings.specs.vs_vcd_lines.specs.vs_vcd_writing.specs.Codes.{code}
+use Rattle.vs_vcd_beginnings.specs.vs_vcd_lines.specs.vs_vcd_writing.specs.Text.{magnitude_word, unit_word, kind_word, scope_word, range_text, scope_line, time_line}
+use Rattle.vs_vcd_beginnings.specs.vs_vcd_lines.specs.vs_vcd_writing.specs.Values.{digit_character, shortened, value_change}
+use Rattle.vs_vcd_beginnings.specs.vs_vcd_lines.specs.vs_vcd_writing.proofs.CodeLemmas.{code-injective}
+use Rattle.vs_vcd_beginnings.specs.vs_vcd_lines.specs.declared.dump.ValueChange.{ValueChange}
+use Rattle.vs_vcd_beginnings.specs.vs_vcd_lines.specs.Lines.{span_line, change_line, IsSized}
+use Rattle.vs_vcd_beginnings.specs.vs_vcd_lines.specs.Parts.{IsShape}
+use Rattle.vs_vcd_beginnings.specs.vs_vcd_lines.proofs.ChangeLemmas.{wide_text}
+use Rattle.vs_vcd_beginnings.specs.vs_vcd_lines.proofs.CutLemmas.{cut_once}
+use Rattle.vs_vcd_beginnings.specs.vs_vcd_lines.proofs.LawLemmas.{kind_once, named_once}
+use Rattle.vs_vcd_beginnings.specs.vs_vcd_lines.proofs.LineLemmas.{scope_assoc}
+use Rattle.vs_vcd_beginnings.specs.vs_vcd_lines.proofs.ValueLemmas.{spelled_once}
+use Rattle.vs_vcd_beginnings.specs.vs_vcd_lines.proofs.VariableLemmas.{line_assoc, shape_parts, shape_three}
+use Rattle.vs_vcd_beginnings.specs.vs_vcd_lines.proofs.WordLemmas.{scope_lacks, magnitude_lacks}
 use Rattle.vs_vcd_beginnings.proofs.ValueLemmas.{character_once, characters_lack, values_once}
 use Rattle.vs_vcd_reading.specs.Plain.{PlainVariable}
 use Rattle.vs_vcd_reading.specs.Layout.{variable_text, with_change, IsPlainVariable}

@@ -17,14 +17,14 @@ use Rattle.vs_design.specs.declared.timescale.Magnitude.TheVariants as magnitude
 use Rattle.vs_design.specs.declared.timescale.TimeSpan.{TimeSpan}
 use Rattle.vs_design.specs.declared.timescale.TimeUnit.{TimeUnit}
 use Rattle.vs_design.specs.declared.timescale.TimeUnit.TheVariants as units
-use Rattle.vs_vcd_lines.specs.vs_vcd_writing.specs.Codes.{code, code_with_fuel}
-use Rattle.vs_vcd_lines.specs.vs_vcd_writing.specs.Text.{magnitude_word, unit_word, span_text, kind_word, scope_word, range_text, scope_line}
-use Rattle.vs_vcd_lines.specs.vs_vcd_writing.specs.Values.{digit_character, shortened, value_change}
-use Rattle.vs_vcd_lines.specs.Cuts.{lacks}
-use Rattle.vs_vcd_lines.specs.Lines.{span_line, IsRange}
-use Rattle.vs_vcd_lines.specs.Names.{is_first, is_further, is_printable, is_simple, is_body, IsName, IsScopeName, IsTurn}
-use Rattle.vs_vcd_lines.proofs.CutLemmas.{and_true, lacks_more, lacks_of_all, lacks-append}
-use Rattle.vs_vcd_lines.proofs.NameLemmas.{lacks-decimal, lacks-signed_decimal}
+use Rattle.vs_vcd_beginnings.specs.vs_vcd_lines.specs.vs_vcd_writing.specs.Codes.{code, code_with_fuel}
+use Rattle.vs_vcd_beginnings.specs.vs_vcd_lines.specs.vs_vcd_writing.specs.Text.{magnitude_word, unit_word, span_text, kind_word, scope_word, range_text, scope_line}
+use Rattle.vs_vcd_beginnings.specs.vs_vcd_lines.specs.vs_vcd_writing.specs.Values.{digit_character, shortened, value_change}
+use Rattle.vs_vcd_beginnings.specs.vs_vcd_lines.specs.Cuts.{lacks}
+use Rattle.vs_vcd_beginnings.specs.vs_vcd_lines.specs.Lines.{span_line, IsRange}
+use Rattle.vs_vcd_beginnings.specs.vs_vcd_lines.specs.Names.{is_first, is_further, is_printable, is_simple, is_body, IsName, IsScopeName, IsTurn}
+use Rattle.vs_vcd_beginnings.specs.vs_vcd_lines.proofs.CutLemmas.{and_true, lacks_more, lacks_of_all, lacks-append}
+use Rattle.vs_vcd_beginnings.specs.vs_vcd_lines.proofs.NameLemmas.{lacks-decimal, lacks-signed_decimal}
 use Rattle.vs_vcd_reading.specs.Plain.{PlainVariable}
 use Rattle.vs_vcd_reading.specs.Layout.{variable_text, IsPlainVariable}
 use Rattle.vs_vcd_reading.specs.Steps.{Item, Place, Step, line_of}

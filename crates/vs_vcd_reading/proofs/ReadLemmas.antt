@@ -3,8 +3,8 @@ use Rattle.std.proofs.Common.{◌≡◌, ℕ, true, false, List, [], ◌∷◌, 
 use Rattle.std.proofs.lemmas.List.{length-map}
 use Rattle.vs_design.specs.vs_logic4.specs.declared.digit.Digit.{Digit}
 use Rattle.vs_design.specs.declared.timescale.TimeSpan.{TimeSpan}
-use Rattle.vs_vcd_lines.specs.declared.dump.ValueChange.{ValueChange}
-use Rattle.vs_vcd_lines.specs.Lines.{are_sizes}
+use Rattle.vs_vcd_beginnings.specs.vs_vcd_lines.specs.declared.dump.ValueChange.{ValueChange}
+use Rattle.vs_vcd_beginnings.specs.vs_vcd_lines.specs.Lines.{are_sizes}
 use Rattle.vs_vcd_reading.specs.declared.dump.Dump.{Dump}
 use Rattle.vs_vcd_reading.specs.declared.dump.Moment.{Moment}
 use Rattle.vs_vcd_reading.specs.declared.fault.VcdFault.{VcdFault}

@@ -3,8 +3,8 @@ use Rattle.std.proofs.Common.{◌≡◌, inl, inr, ℕ, Bool, List, ◌++◌, co
 use Rattle.vs_design.specs.declared.timescale.Magnitude.TheVariants.{One}
 use Rattle.vs_design.specs.declared.timescale.TimeUnit.TheVariants.{Second}
 use Rattle.vs_design.specs.declared.timescale.TimeSpan.{TimeSpan}
-use Rattle.vs_vcd_lines.specs.vs_vcd_writing.specs.Text.{span_text}
-use Rattle.vs_vcd_lines.specs.Lines.{span_line}
+use Rattle.vs_vcd_beginnings.specs.vs_vcd_lines.specs.vs_vcd_writing.specs.Text.{span_text}
+use Rattle.vs_vcd_beginnings.specs.vs_vcd_lines.specs.Lines.{span_line}
 use Rattle.vs_vcd_beginnings.specs.Beginnings.{Begins, BeginsSpan}
 use Rattle.vs_vcd_beginnings.proofs.TextLemmas.{begins_more, begins_nil, either_begins, Tells}
 use Rattle.vs_vcd_reading.specs.Steps.{Item, Place, Step, line_of}

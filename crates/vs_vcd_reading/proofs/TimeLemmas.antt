@@ -4,7 +4,7 @@ use Rattle.std.proofs.lemmas.Bool.{false≢true}
 use Rattle.std.proofs.lemmas.Option.{slice_get_within}
 use Rattle.std.specs.Prelude.{length}
 use Rattle.vs_design.specs.vs_logic4.specs.declared.digit.Digit.{Digit}
-use Rattle.vs_vcd_lines.specs.vs_vcd_writing.specs.Text.{time_line}
+use Rattle.vs_vcd_beginnings.specs.vs_vcd_lines.specs.vs_vcd_writing.specs.Text.{time_line}
 use Rattle.vs_vcd_beginnings.specs.Beginnings.{Begins, Reaches}
 use Rattle.vs_vcd_reading.specs.Bodies.{IsFromTime}
 use Rattle.vs_vcd_reading.specs.Steps.{Item, Place, Step, line_of}

@@ -4,7 +4,7 @@ use Rattle.std.proofs.lemmas.Bool.{false≢true}
 use Rattle.std.proofs.lemmas.List.{append-nil}
 use Rattle.vs_design.specs.vs_logic4.specs.declared.digit.Digit.{Digit}
 use Rattle.vs_design.specs.declared.design.ScopeKind.TheVariants.{Module}
-use Rattle.vs_vcd_lines.specs.declared.dump.ValueChange.{ValueChange}
+use Rattle.vs_vcd_beginnings.specs.vs_vcd_lines.specs.declared.dump.ValueChange.{ValueChange}
 use Rattle.vs_vcd_reading.specs.Plain.{PlainDeclaration, PlainDump, PlainMoment}
 use Rattle.vs_vcd_reading.specs.Plain.{PlainDeclaration as d}
 use Rattle.vs_vcd_reading.specs.Layout.{with_change, written, values_of, widths_of, AreAll, AreChanges, AreDeclared, AreLater, AreMoments, AreVariables, AreScopes, IsLayout}

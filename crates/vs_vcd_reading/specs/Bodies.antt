@@ -1,9 +1,9 @@
 -- The body as it is read: nothing that is promised rests on these.
 use Rattle.std.specs.Prelude.{◌≡◌, ◌⊎◌, ℕ, ◌≤◌, Bool, true, false, List, [], ◌∷◌, ◌++◌, map, length}
 use Rattle.vs_design.specs.vs_logic4.specs.declared.digit.Digit.{Digit}
-use Rattle.vs_vcd_lines.specs.declared.dump.ValueChange.{ValueChange}
-use Rattle.vs_vcd_lines.specs.Cuts.{lacks, IsCut}
-use Rattle.vs_vcd_lines.specs.Lines.{change_line, IsSized}
+use Rattle.vs_vcd_beginnings.specs.vs_vcd_lines.specs.declared.dump.ValueChange.{ValueChange}
+use Rattle.vs_vcd_beginnings.specs.vs_vcd_lines.specs.Cuts.{lacks, IsCut}
+use Rattle.vs_vcd_beginnings.specs.vs_vcd_lines.specs.Lines.{change_line, IsSized}
 use Rattle.vs_vcd_beginnings.specs.Beginnings.{Begins}
 use Rattle.vs_vcd_reading.specs.declared.dump.Moment.{Moment}
 use Rattle.vs_vcd_reading.specs.declared.fault.VcdFault.{VcdFault}

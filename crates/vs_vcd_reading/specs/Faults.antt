@@ -2,10 +2,10 @@
 use Rattle.std.specs.Prelude.{◌≡◌, ℕ, ◌≤◌, Bool, true, List, [], ◌∷◌, ◌++◌, length, map}
 use Rattle.std.specs.List.{list_all}
 use Rattle.vs_design.specs.vs_logic4.specs.declared.digit.Digit.{Digit}
-use Rattle.vs_vcd_lines.specs.vs_vcd_writing.specs.Codes.{code}
-use Rattle.vs_vcd_lines.specs.vs_vcd_writing.specs.Text.{text_of, end_of_definitions}
-use Rattle.vs_vcd_lines.specs.vs_vcd_writing.specs.Values.{digit_character}
-use Rattle.vs_vcd_lines.specs.Cuts.{lacks}
+use Rattle.vs_vcd_beginnings.specs.vs_vcd_lines.specs.vs_vcd_writing.specs.Codes.{code}
+use Rattle.vs_vcd_beginnings.specs.vs_vcd_lines.specs.vs_vcd_writing.specs.Text.{text_of, end_of_definitions}
+use Rattle.vs_vcd_beginnings.specs.vs_vcd_lines.specs.vs_vcd_writing.specs.Values.{digit_character}
+use Rattle.vs_vcd_beginnings.specs.vs_vcd_lines.specs.Cuts.{lacks}
 use Rattle.vs_vcd_reading.specs.declared.fault.VcdFault.{VcdFault}
 use Rattle.vs_vcd_reading.specs.declared.fault.VcdFault.TheVariants as f
 use Rattle.vs_vcd_reading.specs.Plain.{PlainDump}

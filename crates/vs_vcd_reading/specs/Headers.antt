@@ -1,7 +1,7 @@
 -- The declarations as they are read: nothing that is promised rests on these.
 use Rattle.std.specs.Prelude.{◌≡◌, ℕ, ◌+◌, ◌-◌, ◌≤◌, true, false, Bool, List, [], ◌∷◌, ◌++◌, map, length}
-use Rattle.vs_vcd_lines.specs.declared.dump.Declaration.{Declaration}
-use Rattle.vs_vcd_lines.specs.declared.dump.Declaration.TheVariants as v
+use Rattle.vs_vcd_beginnings.specs.vs_vcd_lines.specs.declared.dump.Declaration.{Declaration}
+use Rattle.vs_vcd_beginnings.specs.vs_vcd_lines.specs.declared.dump.Declaration.TheVariants as v
 use Rattle.vs_vcd_reading.specs.declared.fault.VcdFault.{VcdFault}
 use Rattle.vs_vcd_reading.specs.declared.fault.VcdFault.TheVariants as f
 use Rattle.vs_vcd_reading.specs.declared.header.Header.{Header}

@@ -2,8 +2,8 @@
 use Rattle.std.specs.Prelude.{◌≡◌, ℕ, ◌≤◌, ◌<◌, ◌==◌, ◌||◌, Bool, false, List, [], ◌∷◌, length, map, slice_index, EachIndex}
 use Rattle.std.specs.List.{list_all}
 use Rattle.vs_design.specs.vs_logic4.specs.declared.digit.Digit.{Digit}
-use Rattle.vs_vcd_lines.specs.vs_vcd_writing.specs.Codes.{code}
-use Rattle.vs_vcd_lines.specs.vs_vcd_writing.specs.Values.{digit_character}
+use Rattle.vs_vcd_beginnings.specs.vs_vcd_lines.specs.vs_vcd_writing.specs.Codes.{code}
+use Rattle.vs_vcd_beginnings.specs.vs_vcd_lines.specs.vs_vcd_writing.specs.Values.{digit_character}
 
 -- a text is of one character from `!` to `~` or more
 pub record AreCodeCharacters (text : List ℕ) : Type 0 where

@@ -4,11 +4,11 @@ use Rattle.std.specs.List.{flat_map}
 use Rattle.vs_design.specs.vs_logic4.specs.declared.digit.Digit.{Digit}
 use Rattle.vs_design.specs.declared.design.ScopeKind.{ScopeKind}
 use Rattle.vs_design.specs.declared.design.ScopeKind.TheVariants.{Module}
-use Rattle.vs_vcd_lines.specs.vs_vcd_writing.specs.Codes.{code}
-use Rattle.vs_vcd_lines.specs.vs_vcd_writing.specs.Text.{text_of, end_of_definitions, time_line, scope_line, kind_word, range_text}
-use Rattle.vs_vcd_lines.specs.declared.dump.ValueChange.{ValueChange}
-use Rattle.vs_vcd_lines.specs.Lines.{span_line, change_line, IsRange, IsSized}
-use Rattle.vs_vcd_lines.specs.Names.{IsName, IsScopeName}
+use Rattle.vs_vcd_beginnings.specs.vs_vcd_lines.specs.vs_vcd_writing.specs.Codes.{code}
+use Rattle.vs_vcd_beginnings.specs.vs_vcd_lines.specs.vs_vcd_writing.specs.Text.{text_of, end_of_definitions, time_line, scope_line, kind_word, range_text}
+use Rattle.vs_vcd_beginnings.specs.vs_vcd_lines.specs.declared.dump.ValueChange.{ValueChange}
+use Rattle.vs_vcd_beginnings.specs.vs_vcd_lines.specs.Lines.{span_line, change_line, IsRange, IsSized}
+use Rattle.vs_vcd_beginnings.specs.vs_vcd_lines.specs.Names.{IsName, IsScopeName}
 use Rattle.vs_vcd_reading.specs.declared.dump.Dump.{Dump}
 use Rattle.vs_vcd_reading.specs.Plain.{PlainDeclaration, PlainDump, PlainMoment, PlainVariable, plain_dump}
 use Rattle.vs_vcd_reading.specs.Plain.{PlainDeclaration as d}

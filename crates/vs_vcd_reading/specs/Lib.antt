@@ -8,4 +8,4 @@ pub mod Stops
 pub mod Kinds
 pub mod Headers
 pub mod Bodies
-pub use Rattle.vs_vcd_lines
+pub use Rattle.vs_vcd_beginnings.specs.vs_vcd_lines

@@ -4,10 +4,10 @@ use Rattle.vs_design.specs.declared.design.ScopeKind.{ScopeKind}
 use Rattle.vs_design.specs.declared.signal.Bounds.{Bounds}
 use Rattle.vs_design.specs.declared.signal.SignalKind.{SignalKind}
 use Rattle.vs_design.specs.declared.timescale.TimeSpan.{TimeSpan}
-use Rattle.vs_vcd_lines.specs.declared.dump.Declaration.{Declaration}
-use Rattle.vs_vcd_lines.specs.declared.dump.Declaration.TheVariants as d
-use Rattle.vs_vcd_lines.specs.declared.dump.ValueChange.{ValueChange}
-use Rattle.vs_vcd_lines.specs.declared.dump.Variable.{Variable as DeclaredVariable}
+use Rattle.vs_vcd_beginnings.specs.vs_vcd_lines.specs.declared.dump.Declaration.{Declaration}
+use Rattle.vs_vcd_beginnings.specs.vs_vcd_lines.specs.declared.dump.Declaration.TheVariants as d
+use Rattle.vs_vcd_beginnings.specs.vs_vcd_lines.specs.declared.dump.ValueChange.{ValueChange}
+use Rattle.vs_vcd_beginnings.specs.vs_vcd_lines.specs.declared.dump.Variable.{Variable as DeclaredVariable}
 use Rattle.vs_vcd_reading.specs.declared.dump.Dump.{Dump}
 use Rattle.vs_vcd_reading.specs.declared.dump.Moment.{Moment}
 

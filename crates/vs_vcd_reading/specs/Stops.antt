@@ -1,6 +1,6 @@
 -- Why the reader stops: nothing that is promised rests on these.
 use Rattle.std.specs.Prelude.{◌≡◌, ◌⊎◌, ℕ, ◌≤◌, true, List, [], ◌++◌, length}
-use Rattle.vs_vcd_lines.specs.Cuts.{lacks, IsCut}
+use Rattle.vs_vcd_beginnings.specs.vs_vcd_lines.specs.Cuts.{lacks, IsCut}
 use Rattle.vs_vcd_reading.specs.declared.fault.VcdFault.{VcdFault}
 use Rattle.vs_vcd_reading.specs.declared.fault.VcdFault.TheVariants as f
 use Rattle.vs_vcd_reading.specs.Faults.{IsOfTime, IsShaped}

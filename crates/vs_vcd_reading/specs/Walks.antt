@@ -1,6 +1,6 @@
 -- Declarations, gone through one by one: nothing that is promised rests on these.
 use Rattle.std.specs.Prelude.{ℕ, zero, suc, Bool, true, false, ◌&&◌, List, [], ◌∷◌}
-use Rattle.vs_vcd_lines.specs.Names.{IsScopeName}
+use Rattle.vs_vcd_beginnings.specs.vs_vcd_lines.specs.Names.{IsScopeName}
 use Rattle.vs_vcd_reading.specs.Plain.{PlainDeclaration}
 use Rattle.vs_vcd_reading.specs.Plain.{PlainDeclaration as d}
 use Rattle.vs_vcd_reading.specs.Layout.{IsPlainVariable}

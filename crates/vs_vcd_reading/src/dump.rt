@@ -1,6 +1,6 @@
 //! What a value change dump says (IEEE 1364-2005, clause 18).
 use vs_design::TimeSpan;
-use vs_vcd_lines::{Declaration, ValueChange};
+use vs_vcd_beginnings::vs_vcd_lines::{Declaration, ValueChange};
 
 /// A time, and the values that are written at it.
 #[derive(Drop)]

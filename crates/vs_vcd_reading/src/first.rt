@@ -1,6 +1,6 @@
 //! The first time of a dump.
 ghost use Rattle.std.specs.Prelude.{◌≡◌, ◌∷◌, ◌++◌, [], length, IsTrue, MatchResult};
-ghost use Rattle.vs_vcd_lines.specs.Lines.{change_line, are_sizes, IsSized};
+ghost use Rattle.vs_vcd_beginnings.specs.vs_vcd_lines.specs.Lines.{change_line, are_sizes, IsSized};
 ghost use Rattle.vs_vcd_reading.specs.Bodies.{AreBegun, IsFirst, IsNoValue, IsUnexpected};
 ghost use Rattle.vs_vcd_reading.specs.Steps.{Place as p};
 ghost use Rattle.vs_vcd_reading.specs.Stops.{IsToldAt};
@@ -11,7 +11,7 @@ use crate::parts::value_goes_on;
 use crate::text::first_line;
 use std::alloc::Global;
 use vs_vcd_beginnings::begins;
-use vs_vcd_lines::{ValueChange, change_of, is_same};
+use vs_vcd_beginnings::vs_vcd_lines::{ValueChange, change_of, is_same};
 
 /// What stands after the first line of a text, which is the wanted one, where there are so many variables.
 fn expected<'t>(text: &'t [u8], wanted: &[u8], count: usize) -> Result<&'t [u8], VcdFault>

@@ -1,6 +1,6 @@
 //! The lines before the body.
 ghost use Rattle.std.specs.Prelude.{◌≡◌, ◌<◌, ◌^◌, ◌∷◌, ◌++◌, [], false, IsTrue, ◌↔◌, MatchResult};
-ghost use Rattle.vs_vcd_lines.specs.Lines.{IsDeclaration};
+ghost use Rattle.vs_vcd_beginnings.specs.vs_vcd_lines.specs.Lines.{IsDeclaration};
 ghost use Rattle.vs_vcd_reading.specs.declared.fault.VcdFault.TheVariants.{Cut, Header as HeaderFault, Memory};
 ghost use Rattle.vs_vcd_reading.specs.Plain.{plain_declaration};
 ghost use Rattle.vs_vcd_reading.specs.Layout.{widths_of};
@@ -15,7 +15,7 @@ use crate::ticks::tick_goes_on;
 use std::alloc::Global;
 use vs_design::{ScopeKind, TimeSpan};
 use vs_vcd_beginnings::begins;
-use vs_vcd_lines::{Declaration, declaration_of, is_same, scope_of, span_of};
+use vs_vcd_beginnings::vs_vcd_lines::{Declaration, declaration_of, is_same, scope_of, span_of};
 
 /// Whether a declaration may stand where a variable may or may not.
 fn may_stand(own: bool, declaration: &Declaration) -> bool

@@ -6,7 +6,7 @@ ghost use Rattle.vs_vcd_reading.specs.Stops.{IsBodyKind, IsOfOtherCode};
 ghost use Rattle.vs_vcd_reading.specs.Kinds.{are_characters, is_character, AreCodeCharacters, IsOtherCode};
 
 use crate::fault::VcdFault;
-use vs_vcd_lines::{cut, number_of};
+use vs_vcd_beginnings::vs_vcd_lines::{cut, number_of};
 
 /// Whether a byte is the character of a digit.
 fn is_digit(byte: u8) -> bool

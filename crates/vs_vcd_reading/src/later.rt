@@ -1,7 +1,7 @@
 //! The later times of a dump.
 ghost use Rattle.std.specs.Prelude.{◌≡◌, ◌<◌, ◌≤◌, ◌^◌, ℕ, false, true, length, IsTrue, ◌↔◌, MatchResult};
-ghost use Rattle.vs_vcd_lines.specs.vs_vcd_writing.specs.Text.{time_line};
-ghost use Rattle.vs_vcd_lines.specs.Lines.{change_line, are_sizes};
+ghost use Rattle.vs_vcd_beginnings.specs.vs_vcd_lines.specs.vs_vcd_writing.specs.Text.{time_line};
+ghost use Rattle.vs_vcd_beginnings.specs.vs_vcd_lines.specs.Lines.{change_line, are_sizes};
 ghost use Rattle.vs_vcd_reading.specs.Layout.{with_change, IsChange};
 ghost use Rattle.vs_vcd_reading.specs.Bodies.{AreAllLater, AreTimed, IsAtTime, IsNoChange};
 ghost use Rattle.vs_vcd_reading.specs.Steps.{Place as p};
@@ -15,7 +15,7 @@ use crate::text::first_line;
 use crate::times::time_goes_on;
 use std::alloc::Global;
 use vs_design::vs_logic4::Vec4;
-use vs_vcd_lines::{ValueChange, change_of, time_of};
+use vs_vcd_beginnings::vs_vcd_lines::{ValueChange, change_of, time_of};
 
 /// The time above the last one that a line is of, where that one doesn't stand alone.
 fn next_time(line: &[u8], last: u64, bare: bool, count: usize) -> Result<u64, VcdFault>

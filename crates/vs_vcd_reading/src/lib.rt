@@ -18,5 +18,5 @@ pub use dump::{Dump, Moment};
 pub use fault::VcdFault;
 pub use laws::{dumps_are_one, faults_are_of_none};
 pub use reading::read;
-pub use vs_vcd_lines;
-pub use vs_vcd_lines::{Declaration, ValueChange, Variable};
+pub use vs_vcd_beginnings::vs_vcd_lines;
+pub use vs_vcd_beginnings::vs_vcd_lines::{Declaration, ValueChange, Variable};

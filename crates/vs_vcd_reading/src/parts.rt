@@ -1,7 +1,7 @@
 //! Beginnings of lines that can stand at a place.
 ghost use Rattle.std.specs.Prelude.{◌≡◌, ◌<◌, ℕ, Bool, List, length, IsTrue, ◌↔◌};
 ghost use Rattle.vs_design.specs.vs_logic4.specs.declared.digit.Digit.{Digit};
-ghost use Rattle.vs_vcd_lines.specs.Lines.{are_sizes};
+ghost use Rattle.vs_vcd_beginnings.specs.vs_vcd_lines.specs.Lines.{are_sizes};
 ghost use Rattle.vs_vcd_reading.specs.Bodies.{IsAtTime};
 ghost use Rattle.vs_vcd_beginnings.specs.Beginnings.{BeginsSomeScope};
 ghost use Rattle.vs_vcd_reading.specs.Steps.{Place as p};

@@ -10,7 +10,7 @@ use crate::header::{read_header, read_tick};
 use crate::later::read_later;
 use std::alloc::{AllocError, Global};
 use vs_design::vs_logic4::Vec4;
-use vs_vcd_lines::ValueChange;
+use vs_vcd_beginnings::vs_vcd_lines::ValueChange;
 
 /// The values of changes, in their order.
 fn values_in(alloc: Global, changes: &[ValueChange]) -> Result<Vec<Vec4>, AllocError>

@@ -1,8 +1,8 @@
 //! The lines of a text.
 ghost use Rattle.std.specs.Prelude.{◌≡◌, true, MatchOption};
-ghost use Rattle.vs_vcd_lines.specs.Cuts.{lacks, IsCut};
+ghost use Rattle.vs_vcd_beginnings.specs.vs_vcd_lines.specs.Cuts.{lacks, IsCut};
 
-use vs_vcd_lines::cut;
+use vs_vcd_beginnings::vs_vcd_lines::cut;
 
 /// The first line of a text without its line feed, and what stands after it; none where no line feed stands in the text.
 pub(crate) fn first_line(text: &[u8]) -> Option<(&[u8], &[u8])>

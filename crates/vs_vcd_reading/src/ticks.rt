@@ -3,8 +3,8 @@ ghost use Rattle.std.specs.Prelude.{IsTrue, ◌↔◌};
 ghost use Rattle.vs_vcd_reading.specs.Steps.{Place as p};
 ghost use Rattle.vs_vcd_reading.specs.Stops.{GoesOn};
 
+use vs_vcd_beginnings::vs_vcd_lines::after;
 use vs_vcd_beginnings::{begins, begins_span};
-use vs_vcd_lines::after;
 
 /// Whether a text is empty, or begins a line that says what a tick stands for.
 pub(crate) fn tick_goes_on(part: &[u8]) -> bool

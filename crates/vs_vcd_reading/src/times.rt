@@ -6,7 +6,7 @@ ghost use Rattle.vs_vcd_reading.specs.Steps.{Place as p};
 ghost use Rattle.vs_vcd_reading.specs.Stops.{GoesOn};
 
 use vs_vcd_beginnings::reaches;
-use vs_vcd_lines::{is_same, time_of};
+use vs_vcd_beginnings::vs_vcd_lines::{is_same, time_of};
 
 /// Whether a text is empty, or begins the line of a time above the last one, where that one doesn't stand alone.
 pub(crate) fn time_goes_on(part: &[u8], last: u64, bare: bool) -> bool

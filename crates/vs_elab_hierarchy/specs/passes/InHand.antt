@@ -7,7 +7,7 @@ use Rattle.vs_scopes.specs.passes.Answers.{Told}
 use Rattle.vs_elab_listed.specs.vs_elab_generate.specs.Reads.{read_inner}
 use Rattle.vs_elab_listed.specs.declared.opened.ListedScope.{ListedScope as FoundScope}
 use Rattle.vs_elab_listed.specs.declared.opened.Numbering.{Numbering}
-use Rattle.vs_elab_entered.specs.declared.entering.NamedModule.{NamedModule}
+use Rattle.vs_elab_scope.specs.vs_elab_entered.specs.declared.entering.NamedModule.{NamedModule}
 use Rattle.vs_elab_hierarchy.specs.declared.opening.Opening.{Opening}
 use Rattle.vs_elab_hierarchy.specs.passes.Opens.{HasInner, HoldsInner, IsReady, OpensInside, OpensInsideNot}
 

@@ -14,10 +14,10 @@ use Rattle.vs_elab_listed.specs.declared.opened.Numbering.{Numbering}
 use Rattle.vs_elab_listed.specs.Outlines.{Line, leave, outline_within, outline_below, outline_of, IsEntry}
 use Rattle.vs_elab_listed.specs.ScopeFaults.{HasConstructFault, HoldsOpeningIn, top_fault}
 use Rattle.vs_elab_listed.specs.Opened.{IsEntered}
-use Rattle.vs_elab_entered.specs.vs_elab_implicit_nets.specs.passes.Nets.{IsNamedAsNet}
-use Rattle.vs_elab_entered.specs.declared.entering.NamedModule.{NamedModule}
-use Rattle.vs_elab_entered.specs.passes.Blocks.{HasEachNamed, AreNamed, Extends}
-use Rattle.vs_elab_entered.specs.passes.Entering.{Lists, before_next, IsSoundInner, module_names}
+use Rattle.vs_elab_scope.specs.vs_elab_entered.specs.vs_elab_implicit_nets.specs.passes.Nets.{IsNamedAsNet}
+use Rattle.vs_elab_scope.specs.vs_elab_entered.specs.declared.entering.NamedModule.{NamedModule}
+use Rattle.vs_elab_scope.specs.vs_elab_entered.specs.passes.Blocks.{HasEachNamed, AreNamed, Extends}
+use Rattle.vs_elab_scope.specs.vs_elab_entered.specs.passes.Entering.{Lists, before_next, IsSoundInner, module_names}
 use Rattle.vs_elab_scope.specs.passes.Own.{AddsLines}
 use Rattle.vs_elab_scope.specs.passes.Adding.{IsPlanned}
 

@@ -16,8 +16,8 @@ use Rattle.vs_design.specs.declared.statement.Aim.TheVariants.{Fixed}
 use Rattle.vs_design.specs.declared.statement.Target.{Target}
 use Rattle.vs_design.specs.declared.statement.Call.{Call}
 use Rattle.vs_design.specs.declared.statement.CallKind.{CallKind}
-use Rattle.vs_strobe.specs.declared.fault.FormatReason.{FormatReason}
-use Rattle.vs_strobe.specs.Pieces.{format_fault}
+use Rattle.vs_scopes.specs.vs_strobe.specs.declared.fault.FormatReason.{FormatReason}
+use Rattle.vs_scopes.specs.vs_strobe.specs.Pieces.{format_fault}
 use Rattle.vs_scopes.specs.vs_width_selects.specs.declared.shape.Shape.{Shape}
 use Rattle.vs_scopes.specs.vs_width_selects.specs.declared.constants.Const.{Const}
 use Rattle.vs_scopes.specs.vs_width_selects.specs.declared.faults.WidthFault.{WidthFault}

@@ -6,9 +6,9 @@ use Rattle.vs_design.specs.Parts.{Parts}
 use Rattle.vs_process.specs.declared.moves.Grain.TheVariants.{Statement, Block}
 use Rattle.vs_process.specs.declared.moves.Move.{Move}
 use Rattle.vs_process.specs.Executions.{after, Legal, is_complete, trace}
-use Rattle.vs_vcd_writing.specs.Codes.{shown, shown_from}
-use Rattle.vs_vcd_writing.specs.Shown.{Shows}
-use Rattle.vs_vcd_writing.specs.Text.{vcd_text}
+use Rattle.vs_kernel.specs.vs_vcd_writing.specs.Codes.{shown, shown_from}
+use Rattle.vs_kernel.specs.vs_vcd_writing.specs.Shown.{Shows}
+use Rattle.vs_kernel.specs.vs_vcd_writing.specs.Text.{vcd_text}
 use Rattle.vs_race_shown.specs.declared.unequal.Unequal.{Unequal}
 
 -- an execution that is permitted at both grains and complete to a moment, and whose dump shows these values then of the signals that are no arrays, in

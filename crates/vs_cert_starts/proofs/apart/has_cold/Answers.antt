@@ -1,5 +1,5 @@
 use Rattle.std.proofs.Common.{option_map, ap, Option}
-use Rattle.vs_certificate.specs.declared.members.Start.{Start}
+use Rattle.vs_cert_facts.specs.vs_certificate.specs.declared.members.Start.{Start}
 use Rattle.vs_rules.specs.Certificates.{start_from}
 use Rattle.vs_rules.specs.Claims.{cold}
 use Rattle.vs_cert_facts.specs.Facts.{kind_seen}

@@ -1,6 +1,6 @@
 use Rattle.std.proofs.Common.{◌↔◌, IsTrue, Some, Option, option_map, refl, ap}
 use Rattle.std.proofs.lemmas.Result.{IfOk-weaker}
-use Rattle.vs_certificate.specs.declared.members.Start.{Start}
+use Rattle.vs_cert_facts.specs.vs_certificate.specs.declared.members.Start.{Start}
 use Rattle.vs_rules.specs.Blocks.{K11, Starts}
 use Rattle.vs_rules.specs.Certificates.{start_from}
 use Rattle.vs_cert_facts.specs.Facts.{kind_seen}

@@ -1,6 +1,6 @@
 use Rattle.std.proofs.Common.{◌↔◌, IsTrue, sym, subst}
 use Rattle.std.specs.Result.{IfOk}
-use Rattle.vs_certificate.specs.declared.members.Start.{Start}
+use Rattle.vs_cert_facts.specs.vs_certificate.specs.declared.members.Start.{Start}
 use Rattle.vs_rules.specs.Blocks.{Starts}
 use Rattle.vs_rules.specs.Claims.{HasStart}
 use Rattle.vs_rules.specs.Certificates.{start_from}

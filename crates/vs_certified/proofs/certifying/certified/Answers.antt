@@ -1,6 +1,6 @@
 use Rattle.std.proofs.Common.{◌≡◌, false, IfErr, subst}
 use Rattle.std.specs.Prelude.{Result, Ok, Err}
-use Rattle.vs_process.specs.declared.moves.Grain.TheVariants.{Statement}
+use Rattle.vs_independence.specs.vs_process.specs.declared.moves.Grain.TheVariants.{Statement}
 use Rattle.vs_cert_check.specs.vs_rules.specs.Certificates.{claims_of}
 use Rattle.vs_cert_check.specs.vs_rules.specs.Verdict.{IsVerdict}
 use Rattle.vs_cert_check.specs.Answers.{verdict_view, HasNumber}

@@ -6,7 +6,7 @@ use Rattle.vs_scopes.specs.Scopes.{inner_of, is_named_as_net}
 use Rattle.vs_scopes.specs.passes.Answers.{Told}
 use Rattle.vs_scopes.proofs.AnswerLemmas.{told_by}
 use Rattle.vs_elab_listed.specs.ScopeFaults.{HasConstructFault}
-use Rattle.vs_elab_entered.specs.vs_elab_implicit_nets.specs.passes.Nets.{IsNamedAsNet}
+use Rattle.vs_elab_scope.specs.vs_elab_entered.specs.vs_elab_implicit_nets.specs.passes.Nets.{IsNamedAsNet}
 use Rattle.vs_elab_hierarchy.specs.passes.Opens.{HasInnerNot}
 use Rattle.vs_elab_hierarchy.proofs.opening.inner_at.Goals as goal
 

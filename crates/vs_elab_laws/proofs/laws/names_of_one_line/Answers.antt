@@ -1,4 +1,4 @@
-use Rattle.vs_lexer.specs.NameLines.{is_one_line}
+use Rattle.vs_syntax.specs.vs_lexer.specs.NameLines.{is_one_line}
 use Rattle.vs_elaborate.specs.Timescales.{timescale_of}
 use Rattle.vs_elab_laws.proofs.GoodScopeLemmas.{design_named}
 use Rattle.vs_elab_laws.proofs.OneLineLemmas.{named_one_line}

@@ -1,5 +1,5 @@
 use Rattle.std.proofs.Common.{[], ◌∷◌, ◌++◌, refl}
-use Rattle.vs_scopes.proofs.AnswerLemmas.{told_part}
+use Rattle.vs_elab_operands.specs.vs_scopes.proofs.AnswerLemmas.{told_part}
 use Rattle.vs_elab_operands.specs.Members.{connected}
 use Rattle.vs_elaborate.specs.passes.Filling.{port_faults, ConnectsNot}
 use Rattle.vs_elaborate.proofs.FillingLemmas.{connects_push, port_of_connected}

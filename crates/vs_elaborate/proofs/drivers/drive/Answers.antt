@@ -1,5 +1,5 @@
 use Rattle.std.proofs.Common.{[], ◌∷◌, ◌++◌, refl, arith}
-use Rattle.vs_scopes.proofs.AnswerLemmas.{told_part}
+use Rattle.vs_elab_operands.specs.vs_scopes.proofs.AnswerLemmas.{told_part}
 use Rattle.vs_elaborate.specs.passes.Filling.{text_faults, DrivesNot}
 use Rattle.vs_elaborate.proofs.FillingLemmas.{drives_push}
 use Rattle.vs_elab_operands.specs.vs_elab_listed.proofs.DeclareLemmas.{any_last}

@@ -1,5 +1,5 @@
 use Rattle.std.proofs.Common.{List, take}
-use Rattle.vs_scopes.specs.Scopes.{Scope}
+use Rattle.vs_elab_operands.specs.vs_scopes.specs.Scopes.{Scope}
 use Rattle.vs_elab_operands.specs.Surroundings.{surroundings_at}
 use Rattle.vs_elab_operands.specs.passes.Views.{AreSites}
 use Rattle.vs_elaborate.specs.passes.Filling.{Fills}

@@ -1,6 +1,6 @@
 use Rattle.std.proofs.Common.{◌≡◌, ℕ, List, sym, subst, refl}
 use Rattle.vs_elab_operands.specs.vs_widths.specs.Names.{meaning_of, nested_names}
-use Rattle.vs_scopes.specs.Scopes.{seen_from}
+use Rattle.vs_elab_operands.specs.vs_scopes.specs.Scopes.{seen_from}
 use Rattle.vs_elab_operands.specs.Surroundings.{surroundings_at}
 use Rattle.vs_elab_operands.specs.passes.Views.{IsSite}
 use Rattle.vs_elab_operands.proofs.BlockLemmas.{got, outward_within, site_names}

@@ -1,8 +1,8 @@
 use Rattle.std.proofs.Common.{◌≡◌, ◌∙◌, ◌+◌, ◌-◌, ◌≤◌, ℕ, List, Option, refl, rules, sym, ap, subst, true, arith}
-use Rattle.vs_process.specs.Executions.{is_complete}
-use Rattle.vs_process.specs.States.{State}
-use Rattle.vs_process.specs.Blocks.{inside_block}
-use Rattle.vs_process.proofs.Results.{on_err}
+use Rattle.vs_run_updates.specs.vs_process.specs.Executions.{is_complete}
+use Rattle.vs_run_updates.specs.vs_process.specs.States.{State}
+use Rattle.vs_run_updates.specs.vs_process.specs.Blocks.{inside_block}
+use Rattle.vs_run_updates.specs.vs_process.proofs.Results.{on_err}
 use Rattle.vs_run_moves.specs.vs_run_steps.specs.Runs.{state_of}
 use Rattle.vs_run_moves.specs.Standing.{Standing, point_of}
 use Rattle.vs_run_moves.specs.vs_run_turns.proofs.Appending.{append_none}

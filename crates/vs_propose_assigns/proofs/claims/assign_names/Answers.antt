@@ -1,5 +1,5 @@
 use Rattle.std.proofs.lemmas.Option.{slice_get-get_or}
-use Rattle.vs_rules.specs.Certificates.{name_from}
+use Rattle.vs_slots_ranges.specs.vs_rules.specs.Certificates.{name_from}
 use Rattle.vs_propose_assigns.specs.Claimed.{name_at}
 use Rattle.vs_propose_assigns.proofs.Written.{one_written, all_written, none_written}
 use Rattle.vs_propose_assigns.proofs.claims.assign_names.Goals as goal

@@ -1,5 +1,5 @@
 use Rattle.std.proofs.Common.{◌≡◌, map, take}
-use Rattle.vs_rules.specs.Certificates.{name_from}
+use Rattle.vs_slots_ranges.specs.vs_rules.specs.Certificates.{name_from}
 use Rattle.vs_propose_assigns.specs.Claimed.{HasTexts, name_at}
 use Rattle.vs_propose_assigns.proofs.claims.assign_names.Given as goal
 

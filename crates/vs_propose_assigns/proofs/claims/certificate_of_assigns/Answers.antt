@@ -1,6 +1,6 @@
 use Rattle.std.proofs.Common.{◌∙◌, ap, map, refl}
 use Rattle.vs_certificate.specs.declared.members.Version.TheVariants.{One}
-use Rattle.vs_rules.specs.Certificates.{claims_of, edge_claim, process_claim}
+use Rattle.vs_slots_ranges.specs.vs_rules.specs.Certificates.{claims_of, edge_claim, process_claim}
 use Rattle.vs_propose_assigns.specs.Claimed.{name_at}
 use Rattle.vs_propose_assigns.specs.Settling.{CanSettle}
 use Rattle.vs_propose_assigns.proofs.Rules.{accepted}

@@ -1,7 +1,7 @@
 use Rattle.std.proofs.Common.{◌≡◌, Some, map, slice_get, ◌∙◌, ap, subst, refl}
 use Rattle.std.proofs.lemmas.Option.{slice_get_read}
-use Rattle.vs_rules.specs.Certificates.{signal_claim}
-use Rattle.vs_rules.specs.Claims.{signal_name}
+use Rattle.vs_slots_ranges.specs.vs_rules.specs.Certificates.{signal_claim}
+use Rattle.vs_slots_ranges.specs.vs_rules.specs.Claims.{signal_name}
 use Rattle.vs_propose_assigns.specs.Claimed.{entry_of}
 use Rattle.vs_propose_assigns.proofs.Written.{one_written, all_written, none_written}
 use Rattle.vs_propose_assigns.proofs.claims.signal_entries.Goals as goal

@@ -1,5 +1,5 @@
 use Rattle.std.proofs.Common.{◌≡◌, map, take}
-use Rattle.vs_rules.specs.Certificates.{signal_claim}
+use Rattle.vs_slots_ranges.specs.vs_rules.specs.Certificates.{signal_claim}
 use Rattle.vs_propose_assigns.specs.Claimed.{HasTexts, entry_of}
 use Rattle.vs_propose_assigns.proofs.claims.signal_entries.Given as goal
 

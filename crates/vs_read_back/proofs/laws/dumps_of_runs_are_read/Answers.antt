@@ -1,5 +1,5 @@
 use Rattle.std.proofs.Common.{◌≡◌, [], subst, sym}
-use Rattle.vs_vcd_law.specs.Conditions.{IsOutlined}
+use Rattle.vs_run_dumps.specs.vs_vcd_law.specs.Conditions.{IsOutlined}
 use Rattle.vs_run_updates.specs.vs_process.specs.declared.moves.Grain.TheVariants.{Statement}
 use Rattle.vs_run_updates.specs.vs_process.specs.Executions.{after, slots}
 use Rattle.vs_run_dumps.specs.ReadBack.{ReadsBack}

@@ -1,5 +1,5 @@
 use Rattle.std.proofs.Common.{refl, subst, arith}
-use Rattle.vs_process.specs.declared.moves.Move.TheVariants.{Evaluate}
+use Rattle.vs_run_active.specs.vs_process.specs.declared.moves.Move.TheVariants.{Evaluate}
 use Rattle.vs_run_assigns.specs.declared.assigns.Evaluated.{Evaluated}
 use Rattle.vs_run_assigns.specs.Outcomes.{HasCome}
 use Rattle.vs_run_steps.specs.Runs.{state_of}

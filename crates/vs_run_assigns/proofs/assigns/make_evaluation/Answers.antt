@@ -1,7 +1,7 @@
 use Rattle.std.proofs.Common.{◌==◌, not, true, Bool, List, sym, ap, subst}
 use Rattle.std.proofs.lemmas.Bool.{eq-eqb, ne_eqb}
-use Rattle.vs_logic4.specs.declared.digit.Digit.{Digit}
-use Rattle.vs_logic4.specs.Planes.{digits_of_planes}
+use Rattle.vs_design.specs.vs_logic4.specs.declared.digit.Digit.{Digit}
+use Rattle.vs_design.specs.vs_logic4.specs.Planes.{digits_of_planes}
 use Rattle.vs_run_steps.specs.Runs.{state_of}
 use Rattle.vs_run_assigns.specs.Evaluations.{IsEvaluation}
 use Rattle.vs_run_assigns.proofs.RunLemmas.{assign_there, run_none, state_none}

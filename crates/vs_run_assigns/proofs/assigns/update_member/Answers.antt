@@ -1,6 +1,6 @@
 use Rattle.std.proofs.Common.{refl, sym}
-use Rattle.vs_process.specs.declared.moves.Move.TheVariants.{Propagate}
-use Rattle.vs_process.specs.States.{settled}
+use Rattle.vs_run_active.specs.vs_process.specs.declared.moves.Move.TheVariants.{Propagate}
+use Rattle.vs_run_active.specs.vs_process.specs.States.{settled}
 use Rattle.vs_run_steps.specs.Runs.{state_of}
 use Rattle.vs_run_assigns.proofs.RunLemmas.{agrees_left, design_of, pending_digits, run_moved, written_then}
 use Rattle.vs_run_assigns.proofs.assigns.update_member.Goals as goal

@@ -1,6 +1,6 @@
 use Rattle.std.proofs.Common.{ℕ, ◌/◌, ◌^◌, List, ◌∙◌, ap₂}
-use Rattle.vs_logic4.specs.declared.digit.Digit.{Digit}
-use Rattle.vs_logic4.specs.Planes.{digits_of_planes}
+use Rattle.vs_design.specs.vs_logic4.specs.declared.digit.Digit.{Digit}
+use Rattle.vs_design.specs.vs_logic4.specs.Planes.{digits_of_planes}
 use Rattle.vs_design.specs.InOrder.{numbered_word}
 use Rattle.vs_run_assigns.proofs.DiffersLemmas.{bits_read}
 use Rattle.vs_run_assigns.proofs.evaluation.bits_of.Goals as goal

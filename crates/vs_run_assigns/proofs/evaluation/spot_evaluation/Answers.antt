@@ -1,7 +1,7 @@
 use Rattle.std.proofs.Common.{◌≡◌, ℕ, not, false, Some, List, length, slice_get, sym, ◌∙◌, ap, subst}
-use Rattle.vs_logic4.specs.declared.digit.Digit.{Digit}
-use Rattle.vs_logic4.specs.Extensions.{length-resized}
-use Rattle.vs_logic4.specs.Vectors.{resized, same_digits}
+use Rattle.vs_design.specs.vs_logic4.specs.declared.digit.Digit.{Digit}
+use Rattle.vs_design.specs.vs_logic4.specs.Extensions.{length-resized}
+use Rattle.vs_design.specs.vs_logic4.specs.Vectors.{resized, same_digits}
 use Rattle.vs_design.specs.declared.design.Assign.{Assign}
 use Rattle.vs_eval_resolved.specs.vs_eval.specs.Values.{value_of}
 use Rattle.vs_run_assigns.specs.Forms.{IsFixed, IsForm}

@@ -1,6 +1,6 @@
 use Rattle.std.proofs.Common.{◌+◌, ◌<◌, refl, sym, ◌∙◌, arith}
 use Rattle.std.proofs.lemmas.Bool.{true≢false}
-use Rattle.vs_process.specs.declared.moves.Move.TheVariants.{Propagate}
+use Rattle.vs_run_active.specs.vs_process.specs.declared.moves.Move.TheVariants.{Propagate}
 use Rattle.vs_run_assigns.proofs.GroupLemmas.{begun_more, done_as, one_done}
 use Rattle.vs_run_assigns.proofs.groups.update_group.Goals as goal
 use Rattle.vs_run_assigns.proofs.groups.update_group.Goals.{then-branch, else-branch}

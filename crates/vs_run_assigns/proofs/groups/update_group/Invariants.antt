@@ -1,5 +1,5 @@
 use Rattle.std.proofs.Common.{◌≡◌, ◌<◌}
-use Rattle.vs_process.specs.declared.moves.Move.TheVariants.{Propagate}
+use Rattle.vs_run_active.specs.vs_process.specs.declared.moves.Move.TheVariants.{Propagate}
 use Rattle.vs_run_steps.specs.Runs.{state_of}
 use Rattle.vs_run_assigns.specs.Members.{members_in}
 use Rattle.vs_run_assigns.specs.MembersMade.{AreDone, HasBegun}

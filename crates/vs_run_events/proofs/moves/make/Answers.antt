@@ -1,6 +1,6 @@
 use Rattle.std.proofs.Common.{List, true, refl, sym, subst}
 use Rattle.vs_design.specs.declared.signal.Signal.{Signal}
-use Rattle.vs_process.specs.vs_flatcode.specs.Spots.{IsSpotIn}
+use Rattle.vs_run_updates.specs.vs_process.specs.vs_flatcode.specs.Spots.{IsSpotIn}
 use Rattle.vs_run_steps.specs.Runs.{state_of}
 use Rattle.vs_run_updates.specs.declared.update.Update.{Update}
 use Rattle.vs_run_updates.specs.Updates.{IsIn}

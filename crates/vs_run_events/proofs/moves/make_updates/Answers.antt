@@ -1,6 +1,6 @@
 use Rattle.std.proofs.Common.{refl, sym, ◌∙◌, subst, arith}
 use Rattle.std.proofs.lemmas.Bool.{true≢false}
-use Rattle.vs_process.specs.States.{State}
+use Rattle.vs_run_updates.specs.vs_process.specs.States.{State}
 use Rattle.vs_run_steps.specs.Runs.{state_of}
 use Rattle.vs_run_steps.specs.vs_run_turns.specs.Turns.{AreMade}
 use Rattle.vs_run_steps.specs.vs_run_turns.proofs.MadeLemmas.{made_then}

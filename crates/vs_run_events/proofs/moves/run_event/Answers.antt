@@ -1,7 +1,7 @@
 use Rattle.std.proofs.Common.{◌≡◌, ℕ, Bool, List, refl, sym, subst, arith}
-use Rattle.vs_process.specs.declared.moves.Move.TheVariants.{Evaluate, Propagate}
-use Rattle.vs_process.specs.Executions.{move_lines}
-use Rattle.vs_process.proofs.Results.{on_err}
+use Rattle.vs_run_updates.specs.vs_process.specs.declared.moves.Move.TheVariants.{Evaluate, Propagate}
+use Rattle.vs_run_updates.specs.vs_process.specs.Executions.{move_lines}
+use Rattle.vs_run_updates.specs.vs_process.proofs.Results.{on_err}
 use Rattle.vs_vcd_writing.specs.Sinks.{AppendsPart}
 use Rattle.vs_run_steps.specs.Runs.{state_of}
 use Rattle.vs_run_steps.proofs.RunsLemmas.{plan_in, plan_out}

@@ -1,4 +1,4 @@
-use Rattle.vs_flatcode.specs.Scripts.{todo_on}
+use Rattle.vs_process.specs.vs_flatcode.specs.Scripts.{todo_on}
 use Rattle.vs_run_processes.proofs.StandingsLemmas.{active_told, others_stay, roused_told, wakes_told, woken_told}
 use Rattle.vs_run_processes.proofs.process.wakes_are_told.Goals as goal
 

@@ -1,7 +1,7 @@
 use Rattle.std.proofs.Common.{◌≡◌, ◌∙◌, ◌+◌, ◌∷◌, ◌++◌, [], ℕ, List, take, sym, ap, subst}
 use Rattle.std.proofs.lemmas.List.{take_more}
 use Rattle.vs_flatcode.specs.Texts.{Text}
-use Rattle.vs_run_processes.specs.Standings.{IsWaitOf}
+use Rattle.vs_run_wakes.specs.vs_run_processes.specs.Standings.{IsWaitOf}
 use Rattle.vs_run_start.specs.Starting.{AreStarted}
 use Rattle.vs_run_start.proofs.StartLemmas.{started_more}
 use Rattle.vs_run_start.proofs.start.processes_of.Goals as goal

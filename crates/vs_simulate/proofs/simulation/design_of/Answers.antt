@@ -1,6 +1,6 @@
 use Rattle.std.proofs.Common.{subst}
 use Rattle.std.proofs.lemmas.Result.{err_from_is_err_and}
-use Rattle.vs_lexer.specs.Tokens.{lexemes}
+use Rattle.vs_syntax.specs.vs_lexer.specs.Tokens.{lexemes}
 use Rattle.vs_syntax.specs.Symbols.{symbols}
 use Rattle.vs_syntax.specs.Derives.{Derives}
 use Rattle.vs_simulate.proofs.simulation.design_of.Goals as goal

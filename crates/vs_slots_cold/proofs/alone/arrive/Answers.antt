@@ -1,6 +1,6 @@
 use Rattle.std.proofs.Common.{◌∙◌, sym, ap}
-use Rattle.vs_law_threads.specs.vs_flatcode.specs.declared.halt.Halt.{Halt}
-use Rattle.vs_law_threads.specs.vs_flatcode.specs.Landings.{next_of}
+use Rattle.vs_rules.specs.vs_law_threads.specs.vs_flatcode.specs.declared.halt.Halt.{Halt}
+use Rattle.vs_rules.specs.vs_law_threads.specs.vs_flatcode.specs.Landings.{next_of}
 use Rattle.vs_slots_cold.proofs.AloneLemmas.{nowhere, further}
 use Rattle.vs_slots_cold.proofs.alone.arrive.Goals as goal
 

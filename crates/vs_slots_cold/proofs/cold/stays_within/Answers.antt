@@ -1,7 +1,7 @@
 use Rattle.std.proofs.Common.{◌↔◌, IsTrue, sym, ap, ◌∙◌}
 use Rattle.std.proofs.lemmas.Result.{IfOk-weaker}
 use Rattle.vs_design.specs.declared.design.Process.{Process}
-use Rattle.vs_law_threads.specs.vs_flatcode.specs.Places.{Todo}
+use Rattle.vs_rules.specs.vs_law_threads.specs.vs_flatcode.specs.Places.{Todo}
 use Rattle.vs_slots_cold.specs.Cold.{IsBehind, SameWritten, StaysWithin}
 use Rattle.vs_slots_cold.proofs.ColdLemmas.{process_at, ran, run_sized, stays_is, stays_not}
 use Rattle.vs_slots_cold.proofs.cold.stays_within.Goals as goal

@@ -1,7 +1,7 @@
 use Rattle.std.proofs.Common.{◌≡◌, ◌<◌, length, ◌∙◌, arith}
 use Rattle.std.proofs.lemmas.Result.{err_from_is_err_and}
 use Rattle.std.proofs.lemmas.List.{length-map}
-use Rattle.vs_vcd_lines.specs.declared.dump.ValueChange.{ValueChange}
+use Rattle.vs_vcd_beginnings.specs.vs_vcd_lines.specs.declared.dump.ValueChange.{ValueChange}
 use Rattle.vs_vcd_reading.specs.Layout.{values_of}
 use Rattle.vs_vcd_reading.specs.Steps.{Place as p}
 use Rattle.vs_vcd_reading.proofs.BodyLemmas.{unended_by, value_bad, value_more, values_end, values_none}

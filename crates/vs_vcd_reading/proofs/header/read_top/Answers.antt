@@ -6,7 +6,7 @@ use Rattle.vs_vcd_reading.proofs.FaultLemmas.{told_bad, told_end}
 use Rattle.vs_vcd_reading.proofs.HeaderLemmas.{top_made, top_other, top_refuses, unended_header}
 use denote.Enum.Bare.{same_true, sameb}
 use Rattle.vs_design.specs.declared.design.ScopeKind.TheVariants.{Module}
-use Rattle.vs_vcd_lines.specs.declared.dump.Declaration.TheVariants as v
+use Rattle.vs_vcd_beginnings.specs.vs_vcd_lines.specs.declared.dump.Declaration.TheVariants as v
 use Rattle.vs_design.specs.contracts.design.ScopeKind.{the_type}
 use Rattle.vs_vcd_reading.proofs.header.read_top.Goals as goal
 

@@ -1,7 +1,7 @@
 use Rattle.std.proofs.Common.{◌<◌, get_or, length, refl, sym, ◌∙◌, arith}
 use Rattle.std.proofs.lemmas.Bool.{false≢true}
 use Rattle.std.proofs.lemmas.Option.{slice_get_read}
-use Rattle.vs_vcd_lines.proofs.ChangeLemmas.{sizes_at}
+use Rattle.vs_vcd_beginnings.specs.vs_vcd_lines.proofs.ChangeLemmas.{sizes_at}
 use Rattle.vs_vcd_reading.proofs.BeginningLemmas.{change_found, change_lacking, none_more, none_yet}
 use Rattle.vs_vcd_reading.proofs.parts.change_goes_on.Goals as goal
 

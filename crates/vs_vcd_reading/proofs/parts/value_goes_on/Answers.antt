@@ -1,5 +1,5 @@
 use Rattle.std.proofs.Common.{get_or, refl}
-use Rattle.vs_vcd_lines.proofs.ChangeLemmas.{sizes_at}
+use Rattle.vs_vcd_beginnings.specs.vs_vcd_lines.proofs.ChangeLemmas.{sizes_at}
 use Rattle.vs_vcd_reading.proofs.BeginningLemmas.{value_tells}
 use Rattle.vs_vcd_reading.proofs.parts.value_goes_on.Goals as goal
 

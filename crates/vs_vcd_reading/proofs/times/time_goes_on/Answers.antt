@@ -2,7 +2,7 @@ use Rattle.std.proofs.Common.{length, sym, ap, ◌∙◌, List, ℕ}
 use Rattle.std.specs.Prelude.{◌==◌}
 use Rattle.std.proofs.lemmas.Bool.{false≢true}
 use Rattle.std.proofs.lemmas.Bool.Decides.{Decides-ltb}
-use Rattle.vs_vcd_lines.proofs.CutLemmas.{eqb_gives}
+use Rattle.vs_vcd_beginnings.specs.vs_vcd_lines.proofs.CutLemmas.{eqb_gives}
 use Rattle.vs_vcd_reading.proofs.TimeLemmas.{bare_on, digits_on, empty_on, hash_on, no_time_on}
 use Rattle.vs_vcd_beginnings.proofs.TextLemmas.{nil_of}
 use Rattle.vs_vcd_reading.proofs.times.time_goes_on.Goals as goal

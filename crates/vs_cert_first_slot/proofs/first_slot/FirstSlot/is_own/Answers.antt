@@ -3,7 +3,7 @@ use Rattle.std.specs.List.{Contains}
 use Rattle.std.proofs.lemmas.Option.{slice_get_read}
 use Rattle.vs_design.specs.declared.signal.Signal.{Signal}
 use Rattle.vs_design.specs.Parts.{Parts}
-use Rattle.vs_rules.specs.Paths.{Writes}
+use Rattle.vs_slots_uses.specs.vs_rules.specs.Paths.{Writes}
 use Rattle.vs_cert_facts.specs.Facts.{Case}
 use Rattle.vs_cert_first_slot.proofs.PlaceLemmas.{own_variable}
 use Rattle.vs_cert_first_slot.proofs.first_slot.FirstSlot.is_own.Goals as goal

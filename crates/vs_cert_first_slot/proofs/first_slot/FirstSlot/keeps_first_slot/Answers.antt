@@ -1,6 +1,6 @@
 use Rattle.std.proofs.Common.{◌↔◌, IsTrue, slice_get, ◌∙◌, ap, subst}
 use Rattle.std.proofs.lemmas.Result.{IfOk-weaker}
-use Rattle.vs_rules.specs.Rules.{K10_Process}
+use Rattle.vs_slots_uses.specs.vs_rules.specs.Rules.{K10_Process}
 use Rattle.vs_cert_facts.specs.Facts.{Case, AreCharts}
 use Rattle.vs_cert_first_slot.specs.FirstSlot.{KeepsFirst}
 use Rattle.vs_cert_first_slot.proofs.SlotLemmas.{of_process, no_process}

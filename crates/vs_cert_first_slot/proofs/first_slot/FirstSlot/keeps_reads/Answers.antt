@@ -1,5 +1,5 @@
 use Rattle.std.proofs.Common.{ℕ, refl, subst}
-use Rattle.vs_rules.specs.Claims.{IsSequential}
+use Rattle.vs_slots_uses.specs.vs_rules.specs.Claims.{IsSequential}
 use Rattle.vs_slots_cones.specs.vs_slots_paths.specs.Reaches.{InSlot0}
 use Rattle.vs_cert_facts.specs.Facts.{Case}
 use Rattle.vs_cert_first_slot.specs.FirstSlot.{ReadsOwn}

@@ -1,5 +1,5 @@
 use Rattle.std.proofs.Common.{◌↔◌, IsTrue, false, sym, subst}
-use Rattle.vs_certificate.specs.declared.members.SignalMode.{SignalMode}
+use Rattle.vs_cert_facts.specs.vs_certificate.specs.declared.members.SignalMode.{SignalMode}
 use Rattle.vs_design.specs.Parts.{Parts}
 use Rattle.vs_slots_uses.specs.vs_rules.specs.Certificates.{mode_from}
 use Rattle.vs_slots_uses.specs.vs_rules.specs.Claims.{HasKind}

@@ -1,6 +1,6 @@
 use Rattle.std.proofs.Common.{List, subst, ◌∙◌, arith}
 use Rattle.std.proofs.lemmas.Result.{on_ok_weaker}
-use Rattle.vs_run_processes.specs.declared.process.Process.{Process}
+use Rattle.vs_run_wakes.specs.vs_run_processes.specs.declared.process.Process.{Process}
 use Rattle.vs_run_tables.specs.Groups.{meaning}
 use Rattle.vs_run_active.specs.Wakes.{AreWalked}
 use Rattle.vs_run_tables.specs.Watchers.{between}

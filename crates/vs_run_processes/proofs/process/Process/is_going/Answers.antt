@@ -1,6 +1,6 @@
 use Rattle.std.proofs.Common.{◌∙◌, sym, ap}
-use Rattle.vs_flatcode.specs.Places.{is_going}
-use Rattle.vs_flatcode.specs.Scripts.{todo_on}
+use Rattle.vs_process.specs.vs_flatcode.specs.Places.{is_going}
+use Rattle.vs_process.specs.vs_flatcode.specs.Scripts.{todo_on}
 use Rattle.vs_run_processes.specs.declared.process.Wait.{Wait}
 use Rattle.vs_run_processes.specs.Standings.{place_by}
 use Rattle.vs_run_processes.proofs.StandingsLemmas.{going_told}

@@ -1,7 +1,7 @@
 use Rattle.std.proofs.Common.{◌≡◌, ◌∙◌, sym, ap}
-use Rattle.vs_flatcode.specs.declared.gait.Gait.TheVariants.{Inside}
-use Rattle.vs_flatcode.specs.Places.{is_inside}
-use Rattle.vs_flatcode.specs.Scripts.{todo_on}
+use Rattle.vs_process.specs.vs_flatcode.specs.declared.gait.Gait.TheVariants.{Inside}
+use Rattle.vs_process.specs.vs_flatcode.specs.Places.{is_inside}
+use Rattle.vs_process.specs.vs_flatcode.specs.Scripts.{todo_on}
 use Rattle.vs_run_processes.specs.declared.process.Wait.{Wait}
 use Rattle.vs_run_processes.specs.declared.process.Wait.TheVariants.{Nothing}
 use Rattle.vs_run_processes.specs.Standings.{place_by}

@@ -1,7 +1,7 @@
 use Rattle.std.proofs.Common.{◌∙◌, ℕ, ap}
-use Rattle.vs_flatcode.specs.declared.gait.Gait.TheVariants.{Fresh}
-use Rattle.vs_flatcode.specs.Places.{Todo, active_at}
-use Rattle.vs_flatcode.specs.Scripts.{todo_on}
+use Rattle.vs_process.specs.vs_flatcode.specs.declared.gait.Gait.TheVariants.{Fresh}
+use Rattle.vs_process.specs.vs_flatcode.specs.Places.{Todo, active_at}
+use Rattle.vs_process.specs.vs_flatcode.specs.Scripts.{todo_on}
 use Rattle.vs_run_processes.proofs.process.Process.start.Goals as goal
 
 pub returns-clause-place : goal.returns-clause-place

@@ -1,7 +1,7 @@
 use Rattle.std.proofs.Common.{◌≡◌, ◌+◌, List, ◌∷◌, drop, length, ap, subst, arith, refl}
 use Rattle.std.proofs.lemmas.List.{drop_all}
 use Rattle.vs_flatcode.specs.declared.changes.Change.{Change}
-use Rattle.vs_run_tables.specs.declared.tables.Tables.{Tables}
+use Rattle.vs_run_active.specs.vs_run_tables.specs.declared.tables.Tables.{Tables}
 use Rattle.vs_run_active.specs.Wakes.{Wakes}
 use Rattle.vs_run_wakes.proofs.ChangesLemmas.{next_change}
 use Rattle.vs_run_writes.proofs.WritesLemmas.{left_at_first, left_at_next, next_named, none_left}

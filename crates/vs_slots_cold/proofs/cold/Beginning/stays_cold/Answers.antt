@@ -1,7 +1,7 @@
 use Rattle.std.proofs.Common.{◌↔◌, IsTrue, subst}
 use Rattle.std.proofs.lemmas.Result.{IfOk-weaker}
 use Rattle.vs_design.specs.Parts.{Parts}
-use Rattle.vs_law_threads.specs.vs_flatcode.specs.Places.{Todo}
+use Rattle.vs_rules.specs.vs_law_threads.specs.vs_flatcode.specs.Places.{Todo}
 use Rattle.vs_slots_cold.specs.Cold.{AreFirst, IsBehind, StaysAtEach, StaysWithin}
 use Rattle.vs_slots_cold.proofs.ColdLemmas.{each_is, none_is}
 use Rattle.vs_slots_cold.proofs.cold.Beginning.stays_cold.Goals as goal
