@@ -10,3 +10,6 @@ mod devices;
 mod short;
 #[cfg(test)]
 mod words;
+
+/// The tests alone do something.
+fn main() {}

@@ -18,3 +18,6 @@ mod running;
 mod runs;
 #[cfg(test)]
 mod sinks;
+
+/// The tests alone do something.
+fn main() {}
