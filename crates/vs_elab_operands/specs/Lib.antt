@@ -7,4 +7,4 @@ pub mod passes
 pub use Rattle.vs_elab_listed
 pub use Rattle.vs_scopes
 pub use Rattle.vs_widths
-pub use Rattle.vs_width_selects
+pub use Rattle.vs_scopes.specs.vs_width_selects

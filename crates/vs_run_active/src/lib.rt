@@ -13,5 +13,5 @@ pub use assigns::Assigns;
 pub use events::Events;
 pub use processes::Processes;
 pub use queue::Queue;
-pub use vs_process;
 pub use vs_run_tables;
+pub use vs_run_wakes::vs_run_processes::vs_process;
