@@ -8,15 +8,15 @@ use Rattle.vs_design.specs.declared.range.BitRange.{BitRange}
 use Rattle.vs_design.specs.declared.signal.Signal.{Signal}
 use Rattle.vs_design.specs.declared.statement.EventTerm.{EventTerm}
 use Rattle.vs_design.specs.Parts.{Parts}
-use Rattle.vs_law_writes.specs.Writes.{statement_writes}
-use Rattle.vs_slots_ranges.specs.vs_rules.specs.Paths.{Has, text_reads}
-use Rattle.vs_cert_facts.specs.vs_slots_paths.specs.Ranges.{HasSignal, HasTermAt}
-use Rattle.vs_cert_facts.specs.vs_slots_paths.specs.Reaches.{Chart}
-use Rattle.vs_cert_facts.specs.vs_slots_paths.proofs.RangeLemmas.{first_in, later_in, in_either}
-use Rattle.vs_slots_ranges.specs.Places.{bit}
-use Rattle.vs_slots_ranges.specs.Ranges.{Cover}
-use Rattle.vs_slots_ranges.proofs.Words.{parted}
-use Rattle.vs_slots_signals.specs.Signals.{AreOf}
+use Rattle.vs_threads.specs.Writes.{statement_writes}
+use Rattle.vs_drivers.specs.vs_rules.specs.Paths.{Has, text_reads}
+use Rattle.vs_claims.specs.vs_maps.specs.Ranges.{HasSignal, HasTermAt}
+use Rattle.vs_claims.specs.vs_maps.specs.Reaches.{Chart}
+use Rattle.vs_claims.specs.vs_maps.proofs.RangeLemmas.{first_in, later_in, in_either}
+use Rattle.vs_drivers.specs.Places.{bit}
+use Rattle.vs_drivers.specs.Ranges.{Cover}
+use Rattle.vs_drivers.proofs.Words.{parted}
+use Rattle.vs_drivers.specs.Signals.{AreOf}
 use Rattle.vs_cert_blocks.specs.Blocks.{IsNamed, AreNamed, AreWrittenFirst, AreOfOrNamed, IsSignalFirst, AreSignalsFirst, KeepsText}
 use Rattle.vs_cert_blocks.specs.Walks.{IsWrittenFirst}
 

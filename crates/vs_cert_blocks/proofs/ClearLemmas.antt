@@ -2,11 +2,11 @@
 use Rattle.std.proofs.Common.{◌≡◌, ℕ, ◌↔◌, Bool, false, IsTrue, List, sym, subst, arith}
 use Rattle.std.specs.List.{Contains}
 use Rattle.vs_design.specs.declared.range.BitRange.{BitRange}
-use Rattle.vs_flatcode.specs.Ways.{none}
-use Rattle.vs_reach_local.specs.vs_reach.specs.Reached.{Reached}
-use Rattle.vs_slots_ranges.specs.vs_rules.specs.Paths.{Bit}
-use Rattle.vs_cert_facts.specs.vs_slots_paths.specs.Reaches.{Chart, pause_at}
-use Rattle.vs_cert_facts.specs.vs_slots_paths.specs.Ranges.{reads_at, HasSignal}
+use Rattle.vs_process.specs.Ways.{none}
+use Rattle.vs_graph.specs.Reached.{Reached}
+use Rattle.vs_drivers.specs.vs_rules.specs.Paths.{Bit}
+use Rattle.vs_claims.specs.vs_maps.specs.Reaches.{Chart, pause_at}
+use Rattle.vs_claims.specs.vs_maps.specs.Ranges.{reads_at, HasSignal}
 use Rattle.vs_cert_blocks.specs.Starts.{IsClearFrom}
 use Rattle.vs_cert_blocks.specs.Walks.{open_tos, IsClear}
 

@@ -7,14 +7,14 @@ use Rattle.std.proofs.lemmas.Option.{slice_get_within, get_or_from_slice_get}
 use Rattle.vs_design.specs.vs_logic4.proofs.Basics.{element_of}
 use Rattle.vs_design.specs.declared.range.BitRange.{BitRange}
 use Rattle.vs_design.specs.Uses.{covers}
-use Rattle.vs_flatcode.specs.Stops.{stop_at, stop_statement, stops_tos}
-use Rattle.vs_flatcode.specs.Ways.{none}
-use Rattle.vs_slots_ranges.specs.vs_rules.specs.Paths.{Bit, Has}
-use Rattle.vs_cert_facts.specs.vs_slots_paths.specs.Reaches.{Chart, pause_at, pause_of}
-use Rattle.vs_cert_facts.specs.vs_slots_paths.specs.Ranges.{ranges_of, reads_at, HasSignal}
-use Rattle.vs_cert_facts.specs.vs_slots_paths.proofs.RangeLemmas.{in_either}
-use Rattle.vs_slots_ranges.proofs.Words.{parted}
-use Rattle.vs_slots_signals.specs.Signals.{AreOf}
+use Rattle.vs_process.specs.Stops.{stop_at, stop_statement, stops_tos}
+use Rattle.vs_process.specs.Ways.{none}
+use Rattle.vs_drivers.specs.vs_rules.specs.Paths.{Bit, Has}
+use Rattle.vs_claims.specs.vs_maps.specs.Reaches.{Chart, pause_at, pause_of}
+use Rattle.vs_claims.specs.vs_maps.specs.Ranges.{ranges_of, reads_at, HasSignal}
+use Rattle.vs_claims.specs.vs_maps.proofs.RangeLemmas.{in_either}
+use Rattle.vs_drivers.proofs.Words.{parted}
+use Rattle.vs_drivers.specs.Signals.{AreOf}
 use Rattle.vs_cert_blocks.specs.Early.{AreEarly, IsScanned, IsUnseen}
 use Rattle.vs_cert_blocks.specs.Walks.{surely_at, is_at_once, open_tos, statement_sure, sure_at, AreWoken, IsUnwritten, begins, goes_on, IsClear, IsWrittenFirst}
 use Rattle.vs_cert_blocks.proofs.CornerLemmas.{below_or}

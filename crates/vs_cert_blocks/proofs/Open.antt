@@ -8,17 +8,17 @@ use Rattle.vs_design.specs.declared.statement.Statement.{Statement}
 use Rattle.vs_design.specs.declared.statement.Statement.TheOpen.{Statement-F}
 use Rattle.vs_design.specs.declared.statement.Statement.TheViews.{out-Statement}
 use Rattle.vs_design.specs.Uses.{covers, has_bit, has_word, joined}
-use Rattle.vs_flatcode.specs.Stops.{LeadsIn, stop_at, stop_statement, stops_tos}
-use Rattle.vs_reach_local.specs.vs_reach.specs.Reached as reach
-use Rattle.vs_slots_ranges.specs.vs_rules.specs.Blocks.{is_sure, statement_surely}
-use Rattle.vs_slots_ranges.specs.vs_rules.specs.Paths.{Bit}
-use Rattle.vs_cert_facts.specs.vs_slots_paths.specs.Reaches.{Chart, places, pause_of}
-use Rattle.vs_cert_facts.specs.vs_slots_paths.proofs.RangeLemmas.{first_in, later_in}
-use Rattle.vs_slots_ranges.specs.Places.{bit}
-use Rattle.vs_slots_signals.specs.Signals.{AreOf}
+use Rattle.vs_process.specs.Stops.{LeadsIn, stop_at, stop_statement, stops_tos}
+use Rattle.vs_graph.specs.Reached as reach
+use Rattle.vs_drivers.specs.vs_rules.specs.Blocks.{is_sure, statement_surely}
+use Rattle.vs_drivers.specs.vs_rules.specs.Paths.{Bit}
+use Rattle.vs_claims.specs.vs_maps.specs.Reaches.{Chart, places, pause_of}
+use Rattle.vs_claims.specs.vs_maps.proofs.RangeLemmas.{first_in, later_in}
+use Rattle.vs_drivers.specs.Places.{bit}
+use Rattle.vs_drivers.specs.Signals.{AreOf}
 use Rattle.vs_cert_blocks.specs.Corners.{Alike, AlikePlaces, AlikeWords}
 use Rattle.vs_cert_blocks.specs.Inside.{open_in}
-use Rattle.vs_cert_facts.specs.vs_slots_paths.specs.Ranges.{ranges_of}
+use Rattle.vs_claims.specs.vs_maps.specs.Ranges.{ranges_of}
 use Rattle.vs_cert_blocks.specs.Walks.{surely_at, is_at_once, open_tos, AreWoken, IsUnwritten, begins, goes_on, IsClear, IsWrittenFirst, fixed_range, statement_sure, HaveSure, HaveSureOf}
 
 -- ---- what is sure to be written

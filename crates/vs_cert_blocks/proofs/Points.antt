@@ -7,27 +7,27 @@ use Rattle.vs_design.specs.declared.design.Process.{Process}
 use Rattle.vs_design.specs.declared.range.BitRange.{BitRange}
 use Rattle.vs_design.specs.Parts.{Parts}
 use Rattle.vs_design.specs.Uses.{is_of}
-use Rattle.vs_flatcode.specs.Places.{perform, turns, Todo}
-use Rattle.vs_flatcode.specs.Steps.{Next, on, after, wait}
-use Rattle.vs_flatcode.specs.Stops.{Stop, stop_at, stop_statement, stops_tos, next_statement, IsText}
-use Rattle.vs_flatcode.specs.Ways.{Pause, none, delay, event, next_by}
-use Rattle.vs_slots_ranges.specs.vs_rules.specs.vs_law_threads.specs.Blocks.{outputs_for}
-use Rattle.vs_slots_ranges.specs.vs_rules.specs.vs_law_threads.specs.Threads.{todo_reads}
-use Rattle.vs_law_writes.specs.Writes.{statement_writes}
-use Rattle.vs_cert_facts.specs.vs_process.specs.declared.moves.Grain.{Grain}
-use Rattle.vs_cert_facts.specs.vs_process.specs.Executions.{is_combinational}
-use Rattle.vs_slots_ranges.specs.vs_rules.specs.Blocks.{todo_surely, has_late_effect, K5}
-use Rattle.vs_slots_ranges.specs.vs_rules.specs.Blocks as rule
-use Rattle.vs_slots_ranges.specs.vs_rules.specs.Claims.{Claims, IsBlock}
-use Rattle.vs_slots_ranges.specs.vs_rules.specs.Paths.{Bit, ListsSignal, Writes, is_plain, reads_for}
-use Rattle.vs_slots_ranges.specs.vs_rules.specs.Points.{Goes}
-use Rattle.vs_cert_facts.specs.vs_slots_paths.specs.Ranges.{HasSignal}
-use Rattle.vs_cert_facts.specs.vs_slots_paths.specs.Reaches.{Chart, pause_of}
-use Rattle.vs_cert_facts.specs.vs_slots_paths.proofs.EachPoint.{reads_here}
-use Rattle.vs_cert_facts.specs.vs_slots_paths.proofs.EachWalk.{terms_exact}
-use Rattle.vs_cert_facts.specs.vs_slots_paths.proofs.RangeLemmas.{has_signal, lists_signal}
-use Rattle.vs_cert_facts.specs.vs_slots_paths.proofs.Texts.{place_of, place_back, step_on, step_back, control_on, behind_step}
-use Rattle.vs_slots_ranges.proofs.Words.{parted}
+use Rattle.vs_process.specs.Places.{perform, turns, Todo}
+use Rattle.vs_process.specs.Steps.{Next, on, after, wait}
+use Rattle.vs_process.specs.Stops.{Stop, stop_at, stop_statement, stops_tos, next_statement, IsText}
+use Rattle.vs_process.specs.Ways.{Pause, none, delay, event, next_by}
+use Rattle.vs_drivers.specs.vs_rules.specs.vs_threads.specs.Blocks.{outputs_for}
+use Rattle.vs_drivers.specs.vs_rules.specs.vs_threads.specs.Threads.{todo_reads}
+use Rattle.vs_threads.specs.Writes.{statement_writes}
+use Rattle.vs_claims.specs.vs_process.specs.declared.moves.Grain.{Grain}
+use Rattle.vs_claims.specs.vs_process.specs.Executions.{is_combinational}
+use Rattle.vs_drivers.specs.vs_rules.specs.Blocks.{todo_surely, has_late_effect, K5}
+use Rattle.vs_drivers.specs.vs_rules.specs.Blocks as rule
+use Rattle.vs_drivers.specs.vs_rules.specs.Claims.{Claims, IsBlock}
+use Rattle.vs_drivers.specs.vs_rules.specs.Paths.{Bit, ListsSignal, Writes, is_plain, reads_for}
+use Rattle.vs_drivers.specs.vs_rules.specs.Points.{Goes}
+use Rattle.vs_claims.specs.vs_maps.specs.Ranges.{HasSignal}
+use Rattle.vs_claims.specs.vs_maps.specs.Reaches.{Chart, pause_of}
+use Rattle.vs_claims.specs.vs_maps.proofs.EachPoint.{reads_here}
+use Rattle.vs_claims.specs.vs_maps.proofs.EachWalk.{terms_exact}
+use Rattle.vs_claims.specs.vs_maps.proofs.RangeLemmas.{has_signal, lists_signal}
+use Rattle.vs_claims.specs.vs_maps.proofs.Texts.{place_of, place_back, step_on, step_back, control_on, behind_step}
+use Rattle.vs_drivers.proofs.Words.{parted}
 use Rattle.vs_cert_blocks.specs.Blocks.{KeepsBlock, BlocksByPlaces}
 use Rattle.vs_cert_blocks.specs.Walks.{surely_at, has_late_effect_at, is_at_once, is_open, open_tos, IsUnwritten, begins, goes_on}
 

@@ -2,8 +2,8 @@
 use Rattle.std.proofs.Common.{◌≡◌, ℕ, inl, inr, ◌↔◌, List, [], ◌∷◌, map, sym, subst, arith}
 use Rattle.std.specs.List.{Contains}
 use Rattle.vs_design.specs.declared.range.BitRange.{BitRange}
-use Rattle.vs_cert_facts.specs.vs_slots_paths.specs.Ranges.{HasSignal}
-use Rattle.vs_cert_facts.specs.vs_slots_paths.proofs.RangeLemmas.{first_in, later_in, in_either}
+use Rattle.vs_claims.specs.vs_maps.specs.Ranges.{HasSignal}
+use Rattle.vs_claims.specs.vs_maps.proofs.RangeLemmas.{first_in, later_in, in_either}
 
 abbrev signals : List BitRange → List ℕ
 signals rs = map (λ (r : BitRange). r.signal) rs

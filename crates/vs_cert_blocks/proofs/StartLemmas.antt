@@ -8,10 +8,10 @@ use Rattle.std.specs.Ordering.{nat_cmp}
 use Rattle.std.proofs.lemmas.Map.Lookups.{exact_unsigned}
 use Rattle.std.proofs.lemmas.Map.Views.{tells_apart}
 use Rattle.std.proofs.lemmas.Option.{same_Some}
-use Rattle.vs_flatcode.specs.Stops.{stop_at, stop_statement, stops_tos}
-use Rattle.vs_reach_local.specs.vs_reach.specs.Reached as reach
-use Rattle.vs_slots_ranges.specs.vs_rules.specs.Paths.{Bit}
-use Rattle.vs_cert_facts.specs.vs_slots_paths.specs.Reaches.{Chart, pause_of}
+use Rattle.vs_process.specs.Stops.{stop_at, stop_statement, stops_tos}
+use Rattle.vs_graph.specs.Reached as reach
+use Rattle.vs_drivers.specs.vs_rules.specs.Paths.{Bit}
+use Rattle.vs_claims.specs.vs_maps.specs.Reaches.{Chart, pause_of}
 use Rattle.vs_cert_blocks.specs.Early.{IsScanned}
 use Rattle.vs_cert_blocks.specs.Starts.{ArePut, ArePutAt, AreStarts, DecidesAt, IsClearFrom, IsJoin}
 use Rattle.vs_cert_blocks.specs.Walks.{surely_at, is_at_once, open_tos, AreWoken, IsUnwritten, begins, goes_on, IsWrittenFirst}

@@ -5,16 +5,16 @@ use Rattle.vs_design.specs.declared.design.Process.{Process}
 use Rattle.vs_design.specs.declared.range.BitRange.{BitRange}
 use Rattle.vs_design.specs.declared.statement.EventTerm.{EventTerm}
 use Rattle.vs_design.specs.Parts.{Parts}
-use Rattle.vs_flatcode.specs.Stops.{Stop, IsText}
-use Rattle.vs_law_writes.specs.Writes.{statement_writes}
-use Rattle.vs_cert_facts.specs.vs_process.specs.declared.moves.Grain.{Grain}
-use Rattle.vs_cert_facts.specs.vs_process.specs.declared.moves.Grain.TheVariants as g
-use Rattle.vs_cert_facts.specs.vs_process.specs.Executions.{is_combinational}
-use Rattle.vs_slots_ranges.specs.vs_rules.specs.Blocks.{K5}
-use Rattle.vs_slots_ranges.specs.vs_rules.specs.Claims.{Claims, IsBlock}
-use Rattle.vs_slots_ranges.specs.vs_rules.specs.Paths.{Bit, IsBit, Has, text_reads}
-use Rattle.vs_cert_facts.specs.vs_slots_paths.specs.Ranges.{HasSignal, HasTermAt, statement_at}
-use Rattle.vs_cert_facts.specs.vs_slots_paths.specs.Reaches.{Chart, IsPlace}
+use Rattle.vs_process.specs.Stops.{Stop, IsText}
+use Rattle.vs_threads.specs.Writes.{statement_writes}
+use Rattle.vs_claims.specs.vs_process.specs.declared.moves.Grain.{Grain}
+use Rattle.vs_claims.specs.vs_process.specs.declared.moves.Grain.TheVariants as g
+use Rattle.vs_claims.specs.vs_process.specs.Executions.{is_combinational}
+use Rattle.vs_drivers.specs.vs_rules.specs.Blocks.{K5}
+use Rattle.vs_drivers.specs.vs_rules.specs.Claims.{Claims, IsBlock}
+use Rattle.vs_drivers.specs.vs_rules.specs.Paths.{Bit, IsBit, Has, text_reads}
+use Rattle.vs_claims.specs.vs_maps.specs.Ranges.{HasSignal, HasTermAt, statement_at}
+use Rattle.vs_claims.specs.vs_maps.specs.Reaches.{Chart, IsPlace}
 use Rattle.vs_cert_blocks.specs.Walks.{has_late_effect_at, IsWrittenFirst}
 
 -- no place that is a point has a `<=`, a `$strobe` or a `$finish`

@@ -2,11 +2,11 @@
 use Rattle.std.specs.Prelude.{ℕ, ◌≡◌, ◌≤◌, List}
 use Rattle.std.specs.List.{Contains}
 use Rattle.vs_design.specs.declared.range.BitRange.{BitRange}
-use Rattle.vs_flatcode.specs.Stops.{stops_tos}
-use Rattle.vs_flatcode.specs.Ways.{none}
-use Rattle.vs_slots_ranges.specs.vs_rules.specs.Paths.{Bit, Has}
-use Rattle.vs_cert_facts.specs.vs_slots_paths.specs.Reaches.{Chart, pause_at}
-use Rattle.vs_cert_facts.specs.vs_slots_paths.specs.Ranges.{reads_at, HasSignal}
+use Rattle.vs_process.specs.Stops.{stops_tos}
+use Rattle.vs_process.specs.Ways.{none}
+use Rattle.vs_drivers.specs.vs_rules.specs.Paths.{Bit, Has}
+use Rattle.vs_claims.specs.vs_maps.specs.Reaches.{Chart, pause_at}
+use Rattle.vs_claims.specs.vs_maps.specs.Ranges.{reads_at, HasSignal}
 use Rattle.vs_cert_blocks.specs.Walks.{IsWoken, IsWrittenFirst}
 
 -- a range is one of some, and its signal isn't among some

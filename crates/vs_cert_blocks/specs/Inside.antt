@@ -2,8 +2,8 @@
 use Rattle.std.specs.Prelude.{ℕ, ◌<◌, Bool, true, false, List, [], get_or, if◌then◌else◌}
 use Rattle.std.specs.List.{Contains, All}
 use Rattle.std.proofs.lemmas.List.Elements.{All-nil, All-contains, Contains-get_or}
-use Rattle.vs_flatcode.specs.Stops.{LeadsIn, Stop, stop_at, stop_statement, stops_tos}
-use Rattle.vs_slots_ranges.specs.vs_rules.specs.Paths.{Bit}
+use Rattle.vs_process.specs.Stops.{LeadsIn, Stop, stop_at, stop_statement, stops_tos}
+use Rattle.vs_drivers.specs.vs_rules.specs.Paths.{Bit}
 use Rattle.vs_cert_blocks.specs.Walks.{is_open, open_tos}
 
 all_below : (xs : List ℕ) (n : ℕ) → ((q : ℕ) → Contains xs q → q < n) → All (λ q. q < n) xs

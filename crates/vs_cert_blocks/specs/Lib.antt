@@ -4,4 +4,4 @@ pub mod Starts
 pub mod Corners
 pub mod Inside
 pub mod Blocks
-pub use Rattle.vs_flatcode
+pub use Rattle.vs_process

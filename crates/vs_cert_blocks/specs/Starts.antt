@@ -3,9 +3,9 @@ use Rattle.std.specs.Prelude.{ℕ, ◌≡◌, ◌⊎◌, Option, Some, None, Lis
 use Rattle.std.specs.BTreeMap.{BTreeMap, get}
 use Rattle.std.specs.List.{Contains}
 use Rattle.std.specs.Ordering.{nat_cmp}
-use Rattle.vs_reach_local.specs.vs_reach.specs.Reached.{Reached}
-use Rattle.vs_slots_ranges.specs.vs_rules.specs.Paths.{Bit}
-use Rattle.vs_cert_facts.specs.vs_slots_paths.specs.Reaches.{Chart}
+use Rattle.vs_graph.specs.Reached.{Reached}
+use Rattle.vs_drivers.specs.vs_rules.specs.Paths.{Bit}
+use Rattle.vs_claims.specs.vs_maps.specs.Reaches.{Chart}
 use Rattle.vs_cert_blocks.specs.Walks.{open_tos, IsClear, IsWrittenFirst}
 
 -- wherever walks lead from some places on which nothing is sure to write a bit, no bit of its signal is read, and there is no control

@@ -11,12 +11,12 @@ use Rattle.vs_design.specs.declared.statement.Statement.{Statement}
 use Rattle.vs_design.specs.declared.statement.Statement.TheOpen.{Statement-F}
 use Rattle.vs_design.specs.declared.statement.Statement.TheViews.{out-Statement}
 use Rattle.vs_design.specs.Uses.{joined, slice_range}
-use Rattle.vs_flatcode.specs.Stops.{Stop, stop_at, stop_statement, stops_tos}
-use Rattle.vs_flatcode.specs.Ways.{Pause, none, delay, event}
-use Rattle.vs_slots_ranges.specs.vs_rules.specs.Blocks.{statement_surely, is_late_effect}
-use Rattle.vs_slots_ranges.specs.vs_rules.specs.Paths.{Bit}
-use Rattle.vs_cert_facts.specs.vs_slots_paths.specs.Reaches.{Chart, IsPlace, pause_at, pause_of}
-use Rattle.vs_cert_facts.specs.vs_slots_paths.specs.Ranges.{ranges_of, statement_at, reads_at, HasSignal}
+use Rattle.vs_process.specs.Stops.{Stop, stop_at, stop_statement, stops_tos}
+use Rattle.vs_process.specs.Ways.{Pause, none, delay, event}
+use Rattle.vs_drivers.specs.vs_rules.specs.Blocks.{statement_surely, is_late_effect}
+use Rattle.vs_drivers.specs.vs_rules.specs.Paths.{Bit}
+use Rattle.vs_claims.specs.vs_maps.specs.Reaches.{Chart, IsPlace, pause_at, pause_of}
+use Rattle.vs_claims.specs.vs_maps.specs.Ranges.{ranges_of, statement_at, reads_at, HasSignal}
 use Rattle.vs_cert_blocks.specs.declared.bits.Bit as b
 
 -- a bit as it is kept

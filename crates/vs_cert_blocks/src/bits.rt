@@ -3,12 +3,12 @@ ghost use Rattle.std.specs.Prelude.{◌≡◌};
 ghost use Rattle.std.specs.List.{list_any};
 ghost use Rattle.vs_design.specs.declared.statement.Statement.TheViews.{out-Statement};
 ghost use Rattle.vs_design.specs.Uses.{covers, slice_range};
-ghost use Rattle.vs_flatcode.specs.Stops.{statement_view};
-ghost use Rattle.vs_slots_ranges.specs.vs_rules.specs.Blocks.{is_sure, statement_surely, is_late_effect};
+ghost use Rattle.vs_process.specs.Stops.{statement_view};
+ghost use Rattle.vs_drivers.specs.vs_rules.specs.Blocks.{is_sure, statement_surely, is_late_effect};
 ghost use Rattle.vs_cert_blocks.specs.Walks.{bit_view, surely_at, has_late_effect_at};
 
 use vs_design::{Aim, BitRange, CallKind, Slice, Statement, bits_from};
-use vs_slots_ranges::has;
+use vs_drivers::has;
 
 /// A bit of a signal, by its word and its place in the word.
 #[derive(Clone, Copy)]

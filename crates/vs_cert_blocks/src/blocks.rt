@@ -1,11 +1,11 @@
 //! Whether a combinational block keeps the rule K5, by its process and its map.
 ghost use Rattle.std.specs.Prelude.{ℕ, ◌≡◌, ◌↔◌, ◌⊎◌, false, map, IfOk, OnOk, IsTrue};
 ghost use Rattle.std.specs.List.{Contains};
-ghost use Rattle.vs_reach_local.specs.Clear.{AreClear};
-ghost use Rattle.vs_cert_facts.specs.vs_process.specs.declared.moves.Grain.TheVariants as g;
-ghost use Rattle.vs_cert_facts.specs.vs_slots_paths.specs.Ranges.{HasSignal, statement_at};
-ghost use Rattle.vs_cert_facts.specs.vs_slots_paths.specs.Reaches.{places, IsPlace};
-ghost use Rattle.vs_slots_ranges.specs.Ranges.{Cover};
+ghost use Rattle.vs_graph.specs.Clear.{AreClear};
+ghost use Rattle.vs_claims.specs.vs_process.specs.declared.moves.Grain.TheVariants as g;
+ghost use Rattle.vs_claims.specs.vs_maps.specs.Ranges.{HasSignal, statement_at};
+ghost use Rattle.vs_claims.specs.vs_maps.specs.Reaches.{places, IsPlace};
+ghost use Rattle.vs_drivers.specs.Ranges.{Cover};
 ghost use Rattle.vs_design.specs.declared.range.BitRange.{BitRange};
 ghost use Rattle.vs_design.specs.declared.statement.EventTerm.{EventTerm};
 ghost use Rattle.vs_cert_blocks.specs.Blocks.{IsQuiet, AreOfOrNamed, IsSignalFirst, AreSignalsFirst, KeepsText, KeepsBlock};
@@ -16,14 +16,12 @@ use crate::early::early_ranges;
 use crate::starts::starts;
 use crate::walks::{Walks, statement_at, sure, woken};
 use std::alloc::{AllocError, Global};
-use vs_cert_facts::vs_process::{Grain, is_combinational};
-use vs_cert_facts::vs_slots_paths::{Tables, terms, text_reads};
+use vs_claims::vs_maps::{Tables, terms, text_reads};
+use vs_claims::vs_process::{Grain, is_combinational};
 use vs_design::{BitRange, Design, EventTerm, Process};
-use vs_law_writes::statement_writes;
-use vs_reach_local::clear_marks;
-use vs_reach_local::vs_reach::{Rule, all_keep};
-use vs_slots_ranges::covers;
-use vs_slots_signals::{BySignal, SignalSet};
+use vs_drivers::{BySignal, SignalSet, covers};
+use vs_graph::{Rule, all_keep, clear_marks};
+use vs_threads::statement_writes;
 
 // The places of a map.
 #[derive(Drop)]

@@ -2,15 +2,15 @@
 ghost use Rattle.std.specs.Prelude.{ℕ, suc, ◌≡◌, ◌-◌, ◌≤◌, ◌↔◌, ◌⊎◌, IfOk, OnOk, IsTrue};
 ghost use Rattle.std.specs.List.{Contains};
 ghost use Rattle.vs_design.specs.declared.range.BitRange as range;
-ghost use Rattle.vs_cert_facts.specs.vs_slots_paths.specs.Ranges.{HasSignal};
+ghost use Rattle.vs_claims.specs.vs_maps.specs.Ranges.{HasSignal};
 ghost use Rattle.vs_cert_blocks.specs.Early.{AreEarly, IsUnseen};
 ghost use Rattle.vs_cert_blocks.specs.Walks.{sure_at, AreReads, AreWoken};
 
 use crate::walks::{is_at_once, push_sure, row, statement_at};
 use std::alloc::{AllocError, Global};
-use vs_cert_facts::vs_slots_paths::Tables;
+use vs_claims::vs_maps::Tables;
 use vs_design::BitRange;
-use vs_slots_signals::SignalSet;
+use vs_drivers::SignalSet;
 
 /// The least of some numbers and another one.
 pub(crate) fn least_of(xs: &[usize], start: usize) -> usize

@@ -11,4 +11,4 @@ mod walks;
 
 pub use blocks::keeps_process;
 pub use rule::{blocks_by_places, keeps_block};
-pub use vs_flatcode;
+pub use vs_process;

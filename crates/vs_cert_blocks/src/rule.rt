@@ -1,11 +1,11 @@
 //! The rule K5 of a process, on the facts of a certificate.
 ghost use Rattle.std.specs.Prelude.{◌↔◌, IfOk, IsTrue};
-ghost use Rattle.vs_slots_ranges.specs.vs_rules.specs.Blocks.{K5};
+ghost use Rattle.vs_drivers.specs.vs_rules.specs.Blocks.{K5};
 ghost use Rattle.vs_cert_blocks.specs.Blocks.{BlocksByPlaces};
 
 use crate::blocks::keeps_process;
 use std::alloc::{AllocError, Global};
-use vs_cert_facts::Facts;
+use vs_claims::Facts;
 
 /// A process keeps the rule K5 exactly where `keeps_process` says so of its text, its map and the grain; what is no block keeps it.
 pub fn blocks_by_places()

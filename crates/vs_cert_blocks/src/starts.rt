@@ -7,9 +7,9 @@ use crate::early::{are_up_to, greatest_of, least_of, noted};
 use crate::walks::{is_at_once, push_sure, row, statement_at};
 use std::alloc::{AllocError, Global};
 use std::collections::BTreeMap;
-use vs_cert_facts::vs_slots_paths::Tables;
+use vs_claims::vs_maps::Tables;
 use vs_design::BitRange;
-use vs_slots_signals::SignalSet;
+use vs_drivers::SignalSet;
 
 // Gives a signal a place, where it has none yet and isn't among some.
 fn put_start(

@@ -3,15 +3,15 @@ ghost use Rattle.std.specs.Prelude.{ℕ, ◌≡◌, ◌++◌, ◌<◌, ◌↔◌
 ghost use Rattle.std.specs.List.{Contains};
 ghost use Rattle.vs_design.specs.Uses.{joined};
 ghost use Rattle.vs_design.specs.declared.statement.Statement.TheViews.{out-Statement};
-ghost use Rattle.vs_flatcode.specs.Stops.{LeadsIn, statement_view, stop_at, stop_statement};
-ghost use Rattle.vs_flatcode.specs.Ways.{none};
-ghost use Rattle.vs_cert_facts.specs.vs_slots_paths.specs.Reaches.{places, pause_at};
-ghost use Rattle.vs_slots_ranges.specs.Places.{bit};
+ghost use Rattle.vs_process.specs.Stops.{LeadsIn, statement_view, stop_at, stop_statement};
+ghost use Rattle.vs_process.specs.Ways.{none};
+ghost use Rattle.vs_claims.specs.vs_maps.specs.Reaches.{places, pause_at};
+ghost use Rattle.vs_drivers.specs.Places.{bit};
 ghost use Rattle.vs_cert_blocks.specs.Early.{AreEarly};
 ghost use Rattle.vs_cert_blocks.specs.Starts.{AreStarts, IsClearFrom};
-ghost use Rattle.vs_reach_local.specs.Clear.{AreClear};
+ghost use Rattle.vs_graph.specs.Clear.{AreClear};
 ghost use Rattle.vs_cert_blocks.specs.Inside.{open_in};
-ghost use Rattle.vs_cert_facts.specs.vs_slots_paths.specs.Ranges.{ranges_of, HasSignal};
+ghost use Rattle.vs_claims.specs.vs_maps.specs.Ranges.{ranges_of, HasSignal};
 ghost use Rattle.vs_cert_blocks.specs.Walks.{bit_view, is_open, open_tos, row_at, fixed_range, statement_sure};
 ghost use Rattle.vs_cert_blocks.specs.Walks.{IsClear, IsWrittenFirst, AreWoken, AreReads, HaveSure, WakesFrom};
 
@@ -19,11 +19,10 @@ use crate::bits::{Bit, any_has, slice_range, surely_at};
 use crate::corners::{alike_until, alike_words_until};
 use std::alloc::{AllocError, Global};
 use std::collections::BTreeMap;
-use vs_cert_facts::vs_slots_paths::{Pause, Tables};
+use vs_claims::vs_maps::{Pause, Tables};
 use vs_design::{Aim, BitRange, Statement};
-use vs_reach_local::vs_reach::{Family, Graph, gather};
-use vs_reach_local::walk;
-use vs_slots_signals::BySignal;
+use vs_drivers::BySignal;
+use vs_graph::{Family, Graph, gather, walk};
 
 /// The statement that is done at a place, where there is one.
 pub(crate) fn statement_at<'a>(tables: &'a Tables<'a>, place: usize) -> Option<&'a Statement>

@@ -5,9 +5,9 @@ use Rattle.std.proofs.lemmas.List.{length-map, map-append, take_more}
 use Rattle.std.proofs.lemmas.List.Elements.{All-nil, All-cons, All-append}
 use Rattle.std.proofs.lemmas.Simd.{map-map}
 use Rattle.vs_design.specs.Parts.{Parts}
-use Rattle.vs_cert_starts.specs.vs_rules.specs.Claims.{Claims, Name}
-use Rattle.vs_cert_starts.specs.vs_rules.specs.Verdict.{numbers, subjects}
-use Rattle.vs_cert_writers.specs.vs_reach.specs.Verdicts.{IsFirst}
+use Rattle.vs_rules_of_starts.specs.vs_rules.specs.Claims.{Claims, Name}
+use Rattle.vs_rules_of_starts.specs.vs_rules.specs.Verdict.{numbers, subjects}
+use Rattle.vs_rules_of_signals.specs.vs_graph.specs.Verdicts.{IsFirst}
 use Rattle.vs_cert_check.specs.declared.verdict.Broken.{Broken}
 use Rattle.vs_cert_check.specs.Broken.{FirstBroken, asked, broken_view, told_at, AreListed}
 use Rattle.vs_cert_check.specs.Verdicts.{KeepsAt, AllKeptBelow}

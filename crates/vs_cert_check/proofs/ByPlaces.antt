@@ -1,6 +1,6 @@
 -- Rules of points as rules of the places of a map.
-use Rattle.vs_cert_starts.specs.vs_rules.specs.Paths.{WritesNow, WritesLater}
-use Rattle.vs_cert_writers.specs.vs_slots_paths.proofs.EachPoint.{all_points}
+use Rattle.vs_rules_of_starts.specs.vs_rules.specs.Paths.{WritesNow, WritesLater}
+use Rattle.vs_rules_of_signals.specs.vs_maps.proofs.EachPoint.{all_points}
 use Rattle.vs_cert_check.specs.Places.{RulesByPlaces}
 
 pub rules_by_places : RulesByPlaces

@@ -5,12 +5,12 @@ use Rattle.std.proofs.lemmas.Option.{same_Some, slice_get-map}
 use Rattle.std.proofs.Math.Nat.{le-suc_iff}
 use Rattle.std.proofs.lemmas.List.{length-map}
 use Rattle.vs_design.specs.Parts.{Parts}
-use Rattle.vs_cert_writers.specs.vs_reach.specs.Verdicts.{IsFirst, IsLeast}
-use Rattle.vs_cert_starts.specs.vs_rules.specs.Claims.{Claims, Name}
-use Rattle.vs_cert_starts.specs.vs_rules.specs.Verdict.{Keeps, KeepsAll, subjects}
-use Rattle.vs_cert_starts.specs.vs_rules.specs.Verdict as verdict
-use Rattle.vs_cert_names.specs.declared.subjects.Subject.{Subject}
-use Rattle.vs_cert_names.specs.Subjects.{subject_view}
+use Rattle.vs_rules_of_signals.specs.vs_graph.specs.Verdicts.{IsFirst, IsLeast}
+use Rattle.vs_rules_of_starts.specs.vs_rules.specs.Claims.{Claims, Name}
+use Rattle.vs_rules_of_starts.specs.vs_rules.specs.Verdict.{Keeps, KeepsAll, subjects}
+use Rattle.vs_rules_of_starts.specs.vs_rules.specs.Verdict as verdict
+use Rattle.vs_claims.specs.declared.subjects.Subject.{Subject}
+use Rattle.vs_claims.specs.Subjects.{subject_view}
 use Rattle.vs_cert_check.specs.declared.verdict.Broken.{Broken}
 use Rattle.vs_cert_check.specs.Broken.{broken_view, name_of, told_at}
 use Rattle.vs_cert_check.specs.Verdicts.{rule_of, KeepsAt, AllKeptBelow}

@@ -7,9 +7,9 @@ use Rattle.vs_design.specs.declared.design.Assign.{Assign}
 use Rattle.vs_design.specs.declared.design.Process.{Process}
 use Rattle.vs_design.specs.declared.signal.Signal.{Signal}
 use Rattle.vs_design.specs.Parts.{Parts}
-use Rattle.vs_law_rules.specs.vs_process.proofs.Lists.{all_slice}
-use Rattle.vs_cert_starts.specs.vs_rules.specs.Claims.{Claims, Name, all_names, signal_name, assign_name, process_name}
-use Rattle.vs_cert_starts.specs.vs_rules.specs.Verdict.{Subject, signal, assign, process, listed, numbers, subjects, place_of}
+use Rattle.vs_law_rules.specs.vs_process.proofs.ProcessLists.{all_slice}
+use Rattle.vs_rules_of_starts.specs.vs_rules.specs.Claims.{Claims, Name, all_names, signal_name, assign_name, process_name}
+use Rattle.vs_rules_of_starts.specs.vs_rules.specs.Verdict.{Subject, signal, assign, process, listed, numbers, subjects, place_of}
 use Rattle.vs_cert_check.specs.Answers.{IsOfDesign}
 
 of_numbers : (d : Parts) (f : ℕ → Subject) (bound : ℕ) → ((v : ℕ) → v < bound → IsOfDesign d (f v)) → (first n : ℕ) → first + n ≤ bound →

@@ -2,8 +2,8 @@
 use Rattle.std.proofs.Common.{◌≡◌, ℕ, zero, suc, ◌<◌, ◌+◌, length, refl, sym, ◌∙◌, subst, arith}
 use Rattle.std.proofs.lemmas.Option.{same_Some, slice_get_within}
 use Rattle.vs_design.specs.Parts.{Parts}
-use Rattle.vs_cert_starts.specs.vs_rules.specs.Claims.{Claims}
-use Rattle.vs_cert_starts.specs.vs_rules.specs.Verdict.{Rule, k1, k2, k3, k4, k5, k6, k7, k8, k9, k10, k11, number, subjects, Keeps, KeepsAll}
+use Rattle.vs_rules_of_starts.specs.vs_rules.specs.Claims.{Claims}
+use Rattle.vs_rules_of_starts.specs.vs_rules.specs.Verdict.{Rule, k1, k2, k3, k4, k5, k6, k7, k8, k9, k10, k11, number, subjects, Keeps, KeepsAll}
 use Rattle.vs_cert_check.specs.Verdicts.{rule_of, KeepsAt, LeastIsVerdict}
 
 -- the number of a rule from 0 on

@@ -3,9 +3,9 @@ use Rattle.std.proofs.Common.{◌≡◌, ℕ, zero, suc, ◌+◌, ◌<◌, ◌�
 use Rattle.std.proofs.lemmas.Option.{none-some, slice_get_cases}
 use Rattle.std.proofs.lemmas.Bool.{false≢true}
 use Rattle.vs_design.specs.Parts.{Parts}
-use Rattle.vs_cert_starts.specs.vs_rules.specs.Claims.{Claims, Kind, Start, block, edges, delays, IsBlock, is_block_kind, blocks_of, kind_for, kind_of}
-use Rattle.vs_cert_starts.specs.vs_rules.specs.Verdict.{numbers}
-use Rattle.vs_cert_first_slot.specs.vs_slots_cones.specs.Wires.{IsWiringOf, wiring}
+use Rattle.vs_rules_of_starts.specs.vs_rules.specs.Claims.{Claims, Kind, Start, block, edges, delays, IsBlock, is_block_kind, blocks_of, kind_for, kind_of}
+use Rattle.vs_rules_of_starts.specs.vs_rules.specs.Verdict.{numbers}
+use Rattle.vs_rules_of_processes.specs.vs_drivers.specs.Wires.{IsWiringOf, wiring}
 use Rattle.vs_cert_check.specs.Marks.{marks_of}
 
 -- a kind is that of a block exactly where the test says so

@@ -1,8 +1,8 @@
 -- Verdicts as they are told.
 use Rattle.std.specs.Prelude.{◌-◌, ◌<◌, ◌≤◌, length}
 use Rattle.vs_design.specs.Parts.{Parts}
-use Rattle.vs_cert_starts.specs.vs_rules.specs.Claims.{Claims}
-use Rattle.vs_cert_starts.specs.vs_rules.specs.Verdict.{Subject, signal, assign, process, listed, Verdict, yes_verdict, no_verdict, IsVerdict}
+use Rattle.vs_rules_of_starts.specs.vs_rules.specs.Claims.{Claims}
+use Rattle.vs_rules_of_starts.specs.vs_rules.specs.Verdict.{Subject, signal, assign, process, listed, Verdict, yes_verdict, no_verdict, IsVerdict}
 use Rattle.vs_cert_check.specs.declared.verdict.Verdict as v
 use Rattle.vs_cert_check.specs.declared.verdict.Verdict.TheVariants as answers
 use Rattle.vs_cert_check.specs.Verdicts.{rule_of}

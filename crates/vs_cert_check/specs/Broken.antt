@@ -1,8 +1,8 @@
 -- All that is broken, as it is told.
 use Rattle.std.specs.Prelude.{ℕ, zero, suc, ◌≡◌, ◌⊎◌, Option, Some, None, List, [], ◌∷◌, ◌++◌, length, map, slice_get}
 use Rattle.vs_design.specs.Parts.{Parts}
-use Rattle.vs_cert_starts.specs.vs_rules.specs.Claims.{Claims, Name}
-use Rattle.vs_cert_starts.specs.vs_rules.specs.Verdict.{Subject, numbers, subjects, place_of}
+use Rattle.vs_rules_of_starts.specs.vs_rules.specs.Claims.{Claims, Name}
+use Rattle.vs_rules_of_starts.specs.vs_rules.specs.Verdict.{Subject, numbers, subjects, place_of}
 use Rattle.vs_cert_check.specs.declared.verdict.Broken.{Broken}
 use Rattle.vs_cert_check.specs.declared.verdict.Told.{Told}
 use Rattle.vs_cert_check.specs.Answers.{IsTold}

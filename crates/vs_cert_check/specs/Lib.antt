@@ -4,4 +4,4 @@ pub mod Broken
 pub mod Marks
 pub mod Means
 pub mod Places
-pub use Rattle.vs_cert_starts.specs.vs_rules
+pub use Rattle.vs_rules_of_starts.specs.vs_rules

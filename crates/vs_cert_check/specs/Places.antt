@@ -2,11 +2,11 @@
 use Rattle.std.specs.Prelude.{ℕ, ◌≡◌, ◌↔◌, Some, List, slice_get}
 use Rattle.vs_design.specs.declared.design.Process.{Process}
 use Rattle.vs_design.specs.Parts.{Parts}
-use Rattle.vs_cert_blocks.specs.vs_flatcode.specs.Places.{Todo}
-use Rattle.vs_cert_blocks.specs.vs_flatcode.specs.Stops.{Stop, IsText}
-use Rattle.vs_cert_writers.specs.vs_slots_paths.specs.Reaches.{Chart, IsPlace}
-use Rattle.vs_cert_starts.specs.vs_rules.specs.Paths.{WritesNow, WritesLater}
-use Rattle.vs_cert_starts.specs.vs_rules.specs.Rules.{NeverNow, NeverLater}
+use Rattle.vs_cert_blocks.specs.vs_process.specs.Places.{Todo}
+use Rattle.vs_cert_blocks.specs.vs_process.specs.Stops.{Stop, IsText}
+use Rattle.vs_rules_of_signals.specs.vs_maps.specs.Reaches.{Chart, IsPlace}
+use Rattle.vs_rules_of_starts.specs.vs_rules.specs.Paths.{WritesNow, WritesLater}
+use Rattle.vs_rules_of_starts.specs.vs_rules.specs.Rules.{NeverNow, NeverLater}
 
 -- what a process never writes, as K3 asks, is what the places of its map never write
 pub record AreByPlaces (d : Parts) (i : ℕ) (t : Chart) (at : ℕ → Todo) : Type 0 where

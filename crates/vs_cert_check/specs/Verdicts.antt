@@ -1,11 +1,11 @@
 -- The rules by numbers.
 use Rattle.std.specs.Prelude.{ℕ, zero, suc, ◌≡◌, ◌<◌, Some, None, length, slice_get}
 use Rattle.vs_design.specs.Parts.{Parts}
-use Rattle.vs_cert_starts.specs.vs_rules.specs.Claims.{Name}
-use Rattle.vs_cert_starts.specs.vs_rules.specs.Claims.{Claims}
-use Rattle.vs_cert_starts.specs.vs_rules.specs.Verdict.{Rule, k1, k2, k3, k4, k5, k6, k7, k8, k9, k10, k11, Subject, subjects, Keeps, place_of}
-use Rattle.vs_cert_starts.specs.vs_rules.specs.Verdict.{Disciplined, Breaks}
-use Rattle.vs_cert_writers.specs.vs_reach.specs.Verdicts.{IsLeast}
+use Rattle.vs_rules_of_starts.specs.vs_rules.specs.Claims.{Name}
+use Rattle.vs_rules_of_starts.specs.vs_rules.specs.Claims.{Claims}
+use Rattle.vs_rules_of_starts.specs.vs_rules.specs.Verdict.{Rule, k1, k2, k3, k4, k5, k6, k7, k8, k9, k10, k11, Subject, subjects, Keeps, place_of}
+use Rattle.vs_rules_of_starts.specs.vs_rules.specs.Verdict.{Disciplined, Breaks}
+use Rattle.vs_rules_of_signals.specs.vs_graph.specs.Verdicts.{IsLeast}
 
 -- the rule of a number, from 0 on
 abbrev pub rule_of : ℕ → Rule

@@ -10,5 +10,7 @@ mod verdict;
 pub use judging::{check, check_all};
 pub use laws::{least_is_verdict, rules_by_places};
 pub use verdict::{Broken, Told, Verdict};
-pub use vs_cert_delays::{closed_are_kept, keeps_delays, keeps_residues, residues_by_places};
-pub use vs_cert_starts::vs_rules;
+pub use vs_rules_of_processes::{
+    closed_are_kept, keeps_delays, keeps_residues, residues_by_places,
+};
+pub use vs_rules_of_starts::vs_rules;

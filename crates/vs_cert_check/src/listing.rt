@@ -3,17 +3,17 @@ ghost use Rattle.std.specs.Prelude.{ℕ, ◌≡◌, ◌<◌, ◌≤◌, ◌++◌
 ghost use Rattle.std.specs.List.{All};
 ghost use Rattle.vs_cert_check.specs.Broken.{broken_view, told_at, AreListed, FirstBroken, IsListed};
 ghost use Rattle.vs_cert_check.specs.Verdicts.{KeepsAt, AllKeptBelow};
-ghost use Rattle.vs_cert_names.specs.Subjects.{subject_view};
-ghost use Rattle.vs_cert_writers.specs.vs_reach.specs.Verdicts.{IsLeast};
-ghost use Rattle.vs_cert_starts.specs.vs_rules.specs.Verdict.{numbers, subjects};
+ghost use Rattle.vs_claims.specs.Subjects.{subject_view};
+ghost use Rattle.vs_rules_of_signals.specs.vs_graph.specs.Verdicts.{IsLeast};
+ghost use Rattle.vs_rules_of_starts.specs.vs_rules.specs.Verdict.{numbers, subjects};
 
 use crate::judging::{BEFORE, OfRule, first_starts};
 use crate::sheet::Sheet;
 use crate::verdict::Broken;
 use std::alloc::{AllocError, Global};
-use vs_cert_names::{Subject, name_of};
-use vs_cert_order::vs_cert_facts::Facts;
-use vs_cert_writers::vs_reach::Rule;
+use vs_claims::{Subject, name_of};
+use vs_rules_of_signals::vs_claims::Facts;
+use vs_rules_of_signals::vs_graph::Rule;
 
 /// The first things below a number that break a rule, at most so many.
 pub(crate) fn breakers<R: Rule>(

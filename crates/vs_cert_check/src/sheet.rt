@@ -2,34 +2,29 @@
 ghost use Rattle.std.specs.Prelude.{ℕ, ◌≡◌, ◌<◌, ◌↔◌, length, IfOk, IsTrue};
 ghost use Rattle.vs_cert_check.specs.Answers.{IsOfDesign};
 ghost use Rattle.vs_cert_check.specs.Verdicts.{rule_of};
-ghost use Rattle.vs_cert_names.specs.Subjects.{subject_view};
-ghost use Rattle.vs_cert_writers.specs.Writers.{texts_in};
-ghost use Rattle.vs_cert_starts.specs.vs_rules.specs.Rules.{K10_Process};
-ghost use Rattle.vs_cert_starts.specs.vs_rules.specs.Blocks.{K5};
-ghost use Rattle.vs_cert_starts.specs.vs_rules.specs.Verdict.{Keeps, k11};
-ghost use Rattle.vs_cert_starts.specs.vs_rules.specs.Verdict as verdict;
+ghost use Rattle.vs_claims.specs.Subjects.{subject_view};
+ghost use Rattle.vs_rules_of_signals.specs.Writers.{texts_in};
+ghost use Rattle.vs_rules_of_starts.specs.vs_rules.specs.Rules.{K10_Process};
+ghost use Rattle.vs_rules_of_starts.specs.vs_rules.specs.Blocks.{K5};
+ghost use Rattle.vs_rules_of_starts.specs.vs_rules.specs.Verdict.{Keeps, k11};
+ghost use Rattle.vs_rules_of_starts.specs.vs_rules.specs.Verdict as verdict;
 ghost use Rattle.vs_cert_check.specs.Marks.{marks_of};
-ghost use Rattle.vs_cert_first_slot.specs.vs_slots_cones.specs.Wires.{wiring};
+ghost use Rattle.vs_rules_of_processes.specs.vs_drivers.specs.Wires.{wiring};
 
 use std::alloc::{AllocError, Global};
 use vs_cert_blocks::keeps_block;
-use vs_cert_delays::keeps_delays;
-use vs_cert_delays::vs_slots::Slots;
-use vs_cert_edges::vs_slots_fanout::WriteClasses;
-use vs_cert_edges::{keeps_edges, keeps_readings};
-use vs_cert_first_slot::FirstSlot;
-use vs_cert_first_slot::vs_slots_cones::Cones;
-use vs_cert_first_slot::vs_slots_uses::Uses;
-use vs_cert_names::{
+use vs_cert_roots::vs_drivers::Copies;
+use vs_cert_roots::{Entries, FirstWrites, keeps_first_root, keeps_root};
+use vs_claims::{
     Subject, keeps_assign_name, keeps_listed_name, keeps_process_name, keeps_signal_name,
 };
-use vs_cert_order::vs_cert_facts::Facts;
-use vs_cert_order::{keeps_assign_order, keeps_process_order};
-use vs_cert_roots::vs_slots_copies::Copies;
-use vs_cert_roots::{Entries, FirstWrites, keeps_first_root, keeps_root};
-use vs_cert_starts::vs_slots_cold::Beginning;
-use vs_cert_starts::{Starts, keeps_start_by};
-use vs_cert_writers::{keeps_mode, keeps_writers};
+use vs_rules_of_processes::vs_drivers::Cones;
+use vs_rules_of_processes::vs_maps::Uses;
+use vs_rules_of_processes::vs_slots::Slots;
+use vs_rules_of_processes::{FirstSlot, WriteClasses, keeps_delays, keeps_edges, keeps_readings};
+use vs_rules_of_signals::vs_claims::Facts;
+use vs_rules_of_signals::{keeps_assign_order, keeps_mode, keeps_process_order, keeps_writers};
+use vs_rules_of_starts::{Beginning, Starts, keeps_start_by};
 
 /// A design and its certificate, with the tables in which the rules look things up.
 #[derive(Drop)]

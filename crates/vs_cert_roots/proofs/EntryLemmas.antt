@@ -13,11 +13,11 @@ use Rattle.vs_design.specs.Parts.{Parts}
 use Rattle.vs_rules.specs.Certificates.{claims_of, edge_claim}
 use Rattle.vs_rules.specs.Claims.{Name, Claims, EdgeClaim, IsSignalNamed, IsRootOf, signal_name, times_in}
 use Rattle.vs_rules.specs.Rules.{IsEdgeSignal}
-use Rattle.vs_slots_copies.specs.Copies.{IsOnly}
-use Rattle.vs_slots_copies.specs.vs_slots_paths.specs.Indexes.{AreRows, row_of}
-use Rattle.vs_cert_ranks.specs.vs_cert_facts.specs.Facts.{IsRootAt}
+use Rattle.vs_drivers.specs.Copies.{IsOnly}
+use Rattle.vs_drivers.specs.vs_maps.specs.Indexes.{AreRows, row_of}
+use Rattle.vs_rules_of_signals.specs.vs_claims.specs.Facts.{IsRootAt}
 use Rattle.vs_cert_roots.specs.Entries.{NamesEntry, HasEntries}
-use Rattle.vs_slots_copies.proofs.ListLemmas.{same_read}
+use Rattle.vs_drivers.proofs.ListLemmas.{same_read}
 use Rattle.vs_cert_roots.proofs.ListLemmas.{nothing_more, appended, in_one}
 
 -- ---- an entry by its place

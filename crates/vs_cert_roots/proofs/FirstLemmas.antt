@@ -2,21 +2,21 @@
 use Rattle.std.proofs.Common.{◌≡◌, ℕ, ◌<◌, ◌≤◌, ◌⊎◌, inl, inr, List, length, sym, ◌∙◌, ap, subst, arith}
 use Rattle.vs_design.specs.vs_logic4.proofs.Basics.{there}
 use Rattle.vs_design.specs.Parts.{Parts}
-use Rattle.vs_process.specs.vs_flatcode.specs.Places.{Todo}
+use Rattle.vs_process.specs.Places.{Todo}
 use Rattle.vs_rules.specs.Claims.{Claims, IsRoot}
 use Rattle.vs_rules.specs.Constants.{bit_of, Gives}
 use Rattle.vs_rules.specs.Paths.{IsSlot0, WritesNow, WritesLater, WritesAny, is_zero_time}
 use Rattle.vs_rules.specs.Rules.{FiresNone, K10_Signal}
-use Rattle.vs_slots_copies.specs.vs_slots_constants.proofs.ConstantLemmas.{gives_by_places}
-use Rattle.vs_slots_copies.specs.Copies.{IsOnly}
-use Rattle.vs_slots_copies.specs.vs_slots_paths.specs.declared.along.Along.TheVariants.{ZeroTime}
-use Rattle.vs_slots_copies.specs.vs_slots_paths.specs.Ranges.{HasSignal, now_at, later_at}
-use Rattle.vs_slots_copies.specs.vs_slots_paths.specs.Reaches.{Chart}
-use Rattle.vs_slots_copies.specs.vs_slots_paths.proofs.Texts.{from_on, from_back}
-use Rattle.vs_slots_copies.specs.vs_slots_paths.proofs.EachWalk.{writes_now_at, writes_later_at}
-use Rattle.vs_cert_ranks.specs.vs_cert_facts.specs.Facts.{AreCharts}
+use Rattle.vs_drivers.specs.vs_slots_constants.proofs.ConstantLemmas.{gives_by_places}
+use Rattle.vs_drivers.specs.Copies.{IsOnly}
+use Rattle.vs_drivers.specs.vs_maps.specs.declared.along.Along.TheVariants.{ZeroTime}
+use Rattle.vs_drivers.specs.vs_maps.specs.Ranges.{HasSignal, now_at, later_at}
+use Rattle.vs_drivers.specs.vs_maps.specs.Reaches.{Chart}
+use Rattle.vs_drivers.specs.vs_maps.proofs.Texts.{from_on, from_back}
+use Rattle.vs_drivers.specs.vs_maps.proofs.EachWalk.{writes_now_at, writes_later_at}
+use Rattle.vs_rules_of_signals.specs.vs_claims.specs.Facts.{AreCharts}
 use Rattle.vs_cert_roots.specs.First.{FirstByPlaces, SiteAt, HasSite, StartsWell}
-use Rattle.vs_cert_ranks.specs.Places.{WritesAt}
+use Rattle.vs_rules_of_signals.specs.Places.{WritesAt}
 use Rattle.vs_cert_roots.proofs.HotLemmas.{writes_numbered, end_writes, either}
 use Rattle.vs_rules.proofs.Past.{past_paths}
 use Rattle.vs_cert_roots.proofs.TermLemmas.{HasChart, chart_is}

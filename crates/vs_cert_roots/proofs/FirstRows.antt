@@ -12,19 +12,19 @@ use Rattle.vs_rules.specs.Claims.{Claims, EdgeClaim, IsRoot, IsRootOf}
 use Rattle.vs_rules.specs.Constants.{IsKnown}
 use Rattle.vs_rules.specs.Constants as k
 use Rattle.vs_rules.specs.Constants.{bit_of}
-use Rattle.vs_slots_copies.specs.vs_slots_constants.specs.Givings.{given_here}
-use Rattle.vs_slots_copies.specs.vs_slots_paths.specs.Ranges.{statement_at}
-use Rattle.vs_slots_copies.specs.vs_slots_constants.specs.Clocks.{known}
-use Rattle.vs_slots_copies.proofs.ListLemmas.{contains_at}
-use Rattle.vs_process.specs.vs_flatcode.specs.Stops.{LeadsIn}
-use Rattle.vs_slots_copies.proofs.CopyLemmas.{reached_within}
-use Rattle.vs_slots_copies.specs.Copies.{IsOnly}
-use Rattle.vs_slots_copies.specs.vs_slots_paths.specs.declared.along.Along.TheVariants.{ZeroTime}
-use Rattle.vs_slots_copies.specs.vs_slots_paths.specs.Inside.{along_in}
-use Rattle.vs_slots_copies.specs.vs_slots_paths.specs.Ranges.{HasSignal, now_at, later_at}
-use Rattle.vs_slots_copies.specs.vs_slots_paths.specs.Reaches.{Chart, places, stops_along, InSlot0}
-use Rattle.vs_slots_copies.specs.vs_slots_paths.specs.Indexes.{AreRows, row_of}
-use Rattle.vs_cert_ranks.specs.vs_cert_facts.specs.Facts.{AreCharts, IsRootAt}
+use Rattle.vs_drivers.specs.vs_slots_constants.specs.Givings.{given_here}
+use Rattle.vs_drivers.specs.vs_maps.specs.Ranges.{statement_at}
+use Rattle.vs_drivers.specs.vs_slots_constants.specs.Clocks.{known}
+use Rattle.vs_drivers.proofs.ListLemmas.{contains_at}
+use Rattle.vs_process.specs.Stops.{LeadsIn}
+use Rattle.vs_drivers.proofs.CopyLemmas.{reached_within}
+use Rattle.vs_drivers.specs.Copies.{IsOnly}
+use Rattle.vs_drivers.specs.vs_maps.specs.declared.along.Along.TheVariants.{ZeroTime}
+use Rattle.vs_drivers.specs.vs_maps.specs.Inside.{along_in}
+use Rattle.vs_drivers.specs.vs_maps.specs.Ranges.{HasSignal, now_at, later_at}
+use Rattle.vs_drivers.specs.vs_maps.specs.Reaches.{Chart, places, stops_along, InSlot0}
+use Rattle.vs_drivers.specs.vs_maps.specs.Indexes.{AreRows, row_of}
+use Rattle.vs_rules_of_signals.specs.vs_claims.specs.Facts.{AreCharts, IsRootAt}
 use Rattle.vs_cert_roots.specs.First.{SiteAt, HasSite, IsSilent, NamesRoot, WakesSignal, WakesEntry, StartsSilently, StartsWellIn, StartsWell}
 use Rattle.std.proofs.lemmas.Bool.{eqb-true, eqb-false, ne_eqb}
 use Rattle.vs_design.specs.vs_logic4.proofs.Basics.{same_self}

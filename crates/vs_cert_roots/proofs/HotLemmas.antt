@@ -9,19 +9,19 @@ use Rattle.vs_design.specs.declared.statement.Statement.{Statement}
 use Rattle.vs_design.specs.declared.statement.Statement.TheOpen.{Statement-F}
 use Rattle.vs_design.specs.declared.statement.Statement.TheViews.{out-Statement}
 use Rattle.vs_design.specs.Parts.{Parts}
-use Rattle.vs_process.specs.vs_flatcode.specs.Places.{perform, turns, Todo}
-use Rattle.vs_process.specs.vs_flatcode.specs.Numbers.{number_next, number_of}
+use Rattle.vs_process.specs.Places.{perform, turns, Todo}
+use Rattle.vs_process.specs.Numbers.{number_next, number_of}
 use Rattle.vs_rules.specs.Certificates.{mode_from}
 use Rattle.vs_rules.specs.Claims.{Claims, blocking, HasKind, HasMode, IsDelay, IsWriter, IsRootOf}
 use Rattle.vs_rules.specs.Paths.{IsHot, ListsSignal, WritesNow, WritesLater, WritesAny, statement_now, statement_later}
 use Rattle.vs_rules.specs.Rules.{IsSoundRoot, K6}
-use Rattle.vs_slots_copies.specs.vs_slots_paths.specs.Ranges.{HasSignal, now_at, later_at}
-use Rattle.vs_slots_copies.specs.vs_slots_paths.specs.Reaches.{Chart, places, IsPlace}
-use Rattle.vs_slots_copies.specs.vs_slots_paths.specs.Walks.{AreMarked, InHot}
-use Rattle.vs_slots_copies.specs.vs_slots_paths.proofs.Texts.{place_of, place_back}
-use Rattle.vs_slots_copies.specs.vs_slots_paths.proofs.EachWalk.{hot_exact, writes_now_at, writes_later_at}
+use Rattle.vs_drivers.specs.vs_maps.specs.Ranges.{HasSignal, now_at, later_at}
+use Rattle.vs_drivers.specs.vs_maps.specs.Reaches.{Chart, places, IsPlace}
+use Rattle.vs_drivers.specs.vs_maps.specs.Walks.{AreMarked, InHot}
+use Rattle.vs_drivers.specs.vs_maps.proofs.Texts.{place_of, place_back}
+use Rattle.vs_drivers.specs.vs_maps.proofs.EachWalk.{hot_exact, writes_now_at, writes_later_at}
 use Rattle.vs_cert_roots.specs.Entries.{HasEntries}
-use Rattle.vs_cert_ranks.specs.Places.{WritesAt, NeverHotIn}
+use Rattle.vs_rules_of_signals.specs.Places.{WritesAt, NeverHotIn}
 use Rattle.vs_cert_roots.specs.Roots.{NeverHot, RootsByPlaces, IsSoundlyWritten, IsRight, is_blocking_mode}
 use Rattle.vs_rules.proofs.Past.{past_points}
 

@@ -2,7 +2,7 @@
 use Rattle.std.proofs.Common.{◌≡◌, ℕ, ◌+◌, ◌<◌, ◌≤◌, ◌⊎◌, ◌↔◌, ◌++◌, ◌||◌, inl, inr, Bool, true, false, IsTrue, List, [], ◌∷◌, length, get_or, refl, sym, ◌∙◌, ap, subst, arith}
 use Rattle.std.specs.List.{Contains, list_any}
 use Rattle.std.proofs.lemmas.List.Elements.{Contains-append_left, Contains-append_right, Contains-append_cases}
-use Rattle.vs_slots_copies.specs.vs_slots_paths.proofs.RangeLemmas.{in_either}
+use Rattle.vs_drivers.specs.vs_maps.proofs.RangeLemmas.{in_either}
 
 or_true : (a b : Bool) → b ≡ true → a || b ≡ true
 or_true true b h = refl

@@ -12,8 +12,8 @@ use Rattle.vs_process.specs.Executions.{is_level}
 use Rattle.vs_rules.specs.Claims.{Name, Claims, EdgeClaim, IsSignalNamed, edge_signals, times_in}
 use Rattle.vs_rules.specs.Paths.{HasTerm}
 use Rattle.vs_rules.specs.Rules.{IsEdgeSignal}
-use Rattle.vs_slots_copies.specs.vs_slots_paths.specs.Indexes.{AreRows}
-use Rattle.vs_cert_ranks.specs.vs_cert_facts.specs.Facts.{Case}
+use Rattle.vs_drivers.specs.vs_maps.specs.Indexes.{AreRows}
+use Rattle.vs_rules_of_signals.specs.vs_claims.specs.Facts.{Case}
 
 -- the entry at a place is of this signal
 abbrev pub NamesEntry : Parts → List EdgeClaim → ℕ → ℕ → Type 0

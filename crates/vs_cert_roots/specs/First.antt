@@ -12,13 +12,13 @@ use Rattle.vs_rules.specs.Claims.{Claims, EdgeClaim, IsRoot, IsRootOf}
 use Rattle.vs_rules.specs.Constants.{bit_of, IsKnown}
 use Rattle.vs_rules.specs.Paths.{HasTerm}
 use Rattle.vs_rules.specs.Rules.{K10_Signal}
-use Rattle.vs_slots_copies.specs.vs_slots_constants.specs.Givings.{given_here}
-use Rattle.vs_slots_copies.specs.Copies.{IsOnly}
-use Rattle.vs_slots_copies.specs.vs_slots_paths.specs.Indexes.{AreRows}
-use Rattle.vs_slots_copies.specs.vs_slots_paths.specs.Ranges.{HasSignal, later_at, statement_at}
-use Rattle.vs_slots_copies.specs.vs_slots_paths.specs.Reaches.{Chart, InSlot0}
-use Rattle.vs_cert_ranks.specs.vs_cert_facts.specs.Facts.{Case, AreCharts, IsRootAt}
-use Rattle.vs_cert_ranks.specs.Places.{WritesAt}
+use Rattle.vs_drivers.specs.vs_slots_constants.specs.Givings.{given_here}
+use Rattle.vs_drivers.specs.Copies.{IsOnly}
+use Rattle.vs_drivers.specs.vs_maps.specs.Indexes.{AreRows}
+use Rattle.vs_drivers.specs.vs_maps.specs.Ranges.{HasSignal, later_at, statement_at}
+use Rattle.vs_drivers.specs.vs_maps.specs.Reaches.{Chart, InSlot0}
+use Rattle.vs_rules_of_signals.specs.vs_claims.specs.Facts.{Case, AreCharts, IsRootAt}
+use Rattle.vs_rules_of_signals.specs.Places.{WritesAt}
 
 -- a place is done in the first slot, and writes the signal
 abbrev pub SiteAt : Chart → ℕ → ℕ → Type 0

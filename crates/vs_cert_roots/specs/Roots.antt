@@ -4,12 +4,12 @@ use Rattle.vs_rules.specs.vs_certificate.specs.declared.members.SignalMode.{Sign
 use Rattle.vs_rules.specs.vs_certificate.specs.declared.members.SignalMode.TheVariants as modes
 use Rattle.vs_design.specs.declared.design.Process.{Process}
 use Rattle.vs_design.specs.Parts.{Parts}
-use Rattle.vs_process.specs.vs_flatcode.specs.Places.{Todo}
-use Rattle.vs_process.specs.vs_flatcode.specs.Stops.{Stop, IsText}
+use Rattle.vs_process.specs.Places.{Todo}
+use Rattle.vs_process.specs.Stops.{Stop, IsText}
 use Rattle.vs_rules.specs.Claims.{Claims, IsDelay, IsWriter}
 use Rattle.vs_rules.specs.Paths.{IsPoint, IsHot, WritesAny}
 use Rattle.vs_rules.specs.Rules.{HasWriter, CopiesRoot, IsSoundRoot}
-use Rattle.vs_cert_ranks.specs.Places.{NeverHotIn}
+use Rattle.vs_rules_of_signals.specs.Places.{NeverHotIn}
 
 -- a process has no such point
 abbrev pub NeverHot : Parts → ℕ → ℕ → Type 0

@@ -9,20 +9,20 @@ ghost use Rattle.vs_rules.specs.Certificates.{claims_of};
 ghost use Rattle.vs_rules.specs.Claims.{IsRootOf};
 ghost use Rattle.vs_rules.specs.Paths.{HasTerm};
 ghost use Rattle.vs_rules.specs.Rules.{IsEdgeSignal};
-ghost use Rattle.vs_cert_ranks.specs.vs_cert_facts.specs.Facts.{IsRootAt};
+ghost use Rattle.vs_rules_of_signals.specs.vs_claims.specs.Facts.{IsRootAt};
 ghost use Rattle.vs_cert_roots.specs.First.{WakesSignal};
 ghost use Rattle.vs_cert_roots.specs.Entries.{NamesEntry, NamesTerm, WakesAt, AreTerms, HasEntries, is_edge_of};
 
 use std::alloc::{AllocError, Global};
 use std::marker::Model;
-use vs_cert_ranks::Writes;
-use vs_cert_ranks::vs_cert_facts::Facts;
-use vs_cert_ranks::vs_reach::{Family, gather};
 use vs_design::EventTerm;
 use vs_design::vs_logic4::{Digit, Edge};
+use vs_drivers::only;
+use vs_drivers::vs_maps::{index_of, terms};
 use vs_rules::vs_certificate::Certificate;
-use vs_slots_copies::only;
-use vs_slots_copies::vs_slots_paths::{index_of, terms};
+use vs_rules_of_signals::Writes;
+use vs_rules_of_signals::vs_claims::Facts;
+use vs_rules_of_signals::vs_graph::{Family, gather};
 
 // The signals of the entries.
 #[derive(Drop)]
@@ -212,7 +212,7 @@ impl<'a> Model for Entries<'a> {
     ghost use Rattle.std.specs.Coded.{codes};
     ghost use Rattle.vs_design.specs.contracts.expression.Typed as expression;
     ghost use Rattle.vs_design.specs.contracts.statement.Statement as statement;
-    ghost use Rattle.vs_cert_ranks.specs.vs_cert_facts.specs.Facts.{Case};
+    ghost use Rattle.vs_rules_of_signals.specs.vs_claims.specs.Facts.{Case};
     ghost use Rattle.vs_cert_roots.specs.Entries.{KeepsEntries};
 
     ghost Value = { Case };

@@ -4,21 +4,21 @@ ghost use Rattle.std.specs.List.{Contains};
 ghost use Rattle.vs_rules.specs.Claims.{IsRoot};
 ghost use Rattle.vs_rules.specs.Rules.{K10_Signal};
 ghost use Rattle.vs_rules.specs.Constants.{bit_of};
-ghost use Rattle.vs_slots_copies.specs.vs_slots_constants.specs.Clocks.{known};
-ghost use Rattle.vs_slots_copies.specs.vs_slots_constants.specs.Givings.{given_here};
-ghost use Rattle.vs_slots_copies.specs.vs_slots_paths.specs.Ranges.{HasSignal, now_at, later_at, statement_at};
-ghost use Rattle.vs_slots_copies.specs.vs_slots_paths.specs.Reaches.{places};
+ghost use Rattle.vs_drivers.specs.vs_slots_constants.specs.Clocks.{known};
+ghost use Rattle.vs_drivers.specs.vs_slots_constants.specs.Givings.{given_here};
+ghost use Rattle.vs_drivers.specs.vs_maps.specs.Ranges.{HasSignal, now_at, later_at, statement_at};
+ghost use Rattle.vs_drivers.specs.vs_maps.specs.Reaches.{places};
 ghost use Rattle.vs_cert_roots.specs.First.{SiteAt, HasSite, IsSilent, StartsSilently, StartsWellIn, StartsWell, NamesRoot, WakesEntry};
 
 use crate::entries::Entries;
 use std::alloc::{AllocError, Global};
 use std::marker::Model;
-use vs_cert_ranks::vs_cert_facts::Facts;
-use vs_cert_ranks::vs_reach::{Family, gather};
 use vs_design::vs_logic4::Digit;
-use vs_slots_copies::vs_slots_constants::{Bit, given_by};
-use vs_slots_copies::vs_slots_paths::{Tables, index_of};
-use vs_slots_copies::{only, push_signals};
+use vs_drivers::vs_maps::{Tables, index_of};
+use vs_drivers::vs_slots_constants::{Bit, given_by};
+use vs_drivers::{only, push_signals};
+use vs_rules_of_signals::vs_claims::Facts;
+use vs_rules_of_signals::vs_graph::{Family, gather};
 
 // Whether a place is done in the first slot and writes a signal.
 fn is_site(tables: &Tables, v: usize, p: usize) -> bool
@@ -147,7 +147,7 @@ impl<'a> Model for FirstWrites<'a> {
     ghost use Rattle.std.specs.Coded.{codes};
     ghost use Rattle.vs_design.specs.contracts.expression.Typed as expression;
     ghost use Rattle.vs_design.specs.contracts.statement.Statement as statement;
-    ghost use Rattle.vs_cert_ranks.specs.vs_cert_facts.specs.Facts.{Case};
+    ghost use Rattle.vs_rules_of_signals.specs.vs_claims.specs.Facts.{Case};
     ghost use Rattle.vs_cert_roots.specs.First.{KeepsFirst};
 
     ghost Value = { Case };

@@ -10,4 +10,4 @@ pub use entries::Entries;
 pub use first::{FirstWrites, keeps_first_root};
 pub use laws::{first_by_places, roots_by_places};
 pub use roots::keeps_root;
-pub use vs_slots_copies;
+pub use vs_drivers;

@@ -3,20 +3,20 @@ ghost use Rattle.std.specs.Prelude.{ℕ, ◌≡◌, ◌<◌, ◌↔◌, true, fa
 ghost use Rattle.std.specs.List.{Contains};
 ghost use Rattle.vs_rules.specs.Claims.{blocking, HasKind, HasMode, IsDelay, IsRootOf, IsWriter};
 ghost use Rattle.vs_rules.specs.Rules.{CopiesRoot, IsSoundRoot, K6};
-ghost use Rattle.vs_slots_copies.specs.vs_slots_paths.specs.Reaches.{places, IsPlace};
-ghost use Rattle.vs_slots_copies.specs.vs_slots_paths.specs.Walks.{InHot};
-ghost use Rattle.vs_cert_ranks.specs.Places.{WritesAt, NeverHotIn};
+ghost use Rattle.vs_drivers.specs.vs_maps.specs.Reaches.{places, IsPlace};
+ghost use Rattle.vs_drivers.specs.vs_maps.specs.Walks.{InHot};
+ghost use Rattle.vs_rules_of_signals.specs.Places.{WritesAt, NeverHotIn};
 ghost use Rattle.vs_cert_roots.specs.Roots.{NeverHot, IsSoundlyWritten, IsRight, is_blocking_mode};
 
 use crate::entries::Entries;
 use std::alloc::{AllocError, Global};
-use vs_cert_ranks::Writes;
-use vs_cert_ranks::vs_cert_facts::Facts;
-use vs_cert_ranks::vs_reach::{Rule, all_keep};
 use vs_design::{Design, SignalKind};
+use vs_drivers::Copies;
+use vs_drivers::vs_maps::{Tables, hot};
 use vs_rules::vs_certificate::SignalMode;
-use vs_slots_copies::Copies;
-use vs_slots_copies::vs_slots_paths::{Tables, hot};
+use vs_rules_of_signals::Writes;
+use vs_rules_of_signals::vs_claims::Facts;
+use vs_rules_of_signals::vs_graph::{Rule, all_keep};
 
 // The places of a text where it doesn't write a signal that is hot there.
 #[derive(Drop)]

@@ -6,14 +6,14 @@ use Rattle.std.proofs.lemmas.List.Elements.{filter-append}
 use Rattle.vs_design.specs.vs_logic4.specs.declared.digit.Digit.{Digit}
 use Rattle.vs_design.specs.Parts.{Parts}
 use Rattle.vs_design.specs.Traces.{Line, Slot, SameSlots}
-use Rattle.vs_independence.specs.vs_process.specs.vs_flatcode.specs.Places.{Place, todo_of}
-use Rattle.vs_independence.specs.vs_process.specs.vs_flatcode.specs.Steps.{step}
+use Rattle.vs_independence.specs.vs_process.specs.Places.{Place, todo_of}
+use Rattle.vs_independence.specs.vs_process.specs.Steps.{step}
 use Rattle.vs_independence.specs.vs_process.specs.declared.moves.Move.{Move}
 use Rattle.vs_independence.specs.vs_process.specs.declared.moves.Move.TheVariants.{Step, Evaluate, Propagate, Make, Rouse, Activate, EndSlot}
 use Rattle.vs_independence.specs.vs_process.specs.Executions.{after, apply, ended_slot, is_by, is_complete, lines_of, slots, trace}
 use Rattle.vs_independence.specs.vs_process.specs.States.{AssignState, State, Update, evaluate, make, propagate, propagate_value, stepped}
 use Rattle.vs_independence.specs.vs_process.proofs.Times.{behind_time, stepped_over}
-use Rattle.vs_simulate.specs.vs_kernel.specs.vs_run_turns.proofs.MoveLemmas.{evaluate_over, make_over, propagate_over}
+use Rattle.vs_simulate.specs.vs_kernel.specs.vs_run_steps.proofs.MoveLemmas.{evaluate_over, make_over, propagate_over}
 use Rattle.vs_independence.specs.Displays.{DisplaySlot, LinesAreOfSlots, display_slots, displays, ended_display, is_display_by, lines_after, lines_in, lines_so_far}
 use Rattle.vs_simulate.specs.vs_kernel.specs.Runs.{StopsAt}
 use Rattle.vs_simulate.specs.vs_kernel.proofs.RunsLemmas.{all_kept}

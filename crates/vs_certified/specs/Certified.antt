@@ -17,7 +17,7 @@ use Rattle.vs_independence.specs.Displays.{DisplaySlot, SameDisplays, displays}
 use Rattle.vs_cert_check.specs.vs_rules.specs.Certificates.{claims_of}
 use Rattle.vs_cert_check.specs.vs_rules.specs.Claims.{Claims, blocks_of}
 use Rattle.vs_cert_check.specs.vs_rules.specs.Verdict.{Disciplined}
-use Rattle.vs_simulate.specs.vs_kernel.specs.vs_run_turns.specs.Prints.{lines_text}
+use Rattle.vs_simulate.specs.vs_kernel.specs.vs_run_steps.specs.Prints.{lines_text}
 use Rattle.vs_simulate.specs.vs_kernel.specs.Runs.{HasBegun, RanTo}
 use Rattle.vs_simulate.specs.vs_kernel.specs.Shows.{ShowsSlotEnds}
 use Rattle.vs_simulate.specs.vs_kernel.specs.declared.outcome.Outcome.{Outcome}

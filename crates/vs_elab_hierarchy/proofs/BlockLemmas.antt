@@ -6,22 +6,22 @@ use Rattle.std.specs.Str.{bytes_eq}
 use Rattle.std.proofs.lemmas.Option.{none-some, same_Some, slice_get_within}
 use Rattle.std.proofs.lemmas.Slice.Eq.{bytes_eq-Decides}
 use Rattle.vs_syntax.specs.declared.tree.Module.{Module}
-use Rattle.vs_elab_parameters.specs.vs_widths.specs.Names.{meaning_of, Binds as NamesBind}
+use Rattle.vs_elab_constants.specs.vs_widths.specs.Names.{meaning_of, Binds as NamesBind}
 use Rattle.vs_scopes.specs.declared.printed.PartName.{PartName as FoundPart}
 use Rattle.vs_scopes.specs.declared.printed.PartName.TheVariants as part
 use Rattle.vs_scopes.specs.declared.printed.PathName.{PathName as FoundName}
 use Rattle.vs_scopes.specs.Printed.{plainly}
 use Rattle.vs_scopes.specs.Scopes.{Scope, named, named_at, scopes_of}
-use Rattle.vs_scopes.specs.passes.Names.{read_part, read_title}
+use Rattle.vs_scopes.specs.scopes_passes.Names.{read_part, read_title}
 use Rattle.vs_elab_listed.specs.declared.opened.ListedScope.{ListedScope as FoundScope}
 use Rattle.vs_elab_listed.specs.declared.opened.Hierarchy.{Hierarchy}
 use Rattle.vs_elab_listed.specs.declared.opened.Numbering.{Numbering}
 use Rattle.vs_elab_listed.specs.Opened.{StandsAround, IsEntered, IsOpened, AreOpened, AreSeated, HasBlocks, OpensAll}
 use Rattle.vs_elab_listed.specs.Outlines.{declared, IsEntry, outline_of}
-use Rattle.vs_elab_scope.specs.vs_elab_entered.specs.passes.Blocks.{named_text, text_name, HasIndex, HasNoBlocks, with_blocks, IsIndexed, AreIndexedUpTo, AddsBlock, AreIndexed, HasInside, AreNamed}
-use Rattle.vs_elab_hierarchy.specs.passes.Opens.{Made}
-use Rattle.vs_elab_scope.specs.vs_elab_entered.proofs.ListLemmas.{same_at, all_at, zip_by}
-use Rattle.vs_elab_scope.specs.vs_elab_entered.proofs.SeatLemmas.{opened_many, opened_here, scope_at}
+use Rattle.vs_elab_hierarchy.specs.passes.Blocks.{named_text, text_name, HasIndex, HasNoBlocks, with_blocks, IsIndexed, AreIndexedUpTo, AddsBlock, AreIndexed, HasInside, AreNamed}
+use Rattle.vs_elab_hierarchy.specs.hierarchy_passes.Opens.{Made}
+use Rattle.vs_elab_hierarchy.proofs.ListLemmas.{same_at, all_at, zip_by}
+use Rattle.vs_elab_hierarchy.proofs.SeatLemmas.{opened_many, opened_here, scope_at}
 use Rattle.vs_elab_hierarchy.proofs.SourceLemmas.{none_stands}
 
 -- ---- one element that is set

@@ -20,18 +20,18 @@ use Rattle.vs_scopes.specs.Declarations.{Use, uses_in, uses_by_item, uses_among,
 use Rattle.vs_scopes.specs.Generate.{Inner, instance, generated, Turns, turns, faulty, endless, Taken, takes, refused, turns_of, chosen, name_of_block, generates, content_inner, turns_inner, loop_inner, choice_inner, genvar_number, inner_in, inner_from, behind_piece, turns_fault, taken_fault, construct_fault, constructs_fault}
 use Rattle.vs_scopes.specs.Generate as g
 use Rattle.vs_scopes.specs.Scopes.{Scope, Before, behind, within_first, all_names_of, text_names, environment, uses_of, inner_of, is_named_as_net, opened, listed, below, scopes_within, is_inside, is_port_mismatch}
-use Rattle.vs_scopes.specs.passes.Answers.{Told, Refuses, IsRefusal}
+use Rattle.vs_scopes.specs.scopes_passes.Answers.{Told, Refuses, IsRefusal}
 use Rattle.vs_scopes.proofs.Folds.{any_false_at}
 use Rattle.vs_scopes.proofs.AnswerLemmas.{told_by, told_part}
 use Rattle.vs_elab_listed.specs.ScopeFaults.{Repeated, of_module, AtInstance, parameter_fault, override_fault, HasConstructFault, PassesLimit, PassesTurns, HoldsOpening, HoldsOpeningIn}
-use Rattle.vs_elab_scope.specs.vs_elab_entered.specs.vs_elab_implicit_nets.specs.passes.Nets.{IsNamedAsNet}
-use Rattle.vs_elab_scope.specs.vs_elab_entered.specs.passes.Entering.{IsSoundUse, IsSoundInner, EntersNot}
-use Rattle.vs_elab_scope.specs.passes.Own.{IsSoundOwn, HoldsOwn}
-use Rattle.vs_elab_scope.specs.passes.Adding.{AddsInnerNot}
-use Rattle.vs_elab_hierarchy.specs.passes.Opens.{HasInnerNot, IsSoundInside}
-use Rattle.vs_elab_scope.specs.vs_elab_entered.proofs.ListLemmas.{slice_either, all_at}
+use Rattle.vs_elab_hierarchy.specs.vs_elab_listed.specs.nets_passes.Nets.{IsNamedAsNet}
+use Rattle.vs_elab_hierarchy.specs.passes.Entering.{IsSoundUse, IsSoundInner, EntersNot}
+use Rattle.vs_elab_hierarchy.specs.scope_passes.Own.{IsSoundOwn, HoldsOwn}
+use Rattle.vs_elab_hierarchy.specs.scope_passes.Adding.{AddsInnerNot}
+use Rattle.vs_elab_hierarchy.specs.hierarchy_passes.Opens.{HasInnerNot, IsSoundInside}
+use Rattle.vs_elab_hierarchy.proofs.ListLemmas.{slice_either, all_at}
 use Rattle.vs_design.specs.vs_logic4.proofs.Basics.{slice_front, slice_back}
-use Rattle.vs_elab_scope.proofs.OwnLemmas.{is_deep, is_few}
+use Rattle.vs_elab_hierarchy.proofs.OwnLemmas.{is_deep, is_few}
 use Rattle.vs_elab_hierarchy.proofs.OpenLemmas.{below_append, within_inside}
 
 -- ---- instances among what opens scopes

@@ -5,20 +5,20 @@ use Rattle.std.proofs.lemmas.List.{same_from_push}
 use Rattle.vs_design.specs.declared.design.Entry.TheVariants.{Leave}
 use Rattle.vs_scopes.specs.declared.faults.ElabFault.{ElabFault}
 use Rattle.vs_scopes.specs.Scopes.{Scope}
-use Rattle.vs_scopes.specs.passes.Answers.{Told}
-use Rattle.vs_elab_listed.specs.vs_elab_generate.specs.declared.opening.Inner.{Inner as FoundInner}
-use Rattle.vs_elab_listed.specs.vs_elab_generate.specs.Reads.{read_inner}
+use Rattle.vs_scopes.specs.scopes_passes.Answers.{Told}
+use Rattle.vs_elab_listed.specs.vs_elab_constants.specs.declared.opening.Inner.{Inner as FoundInner}
+use Rattle.vs_elab_listed.specs.vs_elab_constants.specs.Reads.{read_inner}
 use Rattle.vs_elab_listed.specs.declared.opened.ListedScope.{ListedScope as FoundScope}
 use Rattle.vs_elab_listed.specs.declared.opened.Numbering.{Numbering}
-use Rattle.vs_elab_scope.specs.vs_elab_entered.specs.declared.entering.NamedModule.{NamedModule}
-use Rattle.vs_elab_scope.specs.vs_elab_entered.specs.passes.Entering.{before_next}
-use Rattle.vs_elab_scope.specs.passes.Adding.{AddsInnerAt, AddsInnerNot, IsHolding}
+use Rattle.vs_elab_hierarchy.specs.declared.entering.NamedModule.{NamedModule}
+use Rattle.vs_elab_hierarchy.specs.passes.Entering.{before_next}
+use Rattle.vs_elab_hierarchy.specs.scope_passes.Adding.{AddsInnerAt, AddsInnerNot, IsHolding}
 use Rattle.vs_elab_listed.specs.Opened.{AreOpened, AreSeated}
-use Rattle.vs_elab_scope.specs.vs_elab_entered.proofs.SeatLemmas.{opened_place}
+use Rattle.vs_elab_hierarchy.proofs.SeatLemmas.{opened_place}
 use Rattle.vs_syntax.specs.declared.tree.Module.{Module}
 use Rattle.vs_elab_hierarchy.specs.declared.opening.Opening.{Opening}
-use Rattle.vs_elab_hierarchy.specs.passes.Opens.{HasInner, HasInnerNot, IsReady}
-use Rattle.vs_elab_hierarchy.specs.passes.InHand.{Asked, HasFault, HasOpened, InHand, IsFor, IsOpenedWhole, Wait, for_none, for_one, none_left, some_left}
+use Rattle.vs_elab_hierarchy.specs.hierarchy_passes.Opens.{HasInner, HasInnerNot, IsReady}
+use Rattle.vs_elab_hierarchy.specs.hierarchy_passes.InHand.{Asked, HasFault, HasOpened, InHand, IsFor, IsOpenedWhole, Wait, for_none, for_one, none_left, some_left}
 use Rattle.vs_elab_hierarchy.proofs.FaultLemmas.{inner_not_told}
 use Rattle.vs_elab_hierarchy.proofs.InsideLemmas.{so_far, holding_start, holding_end, holding_here, add_told, room_inside, ready_inside, inside_told, holding_next}
 

@@ -5,11 +5,11 @@ use Rattle.std.proofs.lemmas.List.{map-append, length-append, take_all}
 use Rattle.vs_syntax.specs.declared.tree.Module.{Module}
 use Rattle.vs_design.specs.declared.design.Entry.TheVariants.{Leave}
 use Rattle.vs_scopes.specs.vs_width_selects.specs.Environment.{Environment}
-use Rattle.vs_elab_parameters.specs.vs_widths.specs.Names.{meaning_of}
+use Rattle.vs_elab_constants.specs.vs_widths.specs.Names.{meaning_of}
 use Rattle.vs_elab_listed.specs.vs_elab_pieces.specs.Pieces.{Piece}
-use Rattle.vs_elab_listed.specs.vs_elab_generate.specs.declared.opening.Inner.{Inner as FoundInner}
-use Rattle.vs_elab_listed.specs.vs_elab_generate.specs.Reads.{read_inner}
-use Rattle.vs_elab_listed.specs.vs_elab_generate.specs.passes.Numbering.{AreNames}
+use Rattle.vs_elab_listed.specs.vs_elab_constants.specs.declared.opening.Inner.{Inner as FoundInner}
+use Rattle.vs_elab_listed.specs.vs_elab_constants.specs.Reads.{read_inner}
+use Rattle.vs_elab_listed.specs.vs_elab_constants.specs.generate_passes.Numbering.{AreNames}
 use Rattle.vs_scopes.specs.declared.faults.Reason.{Reason}
 use Rattle.vs_scopes.specs.declared.faults.BodyFault.{BodyFault}
 use Rattle.vs_scopes.specs.declared.faults.ElabFault.{ElabFault}
@@ -17,7 +17,7 @@ use Rattle.vs_scopes.specs.Parameters.{said}
 use Rattle.vs_scopes.specs.Declarations.{Bindings}
 use Rattle.vs_scopes.specs.Generate.{Inner, inner_from, constructs_fault}
 use Rattle.vs_scopes.specs.Scopes.{Scope, behind, within_first, text_names, environment, seen_from, inner_of, below, scopes_within}
-use Rattle.vs_scopes.specs.passes.Answers.{Told, Refuses, IsRefusal}
+use Rattle.vs_scopes.specs.scopes_passes.Answers.{Told, Refuses, IsRefusal}
 use Rattle.vs_design.specs.vs_logic4.proofs.Basics.{take_push}
 use Rattle.vs_scopes.proofs.AnswerLemmas.{refused_by}
 use Rattle.vs_elab_listed.specs.declared.opened.ListedScope.{ListedScope as FoundScope}
@@ -25,16 +25,16 @@ use Rattle.vs_elab_listed.specs.declared.opened.Numbering.{Numbering}
 use Rattle.vs_elab_listed.specs.Opened.{IsOpened}
 use Rattle.vs_elab_listed.specs.ScopeFaults.{HasConstructFault, HoldsOpeningIn}
 use Rattle.vs_elab_listed.proofs.BindLemmas.{is_key}
-use Rattle.vs_elab_scope.specs.vs_elab_entered.specs.declared.entering.NamedModule.{NamedModule}
-use Rattle.vs_elab_scope.specs.vs_elab_entered.specs.passes.Entering.{before_next}
-use Rattle.vs_elab_scope.specs.passes.Own.{IsSoundOwn}
-use Rattle.vs_elab_scope.specs.passes.Adding.{AddsInnerAt, AddsInnerNot, IsHolding}
-use Rattle.vs_elab_hierarchy.specs.passes.Opens.{FindsInner, HasInner, IsReady, OpensInside, HoldsInner, OpensInsideNot}
-use Rattle.vs_elab_scope.specs.vs_elab_entered.proofs.ListLemmas.{all_at}
+use Rattle.vs_elab_hierarchy.specs.declared.entering.NamedModule.{NamedModule}
+use Rattle.vs_elab_hierarchy.specs.passes.Entering.{before_next}
+use Rattle.vs_elab_hierarchy.specs.scope_passes.Own.{IsSoundOwn}
+use Rattle.vs_elab_hierarchy.specs.scope_passes.Adding.{AddsInnerAt, AddsInnerNot, IsHolding}
+use Rattle.vs_elab_hierarchy.specs.hierarchy_passes.Opens.{FindsInner, HasInner, IsReady, OpensInside, HoldsInner, OpensInsideNot}
+use Rattle.vs_elab_hierarchy.proofs.ListLemmas.{all_at}
 use Rattle.vs_design.specs.vs_logic4.proofs.Basics.{slice_front, at_end as slice_end}
-use Rattle.vs_elab_scope.specs.vs_elab_entered.proofs.EnterLemmas.{known_levels}
-use Rattle.vs_elab_scope.proofs.OwnLemmas.{is_deep}
-use Rattle.vs_elab_scope.proofs.AddLemmas.{opened_before, planned_behind}
+use Rattle.vs_elab_hierarchy.proofs.EnterLemmas.{known_levels}
+use Rattle.vs_elab_hierarchy.proofs.OwnLemmas.{is_deep}
+use Rattle.vs_elab_hierarchy.proofs.AddLemmas.{opened_before, planned_behind}
 use Rattle.vs_elab_hierarchy.proofs.OpenLemmas.{holding_none, holding_more, holding_all}
 use Rattle.vs_elab_hierarchy.proofs.FaultLemmas.{construct_told, adds_told, inner_told}
 

@@ -13,14 +13,14 @@ use Rattle.vs_scopes.specs.Scopes.{Scope, Before, behind, within_first, inner_of
 use Rattle.vs_elab_listed.specs.declared.opened.ListedScope.{ListedScope as FoundScope}
 use Rattle.vs_elab_listed.specs.declared.opened.Numbering.{Numbering}
 use Rattle.vs_elab_listed.specs.Outlines.{declared, Line, leave, outline_within, outline_below, IsEntry}
-use Rattle.vs_elab_scope.specs.vs_elab_entered.specs.passes.Blocks.{text_name, IsTitled, HasInside, HasEachNamed, AreNamed, Extends}
-use Rattle.vs_elab_scope.specs.vs_elab_entered.specs.passes.Entering.{before_next, IsSoundInner}
-use Rattle.vs_elab_scope.specs.passes.Adding.{IsPlanned, AddsInner}
-use Rattle.vs_elab_scope.specs.passes.Own.{own_lines, AddsLines}
-use Rattle.vs_elab_hierarchy.specs.passes.Opens.{HasInner, IsSoundInside, scopes_inside, lines_inside, OpensInside, HoldsInner}
-use Rattle.vs_elab_scope.specs.vs_elab_entered.proofs.ListLemmas.{slice_push, slice_either}
+use Rattle.vs_elab_hierarchy.specs.passes.Blocks.{text_name, IsTitled, HasInside, HasEachNamed, AreNamed, Extends}
+use Rattle.vs_elab_hierarchy.specs.passes.Entering.{before_next, IsSoundInner}
+use Rattle.vs_elab_hierarchy.specs.scope_passes.Adding.{IsPlanned, AddsInner}
+use Rattle.vs_elab_hierarchy.specs.scope_passes.Own.{own_lines, AddsLines}
+use Rattle.vs_elab_hierarchy.specs.hierarchy_passes.Opens.{HasInner, IsSoundInside, scopes_inside, lines_inside, OpensInside, HoldsInner}
+use Rattle.vs_elab_hierarchy.proofs.ListLemmas.{slice_push, slice_either}
 use Rattle.vs_design.specs.vs_logic4.proofs.Basics.{slice_front, at_end as slice_end, zip_append}
-use Rattle.vs_elab_scope.proofs.AddLemmas.{behind_append, behind_none, planned_behind}
+use Rattle.vs_elab_hierarchy.proofs.AddLemmas.{behind_append, behind_none, planned_behind}
 
 -- ---- the scopes below what opens them
 

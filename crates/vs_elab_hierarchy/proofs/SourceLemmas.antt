@@ -16,7 +16,7 @@ use Rattle.vs_scopes.specs.vs_width_selects.specs.declared.constants.Const.{Cons
 use Rattle.vs_scopes.specs.vs_width_selects.specs.declared.faults.WidthReason.{WidthReason}
 use Rattle.vs_scopes.specs.vs_width_selects.specs.declared.faults.WidthReason.TheVariants.{TooWide, Unknown, NotConstant, WrongKind}
 use Rattle.vs_scopes.specs.vs_width_selects.specs.Environment.{Environment}
-use Rattle.vs_elab_parameters.specs.vs_widths.specs.Names.{meaning_of, by_bytes, Declares as NamesDeclare}
+use Rattle.vs_elab_constants.specs.vs_widths.specs.Names.{meaning_of, by_bytes, Declares as NamesDeclare}
 use Rattle.vs_elab_listed.specs.vs_elab_pieces.specs.Pieces.{pieces_of}
 use Rattle.vs_elab_listed.specs.vs_elab_pieces.specs.Reads.{read_piece}
 use Rattle.vs_elab_listed.specs.vs_elab_pieces.specs.declared.scope.ScopePiece.{ScopePiece as FoundPiece}
@@ -29,14 +29,14 @@ use Rattle.vs_scopes.specs.Ports.{ModulePort, ports_of}
 use Rattle.vs_scopes.specs.Declarations.{Bindings}
 use Rattle.vs_scopes.specs.Nets.{nothing_seen, permits_behind, permits_from, permits_nets}
 use Rattle.vs_scopes.specs.Scopes.{nowhere, text_of, early, has_no_values, has_wrong_end, module_named, top_scope, opened_top, listed, scopes_within, scopes_of, deepest}
-use Rattle.vs_scopes.specs.passes.Answers.{borrowed, Told, IsFaultAt}
-use Rattle.vs_scopes.specs.passes.Names.{read_title}
-use Rattle.vs_scopes.specs.passes.Parts.{read_port, read_ends}
+use Rattle.vs_scopes.specs.scopes_passes.Answers.{borrowed, Told, IsFaultAt}
+use Rattle.vs_scopes.specs.scopes_passes.Names.{read_title}
+use Rattle.vs_scopes.specs.scopes_passes.Parts.{read_port, read_ends}
 use Rattle.std.proofs.lemmas.Bool.{or_from as both_false}
 use Rattle.vs_design.specs.vs_logic4.proofs.Basics.{take_push}
 use Rattle.vs_scopes.proofs.AnswerLemmas.{told_at, told_by}
-use Rattle.vs_elab_parameters.specs.declared.evaluating.ParameterValues.{ParameterValues}
-use Rattle.vs_elab_parameters.specs.passes.Values.{AreValues}
+use Rattle.vs_elab_constants.specs.declared.evaluating.ParameterValues.{ParameterValues}
+use Rattle.vs_elab_constants.specs.passes.Values.{AreValues}
 use Rattle.vs_elab_listed.specs.declared.opened.ListedScope.{ListedScope as FoundScope}
 use Rattle.vs_elab_listed.specs.declared.opened.Numbering.{Numbering}
 use Rattle.vs_elab_listed.specs.Opened.{IsHome, StandsAround, HasSight, AreOpened}
@@ -44,16 +44,16 @@ use Rattle.vs_elab_listed.specs.Outlines.{declared, outline_within, outline_of, 
 use Rattle.vs_elab_listed.specs.ScopeFaults.{Repeated, of_module, top_fault, HoldsOpeningIn, StandsOpening}
 use Rattle.vs_elab_listed.proofs.BindLemmas.{bytes_eq_equiv, place_of_any}
 use Rattle.vs_design.specs.vs_logic4.proofs.Basics.{left_false, right_false}
-use Rattle.vs_elab_scope.specs.vs_elab_entered.specs.vs_elab_implicit_nets.specs.declared.members.Members.{Members}
-use Rattle.vs_elab_scope.specs.vs_elab_entered.specs.vs_elab_implicit_nets.specs.passes.Nets.{AreMembers}
-use Rattle.vs_elab_scope.specs.vs_elab_entered.specs.declared.entering.NamedModule.{NamedModule}
-use Rattle.vs_elab_scope.specs.vs_elab_entered.specs.passes.Blocks.{AreNamed}
-use Rattle.vs_elab_scope.specs.vs_elab_entered.specs.passes.Entering.{module_names, Lists, ListsNot}
-use Rattle.vs_elab_scope.specs.passes.Own.{IsSoundOwn, HoldsOwn, own_lines}
-use Rattle.vs_elab_scope.specs.passes.Adding.{IsPlanned, IsNext, AddsScope}
-use Rattle.vs_elab_hierarchy.specs.passes.Opens.{IsReady, IsSoundInside, scopes_inside, lines_inside, OpensInside, IsTop, TopNot, Made}
-use Rattle.vs_elab_scope.specs.vs_elab_entered.proofs.SeatLemmas.{seated_none}
-use Rattle.vs_elab_scope.specs.vs_elab_entered.proofs.EnterLemmas.{said_none}
+use Rattle.vs_elab_hierarchy.specs.vs_elab_listed.specs.declared.members.Members.{Members}
+use Rattle.vs_elab_hierarchy.specs.vs_elab_listed.specs.nets_passes.Nets.{AreMembers}
+use Rattle.vs_elab_hierarchy.specs.declared.entering.NamedModule.{NamedModule}
+use Rattle.vs_elab_hierarchy.specs.passes.Blocks.{AreNamed}
+use Rattle.vs_elab_hierarchy.specs.passes.Entering.{module_names, Lists, ListsNot}
+use Rattle.vs_elab_hierarchy.specs.scope_passes.Own.{IsSoundOwn, HoldsOwn, own_lines}
+use Rattle.vs_elab_hierarchy.specs.scope_passes.Adding.{IsPlanned, IsNext, AddsScope}
+use Rattle.vs_elab_hierarchy.specs.hierarchy_passes.Opens.{IsReady, IsSoundInside, scopes_inside, lines_inside, OpensInside, IsTop, TopNot, Made}
+use Rattle.vs_elab_hierarchy.proofs.SeatLemmas.{seated_none}
+use Rattle.vs_elab_hierarchy.proofs.EnterLemmas.{said_none}
 use Rattle.vs_elab_hierarchy.proofs.OpenLemmas.{within_inside, outline_inside, lines_join}
 use Rattle.vs_elab_hierarchy.proofs.FaultLemmas.{own_told, none_in, not_repeated}
 

@@ -4,7 +4,7 @@ use Rattle.std.proofs.Math.ListN.{set}
 use Rattle.std.proofs.lemmas.Option.{none-some, same_Some, slice_get-get_or}
 use Rattle.vs_syntax.specs.declared.tree.Module.{Module}
 use Rattle.vs_scopes.specs.vs_width_selects.specs.declared.faults.WidthReason.{WidthReason}
-use Rattle.vs_elab_parameters.specs.vs_widths.specs.Names.{meaning_of, Binds as NamesBind}
+use Rattle.vs_elab_constants.specs.vs_widths.specs.Names.{meaning_of, Binds as NamesBind}
 use Rattle.vs_scopes.specs.declared.faults.Reason.TheVariants.{Width}
 use Rattle.vs_scopes.specs.declared.faults.ElabFault.{ElabFault}
 use Rattle.vs_scopes.specs.declared.faults.ParameterRefusal.TheVariants as refusal
@@ -13,21 +13,21 @@ use Rattle.vs_scopes.specs.Declarations.{Bindings}
 use Rattle.vs_scopes.specs.Nets.{permits_nets}
 use Rattle.vs_scopes.specs.Parameters.{parameters_of}
 use Rattle.vs_scopes.specs.Scopes.{nowhere, module_named, top_scope, deepest}
-use Rattle.vs_scopes.specs.passes.Answers.{Told, IsFaultAt}
+use Rattle.vs_scopes.specs.scopes_passes.Answers.{Told, IsFaultAt}
 use Rattle.vs_scopes.proofs.AnswerLemmas.{told_at}
-use Rattle.vs_elab_parameters.specs.declared.evaluating.ParameterValues.{ParameterValues}
-use Rattle.vs_elab_parameters.specs.passes.Values.{AreValues, AreNoValues}
-use Rattle.vs_elab_parameters.proofs.ValueLemmas.{none_outer}
+use Rattle.vs_elab_constants.specs.declared.evaluating.ParameterValues.{ParameterValues}
+use Rattle.vs_elab_constants.specs.passes.Values.{AreValues, AreNoValues}
+use Rattle.vs_elab_constants.proofs.ValueLemmas.{none_outer}
 use Rattle.vs_elab_listed.specs.declared.opened.ListedScope.{ListedScope as FoundScope}
 use Rattle.vs_elab_listed.specs.declared.opened.Numbering.{Numbering}
 use Rattle.vs_elab_listed.specs.Opened.{AreSeated}
 use Rattle.vs_elab_listed.specs.ScopeFaults.{top_fault, StandsOpening}
-use Rattle.vs_elab_scope.specs.vs_elab_entered.specs.declared.entering.NamedModule.{NamedModule}
-use Rattle.vs_elab_scope.specs.vs_elab_entered.specs.passes.Blocks.{text_name, HasIndex, with_blocks, AddsBlock, AreIndexedUpTo, AreIndexed}
-use Rattle.vs_elab_scope.specs.vs_elab_entered.specs.passes.Entering.{Lists}
-use Rattle.vs_elab_scope.specs.passes.Adding.{AddsScope}
-use Rattle.vs_elab_scope.specs.passes.Own.{HoldsOwn}
-use Rattle.vs_elab_hierarchy.specs.passes.Opens.{IsReady, OpensInside, OpensInsideNot, TopNot, Made}
+use Rattle.vs_elab_hierarchy.specs.declared.entering.NamedModule.{NamedModule}
+use Rattle.vs_elab_hierarchy.specs.passes.Blocks.{text_name, HasIndex, with_blocks, AddsBlock, AreIndexedUpTo, AreIndexed}
+use Rattle.vs_elab_hierarchy.specs.passes.Entering.{Lists}
+use Rattle.vs_elab_hierarchy.specs.scope_passes.Adding.{AddsScope}
+use Rattle.vs_elab_hierarchy.specs.scope_passes.Own.{HoldsOwn}
+use Rattle.vs_elab_hierarchy.specs.hierarchy_passes.Opens.{IsReady, OpensInside, OpensInsideNot, TopNot, Made}
 use Rattle.vs_elab_hierarchy.proofs.FaultLemmas.{own_told}
 use Rattle.vs_elab_hierarchy.proofs.SourceLemmas.{top_ready, top_made, opening_told}
 use Rattle.vs_elab_hierarchy.proofs.BlockLemmas.{adds_none, adds_one}

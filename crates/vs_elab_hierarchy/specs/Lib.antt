@@ -1,3 +1,8 @@
+pub mod Laws
+pub use Rattle.vs_elab_pieces
+pub mod passes
+pub use Rattle.vs_elab_listed
+pub mod scope_passes
 pub use Rattle.vs_scopes.specs.Printed
 pub use Rattle.vs_scopes.specs.Ranges
 pub use Rattle.vs_scopes.specs.Connections
@@ -9,5 +14,4 @@ pub use Rattle.vs_scopes.specs.Scopes
 pub use Rattle.vs_elab_listed.specs.Outlines
 pub use Rattle.vs_elab_listed.specs.ScopeFaults
 pub use Rattle.vs_elab_listed.specs.Opened
-pub mod passes
-pub use Rattle.vs_elab_scope
+pub mod hierarchy_passes

@@ -1,3 +1,3 @@
--- What the functions of this crate tell one another: nothing that is promised rests on these.
-pub mod Opens
-pub mod InHand
+-- What the functions of this crate and of the one above tell one another: nothing that is promised rests on these.
+pub mod Entering
+pub mod Blocks

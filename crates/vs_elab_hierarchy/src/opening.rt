@@ -1,22 +1,21 @@
 //! The scopes inside a scope, in design order.
 ghost use Rattle.std.specs.Prelude.{◌≡◌, ◌<◌, ◌+◌, ◌-◌, ◌*◌, ◌^◌, List, Some, [], ◌∷◌, ◌++◌, length, map, slice_get, MatchResult, OnOk};
 ghost use Rattle.vs_syntax.specs.declared.tree.Module.{Module as Tree};
-ghost use Rattle.vs_elab_listed.specs.vs_elab_generate.specs.Reads.{read_inner};
+ghost use Rattle.vs_elab_listed.specs.vs_elab_constants.specs.Reads.{read_inner};
 ghost use Rattle.vs_scopes.specs.Scopes.{Scope};
-ghost use Rattle.vs_scopes.specs.passes.Answers.{IsRefusal, Told};
+ghost use Rattle.vs_scopes.specs.scopes_passes.Answers.{IsRefusal, Told};
 ghost use Rattle.vs_elab_listed.specs.Opened.{AreOpened, AreSeated};
 ghost use Rattle.vs_elab_listed.specs.ScopeFaults.{HasConstructFault};
-ghost use Rattle.vs_elab_hierarchy.specs.passes.Opens.{FindsInner, HasInner, HasInnerNot, IsReady, OpensInside, OpensInsideNot};
-ghost use Rattle.vs_elab_hierarchy.specs.passes.InHand.{Asked, InHand};
+ghost use Rattle.vs_elab_hierarchy.specs.hierarchy_passes.Opens.{FindsInner, HasInner, HasInnerNot, IsReady, OpensInside, OpensInsideNot};
+ghost use Rattle.vs_elab_hierarchy.specs.hierarchy_passes.InHand.{Asked, InHand};
 
+use crate::vs_elab_listed::check_blocks;
+use crate::{NamedModule, add};
 use std::alloc::Global;
 use vs_design::Entry;
-use vs_elab_listed::vs_elab_generate::{Inner, inners};
+use vs_elab_constants::vs_widths::{Levels, Names};
+use vs_elab_listed::vs_elab_constants::{Inner, inners};
 use vs_elab_listed::{ListedScope, Numbering, names_around, scope_fault};
-use vs_elab_parameters::vs_widths::{Levels, Names};
-use vs_elab_scope::add;
-use vs_elab_scope::vs_elab_entered::NamedModule;
-use vs_elab_scope::vs_elab_entered::vs_elab_implicit_nets::check_blocks;
 use vs_scopes::{BodyFault, ElabFault};
 
 /// A fault of a generate construct of the scope at a place.

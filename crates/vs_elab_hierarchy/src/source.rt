@@ -4,30 +4,27 @@ ghost use Rattle.std.specs.List.{All};
 ghost use Rattle.vs_scopes.specs.Printed.{plainly};
 ghost use Rattle.vs_scopes.specs.Ports.{ports_of};
 ghost use Rattle.vs_scopes.specs.Scopes.{nowhere};
-ghost use Rattle.vs_scopes.specs.passes.Answers.{IsFaultAt, Told};
-ghost use Rattle.vs_scopes.specs.passes.Parts.{read_port};
-ghost use Rattle.vs_elab_parameters.specs.passes.Values.{AreValues};
+ghost use Rattle.vs_scopes.specs.scopes_passes.Answers.{IsFaultAt, Told};
+ghost use Rattle.vs_scopes.specs.scopes_passes.Parts.{read_port};
+ghost use Rattle.vs_elab_constants.specs.passes.Values.{AreValues};
 ghost use Rattle.vs_elab_listed.specs.Opened.{AreSeated, OpensAll};
 ghost use Rattle.vs_elab_listed.specs.ScopeFaults.{StandsOpening};
-ghost use Rattle.vs_elab_scope.specs.vs_elab_entered.specs.passes.Entering.{Lists, ListsNot};
+ghost use Rattle.vs_elab_hierarchy.specs.passes.Entering.{Lists, ListsNot};
 ghost use Rattle.vs_elab_listed.specs.vs_elab_pieces.specs.Pieces.{pieces_of};
 ghost use Rattle.vs_elab_listed.specs.vs_elab_pieces.specs.Reads.{read_piece, referred};
-ghost use Rattle.vs_elab_scope.specs.vs_elab_entered.specs.passes.Blocks.{text_name, HasIndex, HasNoBlocks, AddsBlock, AreIndexed};
-ghost use Rattle.vs_elab_scope.specs.passes.Adding.{IsPlanned};
-ghost use Rattle.vs_elab_hierarchy.specs.passes.Opens.{IsTop, TopNot, Made};
+ghost use Rattle.vs_elab_hierarchy.specs.passes.Blocks.{text_name, HasIndex, HasNoBlocks, AddsBlock, AreIndexed};
+ghost use Rattle.vs_elab_hierarchy.specs.scope_passes.Adding.{IsPlanned};
+ghost use Rattle.vs_elab_hierarchy.specs.hierarchy_passes.Opens.{IsTop, TopNot, Made};
 
 use crate::opening::open_inside;
+use crate::vs_elab_listed::{Enclosing, module_members, permits_behind};
+use crate::{NamedModule, list_scope, plain_title};
 use std::alloc::{AllocError, Global};
 use vs_design::ScopeKind;
+use vs_elab_constants::vs_widths::{Levels, Names};
+use vs_elab_constants::{ParameterValues, values};
 use vs_elab_listed::vs_elab_pieces::{ScopePiece, pieces};
 use vs_elab_listed::{DEEPEST, Hierarchy, ListedScope, Numbering, fault_at};
-use vs_elab_parameters::vs_widths::{Levels, Names};
-use vs_elab_parameters::{ParameterValues, values};
-use vs_elab_scope::list_scope;
-use vs_elab_scope::vs_elab_entered::vs_elab_implicit_nets::{
-    Enclosing, module_members, permits_behind,
-};
-use vs_elab_scope::vs_elab_entered::{NamedModule, plain_title};
 use vs_scopes::{
     ElabFault, ModulePort, ParameterRefusal, PartName, PathName, Reason, module_ports,
 };

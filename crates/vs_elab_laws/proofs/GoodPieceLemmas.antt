@@ -21,14 +21,14 @@ use Rattle.vs_syntax.specs.declared.tree.ModuleItem.TheOpen as mf
 use Rattle.vs_syntax.specs.SourceNames.{local_names, stmt_names_step, stmt_names, item_names, instance_names}
 use Rattle.vs_elab_pieces.specs.Uses.{names_used_by, names_used}
 use Rattle.vs_elab_pieces.specs.Pieces.{each_of, NamedBlock, blocks_in, blocks_among, blocks_of, Piece, plain, loop, choice, local, inside, net, pieces_in, pieces_of, block_pieces, Content, nothing, block, content_step, content_of}
-use Rattle.vs_elab_operands.specs.vs_width_selects.specs.declared.constants.Const.{Const}
-use Rattle.vs_elab_operands.specs.vs_width_selects.specs.Environment.{Environment}
+use Rattle.vs_elab_statements.specs.vs_width_selects.specs.declared.constants.Const.{Const}
+use Rattle.vs_elab_statements.specs.vs_width_selects.specs.Environment.{Environment}
 use Rattle.vs_elaborate.specs.vs_scopes.specs.Declarations.{Bindings, use_of, uses_by_item}
 use Rattle.vs_elaborate.specs.vs_scopes.specs.Nets.{Sight, new_among, with_nets, is_known, pieces_with_nets}
 use Rattle.vs_elaborate.specs.vs_scopes.specs.Parameters.{any_fault}
 use Rattle.vs_elaborate.specs.vs_scopes.specs.Generate.{genvar_number, holds, condition_fault, Turns, turns, faulty, endless, turns_of, Taken, takes, refused, decided, branch_taken, other_taken, chosen, name_of_block, Inner, instance, generated, named, generates, content_inner, turns_inner, loop_inner, choice_inner, inner_in, behind_piece, inner_from}
-use Rattle.vs_elaborate.specs.vs_elab_path_laws.specs.Laws.{FitsTurn, IsTurn}
-use Rattle.vs_elaborate.specs.vs_elab_path_laws.proofs.TurnLemmas.{turns_differ}
+use Rattle.vs_elaborate.specs.vs_elab_hierarchy.specs.Laws.{FitsTurn, IsTurn}
+use Rattle.vs_elaborate.specs.vs_elab_hierarchy.proofs.TurnLemmas.{turns_differ}
 use Rattle.vs_elab_laws.specs.Named.{NumberedPass}
 use Rattle.vs_elab_laws.proofs.LayerLemmas.{blocks_by, blocks_layered, blocks_layer, pieces_by, pieces_layered, pieces_layer, content_layer, taken_layered, taken_layer}
 use Rattle.vs_elab_laws.proofs.GoodNameLemmas.{all_item_names, all_names_step, all_module_item_names}

@@ -27,8 +27,8 @@ use Rattle.vs_design.specs.declared.design.Entry.TheVariants.{Enter, Declare, Le
 use Rattle.vs_design.specs.declared.design.ScopeKind.{ScopeKind}
 use Rattle.vs_design.specs.declared.signal.Signal.{Signal}
 use Rattle.vs_design.specs.Parts.{Parts}
-use Rattle.vs_elab_operands.specs.vs_width_selects.specs.declared.constants.Const.{Const}
-use Rattle.vs_elab_operands.specs.vs_width_selects.specs.Environment.{Environment}
+use Rattle.vs_elab_statements.specs.vs_width_selects.specs.declared.constants.Const.{Const}
+use Rattle.vs_elab_statements.specs.vs_width_selects.specs.Environment.{Environment}
 use Rattle.vs_elaborate.specs.vs_scopes.specs.Printed.{PathName, plainly}
 use Rattle.vs_elaborate.specs.vs_scopes.specs.Parameters.{said, any_fault}
 use Rattle.vs_elaborate.specs.vs_scopes.specs.Ports.{ModulePort, KindSaid, port_as, ports_from, port_said, kind_said, joined_port, port_of_items, port_by_items, is_name_list, listed_ports, ports_of, port_names, names_where, is_joined, without_name}
@@ -37,15 +37,15 @@ use Rattle.vs_elaborate.specs.vs_scopes.specs.Declarations.{Use, DeclaredName, d
 use Rattle.vs_elaborate.specs.vs_scopes.specs.Nets.{permits_nets, nothing_seen}
 use Rattle.vs_elaborate.specs.vs_scopes.specs.Generate.{Inner, instance, generated, named}
 use Rattle.vs_elaborate.specs.vs_scopes.specs.Scopes.{Scope, nowhere, declarations_of, names_of, environment, text_names, inner_of, sight_in, module_named, Before, behind, text_of, module_pieces, block_text, top_scope, instance_scope, block_scope, is_inside, has_no_values, block_fault, opened_instance, opened_block, opened, listed, below, within_first, scopes_within, deepest, opened_top, scopes_of}
-use Rattle.vs_elab_operands.specs.vs_elab_listed.specs.Outlines.{Declared, declared, signal_of, signals_of, Line, enter, declare, leave, declare_from, outline_around, outline_below, outline_within, outline_of, IsEntry}
+use Rattle.vs_elab_statements.specs.vs_elab_listed.specs.Outlines.{Declared, declared, signal_of, signals_of, Line, enter, declare, leave, declare_from, outline_around, outline_below, outline_within, outline_of, IsEntry}
 use Rattle.vs_design.specs.declared.timescale.Timescale.{Timescale}
 use Rattle.vs_elaborate.specs.DesignOf.{Represents}
-use Rattle.vs_elaborate.specs.vs_elab_path_laws.specs.Laws.{FitsTurn}
+use Rattle.vs_elaborate.specs.vs_elab_hierarchy.specs.Laws.{FitsTurn}
 use Rattle.vs_elab_laws.specs.Named.{IsTurnOf, HasName, HasPart, IsNamedEntry, HasNames, HasGoodModules, NumberedPass}
 use Rattle.vs_elab_laws.proofs.GoodTextLemmas.{both, halves, each_append}
 use Rattle.vs_elab_laws.proofs.GoodNameLemmas.{all_module_item_names, all_join}
 use Rattle.vs_elab_laws.proofs.GoodPieceLemmas.{AreGoodPieces, IsGoodPiece, pieces_good, block_pieces_good, nets_good, IsGoodInner, AreGoodInner, inner_good}
-use Rattle.vs_elab_scope.proofs.OwnLemmas.{port_names_declared as names_of_declared}
+use Rattle.vs_elab_hierarchy.proofs.OwnLemmas.{port_names_declared as names_of_declared}
 
 module _ (good : List ℕ → Bool) (numbered : NumberedPass good) where
   -- names that pass

@@ -9,7 +9,7 @@ use Rattle.vs_syntax.specs.declared.tree.ModuleItem.TheOpen.{ModuleItem-F}
 use Rattle.vs_syntax.specs.declared.tree.ModuleItem.TheViews.{roll-ModuleItem, out-ModuleItem, out-roll-ModuleItem}
 use Rattle.vs_syntax.specs.declared.tree.ModuleItem.TheFolds.{fold-ModuleItem, fold-roll-ModuleItem, map-ModuleItem}
 use Rattle.vs_elab_pieces.specs.Pieces.{NamedBlock, blocks_step, blocks_in, Piece, pieces_step, pieces_in, content_step, content_of}
-use Rattle.vs_elab_operands.specs.vs_width_selects.specs.Environment.{Environment}
+use Rattle.vs_elab_statements.specs.vs_width_selects.specs.Environment.{Environment}
 use Rattle.vs_elaborate.specs.vs_scopes.specs.Generate.{Taken, taken_step, branch_taken}
 
 -- ---- named blocks

@@ -19,20 +19,20 @@ use Rattle.vs_design.specs.declared.design.Entry.{Entry}
 use Rattle.vs_design.specs.declared.design.Entry.TheVariants.{Enter, Declare, Leave}
 use Rattle.vs_design.specs.Parts.{Parts}
 use Rattle.vs_design.specs.WellFormed.{numbers}
-use Rattle.vs_elab_operands.specs.vs_width_selects.specs.Environment.{Environment}
-use Rattle.vs_elab_operands.specs.vs_widths.specs.Expressions.{meant, name_meant}
-use Rattle.vs_elab_operands.specs.vs_widths.specs.Lefts.{name_aimed, expr_aimed}
-use Rattle.vs_elab_operands.specs.vs_widths.specs.declared.kinds.AssignmentKind.TheVariants.{Procedural, Continuous}
+use Rattle.vs_elab_statements.specs.vs_width_selects.specs.Environment.{Environment}
+use Rattle.vs_elab_statements.specs.vs_widths.specs.Expressions.{meant, name_meant}
+use Rattle.vs_elab_statements.specs.vs_widths.specs.Lefts.{name_aimed, expr_aimed}
+use Rattle.vs_elab_statements.specs.vs_widths.specs.declared.kinds.AssignmentKind.TheVariants.{Procedural, Continuous}
 use Rattle.vs_elab_pieces.specs.Pieces.{Piece}
 use Rattle.vs_elaborate.specs.vs_scopes.specs.Printed.{Path, port_assign_name, part_name}
 use Rattle.vs_elaborate.specs.vs_scopes.specs.Ports.{ModulePort}
 use Rattle.vs_elaborate.specs.vs_scopes.specs.Scopes.{Scope, environment, scopes_of}
-use Rattle.vs_elab_operands.specs.Members.{Assignment, Behavior, sets, runs, repeats, assignment_of, net_assignment, setting, drivers_by_item, drivers_in, behaviors_by_item, behaviors_in, port_setting, drivers_of, behaviors_of, PortDriver, into, out_of, connected, port_drivers, port_drivers_of, port_of, Driver, of_port, of_text}
-use Rattle.vs_elab_operands.specs.Surroundings.{Surroundings, surroundings_at}
+use Rattle.vs_elab_statements.specs.Members.{Assignment, Behavior, sets, runs, repeats, assignment_of, net_assignment, setting, drivers_by_item, drivers_in, behaviors_by_item, behaviors_in, port_setting, drivers_of, behaviors_of, PortDriver, into, out_of, connected, port_drivers, port_drivers_of, port_of, Driver, of_port, of_text}
+use Rattle.vs_elab_statements.specs.Surroundings.{Surroundings, surroundings_at}
 use Rattle.vs_elaborate.specs.Timescales.{ratio_of, scales_in, first_or_default, timescale_of}
 use Rattle.vs_elaborate.specs.Drivers.{IsDriver}
-use Rattle.vs_elab_operands.specs.Processes.{kind_of, IsBody, is_set, is_run, is_repeat}
-use Rattle.vs_elab_operands.specs.vs_elab_listed.specs.Outlines.{signals_of, Line, enter, declare, leave, IsEntry, outline_of}
+use Rattle.vs_elab_statements.specs.Processes.{kind_of, IsBody, is_set, is_run, is_repeat}
+use Rattle.vs_elab_statements.specs.vs_elab_listed.specs.Outlines.{signals_of, Line, enter, declare, leave, IsEntry, outline_of}
 use Rattle.vs_elaborate.specs.DesignOf.{PartOf, parts_from, port_part, assigns_of, processes_of, IsProcess, IsAssign, Represents, DesignOf}
 use Rattle.vs_elab_laws.specs.Same.{SameSides, SameStatement, assign_same, forever_same, SameAssign, SameProcess, SameEntry, SameDesign}
 use Rattle.vs_elab_laws.proofs.SameTypedLemmas.{same_meant, same_expr_aimed}

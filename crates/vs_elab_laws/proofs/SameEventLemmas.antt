@@ -25,11 +25,11 @@ use Rattle.vs_design.specs.declared.write.Part.{Part}
 use Rattle.vs_design.specs.Statements.{all_reads, assignment_reads, arg_reads, statement_reads, statement_reads_step}
 use Rattle.vs_design.specs.Uses.{bits_from, joined, reads, target_reads}
 use Rattle.vs_design.specs.WellFormed.{aim_width}
-use Rattle.vs_elab_operands.specs.vs_width_selects.specs.vs_eval.specs.Targets.{parts_from}
-use Rattle.vs_elab_operands.specs.vs_width_selects.specs.Environment.{Environment}
-use Rattle.vs_elab_operands.specs.vs_widths.specs.declared.kinds.AssignmentKind.TheVariants.{Event}
-use Rattle.vs_elab_operands.specs.vs_widths.specs.Lefts.{Aimed, name_aimed}
-use Rattle.vs_elab_operands.specs.Statements.{event_aimed, watched, watched_width, IsTerm, AreTerms, no_terms, more_terms, AreEvents, are_star, are_grouped, are_name, are_terms, level_term}
+use Rattle.vs_elab_statements.specs.vs_width_selects.specs.vs_eval.specs.Targets.{parts_from}
+use Rattle.vs_elab_statements.specs.vs_width_selects.specs.Environment.{Environment}
+use Rattle.vs_elab_statements.specs.vs_widths.specs.declared.kinds.AssignmentKind.TheVariants.{Event}
+use Rattle.vs_elab_statements.specs.vs_widths.specs.Lefts.{Aimed, name_aimed}
+use Rattle.vs_elab_statements.specs.Statements.{event_aimed, watched, watched_width, IsTerm, AreTerms, no_terms, more_terms, AreEvents, are_star, are_grouped, are_name, are_terms, level_term}
 use Rattle.vs_elab_laws.specs.Same.{SameTyped, SameFormatArg, SameSides, SameStatement, null_same, assign_same, later_same, call_same, finish_same, block_same, delay_same, event_same, if_same, case_same, while_same, repeat_same, forever_same, SameItems, items_end, item_same, SameStatements, statements_end, statement_same}
 use Rattle.vs_elab_laws.proofs.PairLemmas.{pair_map}
 use Rattle.vs_elab_laws.proofs.SameTargetLemmas.{one_target}

@@ -17,13 +17,13 @@ use Rattle.vs_syntax.specs.declared.tree.ModuleItem.TheVariants.{rolls-Plain, ro
 use Rattle.vs_syntax.specs.declared.tree.ModuleItem.TheViews.{roll-ModuleItem}
 use Rattle.vs_syntax.specs.Same.{SameExpr, Pairwise, no_pair, pair_more, SameOption, both_absent, both_there, SameLoopHeader, SameModuleItem, same_plain, same_region, same_generate_loop, same_generate_if, same_no_content, same_generate_block, SameOther, same_no_other, same_other, SameModuleItems}
 use Rattle.vs_elab_pieces.specs.Pieces.{NamedBlock, blocks_of, Piece, Content, nothing, content_step, content_of}
-use Rattle.vs_elab_operands.specs.vs_width_selects.specs.declared.constants.Const.{Const}
-use Rattle.vs_elab_operands.specs.vs_width_selects.specs.declared.faults.WidthReason.{WidthReason}
-use Rattle.vs_elab_operands.specs.vs_width_selects.specs.Environment.{Environment}
-use Rattle.vs_elab_operands.specs.vs_width_selects.specs.Findings.{stands}
-use Rattle.vs_elab_operands.specs.vs_width_selects.specs.Meants.{Meant, own}
-use Rattle.vs_elab_operands.specs.vs_width_selects.specs.Constants.{constant_finding}
-use Rattle.vs_elab_operands.specs.vs_widths.specs.Expressions.{meant}
+use Rattle.vs_elab_statements.specs.vs_width_selects.specs.declared.constants.Const.{Const}
+use Rattle.vs_elab_statements.specs.vs_width_selects.specs.declared.faults.WidthReason.{WidthReason}
+use Rattle.vs_elab_statements.specs.vs_width_selects.specs.Environment.{Environment}
+use Rattle.vs_elab_statements.specs.vs_width_selects.specs.Findings.{stands}
+use Rattle.vs_elab_statements.specs.vs_width_selects.specs.Meants.{Meant, own}
+use Rattle.vs_elab_statements.specs.vs_width_selects.specs.Constants.{constant_finding}
+use Rattle.vs_elab_statements.specs.vs_widths.specs.Expressions.{meant}
 use Rattle.vs_elaborate.specs.vs_scopes.specs.Printed.{PathName}
 use Rattle.vs_elaborate.specs.vs_scopes.specs.Ranges.{sized_as, number_fault}
 use Rattle.vs_elaborate.specs.vs_scopes.specs.Parameters.{neither, constant_by, with_constant, any_fault}

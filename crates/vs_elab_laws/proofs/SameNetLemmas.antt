@@ -22,7 +22,7 @@ use Rattle.vs_elab_pieces.specs.Uses.{Bytes, expr_names, select_expr_names, left
 use Rattle.vs_elab_pieces.specs.passes.Parts.{exprs_names, links_names, pairs_names, selects_names, lefts_names}
 use Rattle.vs_elab_pieces.proofs.UsesLemmas.{names_form, names_Select, names_Chain, names_Choice, names_Concat, names_Repeat, names_Lefts}
 use Rattle.vs_elaborate.specs.vs_scopes.specs.Declarations.{Bindings}
-use Rattle.vs_elab_operands.specs.vs_widths.specs.Names.{meaning_of}
+use Rattle.vs_elab_statements.specs.vs_widths.specs.Names.{meaning_of}
 use Rattle.vs_elaborate.specs.vs_scopes.specs.Nets.{permits_behind, permits_from, permits_nets, Sight, new_among, with_nets, is_known, pieces_with_nets, told_in, told_from, first_told}
 use Rattle.vs_elab_laws.proofs.PairLemmas.{pair_append, pair_same, flat_one}
 use Rattle.vs_elab_laws.proofs.SamePieceLemmas.{SamePiece, plain_same, loop_same, choice_same, local_same, inside_same, net_same}

@@ -15,15 +15,15 @@ use Rattle.vs_syntax.specs.declared.tree.ParameterForm.{ParameterForm}
 use Rattle.vs_syntax.specs.declared.tree.Range.{Range}
 use Rattle.vs_syntax.specs.Same.{SameExpr, Pairwise, no_pair, pair_more, SameOption, both_absent, both_there, SameValue, same_no_value, same_value, SameRange, same_no_range, same_range, SameParameterForm, same_integer_word, same_vector, SameConstant, SameHeaderParameter, SameConnection, SameConnections, same_ordered, same_named, SameItem, same_port_item, same_genvars, same_wire, same_reg, same_integer, same_parameters, same_localparams, same_instances, same_assigns, same_initial, same_always, SameModule}
 use Rattle.vs_design.specs.declared.signal.SignalKind.{SignalKind}
-use Rattle.vs_elab_operands.specs.vs_width_selects.specs.declared.bindings.Binding.{Binding}
-use Rattle.vs_elab_operands.specs.vs_width_selects.specs.declared.bindings.Binding.TheVariants as b
-use Rattle.vs_elab_operands.specs.vs_width_selects.specs.declared.constants.Const.{Const}
-use Rattle.vs_elab_operands.specs.vs_width_selects.specs.declared.faults.WidthReason.{WidthReason}
-use Rattle.vs_elab_operands.specs.vs_width_selects.specs.declared.faults.WidthReason.TheVariants.{TooWide, Unknown, NotConstant, WrongKind}
-use Rattle.vs_elab_operands.specs.vs_width_selects.specs.Environment.{Environment}
-use Rattle.vs_elab_operands.specs.vs_width_selects.specs.Findings.{stands}
-use Rattle.vs_elab_operands.specs.vs_width_selects.specs.Meants.{Meant}
-use Rattle.vs_elab_operands.specs.vs_width_selects.specs.Constants.{constant_finding}
+use Rattle.vs_elab_statements.specs.vs_width_selects.specs.declared.bindings.Binding.{Binding}
+use Rattle.vs_elab_statements.specs.vs_width_selects.specs.declared.bindings.Binding.TheVariants as b
+use Rattle.vs_elab_statements.specs.vs_width_selects.specs.declared.constants.Const.{Const}
+use Rattle.vs_elab_statements.specs.vs_width_selects.specs.declared.faults.WidthReason.{WidthReason}
+use Rattle.vs_elab_statements.specs.vs_width_selects.specs.declared.faults.WidthReason.TheVariants.{TooWide, Unknown, NotConstant, WrongKind}
+use Rattle.vs_elab_statements.specs.vs_width_selects.specs.Environment.{Environment}
+use Rattle.vs_elab_statements.specs.vs_width_selects.specs.Findings.{stands}
+use Rattle.vs_elab_statements.specs.vs_width_selects.specs.Meants.{Meant}
+use Rattle.vs_elab_statements.specs.vs_width_selects.specs.Constants.{constant_finding}
 use Rattle.vs_elaborate.specs.vs_scopes.specs.Ranges.{sized_as}
 use Rattle.vs_elaborate.specs.vs_scopes.specs.Connections.{in_text, in_order, by_name, ends_of, has_twice, has_other, is_mismatch}
 use Rattle.vs_elaborate.specs.vs_scopes.specs.Parameters.{Parameter, said, header_parameters, item_parameter, parameters_in, piece_parameters, parameters_among, parameters_of, overridable, Given, first_end, other_ends, given_from, overriding, given_to, is_override_mismatch, the_size, neither, vector_takes, takes_by, constant_by, takes_fault, given_meant, constant_given, own_fault, outer_fault, with_given, bound_given, known_after, known_behind, blamed_given, blamed_after, known_for, constants_of, own_faults, outer_faults, any_fault}

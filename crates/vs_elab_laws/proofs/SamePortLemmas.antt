@@ -19,11 +19,11 @@ use Rattle.vs_syntax.specs.declared.tree.Range.{Range}
 use Rattle.vs_syntax.specs.Same.{Pairwise, no_pair, pair_more, SameOption, both_absent, both_there, SameName, SameValue, same_no_value, SameRange, same_no_range, same_range, SameDeclarator, SameLocal, SameLocals, same_local_reg, same_local_integer, SameForm, SamePortForm, SamePort, SamePorts, SameConnections, SameInstance, SameItem, same_port_item, same_genvars, same_wire, same_reg, same_integer, same_parameters, same_localparams, same_instances, same_assigns, same_initial, same_always, SameModule}
 use Rattle.vs_design.specs.declared.signal.SignalKind.{SignalKind}
 use Rattle.vs_design.specs.declared.signal.SignalKind.TheVariants as k
-use Rattle.vs_elab_operands.specs.vs_width_selects.specs.Environment.{Environment}
-use Rattle.vs_elab_operands.specs.vs_width_selects.specs.Findings.{too_wide}
-use Rattle.vs_elab_operands.specs.vs_width_selects.specs.Meants.{Meant, own}
-use Rattle.vs_elab_operands.specs.vs_width_selects.specs.Constants.{constant_finding, whole_at}
-use Rattle.vs_elab_operands.specs.vs_widths.specs.Expressions.{meant}
+use Rattle.vs_elab_statements.specs.vs_width_selects.specs.Environment.{Environment}
+use Rattle.vs_elab_statements.specs.vs_width_selects.specs.Findings.{too_wide}
+use Rattle.vs_elab_statements.specs.vs_width_selects.specs.Meants.{Meant, own}
+use Rattle.vs_elab_statements.specs.vs_width_selects.specs.Constants.{constant_finding, whole_at}
+use Rattle.vs_elab_statements.specs.vs_widths.specs.Expressions.{meant}
 use Rattle.vs_elaborate.specs.vs_scopes.specs.declared.faults.Reason.{Reason}
 use Rattle.vs_elaborate.specs.vs_scopes.specs.declared.faults.Reason.TheVariants.{NoModule, Inside, PortMismatch, ParameterMismatch, DeclaredTwice, DrivenTwice, Limit, Width, Endless, Unnamed, Timescales, Format}
 use Rattle.vs_elaborate.specs.vs_scopes.specs.Ranges.{Sized, Words, range_bounds, words_fault, words_as, is_array_of_nets, number_fault, both_bounds, is_over, shape_with, distance_or, sized_as}

@@ -7,11 +7,11 @@ use Rattle.std.specs.Str.{bytes_eq}
 use Rattle.vs_syntax.specs.declared.tree.Module.{Module}
 use Rattle.vs_syntax.specs.Same.{Pairwise, no_pair, pair_more, SameOption, both_absent, both_there, SameValue, SameModule}
 use Rattle.vs_design.specs.declared.design.ScopeKind.{ScopeKind}
-use Rattle.vs_elab_operands.specs.vs_width_selects.specs.declared.bindings.Binding.{Binding}
-use Rattle.vs_elab_operands.specs.vs_width_selects.specs.declared.bindings.Binding.TheVariants as b
-use Rattle.vs_elab_operands.specs.vs_width_selects.specs.declared.constants.Const.{Const}
-use Rattle.vs_elab_operands.specs.vs_width_selects.specs.Environment.{Environment}
-use Rattle.vs_elab_operands.specs.vs_widths.specs.Names.{meaning_of}
+use Rattle.vs_elab_statements.specs.vs_width_selects.specs.declared.bindings.Binding.{Binding}
+use Rattle.vs_elab_statements.specs.vs_width_selects.specs.declared.bindings.Binding.TheVariants as b
+use Rattle.vs_elab_statements.specs.vs_width_selects.specs.declared.constants.Const.{Const}
+use Rattle.vs_elab_statements.specs.vs_width_selects.specs.Environment.{Environment}
+use Rattle.vs_elab_statements.specs.vs_widths.specs.Names.{meaning_of}
 use Rattle.vs_elab_pieces.specs.Pieces.{Piece, pieces_of, block_pieces}
 use Rattle.vs_elaborate.specs.vs_scopes.specs.Printed.{PathName, plainly, Path, same_path, printed, printed_name, printed_part}
 use Rattle.vs_elaborate.specs.vs_scopes.specs.Ranges.{word_count}
@@ -22,7 +22,7 @@ use Rattle.vs_elaborate.specs.vs_scopes.specs.Declarations.{Bindings, DeclaredNa
 use Rattle.vs_elaborate.specs.vs_scopes.specs.Nets.{permits_nets, Sight, seen, coming, nothing_seen, pieces_with_nets, first_told, is_before, is_net}
 use Rattle.vs_elaborate.specs.vs_scopes.specs.Generate.{Inner, inner_from, turns_among}
 use Rattle.vs_elaborate.specs.vs_scopes.specs.Scopes.{Scope, nowhere, outward, seen_from, early, is_instance, declarations_of, numbered_names, constant_names, bindings_of, keys, environment, named, text_names, inner_of, sight_by, sight_in, module_named, Before, signal_count, instance_count, turns_in, turn_count, behind, before, module_pieces, text_of, block_text, top_scope, instance_scope, block_scope, is_inside, has_no_values, block_fault, opened_instance, opened_block, opened, listed, below, within_first, scopes_within, deepest, opened_top, scopes_of, environment_at}
-use Rattle.vs_elab_operands.specs.vs_elab_listed.specs.Outlines.{Declared, signal_of, signals_of, Line, enter, leave, declare_from, outline_around, outline_below, outline_within, outline_of}
+use Rattle.vs_elab_statements.specs.vs_elab_listed.specs.Outlines.{Declared, signal_of, signals_of, Line, enter, leave, declare_from, outline_around, outline_below, outline_within, outline_of}
 use Rattle.vs_elab_laws.proofs.PairLemmas.{pair_append, pair_length, pair_same, flat_one}
 use Rattle.vs_elab_laws.proofs.SamePieceLemmas.{one_pair, SamePiece, pieces_same, block_pieces_same}
 use Rattle.vs_elab_laws.proofs.SameParameterLemmas.{same_ends, same_text, same_block_text, same_known, same_values, same_no_values, same_block_known, same_block_values, same_block_fault}

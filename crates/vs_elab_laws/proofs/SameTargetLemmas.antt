@@ -11,19 +11,19 @@ use Rattle.vs_design.specs.declared.statement.Target.{Target}
 use Rattle.vs_design.specs.Stores.{Store}
 use Rattle.vs_design.specs.Uses.{joined, aim_reads}
 use Rattle.vs_design.specs.WellFormed.{aim_width}
-use Rattle.vs_elab_operands.specs.vs_width_selects.specs.vs_eval.specs.Targets.{part_at, parts_from}
-use Rattle.vs_elab_operands.specs.vs_width_selects.specs.Each.{Each, each_none, each_more}
-use Rattle.vs_elab_operands.specs.vs_width_selects.specs.Environment.{Environment}
-use Rattle.vs_elab_operands.specs.vs_width_selects.specs.Findings.{Finding, Has, Lacks}
-use Rattle.vs_elab_operands.specs.vs_width_selects.specs.Meants.{Meant}
-use Rattle.vs_elab_operands.specs.vs_width_selects.specs.Selects.{Named}
-use Rattle.vs_elab_operands.specs.vs_widths.specs.declared.kinds.AssignmentKind.{AssignmentKind}
-use Rattle.vs_elab_operands.specs.vs_widths.specs.Aiming.{IsPlace, IsTarget}
-use Rattle.vs_elab_operands.specs.vs_widths.specs.Lefts.{Aimed, name_aimed}
-use Rattle.vs_elab_operands.specs.vs_widths.specs.Expressions.{meant}
-use Rattle.vs_elab_operands.specs.vs_widths.specs.Typing.{IsTypedAs}
-use Rattle.vs_elab_operands.specs.Members.{Assignee, places, named_signal}
-use Rattle.vs_elab_operands.specs.Statements.{assigned_to, IsSource, IsAssignment}
+use Rattle.vs_elab_statements.specs.vs_width_selects.specs.vs_eval.specs.Targets.{part_at, parts_from}
+use Rattle.vs_elab_statements.specs.vs_width_selects.specs.Each.{Each, each_none, each_more}
+use Rattle.vs_elab_statements.specs.vs_width_selects.specs.Environment.{Environment}
+use Rattle.vs_elab_statements.specs.vs_width_selects.specs.Findings.{Finding, Has, Lacks}
+use Rattle.vs_elab_statements.specs.vs_width_selects.specs.Meants.{Meant}
+use Rattle.vs_elab_statements.specs.vs_width_selects.specs.Selects.{Named}
+use Rattle.vs_elab_statements.specs.vs_widths.specs.declared.kinds.AssignmentKind.{AssignmentKind}
+use Rattle.vs_elab_statements.specs.vs_widths.specs.Aiming.{IsPlace, IsTarget}
+use Rattle.vs_elab_statements.specs.vs_widths.specs.Lefts.{Aimed, name_aimed}
+use Rattle.vs_elab_statements.specs.vs_widths.specs.Expressions.{meant}
+use Rattle.vs_elab_statements.specs.vs_widths.specs.Typing.{IsTypedAs}
+use Rattle.vs_elab_statements.specs.Members.{Assignee, places, named_signal}
+use Rattle.vs_elab_statements.specs.Statements.{assigned_to, IsSource, IsAssignment}
 use Rattle.vs_elab_laws.specs.Same.{SameTyped, SameAim, SameTarget, SameSides}
 use Rattle.vs_elab_laws.proofs.SameTypedLemmas.{same_meant, same_aimed, one_typed}
 

@@ -18,14 +18,14 @@ use Rattle.vs_syntax.specs.declared.tree.Left.TheVariants.{rolls-Name as rolls-P
 use Rattle.vs_syntax.specs.declared.tree.Left.TheOpen as g
 use Rattle.vs_syntax.specs.Same.{SameExpr, same_number, same_name, same_select, SameSelects, same_no_select, same_more_selects, SameSecond, same_no_second, same_second, SameLeft, same_place, same_places, SameLefts, same_no_left, same_more_lefts, same_group, same_unary, same_chain, same_choice, same_concat, same_repeat, same_cast, SameLinks, same_no_link, same_link, SamePairs, same_no_pair, same_pair, SameExprs, same_no_expr, same_more_exprs}
 use Rattle.vs_design.specs.declared.expression.Typed.{Typed}
-use Rattle.vs_elab_operands.specs.vs_width_selects.specs.Environment.{Environment}
-use Rattle.vs_elab_operands.specs.vs_width_selects.specs.Meants.{Meant}
-use Rattle.vs_elab_operands.specs.vs_width_selects.specs.Selects.{Select, select_meant}
-use Rattle.vs_elab_operands.specs.vs_widths.specs.declared.kinds.AssignmentKind.{AssignmentKind}
-use Rattle.vs_elab_operands.specs.vs_widths.specs.Lefts.{Aimed, aimed, aimed_step, name_aimed, concat_aimed, is_left, is_left_step, as_left, as_left_step, expr_aimed, no_target}
-use Rattle.vs_elab_operands.specs.vs_widths.proofs.ExprLemmas.{as_left_Name, as_left_Select, as_left_Concat}
-use Rattle.vs_elab_operands.specs.vs_widths.specs.Expressions.{meant, meant_step, meant_select, meant_selects, name_meant, unary_meant, chain_meant, choice_meant, concat_meant, repeat_meant, cast_meant}
-use Rattle.vs_elab_operands.specs.vs_widths.specs.Typing.{IsTypedAs}
+use Rattle.vs_elab_statements.specs.vs_width_selects.specs.Environment.{Environment}
+use Rattle.vs_elab_statements.specs.vs_width_selects.specs.Meants.{Meant}
+use Rattle.vs_elab_statements.specs.vs_width_selects.specs.Selects.{Select, select_meant}
+use Rattle.vs_elab_statements.specs.vs_widths.specs.declared.kinds.AssignmentKind.{AssignmentKind}
+use Rattle.vs_elab_statements.specs.vs_widths.specs.Lefts.{Aimed, aimed, aimed_step, name_aimed, concat_aimed, is_left, is_left_step, as_left, as_left_step, expr_aimed, no_target}
+use Rattle.vs_elab_statements.specs.vs_widths.proofs.ExprLemmas.{as_left_Name, as_left_Select, as_left_Concat}
+use Rattle.vs_elab_statements.specs.vs_widths.specs.Expressions.{meant, meant_step, meant_select, meant_selects, name_meant, unary_meant, chain_meant, choice_meant, concat_meant, repeat_meant, cast_meant}
+use Rattle.vs_elab_statements.specs.vs_widths.specs.Typing.{IsTypedAs}
 use Rattle.vs_elab_laws.specs.Same.{SameTyped}
 
 -- what is related to what one is

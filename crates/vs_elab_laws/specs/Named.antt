@@ -17,7 +17,7 @@ use Rattle.vs_design.specs.declared.signal.Signal.{Signal}
 use Rattle.vs_design.specs.Parts.{Parts}
 use Rattle.vs_elaborate.specs.vs_scopes.specs.Generate.{numbered_name}
 use Rattle.vs_elaborate.specs.vs_scopes.specs.Printed.{PathName, printed_name, printed_part}
-use Rattle.vs_elaborate.specs.vs_elab_path_laws.specs.Laws.{FitsTurn}
+use Rattle.vs_elaborate.specs.vs_elab_hierarchy.specs.Laws.{FitsTurn}
 use Rattle.vs_elaborate.specs.DesignOf.{DesignOf}
 
 -- a text is the printed form of a name that passes

@@ -24,11 +24,11 @@ use Rattle.vs_design.specs.Parts.{Parts}
 use Rattle.vs_design.specs.Stores.{Store}
 use Rattle.vs_design.specs.Uses.{reads, writes, aim_range, target_reads}
 use Rattle.vs_design.specs.WellFormed.{size_of, aim_width, numbers}
-use Rattle.vs_elab_operands.specs.vs_width_selects.specs.vs_eval.specs.Values.{value_of}
-use Rattle.vs_elab_operands.specs.vs_width_selects.specs.vs_eval.specs.Targets.{part_at, assigned}
-use Rattle.vs_elab_operands.specs.vs_width_selects.specs.Layers.{layer_of}
-use Rattle.vs_elab_operands.specs.vs_widths.specs.Aiming.{is_fixed}
-use Rattle.vs_elab_operands.specs.vs_elab_listed.specs.Outlines.{declared}
+use Rattle.vs_elab_statements.specs.vs_width_selects.specs.vs_eval.specs.Values.{value_of}
+use Rattle.vs_elab_statements.specs.vs_width_selects.specs.vs_eval.specs.Targets.{part_at, assigned}
+use Rattle.vs_elab_statements.specs.vs_width_selects.specs.Layers.{layer_of}
+use Rattle.vs_elab_statements.specs.vs_widths.specs.Aiming.{is_fixed}
+use Rattle.vs_elab_statements.specs.vs_elab_listed.specs.Outlines.{declared}
 
 -- The expressions say the same: one size, one value in every store, the same ranges read (clauses 5.4 and 5.5), and the same outermost.
 pub record SameTyped (x x' : Typed) : Type 0 where

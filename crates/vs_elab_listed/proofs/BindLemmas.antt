@@ -9,19 +9,19 @@ use Rattle.std.proofs.lemmas.Slice.Eq.{bytes_eq-Decides}
 use Rattle.std.proofs.lemmas.Map.Keys.{IsDistinct-push}
 use Rattle.vs_scopes.specs.vs_width_selects.specs.declared.bindings.Binding.{Binding}
 use Rattle.vs_scopes.specs.vs_width_selects.specs.declared.bindings.Binding.TheVariants as b
-use Rattle.vs_elab_ports.specs.vs_widths.specs.Names.{meaning_of, by_bytes, Declares as NamesDeclare}
+use Rattle.vs_elab_listed.specs.vs_widths.specs.Names.{meaning_of, by_bytes, Declares as NamesDeclare}
 use Rattle.vs_scopes.specs.declared.faults.Reason.{Reason}
 use Rattle.vs_scopes.specs.declared.faults.Reason.TheVariants.{NoModule, Inside, PortMismatch, ParameterMismatch, DeclaredTwice, DrivenTwice, Limit, Width, Endless, Unnamed, Timescales, Format}
 use Rattle.vs_scopes.specs.declared.faults.ElabFault.{ElabFault}
 use Rattle.vs_scopes.specs.Printed.{plainly, Path}
 use Rattle.vs_scopes.specs.Declarations.{Bindings, DeclaredName, names_in, meaning_as, bound_to}
 use Rattle.vs_scopes.specs.Scopes.{keys, constant_names, numbered_names}
-use Rattle.vs_scopes.specs.passes.Answers.{Told, IsFaultAt}
+use Rattle.vs_scopes.specs.scopes_passes.Answers.{Told, IsFaultAt}
 use Rattle.vs_elab_listed.specs.ScopeFaults.{Repeated}
 use Rattle.vs_scopes.specs.vs_width_selects.specs.declared.constants.Const.{Const}
 use Rattle.std.specs.Borrow.{Bor}
-use Rattle.vs_elab_listed.specs.passes.Naming.{Bound, BoundBehind, BoundNot}
-use Rattle.vs_scopes.specs.passes.Answers.{borrowed}
+use Rattle.vs_elab_listed.specs.listed_passes.Naming.{Bound, BoundBehind, BoundNot}
+use Rattle.vs_scopes.specs.scopes_passes.Answers.{borrowed}
 use Rattle.vs_scopes.proofs.AnswerLemmas.{told_at}
 use Rattle.vs_design.specs.vs_logic4.proofs.Basics.{at_end, at_front, get_or_same, left_false, right_false}
 

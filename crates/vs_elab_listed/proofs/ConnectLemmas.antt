@@ -11,11 +11,11 @@ use Rattle.vs_scopes.specs.Connections.{ends_of, is_mismatch}
 use Rattle.vs_scopes.specs.Ports.{ModulePort, port_names}
 use Rattle.vs_scopes.specs.Declarations.{Use}
 use Rattle.vs_scopes.specs.Scopes.{has_wrong_end}
-use Rattle.vs_scopes.specs.passes.Answers.{borrowed}
-use Rattle.vs_scopes.specs.passes.Parts.{read_ends, AreEnds}
+use Rattle.vs_scopes.specs.scopes_passes.Answers.{borrowed}
+use Rattle.vs_scopes.specs.scopes_passes.Parts.{read_ends, AreEnds}
 use Rattle.vs_scopes.proofs.Folds.{any_push}
 use Rattle.std.proofs.lemmas.Bool.{or_from as both_false, or_left as left_true, or_right as right_true}
-use Rattle.vs_elab_listed.specs.passes.Connecting.{ConnectsTo}
+use Rattle.vs_elab_listed.specs.listed_passes.Connecting.{ConnectsTo}
 
 -- ---- ports and what they are connected to, a place at a time
 

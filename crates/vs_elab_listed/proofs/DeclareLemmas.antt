@@ -13,9 +13,9 @@ use Rattle.vs_syntax.specs.declared.tree.Declarator.{Declarator}
 use Rattle.vs_syntax.specs.declared.tree.Item.{Item}
 use Rattle.vs_syntax.specs.declared.tree.Item.TheVariants as t
 use Rattle.vs_syntax.specs.declared.tree.LocalDeclaration.{LocalDeclaration}
-use Rattle.vs_elab_ports.specs.vs_elab_pieces.specs.declared.scope.ScopePiece.{ScopePiece as FoundPiece}
-use Rattle.vs_elab_ports.specs.vs_elab_pieces.specs.declared.scope.ScopePiece.TheVariants as p
-use Rattle.vs_elab_ports.specs.vs_elab_pieces.specs.Reads.{read_piece}
+use Rattle.vs_elab_listed.specs.vs_elab_pieces.specs.declared.scope.ScopePiece.{ScopePiece as FoundPiece}
+use Rattle.vs_elab_listed.specs.vs_elab_pieces.specs.declared.scope.ScopePiece.TheVariants as p
+use Rattle.vs_elab_listed.specs.vs_elab_pieces.specs.Reads.{read_piece}
 use Rattle.vs_syntax.specs.declared.tree.Form.{Form}
 use Rattle.vs_syntax.specs.declared.tree.Range.{Range}
 use Rattle.vs_scopes.specs.declared.sizes.Size.{Size}
@@ -31,21 +31,21 @@ use Rattle.vs_scopes.specs.declared.faults.Reason.{Reason}
 use Rattle.vs_scopes.specs.declared.faults.Reason.TheVariants.{NoModule, Inside, PortMismatch, ParameterMismatch, DeclaredTwice, DrivenTwice, Limit, Width, Endless, Unnamed, Timescales, Format}
 use Rattle.vs_scopes.specs.declared.faults.BodyFault.{BodyFault}
 use Rattle.vs_scopes.specs.declared.faults.ElabFault.{ElabFault}
-use Rattle.vs_elab_ports.specs.vs_widths.specs.Names.{meaning_of, Declares as NamesDeclare}
+use Rattle.vs_elab_listed.specs.vs_widths.specs.Names.{meaning_of, Declares as NamesDeclare}
 use Rattle.vs_scopes.specs.Printed.{Path}
 use Rattle.vs_scopes.specs.Ranges.{Sized, shape_with, sized_as, words_as}
 use Rattle.vs_scopes.specs.Ports.{without_name}
 use Rattle.vs_scopes.specs.Declarations.{Bindings, DeclaredName, declaration_fault, names_in, meaning_as, size_of_kind, declared_by_port, declared_by_item, declared_in, not_joined}
 use Rattle.vs_scopes.specs.Scopes.{Scope, keys, constant_names, numbered_names, named}
-use Rattle.vs_scopes.specs.passes.Answers.{Refuses, Elaborates, Told, IsFaultAt, IsRefusal, Grows}
-use Rattle.vs_scopes.specs.passes.Sizes.{width_faults, IsSize, AreWords}
-use Rattle.vs_elab_ports.specs.passes.Counting.{Counts, TakesOne}
+use Rattle.vs_scopes.specs.scopes_passes.Answers.{Refuses, Elaborates, Told, IsFaultAt, IsRefusal, Grows}
+use Rattle.vs_scopes.specs.scopes_passes.Sizes.{width_faults, IsSize, AreWords}
+use Rattle.vs_elab_listed.specs.passes.Counting.{Counts, TakesOne}
 use Rattle.vs_elab_listed.specs.declared.opened.Numbering.{Numbering}
 use Rattle.vs_elab_listed.specs.declared.declarations.Declared.{Declared as Names}
 use Rattle.vs_elab_listed.specs.Outlines.{declared, signal_of, Line, declare, declare_from, IsEntry}
 use Rattle.vs_elab_listed.specs.ScopeFaults.{Repeated}
-use Rattle.vs_elab_listed.specs.passes.Naming.{Bound}
-use Rattle.vs_elab_listed.specs.passes.Declaring.{declared_so, SameCounts, Keeps, KeepsNot, DeclaresPorts, DeclaresPortsNot, joined_names, still_joined, kept, Declares, DeclaresNot}
+use Rattle.vs_elab_listed.specs.listed_passes.Naming.{Bound}
+use Rattle.vs_elab_listed.specs.listed_passes.Declaring.{declared_so, SameCounts, Keeps, KeepsNot, DeclaresPorts, DeclaresPortsNot, joined_names, still_joined, kept, Declares, DeclaresNot}
 use Rattle.vs_scopes.proofs.SizeLemmas.{shape_is, no_faults}
 use Rattle.vs_scopes.proofs.Folds.{any_push}
 use Rattle.std.proofs.lemmas.Bool.{or_from as both_false, or_left as left_true, or_right as right_true}

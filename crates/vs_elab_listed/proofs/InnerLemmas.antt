@@ -4,9 +4,9 @@ use Rattle.std.specs.List.{list_any}
 use Rattle.std.specs.Str.{bytes_eq}
 use Rattle.std.proofs.lemmas.List.{map-append, reverse-append}
 use Rattle.std.proofs.lemmas.Slice.Eq.{bytes_eq-Decides}
-use Rattle.vs_elab_ports.specs.vs_widths.specs.Names.{meaning_of, Binds}
+use Rattle.vs_elab_listed.specs.vs_widths.specs.Names.{meaning_of, Binds}
 use Rattle.vs_scopes.specs.Declarations.{each_once}
-use Rattle.vs_elab_listed.specs.passes.Naming.{KeepsOnce}
+use Rattle.vs_elab_listed.specs.listed_passes.Naming.{KeepsOnce}
 use Rattle.vs_elab_listed.proofs.BindLemmas.{bytes_eq_equiv}
 
 pub map_reverse : {A B : Type 0} (f : A → B) (xs : List A) → map f (reverse xs) ≡ reverse (map f xs)

@@ -1,6 +1,11 @@
+pub mod CountingLemmas
+pub mod StrayLemmas
+pub mod UnlikeLemmas
 pub mod BindLemmas
 pub mod DeclareLemmas
 pub mod SiteLemmas
 pub mod SightLemmas
 pub mod ConnectLemmas
 pub mod InnerLemmas
+pub mod NetLemmas
+pub mod LateLemmas

@@ -5,13 +5,13 @@ use Rattle.std.proofs.lemmas.Option.{none-some}
 use Rattle.vs_design.specs.declared.design.ScopeKind.{ScopeKind}
 use Rattle.vs_design.specs.declared.design.ScopeKind.TheVariants as opened_by
 use Rattle.vs_scopes.specs.vs_width_selects.specs.declared.bindings.Binding.{Binding}
-use Rattle.vs_elab_ports.specs.vs_widths.specs.Names.{meaning_of}
-use Rattle.vs_elab_ports.specs.vs_elab_pieces.specs.Pieces.{Piece}
-use Rattle.vs_elab_ports.specs.vs_elab_pieces.specs.Reads.{read_piece}
-use Rattle.vs_elab_ports.specs.vs_elab_pieces.specs.declared.scope.ScopePiece.{ScopePiece as FoundPiece}
+use Rattle.vs_elab_listed.specs.vs_widths.specs.Names.{meaning_of}
+use Rattle.vs_elab_listed.specs.vs_elab_pieces.specs.Pieces.{Piece}
+use Rattle.vs_elab_listed.specs.vs_elab_pieces.specs.Reads.{read_piece}
+use Rattle.vs_elab_listed.specs.vs_elab_pieces.specs.declared.scope.ScopePiece.{ScopePiece as FoundPiece}
 use Rattle.vs_scopes.specs.Nets.{seen, coming, nothing_seen, told_in, told_from, first_told, is_before, is_net}
 use Rattle.vs_scopes.specs.Scopes.{Scope, named, sight_by, sight_in}
-use Rattle.vs_scopes.specs.passes.Declared.{AddsNames}
+use Rattle.vs_scopes.specs.scopes_passes.Declared.{AddsNames}
 use Rattle.vs_scopes.proofs.DeclaredLemmas.{adds_then}
 use Rattle.vs_design.specs.vs_logic4.proofs.Basics.{take_push}
 use Rattle.vs_elab_listed.specs.declared.opened.ListedScope.{ListedScope as FoundScope}
@@ -20,8 +20,8 @@ use Rattle.vs_elab_listed.specs.declared.sights.Level.TheVariants.{Here, Late, O
 use Rattle.vs_elab_listed.specs.declared.sights.Sight.{Sight as FoundSight}
 use Rattle.vs_elab_listed.specs.declared.sights.Sight.TheVariants as f
 use Rattle.vs_elab_listed.specs.Opened.{StandsAround, HasSight, sight_from, IsEntered, AreOpened}
-use Rattle.vs_elab_listed.specs.passes.Sites.{outward_place}
-use Rattle.vs_elab_listed.specs.passes.Sights.{placed, level_by, level_of, sight_of_level, IsSight, IsHere}
+use Rattle.vs_elab_listed.specs.listed_passes.Sites.{outward_place}
+use Rattle.vs_elab_listed.specs.listed_passes.Sights.{placed, level_by, level_of, sight_of_level, IsSight, IsHere}
 use Rattle.vs_elab_listed.proofs.SiteLemmas.{opened_at, place_outward}
 
 -- ---- ports and nets by their places

@@ -6,16 +6,16 @@ use Rattle.std.specs.Borrow.{Bor}
 use Rattle.std.proofs.lemmas.List.{append-nil, reverse-append}
 use Rattle.std.proofs.lemmas.Option.{none-some, same_Some, slice_get_read}
 use Rattle.vs_design.specs.declared.design.ScopeKind.{ScopeKind}
-use Rattle.vs_elab_ports.specs.vs_widths.specs.Names.{meaning_of, nested_names}
+use Rattle.vs_elab_listed.specs.vs_widths.specs.Names.{meaning_of, nested_names}
 use Rattle.vs_design.specs.declared.design.ScopeKind.TheVariants as opened_by
 use Rattle.vs_scopes.specs.Parameters.{said}
 use Rattle.vs_scopes.specs.Declarations.{Bindings}
 use Rattle.vs_scopes.specs.Scopes.{Scope, bindings_of, seen_from, environment}
 use Rattle.vs_scopes.specs.declared.printed.PathName.{PathName as FoundName}
-use Rattle.vs_scopes.specs.passes.Names.{read_path}
+use Rattle.vs_scopes.specs.scopes_passes.Names.{read_path}
 use Rattle.vs_elab_listed.specs.declared.opened.ListedScope.{ListedScope as FoundScope}
 use Rattle.vs_elab_listed.specs.Opened.{IsWithin, IsOutermost, StandsAround, HasSight, IsHome, IsEntered, IsOpened, AreOpened, AreSeated}
-use Rattle.vs_elab_listed.specs.passes.Sites.{outward_place}
+use Rattle.vs_elab_listed.specs.listed_passes.Sites.{outward_place}
 use Rattle.vs_design.specs.vs_logic4.proofs.Basics.{at_front}
 use Rattle.vs_design.specs.vs_logic4.proofs.Basics.{zip_at}
 

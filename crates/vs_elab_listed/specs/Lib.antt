@@ -1,3 +1,6 @@
+pub mod passes
+pub use Rattle.vs_elab_pieces
+pub use Rattle.vs_widths
 pub use Rattle.vs_scopes.specs.Printed
 pub use Rattle.vs_scopes.specs.Ranges
 pub use Rattle.vs_scopes.specs.Connections
@@ -10,7 +13,7 @@ pub use Rattle.vs_scopes.specs.Scopes
 pub mod Outlines
 pub mod ScopeFaults
 pub mod Opened
-pub mod passes
-pub use Rattle.vs_elab_generate
-pub use Rattle.vs_elab_ports.specs.vs_elab_pieces
-pub use Rattle.vs_elab_ports
+pub mod listed_passes
+pub use Rattle.vs_elab_constants
+pub mod nets_passes
+pub use Rattle.vs_scopes

@@ -4,17 +4,17 @@ use Rattle.std.specs.List.{flat_map, AllZip}
 use Rattle.vs_syntax.specs.declared.tree.Module.{Module}
 use Rattle.vs_design.specs.declared.design.ScopeKind.{ScopeKind}
 use Rattle.vs_design.specs.declared.design.ScopeKind.TheVariants as opened_by
-use Rattle.vs_elab_ports.specs.vs_widths.specs.Names.{meaning_of, by_bytes}
-use Rattle.vs_elab_ports.specs.vs_elab_pieces.specs.Pieces.{NamedBlock}
-use Rattle.vs_elab_ports.specs.vs_elab_pieces.specs.Reads.{read_piece}
+use Rattle.vs_elab_listed.specs.vs_widths.specs.Names.{meaning_of, by_bytes}
+use Rattle.vs_elab_listed.specs.vs_elab_pieces.specs.Pieces.{NamedBlock}
+use Rattle.vs_elab_listed.specs.vs_elab_pieces.specs.Reads.{read_piece}
 use Rattle.vs_scopes.specs.declared.faults.Reason.{Reason}
 use Rattle.vs_scopes.specs.Printed.{Path}
 use Rattle.vs_scopes.specs.Nets.{Sight, nothing_seen, first_told}
 use Rattle.vs_scopes.specs.Scopes.{Scope, nowhere, outward, seen_from, bindings_of, environment, named, named_at, inner_of, sight_in, has_wrong_end, scopes_of}
 use Rattle.vs_scopes.specs.Generate as g
-use Rattle.vs_scopes.specs.passes.Answers.{borrowed}
-use Rattle.vs_scopes.specs.passes.Names.{read_title}
-use Rattle.vs_scopes.specs.passes.Parts.{read_port, read_ends}
+use Rattle.vs_scopes.specs.scopes_passes.Answers.{borrowed}
+use Rattle.vs_scopes.specs.scopes_passes.Names.{read_title}
+use Rattle.vs_scopes.specs.scopes_passes.Parts.{read_port, read_ends}
 use Rattle.vs_elab_listed.specs.declared.opened.ListedScope.{ListedScope as FoundScope}
 use Rattle.vs_elab_listed.specs.declared.opened.Hierarchy.{Hierarchy}
 use Rattle.vs_elab_listed.specs.Outlines.{declared, signals_of, IsEntry, outline_of}

@@ -1,15 +1,15 @@
 //! What the ports of instances are connected to.
 ghost use Rattle.std.specs.Prelude.{◌≡◌, map, IfOk};
-ghost use Rattle.vs_elab_generate.specs.Reads.{read_use};
+ghost use Rattle.vs_elab_constants.specs.Reads.{read_use};
 ghost use Rattle.vs_scopes.specs.Ports.{port_names};
 ghost use Rattle.vs_scopes.specs.Scopes.{is_wrong_end, has_wrong_end};
-ghost use Rattle.vs_scopes.specs.passes.Answers.{borrowed};
-ghost use Rattle.vs_scopes.specs.passes.Parts.{read_port, read_end, read_ends};
-ghost use Rattle.vs_elab_listed.specs.passes.Connecting.{ConnectsTo};
+ghost use Rattle.vs_scopes.specs.scopes_passes.Answers.{borrowed};
+ghost use Rattle.vs_scopes.specs.scopes_passes.Parts.{read_port, read_end, read_ends};
+ghost use Rattle.vs_elab_listed.specs.listed_passes.Connecting.{ConnectsTo};
 
+use crate::vs_widths::is_left;
 use std::alloc::{AllocError, Global};
-use vs_elab_generate::Use;
-use vs_elab_ports::vs_widths::is_left;
+use vs_elab_constants::Use;
 use vs_scopes::{ModulePort, ends};
 use vs_syntax::{Direction, Expr};
 

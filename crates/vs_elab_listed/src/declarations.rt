@@ -1,26 +1,26 @@
 //! What a scope declares, as signals of a design.
 ghost use Rattle.std.specs.Prelude.{◌≡◌, ◌<◌, ◌∷◌, [], Option, length, map, IfOk};
 ghost use Rattle.vs_syntax.specs.declared.tree.Range.{Range};
-ghost use Rattle.vs_elab_ports.specs.vs_elab_pieces.specs.Pieces.{plain, local, net};
-ghost use Rattle.vs_elab_ports.specs.vs_elab_pieces.specs.Reads.{read_piece};
+ghost use Rattle.vs_elab_listed.specs.vs_elab_pieces.specs.Pieces.{plain, local, net};
+ghost use Rattle.vs_elab_listed.specs.vs_elab_pieces.specs.Reads.{read_piece};
 ghost use Rattle.vs_scopes.specs.Ranges.{Sized, Words, words_as};
 ghost use Rattle.vs_scopes.specs.Declarations.{declared_as, declared_local, declared_by_port, declared_in, declared_among, selectable};
 ghost use Rattle.vs_scopes.specs.Scopes.{Scope};
-ghost use Rattle.vs_scopes.specs.passes.Answers.{Elaborates, Grows};
-ghost use Rattle.vs_scopes.specs.passes.Names.{read_path};
-ghost use Rattle.vs_scopes.specs.passes.Parts.{read_port};
-ghost use Rattle.vs_scopes.specs.passes.Sizes.{width_faults, IsSize, AreWords};
+ghost use Rattle.vs_scopes.specs.scopes_passes.Answers.{Elaborates, Grows};
+ghost use Rattle.vs_scopes.specs.scopes_passes.Names.{read_path};
+ghost use Rattle.vs_scopes.specs.scopes_passes.Parts.{read_port};
+ghost use Rattle.vs_scopes.specs.scopes_passes.Sizes.{width_faults, IsSize, AreWords};
 ghost use Rattle.vs_elab_listed.specs.Outlines.{declared, signal_of};
-ghost use Rattle.vs_elab_listed.specs.passes.Declaring.{IsAt, declared_so, Keeps, KeepsNot, DeclaresPorts, DeclaresPortsNot, Declares, DeclaresNot};
+ghost use Rattle.vs_elab_listed.specs.listed_passes.Declaring.{IsAt, declared_so, Keeps, KeepsNot, DeclaresPorts, DeclaresPortsNot, Declares, DeclaresNot};
 
 use crate::naming::declare_once;
 use crate::opened::Numbering;
+use crate::take_one;
 use crate::telling::{fault_at, member_fault, part_fault};
+use crate::vs_elab_pieces::ScopePiece;
+use crate::vs_widths::{Levels, Names};
 use std::alloc::{AllocError, Global};
 use vs_design::{Bounds, Entry, Signal, SignalKind};
-use vs_elab_ports::take_one;
-use vs_elab_ports::vs_elab_pieces::ScopePiece;
-use vs_elab_ports::vs_widths::{Levels, Names};
 use vs_scopes::vs_width_selects::{Binding, Meaning, Shape};
 use vs_scopes::{
     BodyFault, ElabFault, INTEGER, ModulePort, PathName, Reason, Size, WordCount, declared_size,

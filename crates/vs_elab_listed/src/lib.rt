@@ -1,26 +1,49 @@
+//! Ports that items declare: what is wrong with them, and which names they declare once more (IEEE 1364-2005, clause 12.3.3).
 //! The scopes of a source as they are listed: what they are, their paths, how names stand in them, and the names, signals and connections of one
 //! (IEEE 1364-2005, clause 12).
+//! The implicit nets of scopes (IEEE 1364-2005, clause 4.5).
 #![tactic(auto)]
 
+mod again;
+mod around;
+mod blocks;
 mod connecting;
+mod counts;
 mod declarations;
 mod inner;
+mod late;
 mod limits;
+mod members;
 mod naming;
+mod nets;
 mod opened;
+mod permits;
 mod sights;
 mod sites;
+mod stray;
 mod telling;
+mod texts;
+mod unlike;
 
+pub use again::ports_again;
+pub use around::Enclosing;
+pub use blocks::check_blocks;
 pub use connecting::connections;
+pub use counts::{counted, take_one};
 pub use declarations::{Declared, Site, declare_pieces, declare_ports};
 pub use inner::{genvars, inner_names};
+pub use late::check_late;
 pub use limits::{DEEPEST, LEVELS, has_parameter, has_wrong_port, passes_limit};
+pub use members::{Members, block_members, module_members};
 pub use naming::{bind_all, bind_constants};
 pub use opened::{Hierarchy, ListedScope, Numbering};
+pub use permits::permits_behind;
 pub use sights::{Level, Sight, own_sight, sight_around, told};
 pub use sites::{names_around, names_outward, path, path_inside};
+pub use stray::has_stray_port;
 pub use telling::{fault_at, member_fault, named_fault, scope_fault};
-pub use vs_elab_generate;
-pub use vs_elab_ports;
-pub use vs_elab_ports::vs_elab_pieces;
+pub use unlike::is_unlike;
+pub use vs_elab_constants;
+pub use vs_elab_pieces;
+pub use vs_scopes;
+pub use vs_widths;

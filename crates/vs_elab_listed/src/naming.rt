@@ -1,15 +1,15 @@
 //! Names of a scope, each bound once.
 ghost use Rattle.std.specs.Prelude.{◌<◌, ◌∷◌, [], length, IfOk};
-ghost use Rattle.vs_elab_ports.specs.vs_widths.specs.Names.{by_bytes, Declares};
+ghost use Rattle.vs_elab_listed.specs.vs_widths.specs.Names.{by_bytes, Declares};
 ghost use Rattle.vs_scopes.specs.Declarations.{bound_to};
 ghost use Rattle.vs_scopes.specs.Scopes.{constant_names};
-ghost use Rattle.vs_scopes.specs.passes.Answers.{borrowed, Grows};
-ghost use Rattle.vs_scopes.specs.passes.Names.{read_path};
-ghost use Rattle.vs_elab_listed.specs.passes.Naming.{BoundBehind, BoundNot};
+ghost use Rattle.vs_scopes.specs.scopes_passes.Answers.{borrowed, Grows};
+ghost use Rattle.vs_scopes.specs.scopes_passes.Names.{read_path};
+ghost use Rattle.vs_elab_listed.specs.listed_passes.Naming.{BoundBehind, BoundNot};
 
 use crate::telling::member_fault;
+use crate::vs_widths::Names;
 use std::alloc::{AllocError, Global};
-use vs_elab_ports::vs_widths::Names;
 use vs_scopes::vs_width_selects::{Binding, Const};
 use vs_scopes::{ElabFault, PathName, Reason};
 

@@ -1,10 +1,10 @@
 //! Scopes of a source, as they are listed.
 ghost use Rattle.std.specs.Prelude.{◌≡◌, []};
 
+use crate::vs_elab_pieces::ScopePiece;
+use crate::vs_widths::Names;
 use std::alloc::Global;
 use vs_design::{Entry, ScopeKind, Signal};
-use vs_elab_ports::vs_elab_pieces::ScopePiece;
-use vs_elab_ports::vs_widths::Names;
 use vs_scopes::vs_width_selects::{Binding, Const};
 use vs_scopes::{ModulePort, PathName};
 use vs_syntax::Expr;

@@ -1,15 +1,15 @@
 //! Where scopes stand: their paths, and what names are bound to outward of them.
 ghost use Rattle.std.specs.Prelude.{◌≡◌, ◌<◌, ℕ, List, Some, length, slice_get, IfOk};
-ghost use Rattle.vs_elab_ports.specs.vs_widths.specs.Names.{meaning_of, nested_names};
+ghost use Rattle.vs_elab_listed.specs.vs_widths.specs.Names.{meaning_of, nested_names};
 ghost use Rattle.vs_scopes.specs.Scopes.{Scope, environment, seen_from};
-ghost use Rattle.vs_scopes.specs.passes.Names.{read_title, read_path};
+ghost use Rattle.vs_scopes.specs.scopes_passes.Names.{read_title, read_path};
 ghost use Rattle.vs_elab_listed.specs.Opened.{AreOpened, AreSeated, StandsAround};
-ghost use Rattle.vs_elab_listed.specs.passes.Sites.{outward_place};
+ghost use Rattle.vs_elab_listed.specs.listed_passes.Sites.{outward_place};
 
 use crate::opened::ListedScope;
+use crate::vs_widths::Names;
 use std::alloc::{AllocError, Global};
 use vs_design::ScopeKind;
-use vs_elab_ports::vs_widths::Names;
 use vs_scopes::PathName;
 use vs_scopes::vs_width_selects::Binding;
 

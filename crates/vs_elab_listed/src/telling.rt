@@ -2,8 +2,8 @@
 ghost use Rattle.std.specs.Prelude.{◌≡◌, ◌<◌, ◌∷◌, ◌++◌, [], List, Some, length, slice_get};
 ghost use Rattle.vs_scopes.specs.Printed.{plainly};
 ghost use Rattle.vs_scopes.specs.Scopes.{Scope, named};
-ghost use Rattle.vs_scopes.specs.passes.Answers.{IsFaultAt, IsRefusal};
-ghost use Rattle.vs_scopes.specs.passes.Names.{read_path};
+ghost use Rattle.vs_scopes.specs.scopes_passes.Answers.{IsFaultAt, IsRefusal};
+ghost use Rattle.vs_scopes.specs.scopes_passes.Names.{read_path};
 ghost use Rattle.vs_elab_listed.specs.Opened.{AreOpened, AreSeated};
 
 use crate::opened::ListedScope;

@@ -1,2 +1,14 @@
+pub mod AssignmentLemmas
+pub mod CaseLemmas
+pub mod CallLemmas
+pub mod EventLemmas
+pub mod DepthLemmas
+pub mod BlockLemmas
+pub mod FormLemmas
+pub mod PartLemmas
+pub mod ReadsLemmas
+pub mod WellFormedLemmas
+pub mod StatementLemmas
+pub mod NumberLemmas
 pub mod BelowLemmas
 pub mod ScopeLemmas

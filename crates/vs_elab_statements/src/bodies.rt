@@ -1,19 +1,18 @@
 //! The bodies of processes (IEEE 1364-2005, clauses 6.2.1 and 9.9).
 ghost use Rattle.std.specs.Prelude.{length, IfErr};
-ghost use Rattle.vs_elab_statement_forms.specs.vs_elab_operands.specs.vs_scopes.specs.Printed.{Path};
-ghost use Rattle.vs_elab_statement_forms.specs.vs_elab_operands.specs.Members.{named_signal, sets, runs, repeats};
-ghost use Rattle.vs_elab_statement_forms.specs.vs_elab_operands.specs.Surroundings.{Surroundings};
-ghost use Rattle.vs_elab_statement_forms.specs.vs_elab_operands.specs.passes.Faults.{IsBelow};
-ghost use Rattle.vs_elab_statement_forms.specs.vs_elab_operands.specs.passes.Views.{IsView, IsPlaced};
-ghost use Rattle.vs_elab_statement_forms.specs.vs_elab_operands.specs.passes.Bodies.{Embodies};
+ghost use Rattle.vs_elab_statements.specs.vs_scopes.specs.Printed.{Path};
+ghost use Rattle.vs_elab_statements.specs.Members.{named_signal, sets, runs, repeats};
+ghost use Rattle.vs_elab_statements.specs.Surroundings.{Surroundings};
+ghost use Rattle.vs_elab_statements.specs.passes.Faults.{IsBelow};
+ghost use Rattle.vs_elab_statements.specs.passes.Views.{IsView, IsPlaced};
+ghost use Rattle.vs_elab_statements.specs.passes.Bodies.{Embodies};
 ghost use Rattle.vs_elab_pieces.specs.Pieces.{blocks_in};
 ghost use Rattle.vs_elab_statements.specs.Blocks.{HaveScopes};
 
 use crate::statements::statement;
+use crate::{PROCEDURAL, StatementFault, View, declared_assignment, take_number};
 use std::alloc::Global;
 use vs_design::Statement;
-use vs_elab_statement_forms::vs_elab_operands::{StatementFault, View, declared_assignment};
-use vs_elab_statement_forms::{PROCEDURAL, take_number};
 use vs_syntax::{Expr, Stmt};
 
 /// The body of a process that sets a variable to the value in its declaration.

@@ -6,28 +6,26 @@ ghost use Rattle.vs_syntax.specs.declared.tree.CaseLabel.{CaseLabel};
 ghost use Rattle.vs_syntax.specs.declared.tree.LocalDeclaration.{LocalDeclaration};
 ghost use Rattle.vs_syntax.specs.declared.tree.Stmt.{Stmt};
 ghost use Rattle.vs_syntax.specs.declared.tree.Stmt.TheVariants as form;
-ghost use Rattle.vs_elab_statement_forms.specs.vs_elab_operands.specs.vs_scopes.specs.Printed.{plainly, Path};
-ghost use Rattle.vs_elab_statement_forms.specs.vs_elab_operands.specs.Surroundings.{Surroundings};
-ghost use Rattle.vs_elab_statement_forms.specs.vs_elab_operands.specs.passes.Faults.{IsBelow};
-ghost use Rattle.vs_elab_statement_forms.specs.vs_elab_operands.specs.passes.Views.{IsView, IsPlaced};
+ghost use Rattle.vs_elab_statements.specs.vs_scopes.specs.Printed.{plainly, Path};
+ghost use Rattle.vs_elab_statements.specs.Surroundings.{Surroundings};
+ghost use Rattle.vs_elab_statements.specs.passes.Faults.{IsBelow};
+ghost use Rattle.vs_elab_statements.specs.passes.Views.{IsView, IsPlaced};
 ghost use Rattle.vs_elab_pieces.specs.Pieces.{blocks_among, blocks_in};
 ghost use Rattle.vs_elab_pieces.specs.passes.Parts.{blocks_in_items};
 ghost use Rattle.vs_elab_statements.specs.Blocks.{HasScope, HaveScopes};
-ghost use Rattle.vs_elab_statement_forms.specs.vs_elab_operands.specs.passes.Bodies.{Answers, MeansStatement, MeansStatements, MeansElse, MeansItems, statement_burden, statements_burden, items_burden, named_burden, else_list};
+ghost use Rattle.vs_elab_statements.specs.passes.Bodies.{Answers, MeansStatement, MeansStatements, MeansElse, MeansItems, statement_burden, statements_burden, items_burden, named_burden, else_list};
 
+use crate::vs_elab_listed::names_around;
+use crate::vs_width_selects::Shape;
+use crate::vs_widths::Levels;
+use crate::{
+    StatementFault, View, assign, case_operand, deeper, delay_around, event_around, finish,
+    for_around, forever_around, if_around, label_values, later, null, numbered, print,
+    repeat_around, take_number, while_around,
+};
 use std::alloc::Global;
 use vs_design::vs_logic4::CaseKind;
 use vs_design::{Statement, Typed};
-use vs_elab_statement_forms::vs_elab_operands::vs_elab_listed::names_around;
-use vs_elab_statement_forms::vs_elab_operands::vs_width_selects::Shape;
-use vs_elab_statement_forms::vs_elab_operands::vs_widths::Levels;
-use vs_elab_statement_forms::vs_elab_operands::{
-    StatementFault, View, case_operand, deeper, label_values,
-};
-use vs_elab_statement_forms::{
-    assign, delay_around, event_around, finish, for_around, forever_around, if_around, later, null,
-    numbered, print, repeat_around, take_number, while_around,
-};
 use vs_syntax::{CaseLabel, Expr, ForHeader, Stmt};
 
 /// A statement, and those in it. Its number is `next`, which moves on behind those that are given away.

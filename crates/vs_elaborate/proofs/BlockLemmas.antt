@@ -4,26 +4,26 @@ use Rattle.std.specs.List.{IsDistinct}
 use Rattle.std.proofs.lemmas.Option.{none-some, same_Some, slice_get-map, slice_get_within}
 use Rattle.vs_syntax.specs.declared.tree.Module.{Module}
 use Rattle.vs_syntax.specs.declared.tree.Source.{Source}
-use Rattle.vs_elab_operands.specs.vs_scopes.specs.vs_width_selects.specs.Environment.{Environment}
-use Rattle.vs_elab_operands.specs.vs_widths.specs.Names.{meaning_of}
-use Rattle.vs_elab_path_laws.specs.vs_elab_pieces.specs.Pieces.{NamedBlock, Piece, plain, loop, choice, local, inside, net, block_pieces, blocks_among, blocks_of}
-use Rattle.vs_elab_path_laws.specs.vs_elab_pieces.specs.Reads.{read_piece}
-use Rattle.vs_elab_path_laws.specs.vs_elab_pieces.specs.Uses.{names_used}
-use Rattle.vs_elab_operands.specs.vs_scopes.specs.Printed.{PathName, plainly, Path, same_part, same_path}
-use Rattle.vs_elab_operands.specs.vs_scopes.specs.Declarations.{Bindings, uses_by_item}
-use Rattle.vs_elab_operands.specs.vs_scopes.specs.Nets.{Sight, new_among, permits_nets, pieces_with_nets, is_known, with_nets}
-use Rattle.vs_elab_operands.specs.vs_scopes.specs.Generate.{Inner, instance, inner_in, inner_from, behind_piece}
-use Rattle.vs_elab_operands.specs.vs_scopes.specs.Generate as g
-use Rattle.vs_elab_operands.specs.vs_scopes.specs.Parameters.{any_fault}
-use Rattle.vs_elab_operands.specs.vs_scopes.specs.Scopes.{Scope, Before, behind, within_first, inner_of, module_named, named, opened, listed, below, block_fault, block_scope, block_text, environment, scopes_within, deepest, opened_top, scopes_of, sight_in, text_names}
-use Rattle.vs_elab_path_laws.specs.Laws.{scope_paths}
-use Rattle.vs_elab_path_laws.proofs.PathsDiffer.{part_decides, paths_not_same}
-use Rattle.vs_elab_path_laws.proofs.PathsOpened.{IsOpenedTop, title_of, what_is_opened, what_is_opened_top}
-use Rattle.vs_elab_path_laws.proofs.PathsText.{HasText}
-use Rattle.vs_elab_path_laws.proofs.TitleLemmas.{titles_differ}
-use Rattle.vs_elab_operands.specs.vs_elab_listed.specs.declared.opened.ListedScope.{ListedScope as FoundScope}
-use Rattle.vs_elab_operands.specs.vs_elab_listed.specs.declared.opened.Hierarchy.{Hierarchy}
-use Rattle.vs_elab_operands.specs.vs_elab_listed.specs.Opened.{HasBlocks, IsOpened, IsOutermost, IsWithin, OpensAll}
+use Rattle.vs_elab_statements.specs.vs_scopes.specs.vs_width_selects.specs.Environment.{Environment}
+use Rattle.vs_elab_statements.specs.vs_widths.specs.Names.{meaning_of}
+use Rattle.vs_elab_hierarchy.specs.vs_elab_pieces.specs.Pieces.{NamedBlock, Piece, plain, loop, choice, local, inside, net, block_pieces, blocks_among, blocks_of}
+use Rattle.vs_elab_hierarchy.specs.vs_elab_pieces.specs.Reads.{read_piece}
+use Rattle.vs_elab_hierarchy.specs.vs_elab_pieces.specs.Uses.{names_used}
+use Rattle.vs_elab_statements.specs.vs_scopes.specs.Printed.{PathName, plainly, Path, same_part, same_path}
+use Rattle.vs_elab_statements.specs.vs_scopes.specs.Declarations.{Bindings, uses_by_item}
+use Rattle.vs_elab_statements.specs.vs_scopes.specs.Nets.{Sight, new_among, permits_nets, pieces_with_nets, is_known, with_nets}
+use Rattle.vs_elab_statements.specs.vs_scopes.specs.Generate.{Inner, instance, inner_in, inner_from, behind_piece}
+use Rattle.vs_elab_statements.specs.vs_scopes.specs.Generate as g
+use Rattle.vs_elab_statements.specs.vs_scopes.specs.Parameters.{any_fault}
+use Rattle.vs_elab_statements.specs.vs_scopes.specs.Scopes.{Scope, Before, behind, within_first, inner_of, module_named, named, opened, listed, below, block_fault, block_scope, block_text, environment, scopes_within, deepest, opened_top, scopes_of, sight_in, text_names}
+use Rattle.vs_elab_hierarchy.specs.Laws.{scope_paths}
+use Rattle.vs_elab_hierarchy.proofs.PathsDiffer.{part_decides, paths_not_same}
+use Rattle.vs_elab_hierarchy.proofs.PathsOpened.{IsOpenedTop, title_of, what_is_opened, what_is_opened_top}
+use Rattle.vs_elab_hierarchy.proofs.PathsText.{HasText}
+use Rattle.vs_elab_hierarchy.proofs.TitleLemmas.{titles_differ}
+use Rattle.vs_elab_statements.specs.vs_elab_listed.specs.declared.opened.ListedScope.{ListedScope as FoundScope}
+use Rattle.vs_elab_statements.specs.vs_elab_listed.specs.declared.opened.Hierarchy.{Hierarchy}
+use Rattle.vs_elab_statements.specs.vs_elab_listed.specs.Opened.{HasBlocks, IsOpened, IsOutermost, IsWithin, OpensAll}
 use Rattle.vs_elab_statements.specs.Blocks.{HasScope}
 use Rattle.vs_elaborate.specs.passes.Filling.{HaveBlockScopes, process_blocks}
 use Rattle.vs_elaborate.proofs.SignalLemmas.{each_at}

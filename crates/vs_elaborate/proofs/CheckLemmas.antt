@@ -8,11 +8,11 @@ use Rattle.vs_design.specs.declared.range.BitRange.{BitRange}
 use Rattle.vs_design.specs.declared.signal.Signal.{Signal}
 use Rattle.vs_design.specs.Uses.{writes}
 use Rattle.vs_design.specs.WellFormed.{driven}
-use Rattle.vs_elab_operands.specs.vs_scopes.proofs.Folds.{flat_more}
-use Rattle.vs_elab_operands.specs.vs_scopes.proofs.AnswerLemmas.{flat_split}
+use Rattle.vs_elab_statements.specs.vs_scopes.proofs.Folds.{flat_more}
+use Rattle.vs_elab_statements.specs.vs_scopes.proofs.AnswerLemmas.{flat_split}
 use Rattle.vs_elaborate.specs.passes.Filling.{IsDrivenTwice}
-use Rattle.vs_elab_contents.specs.Marks.{AreWithin, Marks, MarksAll, SharesBit}
-use Rattle.vs_elab_contents.proofs.MarkLemmas.{shares_more, get_front}
+use Rattle.vs_elaborate.specs.Marks.{AreWithin, Marks, MarksAll, SharesBit}
+use Rattle.vs_elaborate.proofs.MarkLemmas.{shares_more, get_front}
 
 -- a pass over continuous assignments
 pub check_more : (ss : List Signal) (xs : List Assign) (i : ℕ) (a : Assign) (ranges : List BitRange) (old new : List Bool) → i < length xs → a ≡ get_or xs i a → ranges ≡ writes a.target → Marks ss (driven (take i xs)) old → MarksAll ss ranges old new None → Marks ss (driven (take (i + 1) xs)) new

@@ -12,20 +12,20 @@ use Rattle.vs_design.specs.WellFormed.{width_at, is_of_net, share_a_bit, driven}
 use Rattle.vs_design.specs.declared.range.BitRange.{BitRange}
 use Rattle.vs_design.specs.declared.signal.Signal.{Signal}
 use Rattle.vs_design.specs.declared.design.Assign.{Assign}
-use Rattle.vs_elab_operands.specs.vs_scopes.specs.vs_width_selects.specs.Findings.{Has}
-use Rattle.vs_elab_operands.specs.vs_scopes.specs.vs_width_selects.specs.Selects.{named_range}
-use Rattle.vs_elab_operands.specs.vs_widths.specs.Lefts.{Aimed}
-use Rattle.vs_elab_operands.specs.vs_scopes.specs.Printed.{Path, printed}
-use Rattle.vs_elab_operands.specs.vs_scopes.specs.Declarations.{DeclaredName}
-use Rattle.vs_elab_operands.specs.vs_scopes.specs.Scopes.{Scope, declarations_of, environment, signal_count, signal_paths, named}
-use Rattle.vs_elab_operands.specs.vs_elab_listed.specs.Outlines.{Declared, declared, signal_of, signals_of}
-use Rattle.vs_elab_operands.specs.Members.{PortDriver, Driver, of_port, of_text, drivers_of, port_drivers_of}
+use Rattle.vs_elab_statements.specs.vs_scopes.specs.vs_width_selects.specs.Findings.{Has}
+use Rattle.vs_elab_statements.specs.vs_scopes.specs.vs_width_selects.specs.Selects.{named_range}
+use Rattle.vs_elab_statements.specs.vs_widths.specs.Lefts.{Aimed}
+use Rattle.vs_elab_statements.specs.vs_scopes.specs.Printed.{Path, printed}
+use Rattle.vs_elab_statements.specs.vs_scopes.specs.Declarations.{DeclaredName}
+use Rattle.vs_elab_statements.specs.vs_scopes.specs.Scopes.{Scope, declarations_of, environment, signal_count, signal_paths, named}
+use Rattle.vs_elab_statements.specs.vs_elab_listed.specs.Outlines.{Declared, declared, signal_of, signals_of}
+use Rattle.vs_elab_statements.specs.Members.{PortDriver, Driver, of_port, of_text, drivers_of, port_drivers_of}
 use Rattle.vs_elaborate.specs.Drivers.{IsDriver}
 use Rattle.vs_elaborate.specs.Faults.{aimed_at, ranges_found, ranges_aimed, ranges_driven, share_bits, DrivesTwice}
 use Rattle.vs_elaborate.specs.DesignOf.{PartOf, parts_from, port_part, assigns_of, IsAssign}
 use Rattle.vs_elaborate.specs.passes.Filling.{IsDrivenTwice}
 use Rattle.vs_elaborate.proofs.SignalLemmas.{located, signal_at}
-use Rattle.vs_elab_hierarchy.specs.vs_elab_scope.proofs.AddLemmas.{signals_shown as signals_counted}
+use Rattle.vs_elab_hierarchy.proofs.AddLemmas.{signals_shown as signals_counted}
 use Rattle.vs_elaborate.proofs.WellFormedLemmas.{OfNet}
 
 -- the ranges that a continuous assignment of a source drives

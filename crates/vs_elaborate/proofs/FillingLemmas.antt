@@ -18,39 +18,39 @@ use Rattle.vs_syntax.specs.declared.tree.Direction.TheVariants.{Input, Output}
 use Rattle.vs_design.specs.WellFormed.{counts_from}
 use Rattle.vs_design.specs.declared.design.Assign.{Assign}
 use Rattle.vs_design.specs.declared.design.Process.{Process}
-use Rattle.vs_elab_operands.specs.vs_scopes.specs.declared.faults.Reason.{Reason}
-use Rattle.vs_elab_operands.specs.vs_scopes.specs.declared.faults.ElabFault.{ElabFault}
-use Rattle.vs_elab_operands.specs.vs_widths.specs.declared.kinds.AssignmentKind.TheVariants.{Continuous}
-use Rattle.vs_elab_operands.specs.vs_scopes.specs.Printed.{Path, own_name, port_assign_name, part_name}
+use Rattle.vs_elab_statements.specs.vs_scopes.specs.declared.faults.Reason.{Reason}
+use Rattle.vs_elab_statements.specs.vs_scopes.specs.declared.faults.ElabFault.{ElabFault}
+use Rattle.vs_elab_statements.specs.vs_widths.specs.declared.kinds.AssignmentKind.TheVariants.{Continuous}
+use Rattle.vs_elab_statements.specs.vs_scopes.specs.Printed.{Path, own_name, port_assign_name, part_name}
 use Rattle.std.specs.declared.vec.Vec.{Vec}
 use Rattle.std.specs.declared.alloc.Global.{Global}
 use Rattle.std.specs.Borrow.{Bor}
-use Rattle.vs_elab_operands.specs.vs_scopes.specs.vs_width_selects.specs.Environment.{Environment}
-use Rattle.vs_elab_operands.specs.vs_widths.specs.Names.{meaning_of, nested_names}
-use Rattle.vs_elab_operands.specs.vs_scopes.specs.Declarations.{Bindings}
-use Rattle.vs_elab_path_laws.specs.vs_elab_pieces.specs.Reads.{read_piece}
-use Rattle.vs_elab_path_laws.specs.vs_elab_pieces.specs.declared.scope.ScopePiece.{ScopePiece as FoundPiece}
-use Rattle.vs_elab_path_laws.specs.vs_elab_pieces.specs.declared.scope.ScopePiece.TheVariants as p
-use Rattle.vs_elab_operands.specs.vs_scopes.specs.declared.ports.ModulePort.{ModulePort as FoundPort}
-use Rattle.vs_elab_operands.specs.vs_scopes.specs.passes.Parts.{read_port, read_ends}
-use Rattle.vs_elab_operands.specs.vs_elab_listed.specs.declared.opened.ListedScope.{ListedScope as FoundScope}
-use Rattle.vs_elab_operands.specs.vs_elab_listed.specs.Opened.{IsWithin, IsOutermost}
-use Rattle.vs_elab_operands.specs.vs_scopes.specs.Scopes.{Scope, environment}
-use Rattle.vs_elab_operands.specs.vs_scopes.specs.passes.Answers.{Told}
-use Rattle.vs_elab_operands.specs.vs_scopes.proofs.Folds.{any_push}
+use Rattle.vs_elab_statements.specs.vs_scopes.specs.vs_width_selects.specs.Environment.{Environment}
+use Rattle.vs_elab_statements.specs.vs_widths.specs.Names.{meaning_of, nested_names}
+use Rattle.vs_elab_statements.specs.vs_scopes.specs.Declarations.{Bindings}
+use Rattle.vs_elab_hierarchy.specs.vs_elab_pieces.specs.Reads.{read_piece}
+use Rattle.vs_elab_hierarchy.specs.vs_elab_pieces.specs.declared.scope.ScopePiece.{ScopePiece as FoundPiece}
+use Rattle.vs_elab_hierarchy.specs.vs_elab_pieces.specs.declared.scope.ScopePiece.TheVariants as p
+use Rattle.vs_elab_statements.specs.vs_scopes.specs.declared.ports.ModulePort.{ModulePort as FoundPort}
+use Rattle.vs_elab_statements.specs.vs_scopes.specs.scopes_passes.Parts.{read_port, read_ends}
+use Rattle.vs_elab_statements.specs.vs_elab_listed.specs.declared.opened.ListedScope.{ListedScope as FoundScope}
+use Rattle.vs_elab_statements.specs.vs_elab_listed.specs.Opened.{IsWithin, IsOutermost}
+use Rattle.vs_elab_statements.specs.vs_scopes.specs.Scopes.{Scope, environment}
+use Rattle.vs_elab_statements.specs.vs_scopes.specs.scopes_passes.Answers.{Told}
+use Rattle.vs_elab_statements.specs.vs_scopes.proofs.Folds.{any_push}
 use Rattle.std.proofs.lemmas.Bool.{or_left as left_true, or_right as right_true}
 use Rattle.vs_design.specs.vs_logic4.proofs.Basics.{take_push}
-use Rattle.vs_elab_operands.specs.vs_scopes.proofs.AnswerLemmas.{told_by}
-use Rattle.vs_elab_operands.specs.Statements.{IsAssignment}
-use Rattle.vs_elab_operands.specs.Members.{Assignment, named_signal, assignment_of, PortDriver, connected, port_of, of_text, Behavior, setting, port_drivers, drivers_in, behaviors_by_item, behaviors_in, port_setting, drivers_of, port_drivers_of, behaviors_of}
-use Rattle.vs_elab_operands.specs.Processes.{kind_of, statements_of, HasBehaviorFault}
-use Rattle.vs_elab_operands.specs.Surroundings.{Surroundings}
-use Rattle.vs_elab_operands.specs.passes.Bodies.{counting, MeansBody}
-use Rattle.vs_elab_contents.specs.declared.contents.Contents.{Contents}
+use Rattle.vs_elab_statements.specs.vs_scopes.proofs.AnswerLemmas.{told_by}
+use Rattle.vs_elab_statements.specs.Statements.{IsAssignment}
+use Rattle.vs_elab_statements.specs.Members.{Assignment, named_signal, assignment_of, PortDriver, connected, port_of, of_text, Behavior, setting, port_drivers, drivers_in, behaviors_by_item, behaviors_in, port_setting, drivers_of, port_drivers_of, behaviors_of}
+use Rattle.vs_elab_statements.specs.Processes.{kind_of, statements_of, HasBehaviorFault}
+use Rattle.vs_elab_statements.specs.Surroundings.{Surroundings}
+use Rattle.vs_elab_statements.specs.passes.Bodies.{counting, MeansBody}
+use Rattle.vs_elaborate.specs.declared.contents.Contents.{Contents}
 use Rattle.vs_elaborate.specs.Drivers.{IsPortAssign}
 use Rattle.vs_elaborate.specs.DesignOf.{PartOf, port_part, parts_from, assigns_of, processes_of, IsProcess, IsAssign}
 use Rattle.vs_elaborate.specs.passes.Filling.{Adds, AreSound, AddsNot, port_faults, text_faults, Connects, ConnectsNot, text_parts, Drives, DrivesNot, RunSoundly, Runs, RunsNot, HasMembers, FillsNot, DrivesScope, FillsScope, Fills, FillsOneNot}
-use Rattle.vs_elab_operands.specs.vs_elab_listed.proofs.DeclareLemmas.{any_last}
+use Rattle.vs_elab_statements.specs.vs_elab_listed.proofs.DeclareLemmas.{any_last}
 use Rattle.vs_design.specs.vs_logic4.proofs.Basics.{any_front, at_end, slice_front as at_first, there, zip_append as zipped_append}
 
 -- ---- parts with their names

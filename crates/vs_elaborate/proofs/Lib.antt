@@ -1,3 +1,4 @@
+pub mod MarkLemmas
 pub mod CheckLemmas
 pub mod PortLemmas
 pub mod FillingLemmas

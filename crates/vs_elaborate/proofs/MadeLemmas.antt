@@ -15,42 +15,42 @@ use Rattle.vs_design.specs.Parts.{Parts}
 use Rattle.vs_design.specs.WellFormed.{WellFormed, is_sound_assign, share_a_bit, driven, declared_in as declared_by_outline}
 use Rattle.vs_design.specs.declared.signal.Signal.{Signal}
 use Rattle.vs_design.specs.declared.design.Assign.{Assign}
-use Rattle.vs_elab_operands.specs.vs_scopes.specs.vs_width_selects.specs.declared.bindings.Binding.TheVariants as b
-use Rattle.vs_elab_operands.specs.vs_widths.specs.Names.{meaning_of}
-use Rattle.vs_elab_path_laws.specs.vs_elab_pieces.specs.Reads.{read_piece}
-use Rattle.vs_elab_operands.specs.vs_scopes.specs.declared.faults.Reason.{Reason}
-use Rattle.vs_elab_operands.specs.vs_scopes.specs.declared.faults.Reason.TheVariants.{NoModule, Inside, PortMismatch, ParameterMismatch, DeclaredTwice, DrivenTwice, Limit, Width, Endless, Unnamed, Timescales, Format}
-use Rattle.vs_elab_operands.specs.vs_scopes.specs.declared.faults.ElabFault.{ElabFault}
-use Rattle.vs_elab_operands.specs.vs_scopes.specs.declared.faults.ElabFault.TheVariants.{Memory, At}
-use Rattle.vs_elab_operands.specs.vs_scopes.specs.Printed.{Path, same_path, printed}
-use Rattle.vs_elab_operands.specs.vs_scopes.specs.Ports.{names_where, is_joined, without_name}
-use Rattle.vs_elab_operands.specs.vs_scopes.specs.Declarations.{DeclaredName, declared_by_port, declared_among, not_joined, declaration_fault, names_in}
-use Rattle.vs_elab_operands.specs.vs_scopes.specs.Scopes.{Scope, declarations_of, names_of, all_names_of, named, environment, environment_at, has_wrong_end, scopes_of, signal_count, signal_paths}
+use Rattle.vs_elab_statements.specs.vs_scopes.specs.vs_width_selects.specs.declared.bindings.Binding.TheVariants as b
+use Rattle.vs_elab_statements.specs.vs_widths.specs.Names.{meaning_of}
+use Rattle.vs_elab_hierarchy.specs.vs_elab_pieces.specs.Reads.{read_piece}
+use Rattle.vs_elab_statements.specs.vs_scopes.specs.declared.faults.Reason.{Reason}
+use Rattle.vs_elab_statements.specs.vs_scopes.specs.declared.faults.Reason.TheVariants.{NoModule, Inside, PortMismatch, ParameterMismatch, DeclaredTwice, DrivenTwice, Limit, Width, Endless, Unnamed, Timescales, Format}
+use Rattle.vs_elab_statements.specs.vs_scopes.specs.declared.faults.ElabFault.{ElabFault}
+use Rattle.vs_elab_statements.specs.vs_scopes.specs.declared.faults.ElabFault.TheVariants.{Memory, At}
+use Rattle.vs_elab_statements.specs.vs_scopes.specs.Printed.{Path, same_path, printed}
+use Rattle.vs_elab_statements.specs.vs_scopes.specs.Ports.{names_where, is_joined, without_name}
+use Rattle.vs_elab_statements.specs.vs_scopes.specs.Declarations.{DeclaredName, declared_by_port, declared_among, not_joined, declaration_fault, names_in}
+use Rattle.vs_elab_statements.specs.vs_scopes.specs.Scopes.{Scope, declarations_of, names_of, all_names_of, named, environment, environment_at, has_wrong_end, scopes_of, signal_count, signal_paths}
 use Rattle.std.proofs.lemmas.Bool.{or_left as left_true, or_right as right_true}
-use Rattle.vs_elab_path_laws.specs.Laws.{HasTurnsThatFit, DeclareOnce, HaveCountedPieces, scope_paths}
-use Rattle.vs_elab_path_laws.proofs.PathsDiffer.{paths_differ, paths_not_same}
-use Rattle.vs_elab_path_laws.proofs.PathsFit.{turns_fit}
-use Rattle.vs_elab_path_laws.proofs.PathsNumbered.{scopes_are_numbered}
-use Rattle.vs_elab_path_laws.proofs.PathsParts.{printed_differ}
-use Rattle.vs_elab_operands.specs.vs_elab_listed.specs.declared.opened.ListedScope.{ListedScope as FoundScope}
-use Rattle.vs_elab_operands.specs.vs_elab_listed.specs.declared.opened.Hierarchy.{Hierarchy}
-use Rattle.vs_elab_operands.specs.vs_elab_listed.specs.Opened.{IsWithin, IsOutermost, StandsAround, IsOpened, AreSeated, HasBlocks, OpensAll}
-use Rattle.vs_elab_operands.specs.vs_elab_listed.specs.Outlines.{Declared, declared, signal_of, signals_of}
-use Rattle.vs_elab_operands.specs.vs_elab_listed.specs.ScopeFaults.{Repeated, HoldsOpening}
-use Rattle.vs_elab_operands.specs.Surroundings.{surroundings_at}
-use Rattle.vs_elab_operands.specs.passes.Bodies.{counting}
-use Rattle.vs_elab_operands.specs.passes.Views.{AreSites, IsPlaced}
-use Rattle.vs_elab_operands.proofs.BlockLemmas.{zip_other}
+use Rattle.vs_elab_hierarchy.specs.Laws.{HasTurnsThatFit, DeclareOnce, HaveCountedPieces, scope_paths}
+use Rattle.vs_elab_hierarchy.proofs.PathsDiffer.{paths_differ, paths_not_same}
+use Rattle.vs_elab_hierarchy.proofs.PathsFit.{turns_fit}
+use Rattle.vs_elab_hierarchy.proofs.PathsNumbered.{scopes_are_numbered}
+use Rattle.vs_elab_hierarchy.proofs.PathsParts.{printed_differ}
+use Rattle.vs_elab_statements.specs.vs_elab_listed.specs.declared.opened.ListedScope.{ListedScope as FoundScope}
+use Rattle.vs_elab_statements.specs.vs_elab_listed.specs.declared.opened.Hierarchy.{Hierarchy}
+use Rattle.vs_elab_statements.specs.vs_elab_listed.specs.Opened.{IsWithin, IsOutermost, StandsAround, IsOpened, AreSeated, HasBlocks, OpensAll}
+use Rattle.vs_elab_statements.specs.vs_elab_listed.specs.Outlines.{Declared, declared, signal_of, signals_of}
+use Rattle.vs_elab_statements.specs.vs_elab_listed.specs.ScopeFaults.{Repeated, HoldsOpening}
+use Rattle.vs_elab_statements.specs.Surroundings.{surroundings_at}
+use Rattle.vs_elab_statements.specs.passes.Bodies.{counting}
+use Rattle.vs_elab_statements.specs.passes.Views.{AreSites, IsPlaced}
+use Rattle.vs_elab_statements.proofs.BlockLemmas.{zip_other}
 use Rattle.vs_design.specs.vs_logic4.proofs.Basics.{zip_at}
-use Rattle.vs_elab_operands.proofs.WellFormedLemmas.{IsGood}
-use Rattle.vs_elab_contents.specs.declared.contents.Contents.{Contents}
+use Rattle.vs_elab_statements.proofs.WellFormedLemmas.{IsGood}
+use Rattle.vs_elaborate.specs.declared.contents.Contents.{Contents}
 use Rattle.vs_elaborate.specs.Timescales.{timescale_of, has_other_timescale}
 use Rattle.vs_elaborate.specs.Faults.{Faults, DrivesTwice, surroundings_of}
 use Rattle.vs_elaborate.specs.DesignOf.{DesignOf}
 use Rattle.vs_elaborate.specs.passes.Filling.{AreLefts, Fills, DrivenTwiceOnly}
-use Rattle.vs_elab_contents.specs.Marks.{AreWithin}
+use Rattle.vs_elaborate.specs.Marks.{AreWithin}
 use Rattle.vs_elaborate.proofs.SignalLemmas.{AreSized, AreInside, AreBased, each_at, good_inside, good_around}
-use Rattle.vs_elab_hierarchy.specs.vs_elab_scope.proofs.AddLemmas.{signals_shown as signals_counted}
+use Rattle.vs_elab_hierarchy.proofs.AddLemmas.{signals_shown as signals_counted}
 use Rattle.vs_design.specs.vs_logic4.proofs.Basics.{there}
 use Rattle.vs_elaborate.proofs.WellFormedLemmas.{IsFine, OfNet, processes_sound, assigns_sound, driven_nets, of_net_within}
 use Rattle.vs_elaborate.proofs.OutlineLemmas.{outline_declares, counting_below, counting_distinct, counting_contains}

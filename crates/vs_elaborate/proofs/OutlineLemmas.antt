@@ -11,12 +11,12 @@ use Rattle.vs_syntax.specs.declared.tree.Module.{Module}
 use Rattle.vs_design.specs.declared.design.Entry.{Entry}
 use Rattle.vs_design.specs.declared.design.Entry.TheVariants.{Enter, Declare, Leave}
 use Rattle.vs_design.specs.WellFormed.{declared_in as declared_by_outline}
-use Rattle.vs_elab_operands.specs.vs_scopes.specs.Generate.{Inner}
-use Rattle.vs_elab_operands.specs.vs_scopes.specs.Nets.{permits_nets}
-use Rattle.vs_elab_operands.specs.vs_scopes.specs.Scopes.{Scope, Before, behind, within_first, inner_of, module_named, declarations_of, opened, opened_top, listed, below, scopes_within, scopes_of, signal_count, deepest}
-use Rattle.vs_elab_path_laws.proofs.PathsOpened.{what_is_opened, what_is_opened_top}
-use Rattle.vs_elab_operands.specs.vs_elab_listed.specs.Outlines.{Line, enter, declare, leave, declare_from, outline_around, outline_below, outline_within, outline_of, IsEntry}
-use Rattle.vs_elab_operands.specs.passes.Bodies.{counting}
+use Rattle.vs_elab_statements.specs.vs_scopes.specs.Generate.{Inner}
+use Rattle.vs_elab_statements.specs.vs_scopes.specs.Nets.{permits_nets}
+use Rattle.vs_elab_statements.specs.vs_scopes.specs.Scopes.{Scope, Before, behind, within_first, inner_of, module_named, declarations_of, opened, opened_top, listed, below, scopes_within, scopes_of, signal_count, deepest}
+use Rattle.vs_elab_hierarchy.proofs.PathsOpened.{what_is_opened, what_is_opened_top}
+use Rattle.vs_elab_statements.specs.vs_elab_listed.specs.Outlines.{Line, enter, declare, leave, declare_from, outline_around, outline_below, outline_within, outline_of, IsEntry}
+use Rattle.vs_elab_statements.specs.passes.Bodies.{counting}
 
 -- ---- counting
 

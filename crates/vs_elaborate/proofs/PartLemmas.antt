@@ -14,20 +14,20 @@ use Rattle.vs_syntax.specs.declared.tree.Direction.{Direction}
 use Rattle.vs_syntax.specs.declared.tree.Direction.TheVariants.{Input, Output}
 use Rattle.vs_design.specs.declared.design.Assign.{Assign}
 use Rattle.vs_design.specs.declared.design.Process.{Process}
-use Rattle.vs_elab_operands.specs.vs_scopes.specs.vs_width_selects.specs.Environment.{Environment}
-use Rattle.vs_elab_operands.specs.vs_scopes.specs.Printed.{Path, same_path, printed_name, own_name, port_assign_name, part_name}
-use Rattle.vs_elab_operands.specs.vs_scopes.specs.Ports.{ModulePort, port_names, names_where, is_joined}
-use Rattle.vs_elab_operands.specs.vs_scopes.specs.Declarations.{DeclaredName, declared_by_port, declared_among, not_joined, names_in}
-use Rattle.vs_elab_operands.specs.vs_scopes.specs.Scopes.{Scope, all_names_of}
-use Rattle.vs_elab_path_laws.specs.Laws.{HasTurnsThatFit, scope_paths}
-use Rattle.vs_elab_path_laws.proofs.PathsLists.{each_append, distinct_append, distinct_left}
-use Rattle.vs_elab_path_laws.proofs.PathsParts.{IsPartAt, parts_differ}
-use Rattle.vs_elab_path_laws.proofs.PathsPrinted.{name_same}
-use Rattle.vs_elab_path_laws.proofs.TitleLemmas.{signals_differ}
-use Rattle.vs_elab_operands.specs.Members.{PortDriver, connected, port_drivers, port_drivers_of, port_of, Driver, of_text, drivers_of, behaviors_of}
-use Rattle.vs_elab_operands.specs.Surroundings.{Surroundings}
+use Rattle.vs_elab_statements.specs.vs_scopes.specs.vs_width_selects.specs.Environment.{Environment}
+use Rattle.vs_elab_statements.specs.vs_scopes.specs.Printed.{Path, same_path, printed_name, own_name, port_assign_name, part_name}
+use Rattle.vs_elab_statements.specs.vs_scopes.specs.Ports.{ModulePort, port_names, names_where, is_joined}
+use Rattle.vs_elab_statements.specs.vs_scopes.specs.Declarations.{DeclaredName, declared_by_port, declared_among, not_joined, names_in}
+use Rattle.vs_elab_statements.specs.vs_scopes.specs.Scopes.{Scope, all_names_of}
+use Rattle.vs_elab_hierarchy.specs.Laws.{HasTurnsThatFit, scope_paths}
+use Rattle.vs_elab_hierarchy.proofs.PathsLists.{each_append, distinct_append, distinct_left}
+use Rattle.vs_elab_hierarchy.proofs.PathsParts.{IsPartAt, parts_differ}
+use Rattle.vs_elab_hierarchy.proofs.PathsPrinted.{name_same}
+use Rattle.vs_elab_hierarchy.proofs.TitleLemmas.{signals_differ}
+use Rattle.vs_elab_statements.specs.Members.{PortDriver, connected, port_drivers, port_drivers_of, port_of, Driver, of_text, drivers_of, behaviors_of}
+use Rattle.vs_elab_statements.specs.Surroundings.{Surroundings}
 use Rattle.vs_elaborate.specs.DesignOf.{PartOf, parts_from, port_part, processes_of, assigns_of, IsProcess, IsAssign}
-use Rattle.vs_elab_hierarchy.specs.vs_elab_scope.proofs.OwnLemmas.{port_names_declared as ports_first}
+use Rattle.vs_elab_hierarchy.proofs.OwnLemmas.{port_names_declared as ports_first}
 use Rattle.vs_design.specs.vs_logic4.proofs.Basics.{bytes_apart as not_same}
 
 abbrev pub path_of : {A : Type 0} → PartOf A → Path

@@ -4,17 +4,17 @@ use Rattle.std.proofs.lemmas.Bool.{or_parts}
 use Rattle.std.proofs.lemmas.Option.{slice_get-get_or, get_or_from_slice_get}
 use Rattle.std.proofs.lemmas.List.{append-nil, at_drop_more, length-append, length-map}
 use Rattle.vs_syntax.specs.declared.tree.Expr.{Expr}
-use Rattle.vs_elab_operands.specs.vs_scopes.specs.declared.faults.Reason.{Reason}
-use Rattle.vs_elab_operands.specs.vs_scopes.specs.declared.faults.ElabFault.{ElabFault}
-use Rattle.vs_elab_operands.specs.vs_scopes.specs.Printed.{Path}
-use Rattle.vs_elab_operands.specs.vs_scopes.specs.Ports.{ModulePort}
-use Rattle.vs_elab_operands.specs.vs_scopes.specs.Scopes.{Scope, is_wrong_end, has_wrong_end}
-use Rattle.vs_elab_operands.specs.vs_scopes.specs.passes.Answers.{Told}
-use Rattle.vs_elab_operands.specs.vs_scopes.proofs.AnswerLemmas.{Kept, Grown, told_by}
-use Rattle.vs_elab_operands.specs.Members.{PortDriver, port_driver, port_drivers}
-use Rattle.vs_elab_operands.specs.vs_scopes.specs.passes.Names.{read_title, read_path}
-use Rattle.vs_elab_operands.specs.vs_scopes.specs.declared.printed.PathName.{PathName as FoundName}
-use Rattle.vs_elab_operands.specs.vs_elab_listed.specs.Opened.{StandsAround}
+use Rattle.vs_elab_statements.specs.vs_scopes.specs.declared.faults.Reason.{Reason}
+use Rattle.vs_elab_statements.specs.vs_scopes.specs.declared.faults.ElabFault.{ElabFault}
+use Rattle.vs_elab_statements.specs.vs_scopes.specs.Printed.{Path}
+use Rattle.vs_elab_statements.specs.vs_scopes.specs.Ports.{ModulePort}
+use Rattle.vs_elab_statements.specs.vs_scopes.specs.Scopes.{Scope, is_wrong_end, has_wrong_end}
+use Rattle.vs_elab_statements.specs.vs_scopes.specs.scopes_passes.Answers.{Told}
+use Rattle.vs_elab_statements.specs.vs_scopes.proofs.AnswerLemmas.{Kept, Grown, told_by}
+use Rattle.vs_elab_statements.specs.Members.{PortDriver, port_driver, port_drivers}
+use Rattle.vs_elab_statements.specs.vs_scopes.specs.scopes_passes.Names.{read_title, read_path}
+use Rattle.vs_elab_statements.specs.vs_scopes.specs.declared.printed.PathName.{PathName as FoundName}
+use Rattle.vs_elab_statements.specs.vs_elab_listed.specs.Opened.{StandsAround}
 use Rattle.vs_design.specs.vs_logic4.proofs.Basics.{get_or_same as again}
 
 -- ---- ports and what they are connected to, a place at a time

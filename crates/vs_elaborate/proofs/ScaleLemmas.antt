@@ -6,7 +6,7 @@ use Rattle.std.proofs.lemmas.List.Folds.{list_any-append}
 use Rattle.std.proofs.lemmas.Option.{none-some, same_Some}
 use Rattle.vs_design.specs.declared.timescale.Timescale.{Timescale}
 use Rattle.vs_design.specs.declared.timescale.TheConstants.{DEFAULT_TIMESCALE}
-use Rattle.vs_elab_operands.specs.vs_scopes.proofs.Folds.{flat_more}
+use Rattle.vs_elab_statements.specs.vs_scopes.proofs.Folds.{flat_more}
 use Rattle.std.proofs.lemmas.Bool.{or_from as both_false, or_left as left_true, or_right as right_true}
 use Rattle.vs_elaborate.specs.Timescales.{first_or_default}
 use Rattle.vs_elaborate.specs.passes.Scales.{first_of}

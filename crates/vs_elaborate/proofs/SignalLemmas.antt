@@ -16,27 +16,27 @@ use Rattle.vs_design.specs.declared.signal.Signal.{Signal}
 use Rattle.vs_design.specs.declared.signal.SignalKind.{SignalKind}
 use Rattle.vs_design.specs.declared.design.ScopeKind.{ScopeKind}
 use Rattle.vs_design.specs.declared.design.ScopeKind.TheVariants as opened_by
-use Rattle.vs_elab_operands.specs.vs_scopes.specs.vs_width_selects.specs.declared.bindings.Meaning.{Meaning}
-use Rattle.vs_elab_operands.specs.vs_scopes.specs.vs_width_selects.specs.declared.bindings.Binding.{Binding}
-use Rattle.vs_elab_operands.specs.vs_scopes.specs.vs_width_selects.specs.declared.bindings.Binding.TheVariants as b
-use Rattle.vs_elab_operands.specs.vs_scopes.specs.vs_width_selects.specs.declared.constants.Const.{Const}
-use Rattle.vs_elab_operands.specs.vs_scopes.specs.vs_width_selects.specs.declared.faults.WidthReason.{WidthReason}
-use Rattle.vs_elab_operands.specs.vs_scopes.specs.vs_width_selects.specs.declared.faults.WidthReason.TheVariants.{WrongKind}
-use Rattle.vs_elab_operands.specs.vs_scopes.specs.vs_width_selects.specs.Environment.{Environment}
-use Rattle.vs_elab_operands.specs.vs_widths.specs.Names.{meaning_of}
-use Rattle.vs_elab_path_laws.specs.vs_elab_pieces.specs.Pieces.{Piece, plain, loop, choice, local, inside, net}
-use Rattle.vs_elab_operands.specs.vs_scopes.specs.declared.faults.Reason.TheVariants.{Width}
-use Rattle.vs_elab_operands.specs.vs_scopes.specs.Ranges.{Sized, bounds_fault, Words, words_fault, words_as, word_count}
-use Rattle.vs_elab_operands.specs.vs_scopes.specs.Parameters.{said}
-use Rattle.vs_elab_operands.specs.vs_scopes.specs.Ports.{ModulePort, names_where, is_joined, without_name}
-use Rattle.vs_elab_operands.specs.vs_scopes.specs.Declarations.{Bindings, DeclaredName, declared_by_port, declared_as, declared_by_item, declared_local, declared_in, declared_among, not_joined, declaration_fault, meaning_as, genvars_in, inner_names_among, bound_to}
-use Rattle.vs_elab_operands.specs.vs_scopes.specs.Scopes.{Scope, declarations_of, names_of, named, numbered_names, constant_names, bindings_of, environment, seen_from, signal_count, signal_paths}
-use Rattle.vs_elab_operands.specs.vs_scopes.proofs.Folds.{any_false_at}
-use Rattle.vs_elab_path_laws.proofs.PathsLists.{each_append}
-use Rattle.vs_elab_operands.specs.vs_elab_listed.specs.Outlines.{Declared, declared, signal_of, signals_of}
-use Rattle.vs_elab_operands.specs.vs_elab_listed.specs.Opened.{IsWithin, IsOutermost}
-use Rattle.vs_elab_operands.proofs.WellFormedLemmas.{IsMeant, IsGood}
-use Rattle.vs_elab_hierarchy.specs.vs_elab_scope.proofs.AddLemmas.{signals_shown as signals_counted}
+use Rattle.vs_elab_statements.specs.vs_scopes.specs.vs_width_selects.specs.declared.bindings.Meaning.{Meaning}
+use Rattle.vs_elab_statements.specs.vs_scopes.specs.vs_width_selects.specs.declared.bindings.Binding.{Binding}
+use Rattle.vs_elab_statements.specs.vs_scopes.specs.vs_width_selects.specs.declared.bindings.Binding.TheVariants as b
+use Rattle.vs_elab_statements.specs.vs_scopes.specs.vs_width_selects.specs.declared.constants.Const.{Const}
+use Rattle.vs_elab_statements.specs.vs_scopes.specs.vs_width_selects.specs.declared.faults.WidthReason.{WidthReason}
+use Rattle.vs_elab_statements.specs.vs_scopes.specs.vs_width_selects.specs.declared.faults.WidthReason.TheVariants.{WrongKind}
+use Rattle.vs_elab_statements.specs.vs_scopes.specs.vs_width_selects.specs.Environment.{Environment}
+use Rattle.vs_elab_statements.specs.vs_widths.specs.Names.{meaning_of}
+use Rattle.vs_elab_hierarchy.specs.vs_elab_pieces.specs.Pieces.{Piece, plain, loop, choice, local, inside, net}
+use Rattle.vs_elab_statements.specs.vs_scopes.specs.declared.faults.Reason.TheVariants.{Width}
+use Rattle.vs_elab_statements.specs.vs_scopes.specs.Ranges.{Sized, bounds_fault, Words, words_fault, words_as, word_count}
+use Rattle.vs_elab_statements.specs.vs_scopes.specs.Parameters.{said}
+use Rattle.vs_elab_statements.specs.vs_scopes.specs.Ports.{ModulePort, names_where, is_joined, without_name}
+use Rattle.vs_elab_statements.specs.vs_scopes.specs.Declarations.{Bindings, DeclaredName, declared_by_port, declared_as, declared_by_item, declared_local, declared_in, declared_among, not_joined, declaration_fault, meaning_as, genvars_in, inner_names_among, bound_to}
+use Rattle.vs_elab_statements.specs.vs_scopes.specs.Scopes.{Scope, declarations_of, names_of, named, numbered_names, constant_names, bindings_of, environment, seen_from, signal_count, signal_paths}
+use Rattle.vs_elab_statements.specs.vs_scopes.proofs.Folds.{any_false_at}
+use Rattle.vs_elab_hierarchy.proofs.PathsLists.{each_append}
+use Rattle.vs_elab_statements.specs.vs_elab_listed.specs.Outlines.{Declared, declared, signal_of, signals_of}
+use Rattle.vs_elab_statements.specs.vs_elab_listed.specs.Opened.{IsWithin, IsOutermost}
+use Rattle.vs_elab_statements.proofs.WellFormedLemmas.{IsMeant, IsGood}
+use Rattle.vs_elab_hierarchy.proofs.AddLemmas.{signals_shown as signals_counted}
 use Rattle.vs_design.specs.vs_logic4.proofs.Basics.{right_false, slice_back as at_behind, slice_front as at_front, there}
 
 -- ---- lists that are joined

@@ -12,23 +12,23 @@ use Rattle.vs_syntax.specs.declared.tree.Source.{Source}
 use Rattle.vs_syntax.specs.declared.tree.Stmt.{Stmt, Stmt-F, roll-Stmt, ind-Stmt, map-Stmt}
 use Rattle.vs_syntax.specs.declared.tree.Stmt.TheFolds.{fold-roll-Stmt}
 use Rattle.vs_syntax.specs.declared.tree.Stmt.TheOpen as f
-use Rattle.vs_elab_operands.specs.vs_scopes.specs.vs_width_selects.specs.Environment.{Environment}
-use Rattle.vs_elab_operands.specs.vs_widths.specs.declared.kinds.AssignmentKind.{AssignmentKind}
-use Rattle.vs_elab_operands.specs.vs_widths.specs.declared.kinds.AssignmentKind.TheVariants.{Procedural, Continuous}
-use Rattle.vs_elab_operands.specs.vs_scopes.specs.declared.faults.Reason.{Reason}
-use Rattle.vs_elab_operands.specs.vs_scopes.specs.declared.faults.Reason.TheVariants.{NoModule, Inside, PortMismatch, ParameterMismatch, DeclaredTwice, DrivenTwice, Limit, Width, Endless, Unnamed, Timescales, Format}
-use Rattle.vs_elab_operands.specs.vs_scopes.specs.declared.faults.ElabFault.{ElabFault}
-use Rattle.vs_elab_operands.specs.vs_scopes.specs.declared.faults.ElabFault.TheVariants.{Memory, At}
-use Rattle.vs_elab_operands.specs.vs_scopes.specs.Printed.{plainly, Path}
-use Rattle.vs_elab_operands.specs.vs_scopes.specs.Scopes.{Scope, environment, scopes_of}
-use Rattle.vs_elab_operands.specs.vs_scopes.specs.passes.Answers.{IsFaultAt, Told}
+use Rattle.vs_elab_statements.specs.vs_scopes.specs.vs_width_selects.specs.Environment.{Environment}
+use Rattle.vs_elab_statements.specs.vs_widths.specs.declared.kinds.AssignmentKind.{AssignmentKind}
+use Rattle.vs_elab_statements.specs.vs_widths.specs.declared.kinds.AssignmentKind.TheVariants.{Procedural, Continuous}
+use Rattle.vs_elab_statements.specs.vs_scopes.specs.declared.faults.Reason.{Reason}
+use Rattle.vs_elab_statements.specs.vs_scopes.specs.declared.faults.Reason.TheVariants.{NoModule, Inside, PortMismatch, ParameterMismatch, DeclaredTwice, DrivenTwice, Limit, Width, Endless, Unnamed, Timescales, Format}
+use Rattle.vs_elab_statements.specs.vs_scopes.specs.declared.faults.ElabFault.{ElabFault}
+use Rattle.vs_elab_statements.specs.vs_scopes.specs.declared.faults.ElabFault.TheVariants.{Memory, At}
+use Rattle.vs_elab_statements.specs.vs_scopes.specs.Printed.{plainly, Path}
+use Rattle.vs_elab_statements.specs.vs_scopes.specs.Scopes.{Scope, environment, scopes_of}
+use Rattle.vs_elab_statements.specs.vs_scopes.specs.scopes_passes.Answers.{IsFaultAt, Told}
 use Rattle.std.proofs.lemmas.Bool.{or_from as both_false}
-use Rattle.vs_elab_operands.specs.vs_scopes.proofs.AnswerLemmas.{told_at, told_by}
-use Rattle.vs_elab_operands.specs.vs_elab_listed.specs.ScopeFaults.{HoldsOpening, HoldsOpeningIn, HoldsOpeningAbove, StandsOpening}
-use Rattle.vs_elab_operands.specs.Statements.{assign_fault, operand_fault, case_fault, delay_fault, due_fault, print_fault, event_fault, fault_step, has_fault, is_overfull, HasFaultAt, in_statement, in_block}
-use Rattle.vs_elab_operands.specs.Surroundings.{Surroundings}
-use Rattle.vs_elab_operands.specs.Members.{Assignee, places, Assignment, PortDriver, Behavior, sets, runs, repeats, drivers_of, port_drivers_of}
-use Rattle.vs_elab_operands.specs.Processes.{statements_of, HasBehaviorFault}
+use Rattle.vs_elab_statements.specs.vs_scopes.proofs.AnswerLemmas.{told_at, told_by}
+use Rattle.vs_elab_statements.specs.vs_elab_listed.specs.ScopeFaults.{HoldsOpening, HoldsOpeningIn, HoldsOpeningAbove, StandsOpening}
+use Rattle.vs_elab_statements.specs.Statements.{assign_fault, operand_fault, case_fault, delay_fault, due_fault, print_fault, event_fault, fault_step, has_fault, is_overfull, HasFaultAt, in_statement, in_block}
+use Rattle.vs_elab_statements.specs.Surroundings.{Surroundings}
+use Rattle.vs_elab_statements.specs.Members.{Assignee, places, Assignment, PortDriver, Behavior, sets, runs, repeats, drivers_of, port_drivers_of}
+use Rattle.vs_elab_statements.specs.Processes.{statements_of, HasBehaviorFault}
 use Rattle.vs_elaborate.specs.Drivers.{driver_fault, port_driver_fault}
 use Rattle.vs_elaborate.specs.Timescales.{has_other_timescale}
 use Rattle.vs_elaborate.specs.Faults.{Holds, HoldsIn, HoldsAbove, surroundings_of, Stands, DrivesTwice, Faults}

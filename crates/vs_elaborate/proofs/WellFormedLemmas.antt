@@ -12,20 +12,20 @@ use Rattle.vs_design.specs.declared.design.Process.{Process}
 use Rattle.std.proofs.lemmas.Bool.{and_parts}
 use Rattle.std.proofs.lemmas.Option.{slice_get_within}
 use Rattle.std.proofs.lemmas.List.Elements.{All-nil, All-cons, All-append}
-use Rattle.vs_elab_operands.specs.vs_widths.specs.declared.kinds.AssignmentKind.TheVariants.{Continuous}
-use Rattle.vs_elab_operands.specs.vs_scopes.specs.vs_width_selects.specs.Environment.{Environment}
-use Rattle.vs_elab_operands.specs.vs_widths.specs.Expressions.{meant, name_meant}
-use Rattle.vs_elab_operands.specs.vs_widths.proofs.ReadLemmas.{reads_within}
-use Rattle.vs_elab_operands.specs.Statements.{assigned_to}
-use Rattle.vs_elab_operands.specs.Members.{Behavior, drivers_of, port_drivers_of, PortDriver, into, out_of, Driver, of_port, of_text}
-use Rattle.vs_elab_operands.specs.Surroundings.{Surroundings}
+use Rattle.vs_elab_statements.specs.vs_widths.specs.declared.kinds.AssignmentKind.TheVariants.{Continuous}
+use Rattle.vs_elab_statements.specs.vs_scopes.specs.vs_width_selects.specs.Environment.{Environment}
+use Rattle.vs_elab_statements.specs.vs_widths.specs.Expressions.{meant, name_meant}
+use Rattle.vs_elab_statements.specs.vs_widths.proofs.ReadLemmas.{reads_within}
+use Rattle.vs_elab_statements.specs.Statements.{assigned_to}
+use Rattle.vs_elab_statements.specs.Members.{Behavior, drivers_of, port_drivers_of, PortDriver, into, out_of, Driver, of_port, of_text}
+use Rattle.vs_elab_statements.specs.Surroundings.{Surroundings}
 use Rattle.vs_elaborate.specs.Drivers.{port_target, IsDriver}
 use Rattle.vs_elaborate.specs.DesignOf.{PartOf, parts_from, port_part, processes_of, assigns_of, IsProcess, IsAssign}
-use Rattle.vs_elab_operands.specs.vs_scopes.specs.Printed.{Path}
-use Rattle.vs_elab_operands.specs.vs_scopes.specs.Scopes.{Scope, environment}
+use Rattle.vs_elab_statements.specs.vs_scopes.specs.Printed.{Path}
+use Rattle.vs_elab_statements.specs.vs_scopes.specs.Scopes.{Scope, environment}
 use Rattle.std.proofs.lemmas.Bool.{and_from as both_true}
-use Rattle.vs_elab_path_laws.proofs.PathsLists.{each_append}
-use Rattle.vs_elab_operands.proofs.WellFormedLemmas.{IsGood, in_design, name_within, net_target, source_sound, body_sound}
+use Rattle.vs_elab_hierarchy.proofs.PathsLists.{each_append}
+use Rattle.vs_elab_statements.proofs.WellFormedLemmas.{IsGood, in_design, name_within, net_target, source_sound, body_sound}
 
 driver_sound : (ss : List Signal) (own outer : Environment) → IsGood ss own → IsGood ss outer → (d : Driver) (a : Assign) → IsDriver own outer d a.target a.source → is_sound_assign ss a ≡ true
 driver_sound ss own outer g h (of_port (into n e)) a k =

@@ -7,15 +7,15 @@ use Rattle.vs_design.specs.declared.design.Process.{Process}
 use Rattle.vs_design.specs.declared.design.Assign.{Assign}
 use Rattle.vs_design.specs.Parts.{Parts}
 use Rattle.vs_design.specs.WellFormed.{numbers, counts_from}
-use Rattle.vs_elab_operands.specs.vs_scopes.specs.declared.faults.Reason.{Reason}
-use Rattle.vs_elab_operands.specs.vs_scopes.specs.Printed.{Path, own_name, port_assign_name, part_name}
-use Rattle.vs_elab_operands.specs.vs_scopes.specs.Scopes.{Scope, environment, scopes_of}
-use Rattle.vs_elab_operands.specs.vs_elab_listed.specs.Outlines.{declared, signals_of, Line, outline_of, IsEntry}
-use Rattle.vs_elab_operands.specs.Members.{PortDriver, port_of, Driver, of_port, of_text, Behavior, drivers_of, port_drivers_of, behaviors_of}
-use Rattle.vs_elab_operands.specs.Surroundings.{Surroundings, surroundings_at}
+use Rattle.vs_elab_statements.specs.vs_scopes.specs.declared.faults.Reason.{Reason}
+use Rattle.vs_elab_statements.specs.vs_scopes.specs.Printed.{Path, own_name, port_assign_name, part_name}
+use Rattle.vs_elab_statements.specs.vs_scopes.specs.Scopes.{Scope, environment, scopes_of}
+use Rattle.vs_elab_statements.specs.vs_elab_listed.specs.Outlines.{declared, signals_of, Line, outline_of, IsEntry}
+use Rattle.vs_elab_statements.specs.Members.{PortDriver, port_of, Driver, of_port, of_text, Behavior, drivers_of, port_drivers_of, behaviors_of}
+use Rattle.vs_elab_statements.specs.Surroundings.{Surroundings, surroundings_at}
 use Rattle.vs_elaborate.specs.Timescales.{timescale_of, ratio_of}
 use Rattle.vs_elaborate.specs.Drivers.{IsDriver}
-use Rattle.vs_elab_operands.specs.Processes.{IsBody, kind_of}
+use Rattle.vs_elab_statements.specs.Processes.{IsBody, kind_of}
 use Rattle.vs_elaborate.specs.Faults.{Stands}
 
 -- a process or a continuous assignment of a source, with its scope and its name there

@@ -2,17 +2,17 @@
 use Rattle.std.specs.Prelude.{Bool, false, ◌||◌, []}
 use Rattle.vs_design.specs.declared.expression.Typed.{Typed}
 use Rattle.vs_design.specs.declared.statement.Target.{Target}
-use Rattle.vs_elab_operands.specs.vs_scopes.specs.vs_width_selects.specs.Environment.{Environment}
-use Rattle.vs_elab_operands.specs.vs_scopes.specs.vs_width_selects.specs.Findings.{stands}
-use Rattle.vs_elab_operands.specs.vs_scopes.specs.vs_width_selects.specs.Meants.{Meant}
-use Rattle.vs_elab_operands.specs.vs_widths.specs.Expressions.{meant, name_meant}
-use Rattle.vs_elab_operands.specs.vs_widths.specs.declared.kinds.AssignmentKind.TheVariants.{Continuous}
-use Rattle.vs_elab_operands.specs.vs_widths.specs.Lefts.{Aimed, name_aimed, expr_aimed}
-use Rattle.vs_elab_operands.specs.vs_widths.specs.Aiming.{IsTarget}
-use Rattle.vs_elab_operands.specs.vs_scopes.specs.declared.faults.Reason.{Reason}
-use Rattle.vs_elab_operands.specs.vs_scopes.specs.declared.faults.Reason.TheVariants.{Width}
-use Rattle.vs_elab_operands.specs.Members.{Assignment, PortDriver, into, out_of, Driver, of_port, of_text}
-use Rattle.vs_elab_operands.specs.Statements.{IsSource, IsAssignment, assign_fault}
+use Rattle.vs_elab_statements.specs.vs_scopes.specs.vs_width_selects.specs.Environment.{Environment}
+use Rattle.vs_elab_statements.specs.vs_scopes.specs.vs_width_selects.specs.Findings.{stands}
+use Rattle.vs_elab_statements.specs.vs_scopes.specs.vs_width_selects.specs.Meants.{Meant}
+use Rattle.vs_elab_statements.specs.vs_widths.specs.Expressions.{meant, name_meant}
+use Rattle.vs_elab_statements.specs.vs_widths.specs.declared.kinds.AssignmentKind.TheVariants.{Continuous}
+use Rattle.vs_elab_statements.specs.vs_widths.specs.Lefts.{Aimed, name_aimed, expr_aimed}
+use Rattle.vs_elab_statements.specs.vs_widths.specs.Aiming.{IsTarget}
+use Rattle.vs_elab_statements.specs.vs_scopes.specs.declared.faults.Reason.{Reason}
+use Rattle.vs_elab_statements.specs.vs_scopes.specs.declared.faults.Reason.TheVariants.{Width}
+use Rattle.vs_elab_statements.specs.Members.{Assignment, PortDriver, into, out_of, Driver, of_port, of_text}
+use Rattle.vs_elab_statements.specs.Statements.{IsSource, IsAssignment, assign_fault}
 
 -- In what follows names are bound in a scope, and in the scope around it, as the two environments say.
 

@@ -6,25 +6,25 @@ use Rattle.vs_syntax.specs.declared.tree.Source.{Source}
 use Rattle.vs_design.specs.Kinds.{is_variable}
 use Rattle.vs_design.specs.WellFormed.{have_common, bits_or_all}
 use Rattle.vs_design.specs.declared.range.BitRange.{BitRange}
-use Rattle.vs_elab_operands.specs.vs_scopes.specs.vs_width_selects.specs.Findings.{Finding, Has, Lacks}
-use Rattle.vs_elab_operands.specs.vs_scopes.specs.vs_width_selects.specs.Selects.{Named, named_range}
-use Rattle.vs_elab_operands.specs.vs_widths.specs.declared.kinds.AssignmentKind.TheVariants.{Continuous}
-use Rattle.vs_elab_operands.specs.vs_widths.specs.Lefts.{Aimed}
-use Rattle.vs_elab_operands.specs.vs_scopes.specs.declared.faults.Reason.{Reason}
-use Rattle.vs_elab_operands.specs.vs_scopes.specs.declared.faults.Reason.TheVariants.{NoModule, Inside, PortMismatch, ParameterMismatch, DeclaredTwice, DrivenTwice, Limit, Width, Endless, Unnamed, Timescales, Format}
-use Rattle.vs_elab_operands.specs.vs_scopes.specs.declared.faults.ElabFault.{ElabFault}
-use Rattle.vs_elab_operands.specs.vs_scopes.specs.declared.faults.ElabFault.TheVariants.{Memory, At}
-use Rattle.vs_elab_operands.specs.vs_scopes.specs.Printed.{plainly, Path, printed}
-use Rattle.vs_elab_operands.specs.vs_scopes.specs.Parameters.{is_override_mismatch}
-use Rattle.vs_elab_operands.specs.vs_scopes.specs.Declarations.{DeclaredName}
-use Rattle.vs_elab_operands.specs.vs_scopes.specs.Scopes.{Scope, module_named, scopes_of, declarations_of, environment, signal_paths, is_inside, is_port_mismatch}
-use Rattle.vs_elab_operands.specs.vs_elab_listed.specs.ScopeFaults.{of_module, AtInstance, HasNoModule, parameter_fault, HasOverrideFault, DeclaresTwice, HasWrongPort, HasUnlikePort, HasStrayPort, HasBlockParameter, HasConstructFault, HasBlockFault, HasLateNet, HasBlockOfNet, HasRangeFault, PassesLimit, PassesTurns, NamesTwice, top_fault}
-use Rattle.vs_elab_operands.specs.Statements.{assigned_to}
-use Rattle.vs_elab_operands.specs.Surroundings.{Surroundings, surroundings_at}
-use Rattle.vs_elab_operands.specs.Members.{Behavior, Driver, of_port, of_text, drivers_of, port_drivers_of, behaviors_of}
+use Rattle.vs_elab_statements.specs.vs_scopes.specs.vs_width_selects.specs.Findings.{Finding, Has, Lacks}
+use Rattle.vs_elab_statements.specs.vs_scopes.specs.vs_width_selects.specs.Selects.{Named, named_range}
+use Rattle.vs_elab_statements.specs.vs_widths.specs.declared.kinds.AssignmentKind.TheVariants.{Continuous}
+use Rattle.vs_elab_statements.specs.vs_widths.specs.Lefts.{Aimed}
+use Rattle.vs_elab_statements.specs.vs_scopes.specs.declared.faults.Reason.{Reason}
+use Rattle.vs_elab_statements.specs.vs_scopes.specs.declared.faults.Reason.TheVariants.{NoModule, Inside, PortMismatch, ParameterMismatch, DeclaredTwice, DrivenTwice, Limit, Width, Endless, Unnamed, Timescales, Format}
+use Rattle.vs_elab_statements.specs.vs_scopes.specs.declared.faults.ElabFault.{ElabFault}
+use Rattle.vs_elab_statements.specs.vs_scopes.specs.declared.faults.ElabFault.TheVariants.{Memory, At}
+use Rattle.vs_elab_statements.specs.vs_scopes.specs.Printed.{plainly, Path, printed}
+use Rattle.vs_elab_statements.specs.vs_scopes.specs.Parameters.{is_override_mismatch}
+use Rattle.vs_elab_statements.specs.vs_scopes.specs.Declarations.{DeclaredName}
+use Rattle.vs_elab_statements.specs.vs_scopes.specs.Scopes.{Scope, module_named, scopes_of, declarations_of, environment, signal_paths, is_inside, is_port_mismatch}
+use Rattle.vs_elab_statements.specs.vs_elab_listed.specs.ScopeFaults.{of_module, AtInstance, HasNoModule, parameter_fault, HasOverrideFault, DeclaresTwice, HasWrongPort, HasUnlikePort, HasStrayPort, HasBlockParameter, HasConstructFault, HasBlockFault, HasLateNet, HasBlockOfNet, HasRangeFault, PassesLimit, PassesTurns, NamesTwice, top_fault}
+use Rattle.vs_elab_statements.specs.Statements.{assigned_to}
+use Rattle.vs_elab_statements.specs.Surroundings.{Surroundings, surroundings_at}
+use Rattle.vs_elab_statements.specs.Members.{Behavior, Driver, of_port, of_text, drivers_of, port_drivers_of, behaviors_of}
 use Rattle.vs_elaborate.specs.Timescales.{timescale_of, has_other_timescale, ratio_of}
 use Rattle.vs_elaborate.specs.Drivers.{port_target, driver_fault, port_driver_fault}
-use Rattle.vs_elab_operands.specs.Processes.{HasBehaviorFault}
+use Rattle.vs_elab_statements.specs.Processes.{HasBehaviorFault}
 
 -- a process of a scope that has the fault, with these surroundings in the scope of each path, by the path of the innermost scope where it stands
 pub record HasProcessFault (envs : Path → Surroundings) (s : Scope) (r : Reason) (p : Path) : Type 0 where

@@ -1,22 +1,22 @@
 //! The continuous assignments of the ports of a scope, as parts of a design.
 ghost use Rattle.std.specs.Prelude.{◌≡◌, ◌∷◌, [], map, true, false};
-ghost use Rattle.vs_elab_operands.specs.vs_widths.specs.Names.{meaning_of};
-ghost use Rattle.vs_elab_operands.specs.vs_widths.specs.Lefts.{is_left};
-ghost use Rattle.vs_elab_operands.specs.vs_scopes.specs.Printed.{Path};
-ghost use Rattle.vs_elab_operands.specs.Surroundings.{Surroundings};
-ghost use Rattle.vs_elab_operands.specs.vs_scopes.specs.Scopes.{Scope, is_wrong_end, has_wrong_end};
-ghost use Rattle.vs_elab_operands.specs.vs_scopes.specs.passes.Answers.{Elaborates, Grows};
-ghost use Rattle.vs_elab_operands.specs.vs_scopes.specs.passes.Parts.{read_port, read_ends};
-ghost use Rattle.vs_elab_operands.specs.Members.{into, out_of, connected, port_drivers};
+ghost use Rattle.vs_elab_statements.specs.vs_widths.specs.Names.{meaning_of};
+ghost use Rattle.vs_elab_statements.specs.vs_widths.specs.Lefts.{is_left};
+ghost use Rattle.vs_elab_statements.specs.vs_scopes.specs.Printed.{Path};
+ghost use Rattle.vs_elab_statements.specs.Surroundings.{Surroundings};
+ghost use Rattle.vs_elab_statements.specs.vs_scopes.specs.Scopes.{Scope, is_wrong_end, has_wrong_end};
+ghost use Rattle.vs_elab_statements.specs.vs_scopes.specs.scopes_passes.Answers.{Elaborates, Grows};
+ghost use Rattle.vs_elab_statements.specs.vs_scopes.specs.scopes_passes.Parts.{read_port, read_ends};
+ghost use Rattle.vs_elab_statements.specs.Members.{into, out_of, connected, port_drivers};
 ghost use Rattle.vs_elaborate.specs.Drivers.{IsPortAssign, port_driver_fault};
 ghost use Rattle.vs_elaborate.specs.passes.Filling.{IsFrame, IsLeftEnd, Connects, ConnectsNot};
 
 use crate::frames::{Frame, outer_fault};
 use std::alloc::Global;
 use vs_design::{Assign, Target, Typed};
-use vs_elab_operands::vs_scopes::{BodyFault, ElabFault, ModulePort, print_port_part};
-use vs_elab_operands::vs_widths::{AssignmentKind, Levels, expr_target, name_target};
-use vs_elab_operands::{name_source, source};
+use vs_elab_statements::vs_scopes::{BodyFault, ElabFault, ModulePort, print_port_part};
+use vs_elab_statements::vs_widths::{AssignmentKind, Levels, expr_target, name_target};
+use vs_elab_statements::{name_source, source};
 use vs_syntax::{Direction, Expr};
 
 /// The kind of an assignment that drives a net.

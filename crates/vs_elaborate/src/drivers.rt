@@ -1,23 +1,23 @@
 //! The continuous assignments of the text of a scope, as parts of a design.
 ghost use Rattle.std.specs.Prelude.{◌≡◌, ◌∷◌, [], map};
 ghost use Rattle.std.specs.List.{flat_map};
-ghost use Rattle.vs_elab_operands.specs.vs_widths.specs.declared.kinds.AssignmentKind.TheVariants.{Continuous};
-ghost use Rattle.vs_elab_path_laws.specs.vs_elab_pieces.specs.Reads.{read_piece};
-ghost use Rattle.vs_elab_operands.specs.vs_scopes.specs.Printed.{Path};
-ghost use Rattle.vs_elab_operands.specs.Surroundings.{Surroundings};
-ghost use Rattle.vs_elab_operands.specs.vs_scopes.specs.Scopes.{Scope, environment};
-ghost use Rattle.vs_elab_operands.specs.vs_scopes.specs.passes.Answers.{Elaborates, Grows};
-ghost use Rattle.vs_elab_operands.specs.Statements.{IsAssignment};
-ghost use Rattle.vs_elab_operands.specs.Members.{Assignment, values_of, net_assignment, drivers_by_item, drivers_in};
+ghost use Rattle.vs_elab_statements.specs.vs_widths.specs.declared.kinds.AssignmentKind.TheVariants.{Continuous};
+ghost use Rattle.vs_elab_hierarchy.specs.vs_elab_pieces.specs.Reads.{read_piece};
+ghost use Rattle.vs_elab_statements.specs.vs_scopes.specs.Printed.{Path};
+ghost use Rattle.vs_elab_statements.specs.Surroundings.{Surroundings};
+ghost use Rattle.vs_elab_statements.specs.vs_scopes.specs.Scopes.{Scope, environment};
+ghost use Rattle.vs_elab_statements.specs.vs_scopes.specs.scopes_passes.Answers.{Elaborates, Grows};
+ghost use Rattle.vs_elab_statements.specs.Statements.{IsAssignment};
+ghost use Rattle.vs_elab_statements.specs.Members.{Assignment, values_of, net_assignment, drivers_by_item, drivers_in};
 ghost use Rattle.vs_elaborate.specs.passes.Filling.{IsFrame, text_faults, Drives, DrivesNot};
 
 use crate::frames::{Frame, part_fault};
 use std::alloc::Global;
 use vs_design::{Assign, Target, Typed};
-use vs_elab_operands::vs_scopes::{BodyFault, ElabFault, print_part};
-use vs_elab_operands::vs_widths::AssignmentKind;
-use vs_elab_operands::{assignment, declared_assignment};
-use vs_elab_path_laws::vs_elab_pieces::ScopePiece;
+use vs_elab_hierarchy::vs_elab_pieces::ScopePiece;
+use vs_elab_statements::vs_scopes::{BodyFault, ElabFault, print_part};
+use vs_elab_statements::vs_widths::AssignmentKind;
+use vs_elab_statements::{assignment, declared_assignment};
 use vs_syntax::{Declarator, Item, NetAssignment};
 
 /// The kind of an assignment that drives a net.

@@ -1,28 +1,28 @@
 //! The continuous assignments and the processes of all scopes.
 ghost use Rattle.std.specs.Prelude.{◌≡◌, ◌<◌, ℕ, List, [], Some, length, slice_get, IfOk, MatchResult};
-ghost use Rattle.vs_elab_operands.specs.vs_widths.specs.Names.{meaning_of, nested_names};
-ghost use Rattle.vs_elab_operands.specs.vs_scopes.specs.Printed.{Path};
-ghost use Rattle.vs_elab_operands.specs.vs_scopes.specs.Scopes.{Scope, has_wrong_end};
+ghost use Rattle.vs_elab_statements.specs.vs_widths.specs.Names.{meaning_of, nested_names};
+ghost use Rattle.vs_elab_statements.specs.vs_scopes.specs.Printed.{Path};
+ghost use Rattle.vs_elab_statements.specs.vs_scopes.specs.Scopes.{Scope, has_wrong_end};
 ghost use Rattle.std.specs.Prelude.{false, map};
-ghost use Rattle.vs_elab_operands.specs.vs_scopes.specs.passes.Answers.{Told};
-ghost use Rattle.vs_elab_operands.specs.vs_scopes.specs.passes.Parts.{read_port, read_ends};
-ghost use Rattle.vs_elab_operands.specs.vs_elab_listed.specs.declared.opened.ListedScope.{ListedScope as FoundScope};
-ghost use Rattle.vs_elab_operands.specs.vs_elab_listed.specs.Opened.{AreOpened, AreSeated, StandsAround};
-ghost use Rattle.vs_elab_operands.specs.Surroundings.{Surroundings, surroundings_at};
-ghost use Rattle.vs_elab_operands.specs.passes.Views.{AreSites, IsPlaced};
+ghost use Rattle.vs_elab_statements.specs.vs_scopes.specs.scopes_passes.Answers.{Told};
+ghost use Rattle.vs_elab_statements.specs.vs_scopes.specs.scopes_passes.Parts.{read_port, read_ends};
+ghost use Rattle.vs_elab_statements.specs.vs_elab_listed.specs.declared.opened.ListedScope.{ListedScope as FoundScope};
+ghost use Rattle.vs_elab_statements.specs.vs_elab_listed.specs.Opened.{AreOpened, AreSeated, StandsAround};
+ghost use Rattle.vs_elab_statements.specs.Surroundings.{Surroundings, surroundings_at};
+ghost use Rattle.vs_elab_statements.specs.passes.Views.{AreSites, IsPlaced};
 ghost use Rattle.vs_elaborate.specs.passes.Filling.{IsFrame, HasMembers, AreLefts, HaveBlockScopes, Fills, FillsNot, FillsOneNot, DrivesScope, FillsScope};
 
+use crate::Contents;
 use crate::connecting::drive_ports;
 use crate::drivers::drive_pieces;
 use crate::frames::Frame;
 use crate::processes::{run_pieces, run_ports};
 use std::alloc::{AllocError, Global};
-use vs_elab_contents::Contents;
-use vs_elab_operands::vs_elab_listed::{ListedScope, names_around, names_outward, path};
-use vs_elab_operands::vs_scopes::ElabFault;
-use vs_elab_operands::vs_scopes::vs_width_selects::Binding;
-use vs_elab_operands::vs_widths::{Levels, Names};
-use vs_elab_operands::{Ratio, View};
+use vs_elab_statements::vs_elab_listed::{ListedScope, names_around, names_outward, path};
+use vs_elab_statements::vs_scopes::ElabFault;
+use vs_elab_statements::vs_scopes::vs_width_selects::Binding;
+use vs_elab_statements::vs_widths::{Levels, Names};
+use vs_elab_statements::{Ratio, View};
 
 /// The names of the scope around one and those seen there, the innermost first.
 fn names_outside<'s, 'o>(

@@ -1,29 +1,28 @@
 //! The processes of a scope, as parts of a design.
 ghost use Rattle.std.specs.Prelude.{◌≡◌, ◌∷◌, [], Some, length, IfErr};
 ghost use Rattle.std.specs.List.{flat_map};
-ghost use Rattle.vs_elab_path_laws.specs.vs_elab_pieces.specs.Pieces.{blocks_of};
-ghost use Rattle.vs_elab_path_laws.specs.vs_elab_pieces.specs.Reads.{read_piece};
-ghost use Rattle.vs_elab_operands.specs.vs_scopes.specs.Printed.{Path};
-ghost use Rattle.vs_elab_operands.specs.vs_scopes.specs.Scopes.{Scope};
-ghost use Rattle.vs_elab_operands.specs.vs_scopes.specs.passes.Answers.{Grows};
-ghost use Rattle.vs_elab_operands.specs.vs_scopes.specs.passes.Parts.{read_port};
-ghost use Rattle.vs_elab_operands.specs.Members.{Behavior, setting, behaviors_by_item, behaviors_in, port_setting};
-ghost use Rattle.vs_elab_operands.specs.Processes.{kind_of};
-ghost use Rattle.vs_elab_operands.specs.Surroundings.{Surroundings};
-ghost use Rattle.vs_elab_operands.specs.passes.Bodies.{Embodies};
-ghost use Rattle.vs_elab_operands.specs.passes.Faults.{IsBelow};
-ghost use Rattle.vs_elab_operands.specs.passes.Views.{IsPlaced};
+ghost use Rattle.vs_elab_hierarchy.specs.vs_elab_pieces.specs.Pieces.{blocks_of};
+ghost use Rattle.vs_elab_hierarchy.specs.vs_elab_pieces.specs.Reads.{read_piece};
+ghost use Rattle.vs_elab_statements.specs.vs_scopes.specs.Printed.{Path};
+ghost use Rattle.vs_elab_statements.specs.vs_scopes.specs.Scopes.{Scope};
+ghost use Rattle.vs_elab_statements.specs.vs_scopes.specs.scopes_passes.Answers.{Grows};
+ghost use Rattle.vs_elab_statements.specs.vs_scopes.specs.scopes_passes.Parts.{read_port};
+ghost use Rattle.vs_elab_statements.specs.Members.{Behavior, setting, behaviors_by_item, behaviors_in, port_setting};
+ghost use Rattle.vs_elab_statements.specs.Processes.{kind_of};
+ghost use Rattle.vs_elab_statements.specs.Surroundings.{Surroundings};
+ghost use Rattle.vs_elab_statements.specs.passes.Bodies.{Embodies};
+ghost use Rattle.vs_elab_statements.specs.passes.Faults.{IsBelow};
+ghost use Rattle.vs_elab_statements.specs.passes.Views.{IsPlaced};
 ghost use Rattle.vs_elab_statements.specs.Blocks.{HaveScopes};
 ghost use Rattle.vs_elaborate.specs.passes.Filling.{IsFrame, Runs, RunsNot, HaveBlockScopes, process_blocks};
 
+use crate::Contents;
 use crate::frames::{Frame, process_fault};
 use std::alloc::Global;
 use vs_design::{Process, ProcessKind, Statement};
-use vs_elab_contents::Contents;
-use vs_elab_operands::StatementFault;
-use vs_elab_operands::vs_scopes::{ElabFault, ModulePort, print_part};
-use vs_elab_path_laws::vs_elab_pieces::ScopePiece;
-use vs_elab_statements::{repeat_body, run_body, set_body};
+use vs_elab_hierarchy::vs_elab_pieces::ScopePiece;
+use vs_elab_statements::vs_scopes::{ElabFault, ModulePort, print_part};
+use vs_elab_statements::{StatementFault, repeat_body, run_body, set_body};
 use vs_syntax::{Declarator, Expr, Item};
 
 /// Adds a process of a scope whose first one has this number in the design.

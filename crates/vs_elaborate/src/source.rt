@@ -6,16 +6,16 @@ ghost use Rattle.vs_elaborate.specs.Timescales.{has_other_timescale};
 ghost use Rattle.vs_elaborate.specs.Faults.{Faults};
 ghost use Rattle.vs_elaborate.specs.DesignOf.{DesignOf};
 ghost use Rattle.vs_elaborate.specs.passes.Filling.{DrivenTwiceOnly};
-ghost use Rattle.vs_elab_contents.specs.Marks.{AreWithin};
+ghost use Rattle.vs_elaborate.specs.Marks.{AreWithin};
 
 use crate::filling::fill_all;
 use crate::timescales::{has_other_timescale, ratio_of, timescale_of};
+use crate::{mark_ranges, no_marks};
 use std::alloc::Global;
 use vs_design::{Assign, Design, Signal, writes};
-use vs_elab_contents::{mark_ranges, no_marks};
 use vs_elab_hierarchy::open_all;
-use vs_elab_operands::vs_elab_listed::fault_at;
-use vs_elab_operands::vs_scopes::{ElabFault, PartName, PathName, Reason};
+use vs_elab_statements::vs_elab_listed::fault_at;
+use vs_elab_statements::vs_scopes::{ElabFault, PartName, PathName, Reason};
 use vs_syntax::Source;
 
 /// Sees that no bit of a net is driven twice.

@@ -5,7 +5,7 @@ ghost use Rattle.vs_elaborate.specs.Timescales.{magnitude_of, unit_of, span_of, 
 ghost use Rattle.vs_elaborate.specs.passes.Scales.{listed, first_of};
 
 use vs_design::{DEFAULT_TIMESCALE, Magnitude, TimeSpan, TimeUnit, Timescale};
-use vs_elab_operands::Ratio;
+use vs_elab_statements::Ratio;
 use vs_syntax::Source;
 use vs_syntax::vs_lexer::{Directive, TextMagnitude, TextUnit, Time};
 

@@ -5,7 +5,7 @@ use crate::points::{Point, signals_of};
 use crate::texts::{TextFacts, TextKind, text_of};
 use std::alloc::{AllocError, Global};
 use vs_design::{Assign, Design, ProcessKind, SignalKind, reads, writes};
-use vs_slots_copies::Copies;
+use vs_drivers::Copies;
 
 /// What the parts of a design do to its signals.
 #[derive(Drop)]

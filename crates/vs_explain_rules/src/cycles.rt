@@ -2,8 +2,8 @@
 
 use std::alloc::{AllocError, Global};
 use vs_design::{BitRange, reads, statement_reads, writes};
+use vs_drivers::meets;
 use vs_explain_facts::{Facts, Part, Point};
-use vs_slots_cones::meets;
 
 /// How long a cycle may be to be looked at statement by statement.
 const FOLLOWED: usize = 64;

@@ -4,12 +4,11 @@ ghost use Rattle.vs_run_moves.specs.Standing.{IsStanding};
 
 use std::alloc::{AllocError, Global};
 use vs_design::Design;
-use vs_run_moves::vs_run_turns::Dropped;
+use vs_run_moves::vs_run_steps::Dropped;
 use vs_run_moves::{Event, Run, codes_of, scripts_of};
-use vs_run_policies::{Lifo, Listed, Pick};
-use vs_run_updates::Due;
-use vs_run_updates::vs_process::Code;
-use vs_run_updates::vs_time_wheel::{EventQueue, Wheel};
+use vs_run_regions::vs_process::Code;
+use vs_run_regions::vs_time_wheel::{EventQueue, Wheel};
+use vs_run_regions::{Due, Lifo, Listed, Pick};
 use vs_vcd_writing::WriterFault;
 
 /// How many steps at the end of a run are counted.

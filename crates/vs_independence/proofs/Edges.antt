@@ -10,15 +10,15 @@ use Rattle.vs_design.specs.Writes.{Write, names}
 use Rattle.vs_process.specs.vs_eval.specs.Targets.{assigned}
 use Rattle.vs_process.specs.vs_eval.specs.Values.{target_value}
 use Rattle.vs_process.specs.States.{State, AssignState, touched, evaluated, settled}
-use Rattle.vs_process.proofs.Lists.{map_cases, set_cases}
+use Rattle.vs_process.proofs.ProcessLists.{map_cases, set_cases}
 use Rattle.vs_process.proofs.Stores.{put_other, shape, shape-put}
 use Rattle.vs_process.proofs.Assigns.{AssignsSound, assign_driven, assigned_other}
-use Rattle.vs_law_threads.specs.Edges.{IsLink, Copies, itself, through, IsRoot}
-use Rattle.vs_law_threads.specs.Threads.{Thread, IsThread, writes}
-use Rattle.vs_law_threads.specs.Blocks.{IsSource}
-use Rattle.vs_law_threads.proofs.Assigns.{DrivesWell}
-use Rattle.vs_law_threads.proofs.Threads.{timed_of}
-use Rattle.vs_law_threads.proofs.Links.{one_root, copies_bit, root_undriven, link_driven, link_state, link_alone, link_unread, link_unchanged, link_pending, Chain}
+use Rattle.vs_threads.specs.Edges.{IsLink, Copies, itself, through, IsRoot}
+use Rattle.vs_threads.specs.Threads.{Thread, IsThread, writes}
+use Rattle.vs_threads.specs.Blocks.{IsSource}
+use Rattle.vs_threads.proofs.Assigns.{DrivesWell}
+use Rattle.vs_threads.proofs.Threads.{timed_of}
+use Rattle.vs_threads.proofs.Links.{one_root, copies_bit, root_undriven, link_driven, link_state, link_alone, link_unread, link_unchanged, link_pending, Chain}
 use Rattle.vs_independence.proofs.Running.{Apart, AllThreads, Sources, Written, Edges}
 use Rattle.vs_independence.proofs.Fire.{Advances, Change}
 

@@ -4,12 +4,12 @@ use Rattle.std.proofs.lemmas.Bool.{true≢false}
 use Rattle.vs_design.specs.declared.statement.EventTerm.{EventTerm}
 use Rattle.vs_design.specs.Parts.{Parts}
 use Rattle.vs_design.specs.Stores.{Store}
-use Rattle.vs_process.specs.vs_flatcode.specs.Places.{Place}
+use Rattle.vs_process.specs.Places.{Place}
 use Rattle.vs_process.specs.States.{State}
-use Rattle.vs_law_threads.specs.Edges.{Copies, IsHeard, IsRoot}
-use Rattle.vs_law_threads.specs.Threads.{Thread, iterate, turn, Fired, given, opening, IsTimed, Fires, Awaits, MayOpen, IsThread, writes}
-use Rattle.vs_law_threads.proofs.Threads.{is_stopped, stopped_unique, timed_of, timed_wrote, thread_opens}
-use Rattle.vs_law_threads.proofs.Links.{same_some}
+use Rattle.vs_threads.specs.Edges.{Copies, IsHeard, IsRoot}
+use Rattle.vs_threads.specs.Threads.{Thread, iterate, turn, Fired, given, opening, IsTimed, Fires, Awaits, MayOpen, IsThread, writes}
+use Rattle.vs_threads.proofs.Threads.{is_stopped, stopped_unique, timed_of, timed_wrote, thread_opens}
+use Rattle.vs_threads.proofs.Links.{same_some}
 use Rattle.vs_independence.proofs.Running.{Apart, AllStand, given_value}
 use Rattle.vs_independence.proofs.Fire.{wakes_alike}
 

@@ -11,37 +11,37 @@ use Rattle.vs_design.specs.Uses.{reads, writes_signal}
 use Rattle.vs_design.specs.Writes.{Write, names, shares}
 use Rattle.vs_design.specs.declared.write.Part.{Part}
 use Rattle.vs_process.specs.vs_eval.specs.Targets.{assigned}
-use Rattle.vs_process.specs.vs_flatcode.specs.Places.{Place, ended, is_going, is_inactive}
+use Rattle.vs_process.specs.Places.{Place, ended, is_going, is_inactive}
 use Rattle.vs_process.specs.Idle.{IsIdle}
 use Rattle.vs_process.specs.States.{State, AssignState, Update, touched, evaluated, without, make, evaluate, propagate_value, settled, is_due, activated, place_behind, wakened, performed}
 use Rattle.vs_process.specs.Executions.{is_first}
-use Rattle.vs_process.proofs.Lists.{any_without, none_at, list_all_like, map_cases, set_cases}
+use Rattle.vs_process.proofs.ProcessLists.{any_without, none_at, list_all_like, map_cases, set_cases}
 use Rattle.std.proofs.lemmas.Map.Keys.{any_passes_from_place as at_any}
 use Rattle.vs_design.specs.vs_logic4.proofs.Basics.{element_of as any_at}
 use Rattle.vs_process.proofs.Stores.{put_other}
 use Rattle.vs_process.proofs.Assigns.{assigned_other, AssignsSound, sound_written, sound_evaluated, sound_propagated, IsUndriven, sound_behind}
 use Rattle.vs_process.proofs.WellFormed.{any_activated}
-use Rattle.vs_law_threads.specs.Edges.{IsLink, itself, through, IsRoot}
-use Rattle.vs_law_threads.specs.Threads.{Thread, any_names, store_behind}
-use Rattle.vs_law_threads.proofs.Stores.{put_swap, names_some, put_active, put_active_local, by, left, filter_miss}
-use Rattle.vs_law_threads.proofs.Threads.{is_stopped, stopped_from}
-use Rattle.vs_law_threads.proofs.Assigns.{DrivesWell, assigns_behind, places_behind}
-use Rattle.vs_law_threads.proofs.Lists.{filter_none}
+use Rattle.vs_threads.specs.Edges.{IsLink, itself, through, IsRoot}
+use Rattle.vs_threads.specs.Threads.{Thread, any_names, store_behind}
+use Rattle.vs_threads.proofs.Stores.{put_swap, names_some, put_active, put_active_local, by, left, filter_miss}
+use Rattle.vs_threads.proofs.Threads.{is_stopped, stopped_from}
+use Rattle.vs_threads.proofs.Assigns.{DrivesWell, assigns_behind, places_behind}
+use Rattle.vs_threads.proofs.Lists.{filter_none}
 use Rattle.vs_design.specs.vs_logic4.proofs.Basics.{filter_some}
-use Rattle.vs_law_threads.proofs.Settle.{AllIdle}
-use Rattle.vs_law_threads.proofs.Links.{Chain, link_driven, link_state, link_alone, link_unread}
+use Rattle.vs_threads.proofs.Settle.{AllIdle}
+use Rattle.vs_threads.proofs.Links.{Chain, link_driven, link_state, link_alone, link_unread}
 use Rattle.vs_independence.proofs.Still.{SameEdges, asleep}
-use Rattle.vs_law_threads.proofs.Events.{block_nowhere}
+use Rattle.vs_threads.proofs.Events.{block_nowhere}
 use Rattle.vs_independence.proofs.Running.{WithinSlot, Apart, AllThreads, threads_of, is_waiting, Mades, Running}
 use Rattle.vs_independence.proofs.Moves.{propagated_undriven, OutputsUndriven, behind_sound, length_behind, performed_is, performed_at}
-use Rattle.vs_law_threads.proofs.BlockRuns.{BlockStep}
-use Rattle.vs_law_threads.specs.Blocks.{IsSource, outputs, puts_out}
-use Rattle.vs_law_threads.specs.vs_law_writes.specs.Laws.{LiesIn}
-use Rattle.vs_process.specs.vs_flatcode.specs.Steps.{Out}
+use Rattle.vs_threads.proofs.BlockRuns.{BlockStep}
+use Rattle.vs_threads.specs.Blocks.{IsSource, outputs, puts_out}
+use Rattle.vs_threads.specs.Laws.{LiesIn}
+use Rattle.vs_process.specs.Steps.{Out}
 use Rattle.vs_independence.proofs.BlockSteps.{calls_same, lies_edges, source_behind, updates_same}
 use Rattle.vs_design.specs.vs_logic4.proofs.Basics.{or_false}
 use Rattle.std.proofs.lemmas.List.{length-map, length-set, get_or-set_other}
-use Rattle.vs_law_threads.proofs.Named.{named}
+use Rattle.vs_threads.proofs.ThreadsNamed.{named}
 
 -- an update that is activated, or is due later
 abbrev pub is_settled : ℕ → Update → Bool

@@ -15,22 +15,22 @@ use Rattle.vs_process.specs.vs_eval.specs.Laws.{digit_of}
 use Rattle.vs_process.specs.vs_eval.specs.Targets.{assigned}
 use Rattle.vs_process.specs.States.{State, AssignState, touched, evaluated, settled, wakened}
 use Rattle.vs_process.proofs.Digits.{digit-put, kept_digit, laid, unnamed_keeps}
-use Rattle.vs_process.proofs.Lists.{map_cases, set_cases}
+use Rattle.vs_process.proofs.ProcessLists.{map_cases, set_cases}
 use Rattle.vs_design.specs.vs_logic4.proofs.Basics.{element_of as any_at}
 use Rattle.vs_process.proofs.Ranges.{assigned_fixed, covered_signal, fixed_write, uncovered_keeps}
 use Rattle.vs_process.proofs.Stores.{put_other}
 use Rattle.vs_process.proofs.Values.{not_changed}
 use Rattle.vs_process.proofs.Assigns.{AssignsSound, link_of, assign_driven, assign_fixed, IsUndriven, misses, apart_targets}
-use Rattle.vs_law_threads.specs.Feeds.{writes_into}
-use Rattle.vs_law_threads.specs.Threads.{store_behind, Thread, writes}
+use Rattle.vs_threads.specs.Feeds.{writes_into}
+use Rattle.vs_threads.specs.Threads.{store_behind, Thread, writes}
 use Rattle.vs_independence.specs.Discipline.{here, through, past}
-use Rattle.vs_law_threads.proofs.Assigns.{DrivesWell, assigns_behind}
-use Rattle.vs_law_threads.proofs.Feeds.{changed_into}
-use Rattle.vs_law_threads.proofs.Lists.{contains_at}
+use Rattle.vs_threads.proofs.Assigns.{DrivesWell, assigns_behind}
+use Rattle.vs_threads.proofs.Feeds.{changed_into}
+use Rattle.vs_threads.proofs.Lists.{contains_at}
 use Rattle.vs_independence.proofs.Running.{Stirred, IsCalm, IsStirred, Nets, by_write, by_start, IsAwake, Rests, by_rest, IsRested}
-use Rattle.vs_law_threads.specs.Blocks.{control, puts_into, puts_out}
-use Rattle.vs_process.specs.vs_flatcode.specs.Places.{Place, ended}
-use Rattle.vs_law_threads.proofs.Texts.{Text, home_stays}
+use Rattle.vs_threads.specs.Blocks.{control, puts_into, puts_out}
+use Rattle.vs_process.specs.Places.{Place, ended}
+use Rattle.vs_threads.proofs.Texts.{Text, home_stays}
 use Rattle.std.proofs.Math.ListN.{get_or-map}
 
 -- more that threads have written stirs more

@@ -4,13 +4,13 @@ use Rattle.std.proofs.lemmas.Bool.{cases_lt, false≢true}
 use Rattle.vs_design.specs.Parts.{Parts}
 use Rattle.vs_design.specs.Stores.{Store}
 use Rattle.vs_design.specs.Traces.{Line}
-use Rattle.vs_process.specs.vs_flatcode.specs.Places.{Place, going, sleeping, inactive, waiting, ended}
-use Rattle.vs_process.specs.vs_flatcode.specs.Steps.{step}
+use Rattle.vs_process.specs.Places.{Place, going, sleeping, inactive, waiting, ended}
+use Rattle.vs_process.specs.Steps.{step}
 use Rattle.vs_process.specs.States.{State, roused}
 use Rattle.vs_process.specs.Executions.{line_by}
-use Rattle.vs_law_threads.specs.Threads.{Thread, Fired, turn, turn_at, iterate, opening, is_timed, MayOpen, IsThread, writes}
-use Rattle.vs_law_threads.proofs.Links.{same_some}
-use Rattle.vs_law_threads.proofs.Threads.{is_stopped, stopped_stays, stays_from, rouse_thread, thread_opens, thread_turns, unmoved, unwritten}
+use Rattle.vs_threads.specs.Threads.{Thread, Fired, turn, turn_at, iterate, opening, is_timed, MayOpen, IsThread, writes}
+use Rattle.vs_threads.proofs.Links.{same_some}
+use Rattle.vs_threads.proofs.Threads.{is_stopped, stopped_stays, stays_from, rouse_thread, thread_opens, thread_turns, unmoved, unwritten}
 use Rattle.vs_independence.proofs.Running.{Apart, given_value}
 use Rattle.vs_independence.proofs.Fire.{IsFiredNow, fired_changed, fired_is}
 use Rattle.vs_independence.proofs.Inputs.{Stopped, begins_as, final_value, same_fired, same_opening, thread_from}

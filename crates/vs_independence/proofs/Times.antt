@@ -6,15 +6,15 @@ use Rattle.std.proofs.lemmas.List.Folds.{list_all-map}
 use Rattle.vs_design.specs.declared.design.Process.{Process}
 use Rattle.vs_design.specs.Parts.{Parts}
 use Rattle.vs_design.specs.Writes.{Write, names}
-use Rattle.vs_process.specs.vs_flatcode.specs.declared.gait.Gait.{Gait}
-use Rattle.vs_process.specs.vs_flatcode.specs.declared.gait.Gait.TheVariants.{Woken, Fresh}
-use Rattle.vs_process.specs.vs_flatcode.specs.Places.{Todo, Place, going, sleeping, inactive, waiting, ended, active_at, stepped_gait, start_place, flat}
-use Rattle.vs_process.specs.vs_flatcode.specs.Steps.{Next, on, after, wait, step}
+use Rattle.vs_process.specs.declared.gait.Gait.{Gait}
+use Rattle.vs_process.specs.declared.gait.Gait.TheVariants.{Woken, Fresh}
+use Rattle.vs_process.specs.Places.{Todo, Place, going, sleeping, inactive, waiting, ended, active_at, stepped_gait, start_place, flat}
+use Rattle.vs_process.specs.Steps.{Next, on, after, wait, step}
 use Rattle.vs_process.specs.States.{State, Update, place_behind, paused, triggered, woken_at}
 use Rattle.vs_process.specs.Executions.{earlier, next_wake, next_update, next_time, ends, slot_behind, places_at, time_at}
-use Rattle.vs_process.proofs.Lists.{list_all_like}
-use Rattle.vs_law_threads.specs.Threads.{Thread, Fired, found, IsThread, turn_at, turn, iterate, opening}
-use Rattle.vs_law_threads.proofs.Stores.{names_some, by, filter_hit, filter_miss}
+use Rattle.vs_process.proofs.ProcessLists.{list_all_like}
+use Rattle.vs_threads.specs.Threads.{Thread, Fired, found, IsThread, turn_at, turn, iterate, opening}
+use Rattle.vs_threads.proofs.Stores.{names_some, by, filter_hit, filter_miss}
 use Rattle.vs_independence.proofs.Running.{is_waiting}
 
 -- a delay ends later than this time

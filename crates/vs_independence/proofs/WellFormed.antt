@@ -6,13 +6,13 @@ use Rattle.vs_design.specs.declared.signal.Signal.{Signal}
 use Rattle.vs_design.specs.Parts.{Parts}
 use Rattle.vs_design.specs.WellFormed.{WellFormed}
 use Rattle.vs_design.specs.Writes.{Write, names}
-use Rattle.vs_process.specs.vs_flatcode.specs.declared.gait.Gait.TheVariants.{Woken}
-use Rattle.vs_process.specs.vs_flatcode.specs.Places.{Place, going, sleeping, inactive, waiting, ended}
-use Rattle.vs_process.specs.vs_flatcode.specs.Steps.{step}
+use Rattle.vs_process.specs.declared.gait.Gait.TheVariants.{Woken}
+use Rattle.vs_process.specs.Places.{Place, going, sleeping, inactive, waiting, ended}
+use Rattle.vs_process.specs.Steps.{step}
 use Rattle.vs_process.specs.States.{State, triggered}
 use Rattle.vs_process.proofs.WellFormed.{IsVariable, drives_apart, is_sound_place, sound_active, sound_next, sound_made, sound_place_behind, step_names}
-use Rattle.vs_law_threads.specs.Threads.{Thread, Fired, found, IsThread, log_behind, turn_at, turn, iterate, opening, writes, any_names}
-use Rattle.vs_law_threads.proofs.Assigns.{DrivesWell}
+use Rattle.vs_threads.specs.Threads.{Thread, Fired, found, IsThread, log_behind, turn_at, turn, iterate, opening, writes, any_names}
+use Rattle.vs_threads.proofs.Assigns.{DrivesWell}
 use Rattle.vs_independence.proofs.Times.{get_from_all}
 
 -- a well formed design

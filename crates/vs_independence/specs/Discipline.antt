@@ -7,18 +7,18 @@ use Rattle.vs_design.specs.Parts.{Parts}
 use Rattle.vs_design.specs.Traces.{SameTrace}
 use Rattle.vs_design.specs.Uses.{reads, writes as target_writes, writes_signal}
 use Rattle.vs_design.specs.WellFormed.{WellFormed}
-use Rattle.vs_process.specs.vs_flatcode.specs.Places.{ended, is_going}
+use Rattle.vs_process.specs.Places.{ended, is_going}
 use Rattle.vs_process.specs.declared.moves.Grain.{Grain}
 use Rattle.vs_process.specs.declared.moves.Grain.TheVariants.{Block}
 use Rattle.vs_process.specs.declared.moves.Move.{Move}
 use Rattle.vs_process.specs.declared.moves.Move.TheVariants.{EndSlot}
 use Rattle.vs_process.specs.States.{State, AssignState, start}
 use Rattle.vs_process.specs.Executions.{after, Legal, is_complete, trace}
-use Rattle.vs_law_threads.specs.Bits.{SharesBit}
-use Rattle.vs_law_threads.specs.Feeds.{writes_into}
-use Rattle.vs_law_threads.specs.Edges.{Copies, IsHeard, IsRoot}
-use Rattle.vs_law_threads.specs.Threads.{Thread, Fired, found, is_timed, IsTimed, Awaits, IsThread, IsFiredBy, IsEarly, writes, any_names, place_reads}
-use Rattle.vs_law_threads.specs.Blocks.{cold, starter, control, outputs, puts_out, puts_into, IsSource, IsBlock, StartsAs, Roles}
+use Rattle.vs_threads.specs.Bits.{SharesBit}
+use Rattle.vs_threads.specs.Feeds.{writes_into}
+use Rattle.vs_threads.specs.Edges.{Copies, IsHeard, IsRoot}
+use Rattle.vs_threads.specs.Threads.{Thread, Fired, found, is_timed, IsTimed, Awaits, IsThread, IsFiredBy, IsEarly, writes, any_names, place_reads}
+use Rattle.vs_threads.specs.Blocks.{cold, starter, control, outputs, puts_out, puts_into, IsSource, IsBlock, StartsAs, Roles}
 
 -- two executions that are complete to a moment have the same trace to it, whatever they are
 abbrev pub Independent : Grain → Parts → Type 0

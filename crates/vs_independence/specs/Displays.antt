@@ -6,14 +6,14 @@ use Rattle.vs_design.specs.Parts.{Parts}
 use Rattle.vs_design.specs.Traces.{Line, Slot}
 use Rattle.vs_design.specs.Uses.{writes_signal}
 use Rattle.vs_design.specs.WellFormed.{WellFormed}
-use Rattle.vs_process.specs.vs_flatcode.specs.Places.{ended, is_going}
+use Rattle.vs_process.specs.Places.{ended, is_going}
 use Rattle.vs_process.specs.declared.moves.Grain.{Grain}
 use Rattle.vs_process.specs.declared.moves.Move.{Move}
 use Rattle.vs_process.specs.declared.moves.Move.TheVariants.{Step, EndSlot}
 use Rattle.vs_process.specs.States.{State, AssignState}
 use Rattle.vs_process.specs.Executions.{after, is_complete, Legal, lines_of, slots, step_lines}
-use Rattle.vs_law_threads.specs.Blocks.{puts_out}
-use Rattle.vs_law_threads.specs.Threads.{Thread, IsThread, IsFiredBy, writes, place_shows}
+use Rattle.vs_threads.specs.Blocks.{puts_out}
+use Rattle.vs_threads.specs.Threads.{Thread, IsThread, IsFiredBy, writes, place_shows}
 use Rattle.vs_independence.specs.Discipline.{BeginsSlot, Disciplined, Reaches}
 
 -- ---- lines

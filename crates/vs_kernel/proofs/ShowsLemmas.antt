@@ -12,7 +12,7 @@ use Rattle.vs_design.specs.Parts.{Parts}
 use Rattle.vs_design.specs.Stores.{Store}
 use Rattle.vs_design.specs.Traces.{Slot}
 use Rattle.vs_design.specs.WellFormed.{width_at}
-use Rattle.vs_run_updates.specs.vs_process.specs.Laws.{IsStoreOf}
+use Rattle.vs_run_regions.specs.vs_process.specs.Laws.{IsStoreOf}
 use Rattle.vs_vcd_writing.specs.Codes.{is_array, shown, shown_from}
 use Rattle.vs_vcd_writing.specs.Shown.{HasSize, slot_at}
 

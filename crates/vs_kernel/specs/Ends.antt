@@ -1,6 +1,6 @@
 -- How a run ends in a state in which its execution is complete.
 use Rattle.std.specs.Prelude.{ℕ, ◌&&◌, if◌then◌else◌}
-use Rattle.vs_run_updates.specs.vs_process.specs.States.{State}
+use Rattle.vs_run_regions.specs.vs_process.specs.States.{State}
 use Rattle.vs_kernel.specs.declared.outcome.Outcome.{Outcome}
 use Rattle.vs_kernel.specs.declared.outcome.Outcome.TheVariants.{Reached, Quiet, Finished}
 

@@ -1,10 +1,10 @@
 pub mod Ends
 pub mod Faults
-pub use Rattle.vs_run_policies.specs.Policies
-pub use Rattle.vs_run_moves.specs.vs_run_turns.specs.Prints
+pub use Rattle.vs_run_regions.specs.Policies
+pub use Rattle.vs_run_moves.specs.vs_run_steps.specs.Prints
 pub mod Runs
 pub mod Shows
 pub mod Stages
 pub mod WriterFaults
-pub use Rattle.vs_run_moves.specs.vs_run_turns
+pub use Rattle.vs_run_moves.specs.vs_run_steps
 pub use Rattle.vs_vcd_writing

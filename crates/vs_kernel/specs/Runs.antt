@@ -2,13 +2,13 @@
 use Rattle.std.specs.Prelude.{ℕ, ◌≡◌, ◌≤◌, true, false, Option, List, [], ◌∷◌, ◌++◌, length, if◌then◌else◌}
 use Rattle.std.specs.Io.KnownBytes.{Appends}
 use Rattle.vs_design.specs.Parts.{Parts}
-use Rattle.vs_run_updates.specs.vs_process.specs.declared.moves.Grain.TheVariants.{Statement, Block}
-use Rattle.vs_run_updates.specs.vs_process.specs.declared.moves.Move.{Move}
-use Rattle.vs_run_updates.specs.vs_process.specs.Executions.{after, Legal, lines_of, slots, trace, is_complete}
-use Rattle.vs_run_updates.specs.vs_process.specs.States.{State}
+use Rattle.vs_run_regions.specs.vs_process.specs.declared.moves.Grain.TheVariants.{Statement, Block}
+use Rattle.vs_run_regions.specs.vs_process.specs.declared.moves.Move.{Move}
+use Rattle.vs_run_regions.specs.vs_process.specs.Executions.{after, Legal, lines_of, slots, trace, is_complete}
+use Rattle.vs_run_regions.specs.vs_process.specs.States.{State}
 use Rattle.vs_vcd_writing.specs.Sinks.{AppendsPart}
 use Rattle.vs_vcd_writing.specs.Text.{vcd_header, vcd_slots, vcd_text}
-use Rattle.vs_run_moves.specs.vs_run_turns.specs.Prints.{lines_text}
+use Rattle.vs_run_moves.specs.vs_run_steps.specs.Prints.{lines_text}
 use Rattle.vs_kernel.specs.declared.outcome.Outcome.{Outcome}
 use Rattle.vs_kernel.specs.declared.outcome.Outcome.TheVariants.{Reached, Quiet, Finished, StepLimit}
 

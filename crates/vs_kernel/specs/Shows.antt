@@ -3,9 +3,9 @@ use Rattle.std.specs.Prelude.{ℕ, ◌<◌, ◌^◌, List, IfSome}
 use Rattle.std.specs.List.{Contains}
 use Rattle.vs_design.specs.OneLine.{HasNamesOfOneLine}
 use Rattle.vs_design.specs.Parts.{Parts}
-use Rattle.vs_run_updates.specs.vs_process.specs.declared.moves.Grain.{Grain}
-use Rattle.vs_run_updates.specs.vs_process.specs.declared.moves.Move.{Move}
-use Rattle.vs_run_updates.specs.vs_process.specs.Executions.{Legal, slots}
+use Rattle.vs_run_regions.specs.vs_process.specs.declared.moves.Grain.{Grain}
+use Rattle.vs_run_regions.specs.vs_process.specs.declared.moves.Move.{Move}
+use Rattle.vs_run_regions.specs.vs_process.specs.Executions.{Legal, slots}
 use Rattle.vs_vcd_writing.specs.Codes.{shown}
 use Rattle.vs_vcd_writing.specs.Shown.{Shows, slot_at}
 use Rattle.vs_vcd_writing.specs.Values.{shown_value}

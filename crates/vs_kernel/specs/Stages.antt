@@ -1,8 +1,8 @@
 -- How far a kernel has come.
 use Rattle.std.specs.Prelude.{ℕ, ◌≡◌, Option, Some, None, List, []}
-use Rattle.vs_run_updates.specs.vs_time_wheel.specs.declared.timing.Timed.{Timed}
+use Rattle.vs_run_regions.specs.vs_time_wheel.specs.declared.timing.Timed.{Timed}
 use Rattle.vs_design.specs.Parts.{Parts}
-use Rattle.vs_run_updates.specs.declared.item.Due.{Due}
+use Rattle.vs_run_regions.specs.declared.item.Due.{Due}
 use Rattle.vs_kernel.specs.declared.kernel.Status.{Status}
 use Rattle.vs_kernel.specs.declared.kernel.Status.TheVariants.{Ready}
 

@@ -3,17 +3,16 @@ ghost use Rattle.std.specs.Prelude.{◌≡◌, [], ◌<◌, ◌^◌, IfOk, IfErr
 ghost use Rattle.vs_kernel.specs.Faults.{is_write, FaultAt, OneFailed, behind_fault};
 ghost use Rattle.vs_kernel.specs.Runs.{RanTo, HasBegun};
 ghost use Rattle.vs_kernel.specs.declared.kernel.Status.TheVariants as statuses;
-ghost use Rattle.vs_run_updates.specs.vs_process.specs.Permitted.{NeverStuck};
+ghost use Rattle.vs_run_regions.specs.vs_process.specs.Permitted.{NeverStuck};
 
 use crate::outcome::{Outcome, RunFault};
 use crate::run::launch;
 use std::alloc::{AllocError, Global};
 use std::marker::Model;
 use vs_design::Design;
-use vs_run_policies::Pick;
-use vs_run_updates::Due;
-use vs_run_updates::vs_process::never_stuck;
-use vs_run_updates::vs_time_wheel::EventQueue;
+use vs_run_regions::vs_process::never_stuck;
+use vs_run_regions::vs_time_wheel::EventQueue;
+use vs_run_regions::{Due, Pick};
 use vs_vcd_writing::Sink;
 
 /// Whether a kernel may run.

@@ -12,6 +12,6 @@ mod run;
 pub use kernel::{Kernel, Status};
 pub use laws::dumps_show_slot_ends;
 pub use outcome::{Outcome, RunFault};
-pub use vs_run_moves::vs_run_turns;
-pub use vs_run_policies::{Fifo, Lifo, Listed, Pick};
+pub use vs_run_moves::vs_run_steps;
+pub use vs_run_regions::{Fifo, Lifo, Listed, Pick};
 pub use vs_vcd_writing;

@@ -3,17 +3,16 @@ ghost use Rattle.std.specs.Prelude.{◌≡◌, [], ◌<◌, ◌^◌, map, IfOk, 
 ghost use Rattle.vs_kernel.specs.Ends.{end_in, outcome_in};
 ghost use Rattle.vs_kernel.specs.Runs.{RanTo, HasBegun};
 ghost use Rattle.vs_run_moves.specs.vs_run_steps.specs.Runs.{state_of};
-ghost use Rattle.vs_run_moves.specs.vs_run_turns.specs.Failures.{OneFailed};
+ghost use Rattle.vs_run_moves.specs.vs_run_steps.specs.Failures.{OneFailed};
 ghost use Rattle.vs_vcd_writing.specs.Progress.{is_write_fault};
 
 use crate::outcome::Outcome;
 use std::alloc::Global;
 use vs_design::Design;
 use vs_run_moves::{Run, codes_of, scripts_of};
-use vs_run_policies::Pick;
-use vs_run_updates::Due;
-use vs_run_updates::vs_process::{Code, blocks_exclude, inside_follows, none_inside_first};
-use vs_run_updates::vs_time_wheel::EventQueue;
+use vs_run_regions::vs_process::{Code, blocks_exclude, inside_follows, none_inside_first};
+use vs_run_regions::vs_time_wheel::EventQueue;
+use vs_run_regions::{Due, Pick};
 use vs_vcd_writing::{Sink, WriterFault};
 
 /// How a run ends in a state in which its execution is complete.

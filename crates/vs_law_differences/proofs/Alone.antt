@@ -9,9 +9,9 @@ use Rattle.vs_process.specs.declared.moves.Grain.TheVariants as grain
 use Rattle.vs_process.specs.declared.moves.Move.{Move}
 use Rattle.vs_process.specs.declared.moves.Move.TheVariants.{Step, EndSlot}
 use Rattle.vs_process.specs.Executions.{after, Legal, is_complete, trace}
-use Rattle.vs_law_examples.specs.vs_independence.specs.Discipline.{Independent}
-use Rattle.vs_law_examples.proofs.Race.{value_number}
-use Rattle.vs_law_examples.proofs.Rise.{value_operand}
+use Rattle.vs_law_witnesses.specs.vs_independence.specs.Discipline.{Independent}
+use Rattle.vs_law_witnesses.proofs.Race.{value_number}
+use Rattle.vs_law_witnesses.proofs.Rise.{value_operand}
 use Rattle.vs_law_differences.specs.Alone.{stores, FinishAloneDiffers, StrobeLinesAloneDiffer, strobes_bit, testing}
 use Rattle.vs_law_differences.proofs.Testing.{formed_finishing, formed_strobing}
 

@@ -10,8 +10,8 @@ use Rattle.vs_design.specs.declared.statement.Statement.TheVariants as y
 use Rattle.vs_design.specs.declared.statement.Statement.TheOpen as f
 use Rattle.vs_design.specs.declared.statement.Statement.TheFolds.{fold-roll-Statement}
 use Rattle.vs_design.specs.WellFormed.{WellFormed, is_sound_call, is_sound_operand, is_sound_statement, numbers, numbers_step, sound_step}
-use Rattle.vs_law_examples.specs.Race.{boxed, initially, set_to}
-use Rattle.vs_law_examples.proofs.Race.{SoundInitial, formed_initials, reads_operand, size_operand, sound_set}
+use Rattle.vs_law_witnesses.specs.Race.{boxed, initially, set_to}
+use Rattle.vs_law_witnesses.proofs.Race.{SoundInitial, formed_initials, reads_operand, size_operand, sound_set}
 use Rattle.vs_law_differences.specs.Alone.{strobes_bit, testing, where_set}
 
 sound_call : (ss : List Signal) (n : ℕ) (c : Call) → is_sound_statement ss (y.Call n c) ≡ is_sound_call ss c

@@ -13,9 +13,9 @@ use Rattle.vs_design.specs.WellFormed.{WellFormed}
 use Rattle.vs_process.specs.declared.moves.Grain.{Grain}
 use Rattle.vs_process.specs.declared.moves.Move.{Move}
 use Rattle.vs_process.specs.Executions.{after, Legal, is_complete, trace}
-use Rattle.vs_law_examples.specs.vs_independence.specs.Discipline.{Independent}
-use Rattle.vs_law_examples.specs.Lines.{shows_bit, two_letters}
-use Rattle.vs_law_examples.specs.Race.{boxed, letter, operand, set_to, two_initials}
+use Rattle.vs_law_witnesses.specs.vs_independence.specs.Discipline.{Independent}
+use Rattle.vs_law_witnesses.specs.Lines.{shows_bit, two_letters}
+use Rattle.vs_law_witnesses.specs.Race.{boxed, letter, operand, set_to, two_initials}
 
 -- ---- the designs
 

@@ -13,17 +13,17 @@ use Rattle.vs_design.specs.Stores.{is_driven, start_store}
 use Rattle.vs_design.specs.Uses.{writes_signal}
 use Rattle.vs_design.specs.WellFormed.{WellFormed}
 use Rattle.vs_design.specs.Writes.{names}
-use Rattle.vs_flatcode.specs.Nexts.{erased}
-use Rattle.vs_flatcode.specs.Places.{Todo, Place, going, sleeping, inactive, waiting, ended, is_going}
+use Rattle.vs_process.specs.Nexts.{erased}
+use Rattle.vs_process.specs.Places.{Todo, Place, going, sleeping, inactive, waiting, ended, is_going}
 use Rattle.vs_independence.specs.vs_process.specs.States.{State, AssignState, start}
 use Rattle.vs_independence.specs.vs_process.proofs.Assigns.{link_of, driven}
 use Rattle.vs_independence.specs.vs_process.proofs.WellFormed.{net_of, variable_undriven}
 use Rattle.vs_design.specs.declared.signal.Signal.{Signal}
 use Rattle.vs_law_rules.proofs.Roots.{entry_root}
 use Rattle.vs_law_rules.proofs.Variables.{writes_variable}
-use Rattle.vs_rules.specs.vs_law_threads.specs.Threads.{Thread, turn, iterate, writes, any_names}
-use Rattle.vs_rules.specs.vs_law_threads.proofs.Feeds.{into_named}
-use Rattle.vs_rules.specs.vs_law_threads.proofs.Threads.{is_stopped}
+use Rattle.vs_rules.specs.vs_threads.specs.Threads.{Thread, turn, iterate, writes, any_names}
+use Rattle.vs_rules.specs.vs_threads.proofs.Feeds.{into_named}
+use Rattle.vs_rules.specs.vs_threads.proofs.Threads.{is_stopped}
 use Rattle.vs_rules.specs.Claims.{Name, writer_in}
 use Rattle.vs_rules.specs.Claims.{Claims, Kind, kind_of, blocks_of, IsWriter, IsSecond, IsEdge, IsDelay, IsSequential, HasKind, HasMode, signal_name, IsRootOf, IsRoot as IsRootClaimed}
 use Rattle.vs_rules.specs.Constants.{bit_of, Gives}
@@ -31,16 +31,16 @@ use Rattle.vs_rules.specs.Paths.{IsPoint, IsSlot0, IsLate, IsHot, HasTerm, Write
 use Rattle.vs_rules.specs.Drivers.{IsSource}
 use Rattle.vs_rules.specs.Rules.{K2, K10_Process, IsSoundRoot, CopiesRoot, IsOwnRead, IsOwnEdge, AreApart, FiresNone, Reads}
 use Rattle.vs_rules.specs.Slots.{HasSlot, HasWriteSlot}
-use Rattle.vs_rules.specs.vs_law_threads.specs.Edges.{one_bit, Copies, IsHeard, IsRoot}
-use Rattle.vs_rules.specs.vs_law_threads.specs.Threads.{Fired, found, opening, is_timed, IsTimed, Awaits, MayOpen, IsThread, IsFiredBy}
+use Rattle.vs_rules.specs.vs_threads.specs.Edges.{one_bit, Copies, IsHeard, IsRoot}
+use Rattle.vs_rules.specs.vs_threads.specs.Threads.{Fired, found, opening, is_timed, IsTimed, Awaits, MayOpen, IsThread, IsFiredBy}
 use Rattle.vs_independence.specs.Discipline.{Reaches, KeepsApart}
-use Rattle.vs_rules.specs.vs_law_threads.specs.Blocks.{puts_out}
+use Rattle.vs_rules.specs.vs_threads.specs.Blocks.{puts_out}
 use Rattle.vs_independence.specs.Discipline as a
 use Rattle.vs_law_rules.proofs.Beginning.{AllStopped}
 use Rattle.vs_law_rules.proofs.Cones.{ControlNames, clash, out_writes, into_writes, source_of, reach_cone, reach_root}
 use Rattle.vs_law_rules.specs.Laws.{ClockTurns}
 use Rattle.vs_law_rules.proofs.Fire.{Begun, Walking, zero_less, timed_walks, timed_writes, seq_found, not_block, role, closed, stands_found, bit_digit}
-use Rattle.vs_rules.specs.vs_law_threads.proofs.Links.{root_bit}
+use Rattle.vs_rules.specs.vs_threads.proofs.Links.{root_bit}
 use Rattle.vs_law_rules.proofs.Firing.{one_writer, one_second, writes_as, Rooted, rooted, none_fires, view_bit, same_digits}
 use Rattle.vs_law_rules.proofs.Lasts.{Last, Bitwise, bit_iterate}
 use Rattle.vs_law_rules.proofs.Texts.{writes_now, writes_later}
@@ -290,7 +290,7 @@ root_once d c b g heard i root th later h is that w x = by_at (zero_or b.time)
     stands : Stands d c i b.time first.place
     stands = subst (Stands d c i b.time) (sym (seq_found d c b i seq)) (stands_found d c b g i seq)
 
-    bit : Rattle.vs_rules.specs.vs_law_threads.specs.Edges.IsBit d root
+    bit : Rattle.vs_rules.specs.vs_threads.specs.Edges.IsBit d root
     bit = root_bit d root h.signal h.copies
 
     old : (z : Digit) × (slice_get b.store root ≡ Some (one_bit z))

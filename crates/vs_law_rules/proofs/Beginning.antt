@@ -7,12 +7,12 @@ use Rattle.vs_design.specs.declared.design.Process.{Process}
 use Rattle.vs_design.specs.declared.statement.EventTerm.{EventTerm}
 use Rattle.vs_design.specs.Parts.{Parts}
 use Rattle.vs_design.specs.Stores.{Store}
-use Rattle.vs_flatcode.specs.declared.gait.Gait.{Gait}
-use Rattle.vs_flatcode.specs.declared.gait.Gait.TheVariants.{Woken, Fresh}
-use Rattle.vs_flatcode.specs.Nexts.{erased, erased_next}
-use Rattle.vs_flatcode.specs.Landings.{todo_behind}
-use Rattle.vs_flatcode.specs.Places.{Todo, Place, going, sleeping, inactive, waiting, ended, active_at, stepped_gait, start_place, flat, is_going, is_inactive, todo_of}
-use Rattle.vs_flatcode.specs.Steps.{Next, on, after, wait, step}
+use Rattle.vs_process.specs.declared.gait.Gait.{Gait}
+use Rattle.vs_process.specs.declared.gait.Gait.TheVariants.{Woken, Fresh}
+use Rattle.vs_process.specs.Nexts.{erased, erased_next}
+use Rattle.vs_process.specs.Landings.{todo_behind}
+use Rattle.vs_process.specs.Places.{Todo, Place, going, sleeping, inactive, waiting, ended, active_at, stepped_gait, start_place, flat, is_going, is_inactive, todo_of}
+use Rattle.vs_process.specs.Steps.{Next, on, after, wait, step}
 use Rattle.vs_independence.specs.vs_process.specs.declared.moves.Grain.{Grain}
 use Rattle.vs_independence.specs.vs_process.specs.declared.moves.Move.{Move}
 use Rattle.vs_independence.specs.vs_process.specs.declared.moves.Move.TheVariants.{Step, Evaluate, Propagate, Make, Rouse, Activate, EndSlot}
@@ -20,7 +20,7 @@ use Rattle.vs_independence.specs.vs_process.specs.States.{State, start, place_be
 use Rattle.vs_independence.specs.vs_process.specs.Executions.{after as reached, Legal, ends, next_time, slot_behind, places_at, time_at}
 use Rattle.vs_independence.specs.vs_process.proofs.Times.{enabled_of}
 use Rattle.vs_independence.specs.Discipline.{IsAtStart, BeginsSlot}
-use Rattle.vs_rules.specs.vs_law_threads.proofs.Threads.{is_stopped, stopped_from}
+use Rattle.vs_rules.specs.vs_threads.proofs.Threads.{is_stopped, stopped_from}
 use Rattle.vs_independence.proofs.Making.{none_get}
 use Rattle.vs_independence.proofs.InnerMoves.{AtEnd, at_end}
 use Rattle.vs_independence.proofs.Times.{is_after}
@@ -30,7 +30,7 @@ use Rattle.vs_rules.specs.Claims.{kind_of, Claims, Kind, IsEdge, IsDelay, HasLis
 use Rattle.vs_rules.specs.Paths.{Path, begins, goes, is_zero_time, IsPoint, RunsBehind}
 use Rattle.vs_rules.specs.Slots.{Ends, HasSlot}
 use Rattle.vs_rules.specs.Rules.{K7, K8}
-use Rattle.vs_rules.specs.vs_law_threads.specs.Threads.{is_timed}
+use Rattle.vs_rules.specs.vs_threads.specs.Threads.{is_timed}
 use Rattle.vs_law_rules.specs.Laws.{TimeRises}
 use Rattle.vs_law_rules.proofs.Boundary.{IsSteady, holds_after}
 use Rattle.vs_law_rules.proofs.Walks.{point_on, at_zero, at_later, Heard, Stands, Closed, stands_active, stands_step, stands_roused}

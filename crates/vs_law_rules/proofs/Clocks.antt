@@ -13,10 +13,10 @@ use Rattle.vs_design.specs.declared.statement.Statement.TheViews.{out-Statement,
 use Rattle.vs_design.specs.declared.statement.Target.{Target}
 use Rattle.vs_design.specs.Parts.{Parts}
 use Rattle.vs_design.specs.Stores.{Store}
-use Rattle.vs_flatcode.specs.Drafts.{flat_all, is_block}
-use Rattle.vs_flatcode.specs.Places.{perform, Todo, flat}
-use Rattle.vs_flatcode.specs.Steps.{goes, on, after, assignment, statement_step, step}
-use Rattle.vs_flatcode.proofs.Shapes.{flat-Block, flat-single}
+use Rattle.vs_process.specs.Drafts.{flat_all, is_block}
+use Rattle.vs_process.specs.Places.{perform, Todo, flat}
+use Rattle.vs_process.specs.Steps.{goes, on, after, assignment, statement_step, step}
+use Rattle.vs_process.proofs.Shapes.{flat-Block, flat-single}
 use Rattle.vs_rules.specs.Constants.{IsBare, itself, inside, IsInverse, IsWholeTarget, TurnsForever}
 
 -- ---- `begin` and `end` round one statement are nothing

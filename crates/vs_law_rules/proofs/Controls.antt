@@ -12,9 +12,9 @@ use Rattle.vs_design.specs.declared.statement.Statement.TheFolds.{fold-roll-Stat
 use Rattle.vs_design.specs.declared.statement.Statement.TheViews.{out-Statement, roll-Statement}
 use Rattle.vs_design.specs.Statements.{event_terms, event_terms_step, has_control, has_control_step}
 use Rattle.vs_design.specs.Uses.{joined}
-use Rattle.vs_flatcode.specs.Nexts.{past, statement_nexts, nexts}
-use Rattle.vs_flatcode.specs.Places.{perform, turns, Todo, flat}
-use Rattle.vs_flatcode.specs.Steps.{Next, on, after, wait, is_default}
+use Rattle.vs_process.specs.Nexts.{past, statement_nexts, nexts}
+use Rattle.vs_process.specs.Places.{perform, turns, Todo, flat}
+use Rattle.vs_process.specs.Steps.{Next, on, after, wait, is_default}
 use Rattle.vs_rules.specs.Controls.{controls_in, controls_step}
 use Rattle.vs_rules.specs.Points.{Goes}
 use Rattle.vs_rules.specs.Paths.{inner_step}

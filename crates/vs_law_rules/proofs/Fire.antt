@@ -18,27 +18,27 @@ use Rattle.vs_design.specs.Stores.{Store, changed_at, chosen_bits, chosen_words,
 use Rattle.vs_design.specs.WellFormed.{WellFormed}
 use Rattle.vs_independence.specs.vs_process.specs.vs_edges.specs.Waking.{lowest_digit, is_edge_of, wakes, wakes_by}
 use Rattle.vs_independence.specs.vs_process.specs.vs_eval.specs.Laws.{digit_of, digit_in}
-use Rattle.vs_flatcode.specs.Places.{Place, going, sleeping, inactive, waiting, ended, is_going}
+use Rattle.vs_process.specs.Places.{Place, going, sleeping, inactive, waiting, ended, is_going}
 use Rattle.vs_independence.specs.vs_process.specs.Executions.{is_level}
 use Rattle.vs_independence.specs.vs_process.specs.States.{State, start}
 use Rattle.vs_independence.specs.vs_process.proofs.Assigns.{AssignsSound}
 use Rattle.vs_independence.specs.vs_process.proofs.Stores.{shape}
-use Rattle.vs_rules.specs.vs_law_threads.specs.Threads.{Thread, turn_at, turn, iterate, writes}
-use Rattle.vs_rules.specs.vs_law_threads.proofs.Settle.{AllIdle}
-use Rattle.vs_rules.specs.vs_law_threads.proofs.Threads.{is_stopped}
+use Rattle.vs_rules.specs.vs_threads.specs.Threads.{Thread, turn_at, turn, iterate, writes}
+use Rattle.vs_rules.specs.vs_threads.proofs.Settle.{AllIdle}
+use Rattle.vs_rules.specs.vs_threads.proofs.Threads.{is_stopped}
 use Rattle.vs_rules.specs.Claims.{Name, times_in}
 use Rattle.vs_rules.specs.Claims.{Claims, Kind, block, edges, delays, ProcessClaim, kind_in, kind_for, kind_of, is_block_kind, blocks_of, claim_of, IsWriter, IsSecond, IsEdge, IsDelay, HasLists, IsSequential, IsSignalNamed, process_names, IsRootOf, IsRoot}
 use Rattle.vs_rules.specs.Constants.{bit_of, Gives, IsKnown, IsClock}
 use Rattle.vs_rules.specs.Constants as k
 use Rattle.vs_rules.specs.Slots.{counts, phase}
-use Rattle.vs_rules.specs.vs_law_threads.specs.Edges.{one_bit, IsBit, Copies}
-use Rattle.vs_rules.specs.vs_law_threads.specs.Threads.{found, opening, IsTimed}
-use Rattle.vs_rules.specs.vs_law_threads.specs.Edges as a
+use Rattle.vs_rules.specs.vs_threads.specs.Edges.{one_bit, IsBit, Copies}
+use Rattle.vs_rules.specs.vs_threads.specs.Threads.{found, opening, IsTimed}
+use Rattle.vs_rules.specs.vs_threads.specs.Edges as a
 use Rattle.vs_rules.specs.Verdict.{Keeping}
 use Rattle.vs_law_rules.proofs.Beginning.{Beginning, Placed, AllStopped, closed_of, start_stands}
 use Rattle.vs_law_rules.proofs.Walks.{Stands, Closed, Walked, walked_iterate}
-use Rattle.vs_rules.specs.vs_law_threads.proofs.Links.{copies_bit, root_bit}
-use Rattle.vs_rules.specs.vs_law_threads.proofs.Threads.{stopped_stays as stopped_turn}
+use Rattle.vs_rules.specs.vs_threads.proofs.Links.{copies_bit, root_bit}
+use Rattle.vs_rules.specs.vs_threads.proofs.Threads.{stopped_stays as stopped_turn}
 
 -- ---- what is known where a slot begins
 

@@ -15,26 +15,26 @@ use Rattle.vs_design.specs.Parts.{Parts}
 use Rattle.vs_design.specs.Stores.{Store, start_store}
 use Rattle.vs_design.specs.WellFormed.{WellFormed}
 use Rattle.vs_independence.specs.vs_process.specs.vs_eval.specs.Laws.{digit_of}
-use Rattle.vs_flatcode.specs.Places.{Todo, Place, going, sleeping, inactive, waiting, ended}
-use Rattle.vs_flatcode.specs.Steps.{step}
+use Rattle.vs_process.specs.Places.{Todo, Place, going, sleeping, inactive, waiting, ended}
+use Rattle.vs_process.specs.Steps.{step}
 use Rattle.vs_design.specs.Writes.{Write}
 use Rattle.vs_independence.specs.vs_process.specs.Executions.{is_level}
 use Rattle.vs_independence.specs.vs_process.specs.States.{State, start}
-use Rattle.vs_independence.specs.vs_process.proofs.Lists.{distinct_place, map_at}
+use Rattle.vs_independence.specs.vs_process.proofs.ProcessLists.{distinct_place, map_at}
 use Rattle.vs_independence.specs.vs_process.proofs.Stores.{shape, shape-put}
 use Rattle.vs_design.proofs.Stores.{slice_get-changed_at as changed_same}
-use Rattle.vs_rules.specs.vs_law_threads.specs.Threads.{Thread, store_behind, turn_at, turn, iterate, writes}
+use Rattle.vs_rules.specs.vs_threads.specs.Threads.{Thread, store_behind, turn_at, turn, iterate, writes}
 use Rattle.vs_rules.specs.Claims.{Name, names_process, writer_in, second_in}
 use Rattle.vs_rules.specs.Claims.{Claims, Kind, blocks_of, claim_of, IsWriter, IsSecond, IsDelay, signal_name, IsRootOf}
 use Rattle.vs_rules.specs.Paths.{WritesNow, HasTerm, RunsBehind}
 use Rattle.vs_rules.specs.Rules.{IsSoundRoot}
 use Rattle.vs_rules.specs.Slots.{InPhase, Fires, Ends}
-use Rattle.vs_rules.specs.vs_law_threads.specs.Edges.{one_bit, IsBit, Copies}
-use Rattle.vs_rules.specs.vs_law_threads.specs.Threads.{Fired, given, opening, IsTimed, Fires as Wakes}
+use Rattle.vs_rules.specs.vs_threads.specs.Edges.{one_bit, IsBit, Copies}
+use Rattle.vs_rules.specs.vs_threads.specs.Threads.{Fired, given, opening, IsTimed, Fires as Wakes}
 use Rattle.vs_law_rules.proofs.Beginning.{AllStopped}
 use Rattle.vs_law_rules.specs.Laws.{ClockTurns}
 use Rattle.vs_law_rules.proofs.Fire.{Begun, Walking, timed_writes, stopped_writes, closed, seq_found, stands_found, bit_shape, bit_digit, edge_of, edge_counts, edge_phase, zero_less}
-use Rattle.vs_rules.specs.vs_law_threads.proofs.Links.{copies_bit, root_bit}
+use Rattle.vs_rules.specs.vs_threads.proofs.Links.{copies_bit, root_bit}
 use Rattle.vs_law_rules.proofs.Lasts.{Last, Bitwise, bit_iterate}
 use Rattle.vs_law_rules.proofs.Roots.{entry_root, one_root, copies_signal}
 use Rattle.vs_law_rules.proofs.Texts.{writes_now}

@@ -20,27 +20,27 @@ use Rattle.vs_design.specs.Uses.{covers, is_of}
 use Rattle.vs_design.specs.Writes.{Write, names}
 use Rattle.vs_independence.specs.vs_process.specs.vs_eval.specs.Laws.{digit_of}
 use Rattle.vs_independence.specs.vs_process.specs.vs_eval.specs.Targets.{part_at, parts_from}
-use Rattle.vs_flatcode.specs.declared.gait.Gait.{Gait}
-use Rattle.vs_flatcode.specs.Nexts.{erased, erased_item, erased_next}
-use Rattle.vs_flatcode.specs.Places.{Todo, Place, going, sleeping, inactive, waiting, ended, active_at, perform, turns, stepped_gait, flat, todo_of}
-use Rattle.vs_flatcode.specs.Steps.{Next, on, after, wait, Out, assignment, called, step, statement_step}
+use Rattle.vs_process.specs.declared.gait.Gait.{Gait}
+use Rattle.vs_process.specs.Nexts.{erased, erased_item, erased_next}
+use Rattle.vs_process.specs.Places.{Todo, Place, going, sleeping, inactive, waiting, ended, active_at, perform, turns, stepped_gait, flat, todo_of}
+use Rattle.vs_process.specs.Steps.{Next, on, after, wait, Out, assignment, called, step, statement_step}
 use Rattle.vs_independence.specs.vs_process.specs.States.{place_behind, terms_of, updates_behind, calls_behind}
 use Rattle.vs_design.specs.Statements.{event_terms_step}
-use Rattle.vs_rules.specs.vs_law_threads.proofs.Threads.{is_stopped}
-use Rattle.vs_flatcode.specs.vs_strobe.specs.Lines.{Format, format_of_call}
+use Rattle.vs_rules.specs.vs_threads.proofs.Threads.{is_stopped}
+use Rattle.vs_process.specs.vs_strobe.specs.Lines.{Format, format_of_call}
 use Rattle.vs_design.specs.declared.statement.CallKind.{CallKind}
 use Rattle.vs_design.specs.declared.statement.CallKind.TheVariants.{Display, Strobe}
 use Rattle.vs_independence.specs.vs_process.proofs.Digits.{laid, digit-put, Fixes}
-use Rattle.vs_independence.specs.vs_process.proofs.Lists.{map_at, none_from}
+use Rattle.vs_independence.specs.vs_process.proofs.ProcessLists.{map_at, none_from}
 use Rattle.std.proofs.lemmas.Map.Keys.{any_passes_from_place as at_any}
 use Rattle.vs_design.specs.vs_logic4.proofs.Basics.{element_of as any_at}
 use Rattle.vs_independence.specs.vs_process.proofs.Ranges.{covers_signal, same_content}
 use Rattle.vs_independence.specs.vs_process.proofs.Stores.{shape, shape-put, put_other}
 use Rattle.vs_independence.specs.vs_process.proofs.Values.{unchanged, same_unchanged}
-use Rattle.vs_rules.specs.vs_law_threads.specs.Reads.{mute}
-use Rattle.vs_rules.specs.vs_law_threads.specs.Threads.{Thread, store_behind, turn_at, turn, iterate, todo_reads}
-use Rattle.vs_rules.specs.vs_law_threads.proofs.Lists.{place_of, contains_at}
-use Rattle.vs_rules.specs.vs_law_threads.proofs.StepReads.{step_reads}
+use Rattle.vs_rules.specs.vs_threads.specs.Reads.{mute}
+use Rattle.vs_rules.specs.vs_threads.specs.Threads.{Thread, store_behind, turn_at, turn, iterate, todo_reads}
+use Rattle.vs_rules.specs.vs_threads.proofs.Lists.{place_of, contains_at}
+use Rattle.vs_rules.specs.vs_threads.proofs.StepReads.{step_reads}
 use Rattle.vs_rules.specs.Controls.{controls_step}
 use Rattle.vs_rules.specs.Points.{Goes, first_todo}
 use Rattle.std.proofs.lemmas.List.{map-append}
@@ -51,13 +51,13 @@ use Rattle.vs_rules.specs.Paths.{Bit, IsBit, IsPoint, reads_of, writes_of, Write
 use Rattle.vs_rules.specs.Blocks.{K5, Unwritten, begins, goes_on, is_strobe, is_late_effect, has_late_effect, todo_surely}
 use Rattle.vs_law_rules.proofs.Fire.{stopped_iterate}
 use Rattle.vs_law_rules.proofs.Once.{iterate_later}
-use Rattle.vs_rules.specs.vs_law_threads.specs.Blocks.{home, control}
-use Rattle.vs_rules.specs.vs_law_threads.specs.Blocks.{puts_out}
+use Rattle.vs_rules.specs.vs_threads.specs.Blocks.{home, control}
+use Rattle.vs_rules.specs.vs_threads.specs.Blocks.{puts_out}
 use Rattle.vs_rules.specs.Paths.{HasTerm}
-use Rattle.vs_rules.specs.vs_law_threads.specs.Blocks.{woken_on, Arrives, AgreeOn, SameOutputs, IsBlock as Follows}
+use Rattle.vs_rules.specs.vs_threads.specs.Blocks.{woken_on, Arrives, AgreeOn, SameOutputs, IsBlock as Follows}
 use Rattle.vs_law_rules.proofs.Shapes.{Shape, first_is}
 use Rattle.vs_law_rules.proofs.Controls.{next_in, delays_collect, terms_collect}
-use Rattle.vs_rules.specs.vs_law_threads.proofs.Bits.{bit_there, missing}
+use Rattle.vs_rules.specs.vs_threads.proofs.Bits.{bit_there, missing}
 use Rattle.vs_law_rules.proofs.Surely.{step_sure, sure_writes}
 use Rattle.vs_law_rules.proofs.Texts.{Sub, reads_text, now_text, none_in, todo_all, point_sub, all_there}
 use Rattle.vs_law_rules.proofs.Walks.{point_on}
@@ -76,8 +76,8 @@ assignment_any_time t e store m n = parts_any_time 0 t.parts.items _ store m n
 
 statement_any_time : (s : Statement) (f : Statement-F Statement) (rest : Todo) (store : Store) (m n : ℕ) → mute (statement_step s f rest store m) ≡ mute (statement_step s f rest store n)
 statement_any_time s (Statement-F.Null k) rest store m n = refl
-statement_any_time s (Statement-F.Assign k t e) rest store m n = ap (λ w. record (Rattle.vs_flatcode.specs.Steps.goes (on rest)) { write = Some w }) (assignment_any_time t e store m n)
-statement_any_time s (Statement-F.Later k ticks t e) rest store m n = ap (λ w. record (Rattle.vs_flatcode.specs.Steps.goes (on rest)) { update = Some (ticks.count, w) }) (assignment_any_time t e store m n)
+statement_any_time s (Statement-F.Assign k t e) rest store m n = ap (λ w. record (Rattle.vs_process.specs.Steps.goes (on rest)) { write = Some w }) (assignment_any_time t e store m n)
+statement_any_time s (Statement-F.Later k ticks t e) rest store m n = ap (λ w. record (Rattle.vs_process.specs.Steps.goes (on rest)) { update = Some (ticks.count, w) }) (assignment_any_time t e store m n)
 statement_any_time s (Statement-F.Call k c) rest store m n = refl
 statement_any_time s (Statement-F.Finish k) rest store m n = refl
 statement_any_time s (Statement-F.Block all) rest store m n = refl
@@ -315,7 +315,7 @@ lock_first d c k h a b sa sb = record {
     end : Todo
     end = flat h.shaped.body ++ perform h.shaped.process.body ∷ []
 
-    home : todo_of (Rattle.vs_rules.specs.vs_law_threads.specs.Blocks.home d k) ≡ end
+    home : todo_of (Rattle.vs_rules.specs.vs_threads.specs.Blocks.home d k) ≡ end
     home = ap todo_of h.shaped.home
 
     plain : erased end ≡ end

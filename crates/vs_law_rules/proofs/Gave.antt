@@ -21,9 +21,9 @@ use Rattle.vs_design.specs.Writes.{Write, names}
 use Rattle.vs_independence.specs.vs_process.specs.vs_eval.specs.Laws.{digit_of}
 use Rattle.vs_independence.specs.vs_process.specs.vs_eval.specs.Targets.{part_at, parts_from}
 use Rattle.vs_independence.specs.vs_process.specs.vs_eval.specs.Values.{target_value}
-use Rattle.vs_flatcode.specs.Nexts.{erased}
-use Rattle.vs_flatcode.specs.Places.{perform, turns, Todo}
-use Rattle.vs_flatcode.specs.Steps.{assignment, step, statement_step}
+use Rattle.vs_process.specs.Nexts.{erased}
+use Rattle.vs_process.specs.Places.{perform, turns, Todo}
+use Rattle.vs_process.specs.Steps.{assignment, step, statement_step}
 use Rattle.vs_independence.specs.vs_process.proofs.Digits.{laid, laid_part, laid_there, digit-put, unnamed_keeps}
 use Rattle.vs_independence.specs.vs_process.proofs.Values.{target_value_unchanged}
 use Rattle.vs_rules.specs.Paths.{Bit}

@@ -16,13 +16,13 @@ use Rattle.vs_design.specs.declared.statement.Statement.TheViews.{roll-Statement
 use Rattle.vs_design.specs.Parts.{Parts}
 use Rattle.vs_design.specs.Statements.{event_terms, event_terms_step}
 use Rattle.vs_design.specs.Uses.{is_of, joined}
-use Rattle.vs_flatcode.specs.Drafts.{flat_all, is_block}
-use Rattle.vs_flatcode.specs.Nexts.{statement_nexts}
-use Rattle.vs_flatcode.specs.Places.{perform, turns, Todo, flat}
-use Rattle.vs_flatcode.specs.Steps.{Next, on, wait}
-use Rattle.vs_flatcode.proofs.Shapes.{flat-Block, flat-rolled}
+use Rattle.vs_process.specs.Drafts.{flat_all, is_block}
+use Rattle.vs_process.specs.Nexts.{statement_nexts}
+use Rattle.vs_process.specs.Places.{perform, turns, Todo, flat}
+use Rattle.vs_process.specs.Steps.{Next, on, wait}
+use Rattle.vs_process.proofs.Shapes.{flat-Block, flat-rolled}
 use Rattle.vs_design.specs.vs_logic4.proofs.Basics.{element_of as any_at}
-use Rattle.vs_rules.specs.vs_law_threads.proofs.Lists.{contains_at}
+use Rattle.vs_rules.specs.vs_threads.proofs.Lists.{contains_at}
 use Rattle.vs_rules.specs.Points.{Goes, Point, first_todo}
 use Rattle.vs_rules.specs.Points as r
 use Rattle.vs_law_rules.proofs.Apart.{HeardStands}

@@ -7,7 +7,7 @@ use Rattle.vs_design.specs.declared.design.Process.{Process}
 use Rattle.vs_design.specs.declared.signal.Signal.{Signal}
 use Rattle.vs_design.specs.Parts.{Parts}
 use Rattle.vs_design.specs.WellFormed.{WellFormed}
-use Rattle.vs_independence.specs.vs_process.proofs.Lists.{map_at}
+use Rattle.vs_independence.specs.vs_process.proofs.ProcessLists.{map_at}
 use Rattle.vs_rules.specs.Claims.{Name, names_process, writer_in, second_in}
 use Rattle.vs_rules.specs.Points as p
 use Rattle.vs_rules.specs.Claims.{Claims, Kind, IsSignalNamed, IsAssignNamed, IsProcessNamed, signal_name, assign_name, process_name, claim_for, claim_of, kind_for, kind_of, mode_in, all_names, IsRootOf, IsSecond, IsSequential}
@@ -103,7 +103,7 @@ no_writes : (d : Parts) → WellFormed d → (i v : ℕ) → Past d.signals v �
 no_writes d formed i v none w = let there = writes_variable d formed i v w in none-some there.0 (sym none ∙ there.1)
 
 no_text : (d : Parts) (i v : ℕ) → Past d.processes i → Writes d i v → ⊥
-no_text d i v none w = none_in w.range (subst (λ (o : Option Process). Rattle.std.specs.List.Contains (Rattle.vs_rules.specs.vs_law_threads.specs.Blocks.outputs_for o) w.range) none w.listed.0)
+no_text d i v none w = none_in w.range (subst (λ (o : Option Process). Rattle.std.specs.List.Contains (Rattle.vs_rules.specs.vs_threads.specs.Blocks.outputs_for o) w.range) none w.listed.0)
 
 past_claim : (d : Parts) (c : Claims) (v : ℕ) → Past d.signals v → claim_of d c v ≡ None
 past_claim d c v none = ap (claim_for c) none

@@ -7,11 +7,11 @@ use Rattle.vs_design.specs.Parts.{Parts}
 use Rattle.vs_design.specs.Stores.{Store, put, word_in}
 use Rattle.vs_design.specs.Writes.{Write, names}
 use Rattle.vs_independence.specs.vs_process.specs.vs_eval.specs.Laws.{digit_of, digit_in}
-use Rattle.vs_flatcode.specs.Nexts.{erased}
-use Rattle.vs_flatcode.specs.Places.{Todo, Place, going, sleeping, inactive, waiting, ended}
-use Rattle.vs_flatcode.specs.Steps.{step}
+use Rattle.vs_process.specs.Nexts.{erased}
+use Rattle.vs_process.specs.Places.{Todo, Place, going, sleeping, inactive, waiting, ended}
+use Rattle.vs_process.specs.Steps.{step}
 use Rattle.vs_independence.specs.vs_process.proofs.Stores.{put_other}
-use Rattle.vs_rules.specs.vs_law_threads.specs.Threads.{Thread, store_behind, log_behind, turn_at, turn, iterate, writes}
+use Rattle.vs_rules.specs.vs_threads.specs.Threads.{Thread, store_behind, log_behind, turn_at, turn, iterate, writes}
 use Rattle.vs_rules.specs.Claims.{Claims}
 use Rattle.vs_rules.specs.Constants.{bit_of, Gives}
 use Rattle.vs_rules.specs.Paths.{WritesNow}

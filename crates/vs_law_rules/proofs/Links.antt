@@ -28,19 +28,19 @@ use Rattle.vs_design.specs.Uses.{aim_range, bits_from, covers, has_bit, is_of, s
 use Rattle.vs_design.specs.WellFormed.{WellFormed, aim_width, is_net_aim, is_sound_assign, is_sound_target, is_source}
 use Rattle.vs_independence.specs.vs_process.specs.vs_eval.specs.Targets.{part_at, parts_from}
 use Rattle.vs_independence.specs.vs_process.specs.vs_eval.specs.Values.{bits_value, operand_value, target_value, value_of, value_step}
-use Rattle.vs_flatcode.specs.Steps.{assignment}
-use Rattle.vs_independence.specs.vs_process.proofs.Lists.{all_slice}
+use Rattle.vs_process.specs.Steps.{assignment}
+use Rattle.vs_independence.specs.vs_process.proofs.ProcessLists.{all_slice}
 use Rattle.std.proofs.lemmas.Map.Keys.{any_passes_from_place as at_any}
 use Rattle.vs_design.proofs.Stores.{slice_get-changed_at as changed_same}
 use Rattle.vs_independence.specs.vs_process.proofs.WellFormed.{variable_undriven}
 use Rattle.vs_rules.specs.Claims.{HasKind}
 use Rattle.vs_rules.specs.Constants.{IsWholeSlice, IsWholeLayer, IsWhole, IsWholeTarget}
 use Rattle.vs_rules.specs.Rules.{IsOneBit, IsCopy, CopiesRoot, itself, copy}
-use Rattle.vs_rules.specs.vs_law_threads.specs.Edges.{one_bit, IsBit, IsLink, Copies}
-use Rattle.vs_rules.specs.vs_law_threads.specs.Edges as a
+use Rattle.vs_rules.specs.vs_threads.specs.Edges.{one_bit, IsBit, IsLink, Copies}
+use Rattle.vs_rules.specs.vs_threads.specs.Edges as a
 use Rattle.vs_law_rules.proofs.Roots.{selects_whole, whole_reads, whole_writes}
 use Rattle.vs_law_rules.proofs.Words.{lists_signal}
-use Rattle.vs_rules.specs.vs_law_threads.proofs.Copying.{start_at}
+use Rattle.vs_rules.specs.vs_threads.proofs.Copying.{start_at}
 use Rattle.vs_design.specs.vs_logic4.proofs.Basics.{same_self}
 
 -- ---- the start of a signal of one bit

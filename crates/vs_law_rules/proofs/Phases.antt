@@ -14,22 +14,22 @@ use Rattle.vs_design.specs.Parts.{Parts}
 use Rattle.vs_design.specs.Stores.{Store, put}
 use Rattle.vs_design.specs.WellFormed.{WellFormed, counts_from, is_body_of, is_sound_process, is_sound_statement, numbers}
 use Rattle.vs_design.specs.Writes.{Write}
-use Rattle.vs_flatcode.specs.Drafts.{flat_all}
-use Rattle.vs_flatcode.specs.declared.gait.Gait.{Gait}
-use Rattle.vs_flatcode.specs.declared.gait.Gait.TheVariants.{Fresh}
-use Rattle.vs_flatcode.specs.Nexts.{erased_next, erased}
-use Rattle.vs_flatcode.specs.Places.{todo_of, perform, Todo, Place, going, sleeping, inactive, waiting, ended, active_at, start_place, flat}
+use Rattle.vs_process.specs.Drafts.{flat_all}
+use Rattle.vs_process.specs.declared.gait.Gait.{Gait}
+use Rattle.vs_process.specs.declared.gait.Gait.TheVariants.{Fresh}
+use Rattle.vs_process.specs.Nexts.{erased_next, erased}
+use Rattle.vs_process.specs.Places.{todo_of, perform, Todo, Place, going, sleeping, inactive, waiting, ended, active_at, start_place, flat}
 use Rattle.vs_rules.specs.Paths as q
-use Rattle.vs_flatcode.specs.Steps.{on, after, goes, Out, step, statement_step}
-use Rattle.vs_flatcode.proofs.Shapes.{flat-Block}
+use Rattle.vs_process.specs.Steps.{on, after, goes, Out, step, statement_step}
+use Rattle.vs_process.proofs.Shapes.{flat-Block}
 use Rattle.vs_independence.specs.vs_process.specs.declared.moves.Grain.{Grain}
 use Rattle.vs_independence.specs.vs_process.specs.declared.moves.Move.{Move}
 use Rattle.vs_independence.specs.vs_process.specs.States.{State, start, roused, wakened, woken_at, place_behind}
 use Rattle.vs_independence.specs.vs_process.specs.Executions.{after as reached, Legal}
-use Rattle.vs_independence.specs.vs_process.proofs.Lists.{all_slice}
+use Rattle.vs_independence.specs.vs_process.proofs.ProcessLists.{all_slice}
 use Rattle.vs_independence.specs.vs_process.proofs.WellFormed.{variable_undriven}
-use Rattle.vs_rules.specs.vs_law_threads.specs.Threads.{store_behind, Thread, opening, writes, IsTimed}
-use Rattle.vs_rules.specs.vs_law_threads.proofs.Threads.{is_stopped}
+use Rattle.vs_rules.specs.vs_threads.specs.Threads.{store_behind, Thread, opening, writes, IsTimed}
+use Rattle.vs_rules.specs.vs_threads.proofs.Threads.{is_stopped}
 use Rattle.vs_independence.proofs.Times.{is_after}
 use Rattle.vs_rules.specs.Claims.{Claims, IsWriter, IsSecond, IsDelay, IsRoot, blocks_of}
 use Rattle.vs_rules.specs.Constants.{IsBare, itself, inside, IsKnown, Sets, IsClock, alone, two, HasBody, SetsAfter, SetsAndTurns, TurnsForever}
@@ -41,7 +41,7 @@ use Rattle.vs_law_rules.proofs.Beginning.{Waits, delay_steady, closed_of, start_
 use Rattle.vs_law_rules.proofs.Boundary.{holds_after}
 use Rattle.vs_law_rules.proofs.Clocks.{Bared, bare_flat, flat_inside, Loop, loop_of}
 use Rattle.vs_law_rules.proofs.Fire.{zero_less, bit_digit, seq_found}
-use Rattle.vs_rules.specs.vs_law_threads.proofs.Links.{root_bit}
+use Rattle.vs_rules.specs.vs_threads.proofs.Links.{root_bit}
 use Rattle.vs_law_rules.proofs.Firing.{one_writer, one_second}
 use Rattle.vs_law_rules.proofs.Walks.{At, at_zero, at_later, Here, Stands}
 use Rattle.vs_law_rules.proofs.Seconds.{LedAt, RootOf, led_at, alone_now, role_now, updates_miss}
@@ -54,14 +54,14 @@ use Rattle.vs_design.specs.vs_logic4.specs.declared.digit.Digit.TheVariants.{X}
 use Rattle.vs_design.specs.declared.design.ProcessKind.TheVariants.{Initial, Always}
 use Rattle.vs_design.specs.Uses.{is_of}
 use Rattle.vs_independence.specs.Discipline.{BeginsSlot}
-use Rattle.vs_rules.specs.vs_law_threads.specs.Edges.{one_bit, IsBit}
+use Rattle.vs_rules.specs.vs_threads.specs.Edges.{one_bit, IsBit}
 use Rattle.vs_rules.specs.Points.{Goes, Point, first_todo}
 use Rattle.vs_rules.proofs.Points.{step_follows}
 use Rattle.vs_rules.specs.Verdict.{Keeping}
 use Rattle.vs_law_rules.proofs.Links.{copies_root}
 use Rattle.vs_law_rules.proofs.Roots.{whole_writes}
 use Rattle.vs_law_rules.proofs.Texts.{writes_now}
-use Rattle.vs_rules.specs.vs_law_threads.specs.vs_law_writes.proofs.Filled.{body_sound as process_sound}
+use Rattle.vs_rules.specs.vs_threads.proofs.Filled.{body_sound as process_sound}
 
 -- ---- texts
 
@@ -80,7 +80,7 @@ pub record Sets_Flat (d : Parts) (v : ℕ) (digit : Digit) (s : Statement) : Typ
   pub flat_is : flat s ≡ perform set ∷ []
   pub now : (rest : Todo) → WritesNow d (perform set ∷ rest) v
   pub writes : (rest : Todo) (store : Store) (time : ℕ) →
-      step (perform set ∷ rest) store time ≡ record (goes (on rest)) { write = Some (Rattle.vs_flatcode.specs.Steps.assignment sets.target sets.value store time) }
+      step (perform set ∷ rest) store time ≡ record (goes (on rest)) { write = Some (Rattle.vs_process.specs.Steps.assignment sets.target sets.value store time) }
 
 pub sets_flat : (d : Parts) (v : ℕ) (digit : Digit) (s : Statement) → Sets d v digit s → Sets_Flat d v digit s
 sets_flat d v digit s h =

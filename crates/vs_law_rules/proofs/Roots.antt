@@ -28,8 +28,8 @@ use Rattle.vs_rules.specs.Claims.{Claims, EdgeClaim, IsSignalNamed, edge_names, 
 use Rattle.vs_rules.specs.Paths.{ListsSignal}
 use Rattle.vs_rules.specs.Constants.{IsWhole, IsWholeLayer, IsWholeSelect, IsWholeSlice, IsWholeTarget}
 use Rattle.vs_rules.specs.Rules.{K1_Name, IsEdgeSignal, IsCopy, CopiesRoot, itself, copy}
-use Rattle.vs_rules.specs.vs_law_threads.specs.Edges.{IsBit, IsLink, Copies}
-use Rattle.vs_rules.specs.vs_law_threads.specs.Edges as a
+use Rattle.vs_rules.specs.vs_threads.specs.Edges.{IsBit, IsLink, Copies}
+use Rattle.vs_rules.specs.vs_threads.specs.Edges as a
 use Rattle.vs_rules.specs.Verdict.{Keeping}
 use Rattle.vs_law_rules.proofs.Words.{lists_signal}
 

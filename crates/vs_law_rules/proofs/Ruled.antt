@@ -5,8 +5,8 @@ use Rattle.std.proofs.lemmas.Option.{none-some}
 use Rattle.vs_design.specs.declared.design.Process.{Process}
 use Rattle.vs_design.specs.Parts.{Parts}
 use Rattle.vs_design.specs.WellFormed.{WellFormed}
-use Rattle.vs_flatcode.specs.declared.gait.Gait.{Gait}
-use Rattle.vs_flatcode.specs.Places.{Todo, Place, going, sleeping, inactive, waiting, ended, start_place, is_going}
+use Rattle.vs_process.specs.declared.gait.Gait.{Gait}
+use Rattle.vs_process.specs.Places.{Todo, Place, going, sleeping, inactive, waiting, ended, start_place, is_going}
 use Rattle.vs_independence.specs.vs_process.specs.declared.moves.Grain.{Grain}
 use Rattle.vs_independence.specs.vs_process.specs.declared.moves.Move.{Move}
 use Rattle.vs_independence.specs.vs_process.specs.declared.moves.Move.TheVariants.{Step, Evaluate, Propagate, Make, Rouse, Activate, EndSlot}
@@ -16,14 +16,14 @@ use Rattle.vs_independence.specs.vs_process.proofs.Idle.{after_sound}
 use Rattle.vs_independence.specs.vs_process.proofs.Times.{enabled_of}
 use Rattle.vs_independence.specs.Discipline.{IsAtStart, BeginsSlot}
 use Rattle.vs_independence.proofs.InnerMoves.{at_end, all_idle}
-use Rattle.vs_rules.specs.vs_law_threads.proofs.Settle.{AllIdle}
-use Rattle.vs_rules.specs.vs_law_threads.proofs.Threads.{is_stopped}
+use Rattle.vs_rules.specs.vs_threads.proofs.Settle.{AllIdle}
+use Rattle.vs_rules.specs.vs_threads.proofs.Threads.{is_stopped}
 use Rattle.vs_rules.specs.Claims.{Claims, blocks_of, kind_of, IsBlock, IsSequential, signal_name}
 use Rattle.vs_design.specs.declared.signal.Signal.{Signal}
 use Rattle.vs_design.specs.declared.statement.EventTerm.{EventTerm}
 use Rattle.vs_rules.specs.Paths.{HasTerm}
-use Rattle.vs_rules.specs.vs_law_threads.specs.Blocks.{puts_out}
-use Rattle.vs_rules.specs.vs_law_threads.specs.Edges.{Copies, IsHeard}
+use Rattle.vs_rules.specs.vs_threads.specs.Blocks.{puts_out}
+use Rattle.vs_rules.specs.vs_threads.specs.Edges.{Copies, IsHeard}
 use Rattle.vs_independence.specs.Discipline.{KeepsApart}
 use Rattle.vs_rules.specs.Verdict.{Keeping}
 use Rattle.vs_law_rules.proofs.Apart.{keeps_apart, sequential_of}
@@ -35,25 +35,25 @@ use Rattle.vs_law_rules.proofs.Beginning.{Placed, beginning, end_rests, placed_s
 use Rattle.vs_law_rules.proofs.Boundary.{IsSteady, holds_after}
 use Rattle.vs_law_rules.proofs.Cones.{is_block, delay_alone, out_writes}
 use Rattle.vs_independence.specs.vs_process.proofs.WellFormed.{variable_undriven}
-use Rattle.vs_rules.specs.vs_law_threads.specs.Blocks.{IsSource as IsFree}
+use Rattle.vs_rules.specs.vs_threads.specs.Blocks.{IsSource as IsFree}
 use Rattle.vs_rules.specs.Rules.{IsSoundRoot}
 use Rattle.vs_law_rules.specs.Laws.{ClocksTurn, TimeRises, IsRuled, RulesDiscipline, RulesMakeIndependent, start_in, roles_of}
 use Rattle.vs_rules.specs.Claims.{Kind, Start, EdgeClaim, block, edges, delays, cold, sources, starter, is_block_kind, HasStart, IsRoot as Claimed}
 use Rattle.std.specs.List.{Contains}
 use Rattle.vs_design.specs.declared.range.BitRange.{BitRange}
 use Rattle.vs_design.specs.Uses.{writes}
-use Rattle.vs_rules.specs.vs_law_threads.specs.Bits.{meet_in}
+use Rattle.vs_rules.specs.vs_threads.specs.Bits.{meet_in}
 use Rattle.vs_design.specs.vs_logic4.proofs.Basics.{element_of as any_at}
-use Rattle.vs_rules.specs.vs_law_threads.proofs.Lists.{contains_at}
-use Rattle.vs_rules.specs.vs_law_threads.specs.Blocks.{control, puts_into}
-use Rattle.vs_rules.specs.vs_law_threads.specs.Blocks as a
+use Rattle.vs_rules.specs.vs_threads.proofs.Lists.{contains_at}
+use Rattle.vs_rules.specs.vs_threads.specs.Blocks.{control, puts_into}
+use Rattle.vs_rules.specs.vs_threads.specs.Blocks as a
 use Rattle.vs_independence.specs.Discipline.{Disciplined as IsDisciplined, Leads, stays, goes_through, goes_past}
 use Rattle.vs_rules.specs.Drivers.{Driver, Passes}
 use Rattle.vs_rules.specs.Drivers as v
 use Rattle.vs_rules.specs.Paths.{writes_of}
 use Rattle.vs_law_rules.proofs.Cones.{ControlNames}
 use Rattle.vs_law_rules.proofs.Started.{starts_moved}
-use Rattle.vs_rules.specs.vs_law_threads.specs.Blocks.{StartsAs}
+use Rattle.vs_rules.specs.vs_threads.specs.Blocks.{StartsAs}
 use Rattle.vs_independence.proofs.Whole.{independent}
 use Rattle.vs_law_rules.proofs.Cold.{starts_cold}
 use Rattle.vs_law_rules.proofs.Fire.{Begun}

@@ -7,11 +7,11 @@ use Rattle.vs_design.specs.Parts.{Parts}
 use Rattle.vs_design.specs.Stores.{Store}
 use Rattle.vs_design.specs.WellFormed.{WellFormed}
 use Rattle.vs_design.specs.Writes.{names}
-use Rattle.vs_flatcode.specs.declared.gait.Gait.{Gait}
-use Rattle.vs_flatcode.specs.declared.gait.Gait.TheVariants.{Woken}
-use Rattle.vs_flatcode.specs.Nexts.{erased, erased_next}
-use Rattle.vs_flatcode.specs.Places.{Todo, Place, going, sleeping, inactive, waiting, ended, active_at, stepped_gait, is_going, todo_of}
-use Rattle.vs_flatcode.specs.Steps.{Next, on, after, wait, step}
+use Rattle.vs_process.specs.declared.gait.Gait.{Gait}
+use Rattle.vs_process.specs.declared.gait.Gait.TheVariants.{Woken}
+use Rattle.vs_process.specs.Nexts.{erased, erased_next}
+use Rattle.vs_process.specs.Places.{Todo, Place, going, sleeping, inactive, waiting, ended, active_at, stepped_gait, is_going, todo_of}
+use Rattle.vs_process.specs.Steps.{Next, on, after, wait, step}
 use Rattle.vs_independence.specs.vs_process.specs.declared.moves.Grain.{Grain}
 use Rattle.vs_independence.specs.vs_process.specs.declared.moves.Move.{Move}
 use Rattle.vs_independence.specs.vs_process.specs.declared.moves.Move.TheVariants.{Step, Evaluate, Propagate, Make, Rouse, Activate, EndSlot}
@@ -19,9 +19,9 @@ use Rattle.vs_independence.specs.vs_process.specs.States.{AssignState, Update, s
 use Rattle.vs_independence.specs.vs_process.specs.Executions.{after as reached, Legal}
 use Rattle.std.proofs.lemmas.Map.Keys.{any_passes_from_place as at_any}
 use Rattle.vs_independence.specs.vs_process.proofs.Times.{enabled_of}
-use Rattle.vs_rules.specs.vs_law_threads.specs.Threads.{any_names}
+use Rattle.vs_rules.specs.vs_threads.specs.Threads.{any_names}
 use Rattle.vs_independence.specs.vs_process.proofs.Permitted.{some_of}
-use Rattle.vs_rules.specs.vs_law_threads.proofs.Threads.{is_stopped}
+use Rattle.vs_rules.specs.vs_threads.proofs.Threads.{is_stopped}
 use Rattle.vs_rules.specs.Points.{Goes, Point, first_todo}
 use Rattle.vs_rules.proofs.Points.{step_follows}
 use Rattle.vs_rules.specs.Claims.{Claims, IsWriter, IsSecond, IsRoot}

@@ -34,13 +34,13 @@ use Rattle.vs_design.specs.declared.statement.Statement.TheOpen.{Statement-F}
 use Rattle.vs_design.specs.declared.statement.Statement.TheViews.{out-Statement}
 use Rattle.vs_design.specs.declared.statement.Target.{Target}
 use Rattle.vs_independence.specs.vs_process.specs.vs_eval.specs.Laws.{digit_in, digit_of}
-use Rattle.vs_flatcode.specs.Nexts.{erased, erased_next}
-use Rattle.vs_flatcode.specs.Places.{Place, Todo, active_at, ended, going, inactive, is_going, is_inactive, perform, sleeping, stepped_gait, todo_of, turns, waiting}
-use Rattle.vs_flatcode.specs.Steps.{Next, after, assignment, statement_step, step, wait, on}
-use Rattle.vs_flatcode.specs.declared.gait.Gait.{Gait}
-use Rattle.vs_flatcode.specs.declared.gait.Gait.TheVariants.{Woken}
-use Rattle.vs_rules.specs.vs_law_threads.specs.Blocks.{StartsMoved, put_active, puts_out}
-use Rattle.vs_rules.specs.vs_law_threads.specs.Threads.{Fired, IsThread, MayOpen, Thread, iterate, opening, turn, turn_at, writes}
+use Rattle.vs_process.specs.Nexts.{erased, erased_next}
+use Rattle.vs_process.specs.Places.{Place, Todo, active_at, ended, going, inactive, is_going, is_inactive, perform, sleeping, stepped_gait, todo_of, turns, waiting}
+use Rattle.vs_process.specs.Steps.{Next, after, assignment, statement_step, step, wait, on}
+use Rattle.vs_process.specs.declared.gait.Gait.{Gait}
+use Rattle.vs_process.specs.declared.gait.Gait.TheVariants.{Woken}
+use Rattle.vs_rules.specs.vs_threads.specs.Blocks.{StartsMoved, put_active, puts_out}
+use Rattle.vs_rules.specs.vs_threads.specs.Threads.{Fired, IsThread, MayOpen, Thread, iterate, opening, turn, turn_at, writes}
 use Rattle.vs_design.specs.vs_logic4.specs.declared.digit.Digit.{Digit}
 use Rattle.vs_design.specs.vs_logic4.specs.declared.digit.Digit.TheVariants.{X}
 use Rattle.vs_independence.specs.vs_process.proofs.Digits.{digit-put, laid}

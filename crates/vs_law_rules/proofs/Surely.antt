@@ -18,9 +18,9 @@ use Rattle.vs_design.specs.WellFormed.{aim_width}
 use Rattle.vs_design.specs.Writes.{Write}
 use Rattle.vs_independence.specs.vs_process.specs.vs_eval.specs.Targets.{part_at, parts_from}
 use Rattle.vs_independence.specs.vs_process.specs.vs_eval.specs.Values.{target_value}
-use Rattle.vs_flatcode.specs.Nexts.{erased}
-use Rattle.vs_flatcode.specs.Places.{perform, turns, Todo}
-use Rattle.vs_flatcode.specs.Steps.{assignment, step, statement_step}
+use Rattle.vs_process.specs.Nexts.{erased}
+use Rattle.vs_process.specs.Places.{perform, turns, Todo}
+use Rattle.vs_process.specs.Steps.{assignment, step, statement_step}
 use Rattle.vs_independence.specs.vs_process.proofs.Digits.{laid, laid_part, laid_there, Fixes}
 use Rattle.vs_rules.specs.Blocks.{is_sure, statement_surely, todo_surely}
 use Rattle.vs_rules.specs.Paths.{Bit}

@@ -12,12 +12,12 @@ use Rattle.vs_design.specs.declared.statement.Statement.TheOpen.{Statement-F}
 use Rattle.vs_design.specs.declared.statement.Statement.TheFolds.{fold-Statement, fold-roll-Statement, fold_out-Statement, ind-Statement, map-Statement}
 use Rattle.vs_design.specs.declared.statement.Statement.TheViews.{out-Statement, roll-Statement}
 use Rattle.vs_design.specs.Uses.{joined}
-use Rattle.vs_flatcode.specs.Drafts.{flat_all, is_block}
-use Rattle.vs_flatcode.specs.Landings.{todo_behind}
-use Rattle.vs_flatcode.specs.Nexts.{past, statement_nexts, nexts}
-use Rattle.vs_flatcode.specs.Places.{Item, perform, turns, Todo, flat}
-use Rattle.vs_flatcode.specs.Steps.{Next, on, after, wait, is_default}
-use Rattle.vs_flatcode.proofs.Shapes.{flat-Block, flat-rolled}
+use Rattle.vs_process.specs.Drafts.{flat_all, is_block}
+use Rattle.vs_process.specs.Landings.{todo_behind}
+use Rattle.vs_process.specs.Nexts.{past, statement_nexts, nexts}
+use Rattle.vs_process.specs.Places.{Item, perform, turns, Todo, flat}
+use Rattle.vs_process.specs.Steps.{Next, on, after, wait, is_default}
+use Rattle.vs_process.proofs.Shapes.{flat-Block, flat-rolled}
 use Rattle.vs_rules.specs.Points.{Goes, Point, first_todo}
 use Rattle.vs_rules.specs.Points as r
 use Rattle.vs_design.specs.declared.design.Process.{Process}
@@ -25,14 +25,14 @@ use Rattle.vs_design.specs.declared.range.BitRange.{BitRange}
 use Rattle.vs_design.specs.Parts.{Parts}
 use Rattle.vs_design.specs.Statements.{all_reads, assignment_reads}
 use Rattle.vs_design.specs.Uses.{reads}
-use Rattle.vs_flatcode.specs.declared.gait.Gait.{Gait}
-use Rattle.vs_flatcode.specs.declared.gait.Gait.TheVariants.{Fresh}
-use Rattle.vs_flatcode.specs.Places.{ended, active_at, start_place, todo_of}
+use Rattle.vs_process.specs.declared.gait.Gait.{Gait}
+use Rattle.vs_process.specs.declared.gait.Gait.TheVariants.{Fresh}
+use Rattle.vs_process.specs.Places.{ended, active_at, start_place, todo_of}
 use Rattle.std.proofs.Common.{get_or}
-use Rattle.vs_rules.specs.vs_law_threads.specs.vs_law_writes.specs.Writes.{statement_writes, statement_writes_step}
-use Rattle.vs_rules.specs.vs_law_threads.specs.Threads.{own_reads, item_reads, todo_reads}
+use Rattle.vs_rules.specs.vs_threads.specs.Writes.{statement_writes, statement_writes_step}
+use Rattle.vs_rules.specs.vs_threads.specs.Threads.{own_reads, item_reads, todo_reads}
 use Rattle.vs_rules.specs.Paths.{inner_step, own_step_reads, text_reads, text_reads_step, statement_now, statement_later, todo_now, todo_later, reads_for, reads_of, writes_of, IsPoint, WritesNow, WritesLater, Writes}
-use Rattle.vs_rules.specs.vs_law_threads.specs.Blocks.{outputs_for as writes_for}
+use Rattle.vs_rules.specs.vs_threads.specs.Blocks.{outputs_for as writes_for}
 
 -- all elements of a list are in another one
 abbrev pub Sub : {A : Type 0} → List A → List A → Type 0

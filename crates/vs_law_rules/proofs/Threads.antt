@@ -5,22 +5,22 @@ use Rattle.std.proofs.lemmas.Bool.{false≢true}
 use Rattle.vs_design.specs.declared.range.BitRange.{BitRange}
 use Rattle.vs_design.specs.declared.statement.EventTerm.{EventTerm}
 use Rattle.vs_design.specs.Parts.{Parts}
-use Rattle.vs_flatcode.specs.declared.gait.Gait.TheVariants.{Woken}
-use Rattle.vs_flatcode.specs.Nexts.{erased}
-use Rattle.vs_flatcode.specs.Places.{perform, turns, Todo, Place, going, sleeping, inactive, waiting, ended}
-use Rattle.vs_flatcode.specs.Steps.{wait}
+use Rattle.vs_process.specs.declared.gait.Gait.TheVariants.{Woken}
+use Rattle.vs_process.specs.Nexts.{erased}
+use Rattle.vs_process.specs.Places.{perform, turns, Todo, Place, going, sleeping, inactive, waiting, ended}
+use Rattle.vs_process.specs.Steps.{wait}
 use Rattle.vs_independence.specs.vs_process.specs.Executions.{is_level}
 use Rattle.vs_independence.specs.vs_process.specs.States.{State, triggered}
-use Rattle.vs_independence.specs.vs_process.proofs.Lists.{none_at}
-use Rattle.vs_rules.specs.vs_law_threads.specs.Threads.{Thread, turn, iterate, writes, any_names, place_reads, place_shows, todo_shows}
-use Rattle.vs_rules.specs.vs_law_threads.proofs.Lists.{place_of}
-use Rattle.vs_rules.specs.vs_law_threads.proofs.Threads.{is_stopped}
+use Rattle.vs_independence.specs.vs_process.proofs.ProcessLists.{none_at}
+use Rattle.vs_rules.specs.vs_threads.specs.Threads.{Thread, turn, iterate, writes, any_names, place_reads, place_shows, todo_shows}
+use Rattle.vs_rules.specs.vs_threads.proofs.Lists.{place_of}
+use Rattle.vs_rules.specs.vs_threads.proofs.Threads.{is_stopped}
 use Rattle.vs_rules.proofs.Points.{erased_reads}
 use Rattle.vs_rules.specs.Claims.{Claims, Kind, blocks_of, IsEdge, IsSequential}
 use Rattle.vs_rules.specs.Paths.{begins, IsHot, HasTerm}
 use Rattle.vs_rules.specs.Rules.{Reads}
 use Rattle.vs_rules.specs.Slots.{Fires, Ends}
-use Rattle.vs_rules.specs.vs_law_threads.specs.Threads.{Fired, found, opening, is_timed, Fires as Wakes, MayOpen, IsThread}
+use Rattle.vs_rules.specs.vs_threads.specs.Threads.{Fired, found, opening, is_timed, Fires as Wakes, MayOpen, IsThread}
 use Rattle.vs_law_rules.specs.Laws.{ClockTurns}
 use Rattle.vs_law_rules.proofs.Fire.{Begun, Walking, role, seq_found, closed, stands_found, stopped_iterate}
 use Rattle.vs_law_rules.proofs.Firing.{none_fires, fires_at}

@@ -28,8 +28,8 @@ use Rattle.vs_design.specs.Stores.{Store, put}
 use Rattle.vs_design.specs.WellFormed.{aim_width, is_sound_statement, is_sound_target, is_source, is_variable_aim, sound_step}
 use Rattle.vs_independence.specs.vs_process.specs.vs_eval.specs.Targets.{part_at, parts_from}
 use Rattle.vs_independence.specs.vs_process.specs.vs_eval.specs.Values.{target_value, value_of, value_step}
-use Rattle.vs_flatcode.specs.Steps.{assignment}
-use Rattle.vs_rules.specs.vs_law_threads.specs.Edges.{one_bit}
+use Rattle.vs_process.specs.Steps.{assignment}
+use Rattle.vs_rules.specs.vs_threads.specs.Edges.{one_bit}
 use Rattle.vs_rules.proofs.Points.{mod_sum}
 use Rattle.vs_rules.specs.Constants.{IsBare, itself, inside, IsKnown, IsInverse, IsInverseLayer, IsWholeTarget, TurnsForever}
 use Rattle.vs_rules.specs.Constants as k

@@ -7,14 +7,14 @@ use Rattle.vs_design.specs.declared.statement.EventTerm.{EventTerm}
 use Rattle.vs_design.specs.Parts.{Parts}
 use Rattle.vs_design.specs.Stores.{Store}
 use Rattle.vs_design.specs.Writes.{Write, names}
-use Rattle.vs_flatcode.specs.declared.gait.Gait.{Gait}
-use Rattle.vs_flatcode.specs.declared.gait.Gait.TheVariants.{Woken}
-use Rattle.vs_flatcode.specs.Landings.{todo_behind}
-use Rattle.vs_flatcode.specs.Nexts.{erased, erased_next}
-use Rattle.vs_flatcode.specs.Places.{Todo, Place, going, sleeping, inactive, waiting, ended, active_at, stepped_gait}
-use Rattle.vs_flatcode.specs.Steps.{Next, on, after, wait, Out, step}
+use Rattle.vs_process.specs.declared.gait.Gait.{Gait}
+use Rattle.vs_process.specs.declared.gait.Gait.TheVariants.{Woken}
+use Rattle.vs_process.specs.Landings.{todo_behind}
+use Rattle.vs_process.specs.Nexts.{erased, erased_next}
+use Rattle.vs_process.specs.Places.{Todo, Place, going, sleeping, inactive, waiting, ended, active_at, stepped_gait}
+use Rattle.vs_process.specs.Steps.{Next, on, after, wait, Out, step}
 use Rattle.vs_independence.specs.vs_process.specs.States.{Update, place_behind, paused, updates_behind, roused}
-use Rattle.vs_rules.specs.vs_law_threads.specs.Threads.{Thread, log_behind, turn_at, turn, iterate, writes, any_names}
+use Rattle.vs_rules.specs.vs_threads.specs.Threads.{Thread, log_behind, turn_at, turn, iterate, writes, any_names}
 use Rattle.vs_rules.specs.Points.{Goes, Point}
 use Rattle.vs_rules.proofs.Points.{step_follows, mod_sum}
 use Rattle.vs_rules.specs.Claims.{Claims, kind_of}

@@ -11,21 +11,21 @@ use Rattle.vs_design.specs.Uses.{writes_signal}
 use Rattle.vs_design.specs.WellFormed.{WellFormed}
 use Rattle.vs_design.specs.Writes.{Write, names}
 use Rattle.vs_independence.specs.vs_process.specs.vs_eval.specs.Targets.{assigned}
-use Rattle.vs_flatcode.specs.declared.gait.Gait.{Gait}
+use Rattle.vs_process.specs.declared.gait.Gait.{Gait}
 use Rattle.vs_independence.specs.vs_process.specs.declared.moves.Grain.{Grain}
 use Rattle.vs_independence.specs.vs_process.specs.declared.moves.Move.{Move}
 use Rattle.vs_independence.specs.vs_process.specs.declared.moves.Move.TheVariants.{Step, Evaluate, Propagate, Make, Rouse, Activate, EndSlot}
-use Rattle.vs_flatcode.specs.Places.{Todo, Place, going, sleeping, inactive, waiting, ended, is_going, is_inactive, todo_of}
-use Rattle.vs_flatcode.specs.Steps.{Out, step}
+use Rattle.vs_process.specs.Places.{Todo, Place, going, sleeping, inactive, waiting, ended, is_going, is_inactive, todo_of}
+use Rattle.vs_process.specs.Steps.{Out, step}
 use Rattle.vs_independence.specs.vs_process.specs.States.{State, AssignState, Update, start, written_behind, place_behind, performed, stepped, evaluate, propagate, propagate_value, make, without, roused, woken_at, wakened, settled}
 use Rattle.vs_independence.specs.vs_process.specs.Executions.{after, Legal, ends, next_time, slot_behind, places_at, time_at}
 use Rattle.vs_independence.specs.vs_process.proofs.Assigns.{assign_driven, assigned_other}
 use Rattle.vs_independence.specs.vs_process.proofs.Idle.{after_sound}
 use Rattle.vs_independence.specs.vs_process.proofs.Stores.{put_other}
 use Rattle.vs_independence.specs.vs_process.proofs.Times.{enabled_of}
-use Rattle.vs_rules.specs.vs_law_threads.specs.Threads.{store_behind}
+use Rattle.vs_rules.specs.vs_threads.specs.Threads.{store_behind}
 use Rattle.vs_law_rules.specs.Laws.{TimeRises}
-use Rattle.vs_rules.specs.vs_law_threads.proofs.Threads.{is_stopped, stopped_from}
+use Rattle.vs_rules.specs.vs_threads.proofs.Threads.{is_stopped, stopped_from}
 use Rattle.vs_independence.proofs.Making.{none_get}
 use Rattle.vs_independence.proofs.InnerMoves.{AtEnd, at_end}
 use Rattle.vs_independence.specs.vs_process.proofs.Permitted.{some_of}

@@ -14,7 +14,7 @@ use Rattle.vs_design.specs.declared.statement.Statement.TheViews.{out-Statement}
 use Rattle.vs_design.specs.declared.statement.Target.{Target}
 use Rattle.vs_design.specs.declared.statement.Ticks.{Ticks}
 use Rattle.vs_design.specs.Parts.{Parts}
-use Rattle.vs_elab_operands.specs.vs_elab_listed.specs.Outlines.{Declared}
+use Rattle.vs_elab_statements.specs.vs_elab_listed.specs.Outlines.{Declared}
 use Rattle.vs_elab_laws.specs.Same.{SameSides}
 use Rattle.vs_rules.specs.Claims.{Claims}
 use Rattle.vs_rules.specs.Constants.{bit_of, IsBare, itself, inside, Sets, Turns, SetsAfter, TurnsForever, SetsAndTurns, HasBody, IsClock}

@@ -3,10 +3,10 @@ use Rattle.std.proofs.Common.{◌≡◌, ℕ, ◌%◌, ◌+◌, ◌⊎◌, true,
 use Rattle.vs_design.specs.declared.range.BitRange.{BitRange}
 use Rattle.vs_design.specs.Parts.{Parts}
 use Rattle.vs_design.specs.Uses.{reads, writes}
-use Rattle.vs_law_threads.specs.vs_flatcode.specs.Numbers.{number_next}
-use Rattle.vs_law_threads.specs.vs_flatcode.specs.Places.{Todo}
-use Rattle.vs_law_threads.specs.vs_flatcode.specs.Steps.{after}
-use Rattle.vs_elab_operands.specs.vs_elab_listed.specs.Outlines.{Declared}
+use Rattle.vs_threads.specs.vs_process.specs.Numbers.{number_next}
+use Rattle.vs_threads.specs.vs_process.specs.Places.{Todo}
+use Rattle.vs_threads.specs.vs_process.specs.Steps.{after}
+use Rattle.vs_elab_statements.specs.vs_elab_listed.specs.Outlines.{Declared}
 use Rattle.vs_rules.specs.Claims.{Name, Mode, net, unwritten, combinational, nonblocking, blocking, private, Claims, writer_in, second_in, IsBlock, IsDelay, IsSequential}
 use Rattle.vs_rules.specs.Constants.{bit_of}
 use Rattle.vs_rules.specs.Drivers.{Driver, block}

@@ -11,11 +11,11 @@ use Rattle.vs_design.specs.declared.statement.Statement.TheOpen.{Statement-F}
 use Rattle.vs_design.specs.declared.statement.Statement.TheOpen as f
 use Rattle.vs_design.specs.declared.statement.Statement.TheVariants as d
 use Rattle.vs_design.specs.declared.statement.Statement.TheViews.{out-Statement, roll-Statement, roll-out-Statement}
-use Rattle.vs_law_threads.specs.vs_flatcode.specs.Drafts.{flat_all, is_block}
-use Rattle.vs_law_threads.specs.vs_flatcode.specs.Nexts.{past, case_nexts, statement_nexts, nexts}
-use Rattle.vs_law_threads.specs.vs_flatcode.specs.Places.{Item, perform, turns, Todo, flat}
-use Rattle.vs_law_threads.specs.vs_flatcode.specs.Steps.{Next, on, after, wait, has_nothing, is_default}
-use Rattle.vs_law_threads.specs.vs_flatcode.proofs.Shapes.{flat-Block, flat-single}
+use Rattle.vs_threads.specs.vs_process.specs.Drafts.{flat_all, is_block}
+use Rattle.vs_threads.specs.vs_process.specs.Nexts.{past, case_nexts, statement_nexts, nexts}
+use Rattle.vs_threads.specs.vs_process.specs.Places.{Item, perform, turns, Todo, flat}
+use Rattle.vs_threads.specs.vs_process.specs.Steps.{Next, on, after, wait, has_nothing, is_default}
+use Rattle.vs_threads.specs.vs_process.proofs.Shapes.{flat-Block, flat-single}
 use Rattle.vs_elab_laws.specs.Same.{SameTyped}
 use Rattle.vs_elab_laws.proofs.PairLemmas.{pair_append}
 use Rattle.vs_rules.specs.Points.{Among, Goes}

@@ -19,7 +19,7 @@ use Rattle.vs_design.specs.declared.statement.Target.{Target}
 use Rattle.vs_design.specs.Parts.{Parts}
 use Rattle.vs_design.specs.Uses.{aim_range, covers, is_of, reads}
 use Rattle.vs_design.specs.WellFormed.{aim_width, size_of, size_step}
-use Rattle.vs_law_threads.specs.vs_eval.specs.Values.{target_value}
+use Rattle.vs_threads.specs.vs_eval.specs.Values.{target_value}
 use Rattle.vs_elab_laws.specs.vs_width_selects.specs.Layers.{FixedBits, slice_bits, Layer, name, select, inverse, bits, other, brought, operator_layer, layer_step, layer_of}
 use Rattle.vs_elab_laws.specs.Same.{SameAim, SameTarget, SameSides}
 use Rattle.vs_rules.specs.Blocks.{is_sure}

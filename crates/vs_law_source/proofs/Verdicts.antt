@@ -7,8 +7,8 @@ use Rattle.vs_design.specs.declared.design.Process.{Process}
 use Rattle.vs_design.specs.Parts.{Parts}
 use Rattle.vs_design.specs.WellFormed.{counts_from}
 use Rattle.vs_design.specs.WellFormed as w
-use Rattle.vs_elab_operands.specs.Members.{Behavior}
-use Rattle.vs_elab_operands.specs.Surroundings.{Surroundings, surroundings_at}
+use Rattle.vs_elab_statements.specs.Members.{Behavior}
+use Rattle.vs_elab_statements.specs.Surroundings.{Surroundings, surroundings_at}
 use Rattle.vs_elab_laws.specs.vs_elaborate.specs.vs_scopes.specs.Printed.{Path}
 use Rattle.vs_elab_laws.specs.vs_elaborate.specs.vs_scopes.specs.Scopes.{scopes_of}
 use Rattle.vs_elab_laws.specs.vs_elaborate.specs.DesignOf.{PartOf, processes_of, IsProcess, DesignOf}

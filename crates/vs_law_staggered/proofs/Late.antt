@@ -12,12 +12,12 @@ use Rattle.vs_design.specs.declared.signal.SignalKind.TheVariants.{Reg}
 use Rattle.vs_design.specs.declared.statement.EventTerm.{EventTerm}
 use Rattle.vs_design.specs.Uses.{reads, whole, writes}
 use Rattle.vs_design.specs.WellFormed.{WellFormed, is_sound_process, is_sound_statement, numbers}
-use Rattle.vs_flatcode.specs.Landings.{todo_behind}
-use Rattle.vs_flatcode.specs.Places.{Todo}
-use Rattle.vs_flatcode.specs.Steps.{Next, on, after}
+use Rattle.vs_process.specs.Landings.{todo_behind}
+use Rattle.vs_process.specs.Places.{Todo}
+use Rattle.vs_process.specs.Steps.{Next, on, after}
 use Rattle.vs_law_witnesses.specs.vs_law_rules.specs.vs_process.specs.declared.moves.Grain.{Grain}
-use Rattle.vs_law_witnesses.specs.vs_law_examples.specs.Race.{bit, initially}
-use Rattle.vs_law_witnesses.specs.vs_law_examples.proofs.Race.{numbers_assign, reads_number, reads_operand, size_number, size_operand, sound_assign}
+use Rattle.vs_law_witnesses.specs.Race.{bit, initially}
+use Rattle.vs_law_witnesses.proofs.Race.{numbers_assign, reads_number, reads_operand, size_number, size_operand, sound_assign}
 use Rattle.vs_rules.specs.Claims.{Name, EdgeClaim, Kind, blocking, all_names, claim_of, edge_names, edge_signals, process_names, signal_names, second_in, times_in, writer_in, IsSignalNamed, IsProcessNamed, IsWriter, IsSecond, HasLists, IsBlock, IsEdge, IsRootOf, kind_of}
 use Rattle.vs_rules.specs.Controls.{controls_of, list_of}
 use Rattle.vs_rules.specs.Drivers.{Driver, assign, block as block_driver, InCone}
@@ -31,7 +31,7 @@ use Rattle.vs_law_witnesses.specs.Names.{process_in_t, signal_in_t}
 use Rattle.vs_law_witnesses.proofs.Certificates.{one_list, sound_lists}
 use Rattle.vs_law_witnesses.proofs.Kept.{keeps_rules}
 use Rattle.vs_law_witnesses.proofs.Texts.{differ, ends_there, numbers_delay, numbers_event, other_name, sound_delay, sound_event}
-use Rattle.vs_law_witnesses.specs.vs_law_examples.specs.Mirror.{one_of}
+use Rattle.vs_law_witnesses.specs.Mirror.{one_of}
 use Rattle.vs_law_staggered.specs.Roots.{rise_of, sets, sets_late}
 use Rattle.vs_law_staggered.specs.Late.{ALateReadKeepsTheRules, answers, copies_late, reading_late, reading_late_claims}
 use Rattle.vs_law_staggered.proofs.Roots.{declared_3, ends_in, one_two, zero_one}

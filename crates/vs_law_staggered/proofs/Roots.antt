@@ -18,14 +18,14 @@ use Rattle.vs_design.specs.declared.statement.Statement.TheOpen as f
 use Rattle.vs_design.specs.declared.statement.Statement.TheFolds.{fold-roll-Statement}
 use Rattle.vs_design.specs.Uses.{reads, slice_range, whole, writes}
 use Rattle.vs_design.specs.WellFormed.{WellFormed, is_sound_assign, is_sound_call, is_sound_process, is_sound_statement, numbers, numbers_step, sound_step}
-use Rattle.vs_flatcode.specs.Landings.{todo_behind}
-use Rattle.vs_flatcode.specs.Places.{Todo}
-use Rattle.vs_flatcode.specs.Steps.{Next, on, after}
+use Rattle.vs_process.specs.Landings.{todo_behind}
+use Rattle.vs_process.specs.Places.{Todo}
+use Rattle.vs_process.specs.Steps.{Next, on, after}
 use Rattle.vs_law_witnesses.specs.vs_law_rules.specs.vs_process.specs.declared.moves.Grain.{Grain}
 use Rattle.vs_law_witnesses.specs.vs_law_rules.specs.vs_process.proofs.Ranges.{covers_signal}
 use Rattle.vs_law_witnesses.specs.vs_law_rules.proofs.Shown.{rules_make_displays_alike}
-use Rattle.vs_law_witnesses.specs.vs_law_examples.specs.Race.{bit, initially, the_bit}
-use Rattle.vs_law_witnesses.specs.vs_law_examples.proofs.Race.{numbers_assign, reads_number, reads_operand, size_number, size_operand, sound_assign}
+use Rattle.vs_law_witnesses.specs.Race.{bit, initially, the_bit}
+use Rattle.vs_law_witnesses.proofs.Race.{numbers_assign, reads_number, reads_operand, size_number, size_operand, sound_assign}
 use Rattle.vs_rules.specs.Claims.{Mode, Name, EdgeClaim, Kind, blocking, all_names, claim_of, edge_names, edge_signals, process_names, signal_names, second_in, times_in, writer_in, IsSignalNamed, IsProcessNamed, IsWriter, IsSecond, HasLists, IsBlock, IsEdge, IsRootOf, kind_of}
 use Rattle.vs_rules.specs.Controls.{controls_of, list_of}
 use Rattle.vs_rules.specs.Drivers.{Driver, assign, block as block_driver, DriverReads, IsDriver, IsSource, WritesBit}

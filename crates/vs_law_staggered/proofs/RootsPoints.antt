@@ -13,13 +13,13 @@ use Rattle.vs_design.specs.declared.statement.Statement.TheOpen as f
 use Rattle.vs_design.specs.declared.statement.Statement.TheFolds.{fold-roll-Statement}
 use Rattle.vs_design.specs.declared.expression.Typed.TheVariants as e
 use Rattle.vs_design.specs.Uses.{slice_range, whole}
-use Rattle.vs_flatcode.specs.Landings.{todo_behind}
-use Rattle.vs_flatcode.specs.Places.{perform, Todo}
-use Rattle.vs_flatcode.specs.Steps.{Next, on, after, wait}
-use Rattle.vs_law_witnesses.specs.vs_law_writes.specs.Writes.{statement_writes, statement_writes_step}
-use Rattle.vs_rules.specs.vs_law_threads.specs.Blocks.{outputs}
-use Rattle.vs_law_witnesses.specs.vs_law_examples.specs.Race.{operand, target, the_bit}
-use Rattle.vs_law_witnesses.specs.vs_law_examples.proofs.Race.{reads_number, reads_operand}
+use Rattle.vs_process.specs.Landings.{todo_behind}
+use Rattle.vs_process.specs.Places.{perform, Todo}
+use Rattle.vs_process.specs.Steps.{Next, on, after, wait}
+use Rattle.vs_law_witnesses.specs.vs_threads.specs.Writes.{statement_writes, statement_writes_step}
+use Rattle.vs_rules.specs.vs_threads.specs.Blocks.{outputs}
+use Rattle.vs_law_witnesses.specs.Race.{operand, target, the_bit}
+use Rattle.vs_law_witnesses.proofs.Race.{reads_number, reads_operand}
 use Rattle.vs_rules.specs.Controls.{controls_of, list_of}
 use Rattle.vs_rules.specs.Paths.{IsPoint, IsPrologue, IsSlot0, ListsSignal, Path, ReadsNow, ShowsNow, Writes, WritesAny, WritesLater, WritesNow, HasTerm, is_plain, is_zero_time}
 use Rattle.vs_rules.specs.Points.{Among, Goes, Point, first_todo}

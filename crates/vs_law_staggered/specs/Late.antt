@@ -8,8 +8,8 @@ use Rattle.vs_design.specs.declared.statement.Statement.{Statement}
 use Rattle.vs_design.specs.declared.statement.Statement.TheVariants as y
 use Rattle.vs_design.specs.Parts.{Parts}
 use Rattle.vs_law_witnesses.specs.vs_law_rules.specs.vs_process.specs.declared.moves.Grain.{Grain}
-use Rattle.vs_law_witnesses.specs.vs_law_examples.specs.Mirror.{one_of}
-use Rattle.vs_law_witnesses.specs.vs_law_examples.specs.Race.{bit, boxed, initially, letter, nanosecond, operand, target}
+use Rattle.vs_law_witnesses.specs.Mirror.{one_of}
+use Rattle.vs_law_witnesses.specs.Race.{bit, boxed, initially, letter, nanosecond, operand, target}
 use Rattle.vs_rules.specs.Claims.{Claims, edges, delays, blocking}
 use Rattle.vs_law_witnesses.specs.Kept.{KeepsRules}
 use Rattle.vs_law_witnesses.specs.Names.{process_in_t, signal_in_t}

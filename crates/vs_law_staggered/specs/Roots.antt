@@ -19,9 +19,9 @@ use Rattle.vs_design.specs.Parts.{Parts}
 use Rattle.vs_design.specs.Uses.{whole}
 use Rattle.vs_law_witnesses.specs.vs_law_rules.specs.vs_independence.specs.Displays.{DisplaysAlike}
 use Rattle.vs_law_witnesses.specs.vs_law_rules.specs.vs_process.specs.declared.moves.Grain.{Grain}
-use Rattle.vs_law_witnesses.specs.vs_law_examples.specs.Lines.{two_letters}
-use Rattle.vs_law_witnesses.specs.vs_law_examples.specs.Mirror.{one_of}
-use Rattle.vs_law_witnesses.specs.vs_law_examples.specs.Race.{bit, boxed, initially, letter, nanosecond, operand, target}
+use Rattle.vs_law_witnesses.specs.Lines.{two_letters}
+use Rattle.vs_law_witnesses.specs.Mirror.{one_of}
+use Rattle.vs_law_witnesses.specs.Race.{bit, boxed, initially, letter, nanosecond, operand, target}
 use Rattle.vs_rules.specs.Claims.{Claims, blocks_of, edges, delays, blocking, net}
 use Rattle.vs_law_witnesses.specs.Block.{the_net_assign}
 use Rattle.vs_law_witnesses.specs.Kept.{KeepsRules}

@@ -18,11 +18,11 @@ use Rattle.vs_design.specs.Stores.{Store, changes_nothing, put, start_store}
 use Rattle.vs_design.specs.Uses.{covers, slice_range, whole, writes}
 use Rattle.vs_design.specs.WellFormed.{WellFormed, is_sound_assign, is_sound_process, is_sound_statement, numbers}
 use Rattle.vs_law_rules.specs.vs_process.proofs.Ranges.{covers_signal}
-use Rattle.vs_flatcode.specs.Places.{Todo}
-use Rattle.vs_flatcode.specs.Steps.{after, assignment}
-use Rattle.vs_law_examples.specs.Race.{bit, initially, name, operand, target, the_bit}
-use Rattle.vs_law_examples.specs.Mirror.{one_of}
-use Rattle.vs_law_examples.proofs.Race.{numbers_assign, reads_number, reads_operand, size_number, size_operand, sound_assign, value_number}
+use Rattle.vs_process.specs.Places.{Todo}
+use Rattle.vs_process.specs.Steps.{after, assignment}
+use Rattle.vs_law_witnesses.specs.Race.{bit, initially, name, operand, target, the_bit}
+use Rattle.vs_law_witnesses.specs.Mirror.{one_of}
+use Rattle.vs_law_witnesses.proofs.Race.{numbers_assign, reads_number, reads_operand, size_number, size_operand, sound_assign, value_number}
 use Rattle.vs_rules.specs.Claims.{HasKind, Mode, Name, Start, cold, sources, starter, combinational, nonblocking, all_names, claim_of, edge_names, process_names, signal_names, times_in, writer_in, IsProcessNamed, IsWriter, IsBlock, IsSequential}
 use Rattle.vs_rules.specs.Constants.{bit_of, one}
 use Rattle.vs_rules.specs.Controls.{controls_of}

@@ -18,13 +18,13 @@ use Rattle.vs_design.specs.declared.expression.Typed.TheVariants as e
 use Rattle.vs_design.specs.Statements.{has_control, has_control_step}
 use Rattle.vs_design.specs.Uses.{covers, slice_range, whole}
 use Rattle.vs_law_rules.specs.vs_process.specs.Executions.{is_combinational, is_level}
-use Rattle.vs_flatcode.specs.Landings.{todo_behind}
-use Rattle.vs_flatcode.specs.Places.{perform, Todo}
-use Rattle.vs_flatcode.specs.Steps.{Next, on, after, wait}
-use Rattle.vs_rules.specs.vs_law_threads.specs.Blocks.{outputs}
-use Rattle.vs_law_examples.specs.Race.{bit, operand, target, the_bit}
-use Rattle.vs_law_examples.specs.Mirror.{one_of}
-use Rattle.vs_law_examples.proofs.Race.{reads_number, reads_operand}
+use Rattle.vs_process.specs.Landings.{todo_behind}
+use Rattle.vs_process.specs.Places.{perform, Todo}
+use Rattle.vs_process.specs.Steps.{Next, on, after, wait}
+use Rattle.vs_rules.specs.vs_threads.specs.Blocks.{outputs}
+use Rattle.vs_law_witnesses.specs.Race.{bit, operand, target, the_bit}
+use Rattle.vs_law_witnesses.specs.Mirror.{one_of}
+use Rattle.vs_law_witnesses.proofs.Race.{reads_number, reads_operand}
 use Rattle.vs_rules.specs.Claims.{names_process, Kind, Start, claim_of, second_in, writer_in, IsWriter, IsSecond, HasLists, HasStart, IsBlock, IsEdge, IsSequential, IsRootOf}
 use Rattle.vs_rules.specs.Drivers.{IsSource, Names}
 use Rattle.vs_rules.specs.Paths.{Bit, HasTerm, IsBit, IsPoint, IsPrologue, IsSlot0, Lists, ListsSignal, Path, ReadsNow, ShowsNow, Writes, WritesLater, WritesNow, is_plain, is_zero_time, reads_of}

@@ -3,7 +3,7 @@ use Rattle.std.proofs.Common.{◌≡◌, ℕ, zero, suc, List, [], ◌∷◌, sl
 use Rattle.std.proofs.lemmas.Option.{none-some, same_Some}
 use Rattle.std.specs.List.{Contains}
 use Rattle.std.specs.Prelude.{Some}
-use Rattle.vs_rules.specs.vs_law_threads.proofs.Lists.{place_of}
+use Rattle.vs_rules.specs.vs_threads.proofs.Lists.{place_of}
 use Rattle.vs_rules.specs.Claims.{Kind, ProcessClaim, Start}
 use Rattle.vs_rules.specs.Limits.{AreLists, AreResidues}
 use Rattle.vs_law_rules.proofs.Texts.{none_in}

@@ -16,10 +16,10 @@ use Rattle.vs_design.specs.Stores.{Store, put, start_store}
 use Rattle.vs_design.specs.Uses.{slice_range, whole}
 use Rattle.vs_design.specs.WellFormed.{WellFormed, is_sound_process}
 use Rattle.vs_law_rules.specs.vs_process.specs.Examples.{mixer, target, term}
-use Rattle.vs_flatcode.specs.Places.{Todo}
-use Rattle.vs_flatcode.specs.Steps.{assignment, Next}
-use Rattle.vs_law_examples.specs.Race.{the_bit}
-use Rattle.vs_law_examples.proofs.Race.{numbers_assign, reads_number, size_number, sound_assign}
+use Rattle.vs_process.specs.Places.{Todo}
+use Rattle.vs_process.specs.Steps.{assignment, Next}
+use Rattle.vs_law_witnesses.specs.Race.{the_bit}
+use Rattle.vs_law_witnesses.proofs.Race.{numbers_assign, reads_number, size_number, sound_assign}
 use Rattle.vs_rules.specs.Claims.{HasKind, Kind, Mode, Name, Start, cold, sources, starter, combinational, nonblocking, all_names, claim_of, edge_names, process_names, signal_names, times_in, writer_in, IsProcessNamed, IsWriter, IsBlock, IsSequential}
 use Rattle.vs_rules.specs.Controls.{controls_of}
 use Rattle.vs_rules.specs.Drivers.{Driver, assign, block as block_driver, IsDriver, IsSource, WritesBit}

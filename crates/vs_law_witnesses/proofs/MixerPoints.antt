@@ -26,14 +26,14 @@ use Rattle.vs_design.specs.declared.expression.Typed.TheVariants as e
 use Rattle.vs_design.specs.Uses.{covers, slice_range, whole}
 use Rattle.vs_law_rules.specs.vs_process.specs.Examples.{between, boxed, four_of, mixer, target, term, two_of}
 use Rattle.vs_law_rules.specs.vs_process.specs.Executions.{is_combinational, is_level}
-use Rattle.vs_flatcode.specs.declared.gait.Gait.TheVariants.{Fresh}
-use Rattle.vs_flatcode.specs.Landings.{todo_behind}
-use Rattle.vs_flatcode.specs.Places.{active_at, flat, perform, todo_of, Todo}
-use Rattle.vs_flatcode.specs.Steps.{Next, on, after, wait}
-use Rattle.vs_flatcode.proofs.Shapes.{flat-Block}
-use Rattle.vs_rules.specs.vs_law_threads.specs.Blocks.{outputs}
-use Rattle.vs_law_examples.specs.Race.{the_bit}
-use Rattle.vs_law_examples.proofs.Race.{reads_number}
+use Rattle.vs_process.specs.declared.gait.Gait.TheVariants.{Fresh}
+use Rattle.vs_process.specs.Landings.{todo_behind}
+use Rattle.vs_process.specs.Places.{active_at, flat, perform, todo_of, Todo}
+use Rattle.vs_process.specs.Steps.{Next, on, after, wait}
+use Rattle.vs_process.proofs.Shapes.{flat-Block}
+use Rattle.vs_rules.specs.vs_threads.specs.Blocks.{outputs}
+use Rattle.vs_law_witnesses.specs.Race.{the_bit}
+use Rattle.vs_law_witnesses.proofs.Race.{reads_number}
 use Rattle.vs_rules.specs.Claims.{names_process, claim_of, second_in, Kind, Start, HasLists, HasStart, IsBlock, IsEdge, IsRootOf, IsSecond, IsSequential, IsWriter}
 use Rattle.vs_rules.specs.Drivers.{IsSource, Names}
 use Rattle.vs_rules.specs.Paths.{Bit, HasTerm, IsBit, IsPoint, IsPrologue, IsSlot0, Lists, Path, ReadsNow, Writes, WritesNow, is_plain, is_zero_time, reads_of}

@@ -1,693 +1,227 @@
--- A design in which a process waits for an edge keeps the rules.
-use Rattle.std.proofs.Common.{◌≡◌, ℕ, zero, suc, ◌%◌, ◌<◌, Bool, true, Some, List, [], ◌∷◌, length, slice_get, refl, sym, ◌∙◌, ap, subst, inl, inr, lit<, lit≤, arith}
-use Rattle.std.proofs.lemmas.Bool.{false≢true}
-use Rattle.std.proofs.lemmas.Option.{none-some, same_Some}
+-- A design in which a process waits for an edge is disciplined.
+use Rattle.std.proofs.Common.{eqb-true, ◌≡◌, ℕ, zero, suc, ◌<◌, ◌==◌, ◌⊎◌, true, false, Option, Some, None, List, [], ◌∷◌, get_or, slice_get, refl, sym, ◌∙◌, ap, subst, inl, inr, lit<, lit≤, nat_lt}
 use Rattle.std.specs.declared.alloc.Global.{Global}
-use Rattle.std.specs.List.{Contains}
+use Rattle.std.specs.List.{list_any, IsDistinct, Contains}
+use Rattle.std.proofs.lemmas.Bool.{or_cases, false≢true, true≢false}
+use Rattle.std.proofs.lemmas.List.Elements.{All-nil, All-cons}
+use Rattle.std.proofs.lemmas.Option.{none-some, same_Some}
+use Rattle.vs_design.specs.vs_logic4.specs.declared.digit.Digit.{Digit}
 use Rattle.vs_design.specs.vs_logic4.specs.declared.digit.Digit.TheVariants.{One}
+use Rattle.vs_design.specs.declared.design.Process.{Process}
 use Rattle.vs_design.specs.declared.range.BitRange.{BitRange}
 use Rattle.vs_design.specs.declared.statement.EventTerm.{EventTerm}
-use Rattle.vs_design.specs.declared.statement.Statement.{out-Statement}
+use Rattle.vs_design.specs.declared.statement.Statement.{Statement, out-Statement}
+use Rattle.vs_design.specs.declared.statement.Statement.TheVariants as y
+use Rattle.vs_design.specs.declared.statement.Statement.TheOpen as f
+use Rattle.vs_design.specs.declared.statement.Statement.TheFolds.{fold-roll-Statement}
+use Rattle.vs_design.specs.declared.expression.Typed.{fold-roll-Typed}
 use Rattle.vs_design.specs.declared.expression.Typed.TheVariants as e
-use Rattle.vs_design.specs.Uses.{slice_range, whole}
-use Rattle.vs_law_rules.specs.vs_process.specs.declared.moves.Grain.{Grain}
-use Rattle.vs_flatcode.specs.Landings.{todo_behind}
-use Rattle.vs_flatcode.specs.Places.{perform, Todo}
-use Rattle.vs_flatcode.specs.Steps.{Next, on, after, wait}
-use Rattle.vs_rules.specs.vs_law_threads.specs.Blocks.{outputs}
-use Rattle.vs_design.specs.declared.signal.SignalKind.TheVariants.{Reg}
-use Rattle.vs_law_examples.specs.Race.{bit, operand, set_to, target, the_bit}
-use Rattle.vs_law_examples.specs.Rise.{copies_bit, copies_then, one_tick, rise, rising, sets_late, terms}
-use Rattle.vs_law_examples.proofs.Race.{reads_number, reads_operand}
-use Rattle.vs_law_examples.proofs.Rise.{rise_is_disciplined}
-use Rattle.vs_rules.specs.Claims.{Mode, nonblocking, Name, EdgeClaim, Kind, blocking, private, all_names, claim_of, edge_names, edge_signals, process_names, signal_names, second_in, times_in, writer_in, IsSignalNamed, IsProcessNamed, IsWriter, IsSecond, HasLists, IsBlock, IsEdge, IsRootOf}
-use Rattle.vs_rules.specs.Controls.{controls_of, list_of}
-use Rattle.vs_rules.specs.Drivers.{Driver, assign, block as block_driver}
-use Rattle.vs_rules.specs.Paths.{IsHot, IsPoint, IsPrologue, IsSlot0, ListsSignal, Path, ReadsNow, ShowsNow, Writes, WritesAny, WritesLater, WritesNow, HasTerm, is_plain, is_zero_time, reads_of}
-use Rattle.vs_rules.specs.Points.{Among, Goes, Point, first_todo}
-use Rattle.vs_rules.specs.Rules.{K1_Signal, K1_Assign, K1_Process, K1_Name, K2, K3, K4, K6, K7, K8, K9, K10_Signal, K10_Process, AreEdges, IsAsModeSays, IsListed, IsSoundRoot, CopiesRoot, itself, IsEdgeSignal, IsOwnEdge, NeverNow, Reads}
-use Rattle.vs_rules.specs.Blocks.{K5}
-use Rattle.vs_rules.specs.Slots.{DelayEnds}
-use Rattle.vs_rules.specs.Limits.{IsCertificate}
-use Rattle.vs_rules.specs.Verdict.{Keeping, Keeps, KeepsAll, Rule, Subject, k1, k2, k3, k4, k5, k6, k7, k8, k9, k10, k11, number, signal, subjects}
-use Rattle.vs_rules.proofs.Places.{closed_paths, closed_points}
-use Rattle.vs_law_witnesses.specs.Names.{signal_in_t, process_in_t}
-use Rattle.vs_law_witnesses.specs.Rise.{ARiseKeepsTheRules, AWrongModeIsTold, rise_claims}
-use Rattle.vs_law_witnesses.proofs.Certificates.{one_list, sound_lists}
-use Rattle.vs_law_witnesses.proofs.Kept.{keeps_rules, names_kept, writers_kept}
-use Rattle.vs_law_rules.proofs.Texts.{none_in}
-use Rattle.vs_law_witnesses.proofs.Texts.{controls_assign, controls_delay, differ, ends_there, no_signal, one_in, one_signal, only, other_name, plain_is_still, reads_assign, reads_delay, reads_event, reads_source, writes_assign, writes_delay, writes_event}
+use Rattle.vs_design.specs.declared.expression.Typed.TheOpen as t
+use Rattle.vs_design.specs.Statements.{event_terms, event_terms_step, listens}
+use Rattle.vs_design.specs.Uses.{is_of, reads}
+use Rattle.vs_design.specs.WellFormed.{WellFormed, sound_step, is_sound_statement, numbers_step, numbers, is_sound_process}
+use Rattle.vs_design.specs.Stores.{Store, put, word_of}
+use Rattle.vs_threads.specs.vs_eval.specs.Values.{operand_value, value_of, value_step}
+use Rattle.vs_independence.specs.vs_process.specs.declared.moves.Grain.{Grain}
+use Rattle.vs_independence.specs.vs_process.specs.declared.moves.Grain.TheVariants as grain
+use Rattle.vs_independence.specs.vs_process.specs.declared.moves.Move.{Move}
+use Rattle.vs_independence.specs.vs_process.specs.declared.moves.Move.TheVariants.{Step, EndSlot}
+use Rattle.vs_independence.specs.vs_process.specs.Executions.{after as state_after, Legal}
+use Rattle.vs_independence.specs.vs_process.specs.States.{State}
+use Rattle.vs_independence.specs.vs_process.specs.Places.{ended}
+use Rattle.vs_independence.specs.Discipline.{BeginsSlot, IsOrdered, KeepsApart, Reaches, here, through as reaches_through, past}
+use Rattle.vs_threads.specs.Threads.{any_names, is_timed, Awaits, Fired, IsFiredBy, IsThread, IsTimed, MayOpen, Thread, opening}
+use Rattle.vs_threads.specs.Edges.{one_bit, Copies, itself, through, IsHeard, IsRoot}
+use Rattle.vs_threads.proofs.Threads.{thread_opens}
+use Rattle.vs_law_witnesses.specs.Race.{operand, initially, set_to, target}
+use Rattle.vs_threads.specs.Blocks.{IsSource, no_blocks}
+use Rattle.vs_law_witnesses.specs.Rise.{ARiseIsDisciplined, rise, sets_late, copies_bit, copies_then, rising, Fires}
+use Rattle.vs_law_witnesses.proofs.Race.{value_number, size_number, reads_number, reads_operand, size_operand, sound_assign, numbers_assign, terms_assign}
+use Rattle.vs_design.specs.vs_logic4.proofs.Basics.{declared_at}
+use Rattle.vs_law_witnesses.proofs.RiseThreads.{begins, sets_now, listens_first, hears, set_write, Good, all_good, Begun, begun, Shape, shape_of, timed_shape, IsSet, IsCopied, none_written, wrote, none_made, one_in, IsReading, reading, hearing, first_starts}
 
--- ---- its points
+-- ---- it is well formed
 
--- what is to be done: `#1 a = 1`, `a = 1`, `@(posedge a) b = a`, `b = a`
-abbrev delayed : Global → Todo
-delayed g = perform (sets_late g) ∷ []
+sound_delay : (g : Global) → is_sound_statement (rising g).signals (sets_late g) ≡ is_sound_statement (rising g).signals (set_to g 1 One)
+sound_delay g = ap (is_sound_statement (rising g).signals) (sym (y.rolls-Delay 0 _ _)) ∙ fold-roll-Statement _ (sound_step (rising g).signals) (f.Delay 0 _ _)
 
-abbrev set : Global → Todo
-set g = perform (set_to g 1 One) ∷ []
+sound_event : (g : Global) → is_sound_statement (rising g).signals (copies_then g) ≡ is_sound_statement (rising g).signals (copies_bit g)
+sound_event g = ap (is_sound_statement (rising g).signals) (sym (y.rolls-Event 0 _ _)) ∙ fold-roll-Statement _ (sound_step (rising g).signals) (f.Event 0 _ _)
 
-abbrev listening : Global → Todo
-listening g = perform (copies_then g) ∷ []
+numbers_delay : (g : Global) → numbers (sets_late g) ≡ 0 ∷ numbers (set_to g 1 One)
+numbers_delay g = ap numbers (sym (y.rolls-Delay 0 _ _)) ∙ fold-roll-Statement (List ℕ) numbers_step (f.Delay 0 _ _)
 
-abbrev copying : Global → Todo
-copying g = perform (copies_bit g) ∷ []
+numbers_event : (g : Global) → numbers (copies_then g) ≡ 0 ∷ numbers (copies_bit g)
+numbers_event g = ap numbers (sym (y.rolls-Event 0 _ _)) ∙ fold-roll-Statement (List ℕ) numbers_step (f.Event 0 _ _)
 
-data Spot (g : Global) : ℕ → Todo → Type 0 where
-  delays : Spot g 0 (delayed g)
-  sets : Spot g 0 (set g)
-  listens : Spot g 1 (listening g)
-  copies : Spot g 1 (copying g)
-  rests : (i : ℕ) → Spot g i []
+abbrev Sound : Global → Process → Type 0
+Sound g p = is_sound_process (rising g).signals p ≡ true
 
--- the ways on from them
-data Way (g : Global) : ℕ → Todo → Next → Type 0 where
-  delays : Way g 0 (delayed g) (after 0 1 (set g))
-  sets : Way g 0 (set g) (on [])
-  listens : Way g 1 (listening g) (wait 0 (rise ∷ []) (copying g))
-  copies : Way g 1 (copying g) (on [])
-  rests : (i : ℕ) → Way g i [] (on [])
+first_sound : (g : Global) → Sound g (initially g 48 (sets_late g))
+first_sound g = simp (sound_delay, numbers_delay, sound_assign, numbers_assign, reads_number, size_number)
 
--- those of the first slot
-data Early (g : Global) : ℕ → Todo → Type 0 where
-  delays : Early g 0 (delayed g)
-  listens : Early g 1 (listening g)
-  rests : (i : ℕ) → Early g i []
+second_sound : (g : Global) → Sound g (initially g 49 (copies_then g))
+second_sound g = simp (sound_event, numbers_event, sound_assign, numbers_assign, reads_operand, size_operand)
 
--- those at which the first process runs later
-data Behind (g : Global) : Todo → Type 0 where
-  sets : Behind g (set g)
-  rests : Behind g []
-
-way_at : (g : Global) (i : ℕ) (k : Todo) (next : Next) → Spot g i k → Goes k next → Way g i k next
-unfolding out-Statement denote.Hole.Carrier.out
-way_at g _ _ next Spot.delays h = only (Way g 0 (delayed g)) next _ h Way.delays
-way_at g _ _ next Spot.sets h = only (Way g 0 (set g)) next _ h Way.sets
-way_at g _ _ next Spot.listens h = only (Way g 1 (listening g)) next _ h Way.listens
-way_at g _ _ next Spot.copies h = only (Way g 1 (copying g)) next _ h Way.copies
-way_at g _ _ next (Spot.rests i) h = only (Way g i []) next _ h (Way.rests i)
-
-spot_behind : (g : Global) (i : ℕ) (k : Todo) (next : Next) → Way g i k next → Spot g i (todo_behind next)
-spot_behind g _ _ _ Way.delays = Spot.sets
-spot_behind g _ _ _ Way.sets = Spot.rests 0
-spot_behind g _ _ _ Way.listens = Spot.copies
-spot_behind g _ _ _ Way.copies = Spot.rests 1
-spot_behind g _ _ _ (Way.rests i) = Spot.rests i
-
-abbrev RestSpot : Global → ℕ → Todo → Type 0
-RestSpot g i [] = Unit {0}
-RestSpot g i (x ∷ rest) = Spot g i rest
-
-spot_rest : (g : Global) (i : ℕ) (k : Todo) → Spot g i k → RestSpot g i k
-spot_rest g _ _ Spot.delays = Spot.rests 0
-spot_rest g _ _ Spot.sets = Spot.rests 0
-spot_rest g _ _ Spot.listens = Spot.rests 1
-spot_rest g _ _ Spot.copies = Spot.rests 1
-spot_rest g _ _ (Spot.rests i) = tt
-
-first_spot : (g : Global) (i : ℕ) → Spot g i (first_todo (rising g) i)
-unfolding out-Statement denote.Hole.Carrier.out
-first_spot g zero = Spot.delays
-first_spot g (suc zero) = Spot.listens
-first_spot g (suc (suc i)) = Spot.rests (suc (suc i))
-
-spot_at : (g : Global) (i : ℕ) (k : Todo) → IsPoint (rising g) i k → Spot g i k
-spot_at g i k point =
-    closed_points (Spot g i) (first_todo (rising g) i) (first_spot g i) (λ l next s h. spot_behind g i l next (way_at g i l next s h)) (λ x rest s. spot_rest g i (x ∷ rest) s) k point
-
--- ---- the first slot
-
-first_early : (g : Global) (i : ℕ) → Early g i (first_todo (rising g) i)
-unfolding out-Statement denote.Hole.Carrier.out
-first_early g zero = Early.delays
-first_early g (suc zero) = Early.listens
-first_early g (suc (suc i)) = Early.rests (suc (suc i))
-
-early_spot : (g : Global) (i : ℕ) (k : Todo) → Early g i k → Spot g i k
-early_spot g _ _ Early.delays = Spot.delays
-early_spot g _ _ Early.listens = Spot.listens
-early_spot g _ _ (Early.rests i) = Spot.rests i
-
-early_behind : (g : Global) (i : ℕ) (k : Todo) (next : Next) → Way g i k next → is_zero_time next ≡ true → Early g i (todo_behind next)
-early_behind g _ _ _ Way.delays still = absurd (false≢true still)
-early_behind g _ _ _ Way.sets still = Early.rests 0
-early_behind g _ _ _ Way.listens still = absurd (false≢true still)
-early_behind g _ _ _ Way.copies still = Early.rests 1
-early_behind g _ _ _ (Way.rests i) still = Early.rests i
-
--- where paths that take no time lead from the start
-early_path : (g : Global) (i : ℕ) (k : Todo) (ok : Next → Bool) → ((next : Next) → ok next ≡ true → is_zero_time next ≡ true) → Path ok (first_todo (rising g) i) k → Early g i k
-early_path g i k ok still path =
-    closed_paths (Early g i) ok (first_todo (rising g) i) (first_early g i) (λ l next s h may. early_behind g i l next (way_at g i l next (early_spot g i l s) h) (still next may)) k path
-
-early_at : (g : Global) (i : ℕ) (k : Todo) → IsSlot0 (rising g) i k → Early g i k
-early_at g i k path = early_path g i k is_zero_time (λ next may. may) path
-
-prologue_at : (g : Global) (i : ℕ) (k : Todo) → IsPrologue (rising g) i k → Early g i k
-prologue_at g i k path = early_path g i k is_plain plain_is_still path
-
-early_now : (g : Global) (i v : ℕ) (k : Todo) → Early g i k → WritesNow (rising g) k v → ⊥
-unfolding out-Statement denote.Hole.Carrier.out
-early_now g _ v _ Early.delays w = no_signal (rising g) v w
-early_now g _ v _ Early.listens w = no_signal (rising g) v w
-early_now g _ v _ (Early.rests i) w = no_signal (rising g) v w
-
-early_reads : (g : Global) (i : ℕ) (k : Todo) (r : BitRange) → Early g i k → ReadsNow (rising g) k r → ⊥
-unfolding out-Statement denote.Hole.Carrier.out
-early_reads g _ _ r Early.delays h = none_in r h.0
-early_reads g _ _ r Early.listens h = none_in r h.0
-early_reads g _ _ r (Early.rests i) h = none_in r h.0
-
--- ---- what is done at its points
-
--- two of them write by `=`
-data Wrote (g : Global) : ℕ → Todo → ℕ → Type 0 where
-  sets : Wrote g 0 (set g) 0
-  copies : Wrote g 1 (copying g) 1
-
-wrote : (g : Global) (i v : ℕ) (k : Todo) → Spot g i k → WritesNow (rising g) k v → Wrote g i k v
-unfolding out-Statement denote.Hole.Carrier.out
-wrote g _ v _ Spot.delays w = absurd (no_signal (rising g) v w)
-wrote g _ v _ Spot.sets w = subst (Wrote g 0 (set g)) (one_signal (rising g) (slice_range (the_bit 0)) v w) Wrote.sets
-wrote g _ v _ Spot.listens w = absurd (no_signal (rising g) v w)
-wrote g _ v _ Spot.copies w = subst (Wrote g 1 (copying g)) (one_signal (rising g) (slice_range (the_bit 1)) v w) Wrote.copies
-wrote g _ v _ (Spot.rests i) w = absurd (no_signal (rising g) v w)
-
--- none by `<=`
-updates : (g : Global) (i v : ℕ) (k : Todo) → Spot g i k → WritesLater (rising g) k v → ⊥
-unfolding out-Statement denote.Hole.Carrier.out
-updates g _ v _ Spot.delays w = no_signal (rising g) v w
-updates g _ v _ Spot.sets w = no_signal (rising g) v w
-updates g _ v _ Spot.listens w = no_signal (rising g) v w
-updates g _ v _ Spot.copies w = no_signal (rising g) v w
-updates g _ v _ (Spot.rests i) w = no_signal (rising g) v w
-
-early_any : (g : Global) (i v : ℕ) (k : Todo) → Early g i k → WritesAny (rising g) k v → ⊥
-early_any g i v k s (inl w) = early_now g i v k s w
-early_any g i v k s (inr w) = updates g i v k (early_spot g i k s) w
-
--- each is the last thing that is done
-wrote_last : (g : Global) (i v : ℕ) (k : Todo) (next : Next) → Wrote g i k v → Goes k next → todo_behind next ≡ []
-unfolding out-Statement denote.Hole.Carrier.out
-wrote_last g _ _ _ next Wrote.sets h = only (λ n. todo_behind n ≡ []) next _ h refl
-wrote_last g _ _ _ next Wrote.copies h = only (λ n. todo_behind n ≡ []) next _ h refl
-
--- one reads
-data Read (g : Global) : ℕ → Todo → BitRange → Type 0 where
-  copies : Read g 1 (copying g) (whole 0)
-
-read_at : (g : Global) (i : ℕ) (k : Todo) (r : BitRange) → Spot g i k → ReadsNow (rising g) k r → Read g i k r
-unfolding out-Statement denote.Hole.Carrier.out
-read_at g _ _ r Spot.delays h = absurd (none_in r h.0)
-read_at g _ _ r Spot.sets h = absurd (none_in r (subst (λ rs. Contains rs r) (reads_number (One ∷ [])) (reads_source (e.Number (One ∷ [])) r h.0)))
-read_at g _ _ r Spot.listens h = absurd (none_in r h.0)
-read_at g _ _ r Spot.copies h = subst (Read g 1 (copying g)) (one_in (whole 0) r (subst (λ rs. Contains rs r) (reads_operand 0) (reads_source (operand 0) r h.0))) Read.copies
-read_at g _ _ r (Spot.rests i) h = absurd (none_in r h.0)
-
--- none is a `$display`
-shows : (g : Global) (i : ℕ) (k : Todo) (r : BitRange) → Spot g i k → ShowsNow (rising g) k r → ⊥
-unfolding out-Statement denote.Hole.Carrier.out
-shows g _ _ r Spot.delays h = none_in r h.0
-shows g _ _ r Spot.sets h = none_in r h.0
-shows g _ _ r Spot.listens h = none_in r h.0
-shows g _ _ r Spot.copies h = none_in r h.0
-shows g _ _ r (Spot.rests i) h = none_in r h.0
-
-needs : (g : Global) (mode : Mode) (grain : Grain) (i : ℕ) (k : Todo) (r : BitRange) → Spot g i k → Reads (rising g) (rise_claims mode grain) k r → Read g i k r
-needs g mode grain i k r s (inl h) = read_at g i k r s h
-needs g mode grain i k r s (inr h) = absurd (shows g i k r s h.1)
-
-no_early_needs : (g : Global) (mode : Mode) (grain : Grain) (i : ℕ) (k : Todo) (r : BitRange) → Early g i k → Reads (rising g) (rise_claims mode grain) k r → ⊥
-no_early_needs g mode grain i k r s (inl h) = early_reads g i k r s h
-no_early_needs g mode grain i k r s (inr h) = shows g i k r (early_spot g i k s) h.1
-
--- ---- its controls
-
-record IsEvent (i : ℕ) (terms : List EventTerm) : Type 0 where
-  process : i ≡ 1
-  terms_are : rise ∷ [] ≡ terms
-
-event_at : (g : Global) (i : ℕ) (k : Todo) (next : Next) → Way g i k next → (number : ℕ) (terms : List EventTerm) (l : Todo) → next ≡ wait number terms l → IsEvent i terms
-event_at g _ _ _ Way.delays number terms l e = cc
-event_at g _ _ _ Way.sets number terms l e = cc
-event_at g _ _ _ Way.listens number terms l e = record { process = refl; terms_are = cc }
-event_at g _ _ _ Way.copies number terms l e = cc
-event_at g _ _ _ (Way.rests i) number terms l e = cc
-
-event : (g : Global) (i : ℕ) (k l : Todo) (number : ℕ) (terms : List EventTerm) → IsPoint (rising g) i k → Goes k (wait number terms l) → IsEvent i terms
-event g i k l number terms point h = event_at g i k (wait number terms l) (way_at g i k (wait number terms l) (spot_at g i k point) h) number terms l refl
-
-record IsPause (i number ticks : ℕ) : Type 0 where
-  process : i ≡ 0
-  number_is : 0 ≡ number
-  ticks_are : 1 ≡ ticks
-
-pause_at : (g : Global) (i : ℕ) (k : Todo) (next : Next) → Way g i k next → (number ticks : ℕ) (l : Todo) → next ≡ after number ticks l → IsPause i number ticks
-pause_at g _ _ _ Way.delays number ticks l e = record { process = refl; number_is = cc; ticks_are = cc }
-pause_at g _ _ _ Way.sets number ticks l e = cc
-pause_at g _ _ _ Way.listens number ticks l e = cc
-pause_at g _ _ _ Way.copies number ticks l e = cc
-pause_at g _ _ _ (Way.rests i) number ticks l e = cc
-
-pause : (g : Global) (i : ℕ) (k l : Todo) (number ticks : ℕ) → Spot g i k → Goes k (after number ticks l) → IsPause i number ticks
-pause g i k l number ticks s h = pause_at g i k (after number ticks l) (way_at g i k (after number ticks l) s h) number ticks l refl
-
--- its one event term
-term_is : (g : Global) (i : ℕ) (t : EventTerm) → HasTerm (rising g) i t → (i ≡ 1) × (rise ≡ t)
-term_is g i t h =
-    let there = event g i h.control h.behind h.number h.terms h.point h.goes in
-    (there.process, one_in rise t (subst (λ ts. Contains ts t) (sym there.terms_are) h.is))
-
-has_rise : (g : Global) → HasTerm (rising g) 1 rise
-unfolding out-Statement denote.Hole.Carrier.out
-has_rise g = record {
-  control = listening g;
-  number = 0;
-  terms = rise ∷ [];
-  behind = copying g;
-  point = Point.begins;
-  goes = Among.first [];
-  is = (0, lit< tt, refl);
+formed : (g : Global) → WellFormed (rising g)
+unfolding IsDistinct
+formed g = record {
+  processes = All-cons (Sound g) (initially g 48 (sets_late g)) (initially g 49 (copies_then g) ∷ []) (first_sound g) (All-cons (Sound g) (initially g 49 (copies_then g)) [] (second_sound g) (All-nil (Sound g)));
+  assigns = All-nil _;
+  drivers = tt;
+  declared = All-cons (λ n. nat_lt n 2 ≡ true) 0 (1 ∷ []) refl (All-cons (λ n. nat_lt n 2 ≡ true) 1 [] refl (All-nil (λ n. nat_lt n 2 ≡ true)));
+  declared_once = ((refl, tt), (tt, tt));
+  all_declared = declared_at;
+  paths = ((refl, tt), (tt, tt));
+  names = ((refl, tt), (tt, tt));
+  assign_names = tt;
 }
 
-edge_signal : (g : Global) → IsEdgeSignal (rising g) 0
-edge_signal g = record { process = 1; term = rise; has = has_rise g; edge = refl; of = refl }
+-- ---- it fires
 
-edge_signal_is : (g : Global) (v : ℕ) → IsEdgeSignal (rising g) v → 0 ≡ v
-edge_signal_is g v h = ap (λ (t : EventTerm). t.range.signal) (term_is g h.process h.term h.has).1 ∙ h.of
+fired_moves : List Move
+fired_moves = Step 1 ∷ Step 0 ∷ EndSlot ∷ Step 1 ∷ Step 0 ∷ []
 
--- the number of its one delay control
-controls : (g : Global) → controls_of (rising g) 0 ≡ 0 ∷ []
-controls g = controls_delay g 0 one_tick (set_to g 1 One) ∙ ap (λ ns. 0 ∷ ns) (controls_assign 1 (target g 0) (e.Number (One ∷ [])))
+legal_fired : (g : Global) (grain : Grain) → Legal grain (rising g) fired_moves
+unfolding out-Statement denote.Hole.Carrier.out fired_moves
+legal_fired g grain.Statement = (((((tt, refl), refl), refl), refl), simp value_number)
+legal_fired g grain.Block = (((((tt, refl), refl), refl), refl), simp value_number)
 
--- once it has ended no control stands
-behind_pause : (g : Global) (k : Todo) → Path is_plain (set g) k → Behind g k
-unfolding out-Statement denote.Hole.Carrier.out
-behind_pause g k path = closed_paths (Behind g) is_plain (set g) Behind.sets (λ l next s h may. goes_on l next s h) k path
+pub value_operand : (s : ℕ) (store : Store) (time : ℕ) → value_of (operand s) store time ≡ operand_value false 1 (word_of store s 0)
+value_operand s store time =
+    ap (λ x. value_of x store time) (sym (e.rolls-Signal (record { signal = s; width = 1; signed = false; sized = (lit< tt, lit≤ tt) })))
+    ∙ fold-roll-Typed (List Digit) (value_step store time) (t.Signal (record { signal = s; width = 1; signed = false; sized = (lit< tt, lit≤ tt) }))
+
+seen_fired : (g : Global) → slice_get (state_after (rising g) fired_moves).store 1 ≡ Some (one_bit One)
+unfolding out-Statement denote.Hole.Carrier.out fired_moves
+seen_fired g = simp (value_number, value_operand)
+
+fires : (g : Global) (grain : Grain) → Fires grain g
+fires g grain = record { moves = fired_moves; legal = legal_fired g grain; fired = seen_fired g }
+
+-- ---- roots
+
+terms_delay : (g : Global) → event_terms (sets_late g) ≡ []
+terms_delay g = ap event_terms (sym (y.rolls-Delay 0 _ _)) ∙ fold-roll-Statement (List EventTerm) event_terms_step (f.Delay 0 _ _) ∙ terms_assign 1 (target g 0) (e.Number (One ∷ []))
+
+terms_event : (g : Global) → event_terms (copies_then g) ≡ rise ∷ event_terms (copies_bit g)
+terms_event g = ap event_terms (sym (y.rolls-Event 0 _ _)) ∙ fold-roll-Statement (List EventTerm) event_terms_step (f.Event 0 _ _)
+
+terms_all : (g : Global) → event_terms (copies_then g) ≡ rise ∷ []
+terms_all g = terms_event g ∙ ap (λ l. rise ∷ l) (terms_assign 1 (target g 1) (operand 0))
+
+heard_is : (g : Global) (v : ℕ) → IsHeard (rising g) no_blocks.blocks v → v ≡ 0
+heard_is g v h = at_number h.number h.is
   where
-    goes_on : (l : Todo) (next : Next) → Behind g l → Goes l next → Behind g (todo_behind next)
-    goes_on _ next Behind.sets h = only (λ n. Behind g (todo_behind n)) next _ h Behind.rests
-    goes_on _ next Behind.rests h = only (λ n. Behind g (todo_behind n)) next _ h Behind.rests
+    at_number : (n : ℕ) → slice_get (rising g).processes n ≡ Some h.process → v ≡ 0
+    at_number zero is = absurd (false≢true (ap (list_any (λ (t : EventTerm). is_of v t.range)) (sym (terms_delay g))
+        ∙ ap (λ (p : Process). listens p.body v) (same_Some (initially g 48 (sets_late g)) h.process is) ∙ h.hears))
+    at_number (suc zero) is = elim (or_cases (0 == v) false (ap (list_any (λ (t : EventTerm). is_of v t.range)) (sym (terms_all g))
+        ∙ ap (λ (p : Process). listens p.body v) (same_Some (initially g 49 (copies_then g)) h.process is) ∙ h.hears)) [
+          | inl hit ↦ sym (eqb-true 0 v hit)
+          | inr none ↦ absurd (false≢true none)
+        ]
+    at_number (suc (suc n)) is = absurd (none-some h.process is)
 
-behind_plain : (g : Global) (k : Todo) (next : Next) → Behind g k → Goes k next → on [] ≡ next
-unfolding out-Statement denote.Hole.Carrier.out
-behind_plain g _ next Behind.sets h = only (λ n. on [] ≡ n) next _ h refl
-behind_plain g _ next Behind.rests h = only (λ n. on [] ≡ n) next _ h refl
+copies_itself : (g : Global) (root v : ℕ) → Copies (rising g) root v → root ≡ v
+copies_itself g root v (itself bit undriven) = refl
+copies_itself g root v (through m n before link bit) = absurd (none-some link.assign link.is)
 
-runs_behind : (g : Global) (i : ℕ) (c k : Todo) (next : Next) → Way g i c next → (lists : List (List ℕ)) (r : ℕ) → DelayEnds (rising g) i lists next r → Path is_plain (todo_behind next) k → Behind g k
-runs_behind g _ _ k _ Way.delays lists r ends path = behind_pause g k path
-runs_behind g _ _ k _ Way.sets lists r ends path = absurd ends
-runs_behind g _ _ k _ Way.listens lists r ends path = absurd ends
-runs_behind g _ _ k _ Way.copies lists r ends path = absurd ends
-runs_behind g _ _ k _ (Way.rests i) lists r ends path = absurd ends
+root_is : (g : Global) (root : ℕ) → IsRoot (rising g) no_blocks.blocks root → root ≡ 0
+root_is g root r = copies_itself g root r.signal r.copies ∙ heard_is g r.signal r.heard
 
--- ---- its texts
+edges : (g : Global) (v : ℕ) → IsHeard (rising g) no_blocks.blocks v → (root : ℕ) × Copies (rising g) root v × IsSource (rising g) no_blocks.blocks root
+edges g v h = (0, subst (Copies (rising g) 0) (sym (heard_is g v h)) (itself refl refl), record { undriven = refl; unwritten = λ k is. absurd (false≢true is) })
 
--- who writes what
-data Written : ℕ → ℕ → Type 0 where
-  first : Written 0 0
-  second : Written 1 1
+-- ---- the processes of a slot
 
-writes_first : (g : Global) → outputs (rising g) 0 ≡ slice_range (the_bit 0) ∷ []
-writes_first g = writes_delay g 0 one_tick (set_to g 1 One) ∙ writes_assign 1 (target g 0) (e.Number (One ∷ []))
+awaited : (g : Global) (b : State) → Begun g b → (i : ℕ) (th : Thread) (f : Fired) → IsThread (rising g) no_blocks.blocks b i th → Awaits (rising g) no_blocks.blocks b th f → f.signal ≡ 0
+awaited g b begun i th f is aw =
+    let h = hearing g b i is.input th aw.terms aw.todo (shape_of g b begun i th is) aw.at in
+    let t : aw.term ≡ rise = one_in rise aw.term (subst (λ ts. Contains ts aw.term) h.terms aw.is) in
+    sym aw.fires.term ∙ ap (λ (t : EventTerm). t.range.signal) t
 
-writes_second : (g : Global) → outputs (rising g) 1 ≡ slice_range (the_bit 1) ∷ []
-writes_second g = writes_event g 0 (terms g) (copies_bit g) ∙ writes_assign 1 (target g 1) (operand 0)
+reached : (g : Global) (u : ℕ) (r : BitRange) → Reaches (rising g) no_blocks.blocks u r → r.signal ≡ u
+reached g u _ (here r same) = same
+reached g u _ (reaches_through q s j a before is reads into) = absurd (none-some a is)
+reached g u _ (past q s k before is named into) = absurd (false≢true is)
 
-written : (g : Global) (i v : ℕ) → Writes (rising g) i v → Written i v
-written g zero v w = subst (Written 0) (one_signal (rising g) (slice_range (the_bit 0)) v (subst (λ rs. ListsSignal (rising g) rs v) (writes_first g) w)) Written.first
-written g (suc zero) v w = subst (Written 1) (one_signal (rising g) (slice_range (the_bit 1)) v (subst (λ rs. ListsSignal (rising g) rs v) (writes_second g) w)) Written.second
-written g (suc (suc i)) v w = absurd (no_signal (rising g) v w)
+no_input : (f : Fired) → None ≡ Some f → ⊥
+no_input f e = cc
 
-one_listed : (g : Global) (r : BitRange) → ListsSignal (rising g) (r ∷ []) r.signal
-one_listed g r = record { range = r; listed = ((0, lit< tt, refl), tt); of = refl }
-
-first_writes : (g : Global) → Writes (rising g) 0 0
-first_writes g = subst (λ rs. ListsSignal (rising g) rs 0) (sym (writes_first g)) (one_listed g (slice_range (the_bit 0)))
-
-second_writes : (g : Global) → Writes (rising g) 1 1
-second_writes g = subst (λ rs. ListsSignal (rising g) rs 1) (sym (writes_second g)) (one_listed g (slice_range (the_bit 1)))
-
-reads_first : (g : Global) → reads_of (rising g) 0 ≡ []
-reads_first g = reads_delay g 0 one_tick (set_to g 1 One) ∙ reads_assign 1 (target g 0) (e.Number (One ∷ [])) ∙ rw reads_number refl
-
-reads_second : (g : Global) → reads_of (rising g) 1 ≡ whole 0 ∷ []
-reads_second g = reads_event g 0 (terms g) (copies_bit g) ∙ reads_assign 1 (target g 1) (operand 0) ∙ rw reads_operand refl
-
--- nobody reads `b`
-unread : (g : Global) (i : ℕ) → ListsSignal (rising g) (reads_of (rising g) i) 1 → ⊥
-unread g zero h = no_signal (rising g) 1 (subst (λ rs. ListsSignal (rising g) rs 1) (reads_first g) h)
-unread g (suc zero) h = absurd (differ 0 1 refl (one_signal (rising g) (whole 0) 1 (subst (λ rs. ListsSignal (rising g) rs 1) (reads_second g) h)))
-unread g (suc (suc i)) h = no_signal (rising g) 1 h
-
--- ---- its certificate
-
-writer_is : (g : Global) (mode : Mode) (grain : Grain) (v i : ℕ) → IsWriter (rising g) (rise_claims mode grain) v i → Written i v
-writer_is g mode grain zero zero h = Written.first
-writer_is g mode grain zero (suc zero) h = absurd (false≢true h)
-writer_is g mode grain zero (suc (suc i)) h = absurd (false≢true h)
-writer_is g mode grain (suc zero) zero h = absurd (false≢true h)
-writer_is g mode grain (suc zero) (suc zero) h = Written.second
-writer_is g mode grain (suc zero) (suc (suc i)) h = absurd (false≢true h)
-writer_is g mode grain (suc (suc v)) i h = absurd (false≢true h)
-
-is_writer : (g : Global) (mode : Mode) (grain : Grain) (v i : ℕ) → Written i v → IsWriter (rising g) (rise_claims mode grain) v i
-is_writer g mode grain _ _ Written.first = refl
-is_writer g mode grain _ _ Written.second = refl
-
-no_second : (g : Global) (mode : Mode) (grain : Grain) (v i : ℕ) → IsSecond (rising g) (rise_claims mode grain) v i → ⊥
-no_second g mode grain zero i h = false≢true h
-no_second g mode grain (suc zero) i h = false≢true h
-no_second g mode grain (suc (suc v)) i h = false≢true h
-
-no_block : (g : Global) (mode : Mode) (grain : Grain) (i : ℕ) → IsBlock (rising g) (rise_claims mode grain) i → ⊥
-no_block g mode grain zero h = let e = h.1 in cc
-no_block g mode grain (suc zero) h = let e = h.1 in cc
-no_block g mode grain (suc (suc i)) h = none-some (Kind.block h.0) h.1
-
-edge_is : (g : Global) (mode : Mode) (grain : Grain) (i : ℕ) → IsEdge (rising g) (rise_claims mode grain) i → i ≡ 1
-edge_is g mode grain zero e = cc
-edge_is g mode grain (suc zero) e = refl
-edge_is g mode grain (suc (suc i)) e = absurd (none-some Kind.edges e)
-
-lists_are : (g : Global) (mode : Mode) (grain : Grain) (i : ℕ) (lists : List (List ℕ)) → HasLists (rising g) (rise_claims mode grain) i lists → (i ≡ 0) × ((1 ∷ []) ∷ [] ≡ lists)
-lists_are g mode grain zero lists e = (refl, cc)
-lists_are g mode grain (suc zero) lists e = cc
-lists_are g mode grain (suc (suc i)) lists e = absurd (none-some (Kind.delays lists) e)
-
-signal_is : (g : Global) (v : ℕ) → IsSignalNamed (rising g) v (signal_in_t 97) → v ≡ 0
-signal_is g zero is = refl
-signal_is g (suc zero) is = absurd (other_name (signal_in_t 97) (Some (signal_in_t 98)) refl refl is)
-signal_is g (suc (suc v)) is = absurd (none-some (signal_in_t 97) is)
-
-root_is : (g : Global) (mode : Mode) (grain : Grain) (root v : ℕ) → IsRootOf (rising g) (rise_claims mode grain) root v → (root ≡ 0) × (v ≡ 0)
-root_is g mode grain root v h = at_place h.place h.is
-  where
-    at_place : (n : ℕ) → slice_get (rise_claims mode grain).edges n ≡ Some h.entry → (root ≡ 0) × (v ≡ 0)
-    at_place zero is =
-        let same : record { root = signal_in_t 97; signal = signal_in_t 97 } ≡ h.entry = same_Some _ h.entry is in (
-          signal_is g root (subst (λ (x : EdgeClaim). IsSignalNamed (rising g) root x.root) (sym same) h.root_is),
-          signal_is g v (subst (λ (x : EdgeClaim). IsSignalNamed (rising g) v x.signal) (sym same) h.signal),
-        )
-    at_place (suc n) is = absurd (none-some h.entry is)
-
--- ---- the rules
-
-abbrev Listed : Mode → Grain → Name → Type 0
-Listed mode grain name = IsListed name (signal_names (rise_claims mode grain)) [] (process_names (rise_claims mode grain))
-
-names_signals : (g : Global) (mode : Mode) (grain : Grain) (v : ℕ) → K1_Signal (rising g) (rise_claims mode grain) v
-names_signals g mode grain zero name is = subst (Listed mode grain) (same_Some (signal_in_t 97) name is) (record { once = refl; nowhere = refl; nowhere_else = refl })
-names_signals g mode grain (suc zero) name is = subst (Listed mode grain) (same_Some (signal_in_t 98) name is) (record { once = refl; nowhere = refl; nowhere_else = refl })
-names_signals g mode grain (suc (suc v)) name is = absurd (none-some name is)
-
-no_assign : (g : Global) (mode : Mode) (grain : Grain) (j : ℕ) → K1_Assign (rising g) (rise_claims mode grain) j
-no_assign g mode grain j = record { listed = λ name is. absurd (none-some name is); no_edge = λ name is. absurd (none-some name is) }
-
-abbrev ListedProcess : Mode → Grain → Name → Type 0
-ListedProcess mode grain name = IsListed name (process_names (rise_claims mode grain)) (signal_names (rise_claims mode grain)) (edge_names (rise_claims mode grain))
-
-names_processes : (g : Global) (mode : Mode) (grain : Grain) (i : ℕ) → K1_Process (rising g) (rise_claims mode grain) i
-names_processes g mode grain i = record {
-  listed = λ name is. listed_at i name is;
-  block_ordered = λ name is blk. absurd (no_block g mode grain i blk);
-  not_ordered = λ name is other. refl;
+apart : (g : Global) (grain : Grain) (b : State) → BeginsSlot grain (rising g) b → KeepsApart (rising g) no_blocks.blocks b
+apart g grain b begins_slot = record {
+  outputs_alone = λ i k v th is at_k. absurd (false≢true at_k);
+  outputs_alone_later = λ i k v th is at_k. absurd (false≢true at_k);
+  reads_rested = λ i k u r th is reads at_k. absurd (false≢true at_k);
+  only = λ i k v th other is that h k_h. one_writer i k v th other is that (wrote g b i v is.input th (shape i th is) h) (wrote g b k v that.input other (shape k other that) k_h);
+  only_later = λ i k v th other is that h k_h. absurd (unmade i v th is h);
+  reads_others = λ i k u r th other is that reads h reach. at_others i k u r th other is that (reading g b i is.input th r (shape i th is) reads) (reached g u r reach) (wrote g b k u that.input other (shape k other that) h);
+  reads_own = λ i u r th is reads h reach. absurd (none_written th u (reading g b i is.input th r (shape i th is) reads).log h);
+  reads_settled = λ i j u r th x is reads at_j needs named reach. let no_way : None ≡ Some x = ap (λ l. slice_get l j) (sym good.assigns) ∙ at_j in cc;
+  root_timed = λ i root th r is h. timed_at i root th r (wrote g b i root is.input th (shape i th is) h);
+  root_once = λ i root th other r is that h more. ap (λ (s : Store). slice_get s root)
+      (view_at i root th r (wrote g b i root None th (timed_shape g b first_is i th is) h) ∙ sym (view_at i root other r (wrote g b i root None other (timed_shape g b first_is i other that) more)));
+  root_now = λ i root th r is h. unmade i root th is h;
+  unfired = λ i th f is aw. never i th f is aw;
+  fired_by_one = λ i th other f h is that aw more. awaited g b first_is i th f is aw ∙ sym (awaited g b first_is i other h that more);
 }
   where
-    listed_at : (n : ℕ) (name : Name) → IsProcessNamed (rising g) n name → ListedProcess mode grain name
-    listed_at zero name is = subst (ListedProcess mode grain) (same_Some (process_in_t 48) name is) (record { once = refl; nowhere = refl; nowhere_else = refl })
-    listed_at (suc zero) name is = subst (ListedProcess mode grain) (same_Some (process_in_t 49) name is) (record { once = refl; nowhere = refl; nowhere_else = refl })
-    listed_at (suc (suc n)) name is = absurd (none-some name is)
+    first_is : Begun g b
+    first_is = subst (Begun g) begins_slot.is (begun g grain begins_slot.moves begins_slot.legal begins_slot.at_start)
 
-names_known : (g : Global) (mode : Mode) (grain : Grain) (n : ℕ) (name : Name) → slice_get (all_names (rise_claims mode grain)) n ≡ Some name → K1_Name (rising g) (rise_claims mode grain) name
-names_known g mode grain zero name is = subst (K1_Name (rising g) (rise_claims mode grain)) (same_Some (signal_in_t 97) name is) (inl (0, refl))
-names_known g mode grain (suc zero) name is = subst (K1_Name (rising g) (rise_claims mode grain)) (same_Some (signal_in_t 97) name is) (inl (0, refl))
-names_known g mode grain (suc (suc zero)) name is = subst (K1_Name (rising g) (rise_claims mode grain)) (same_Some (process_in_t 48) name is) (inr (inr (0, refl)))
-names_known g mode grain (suc (suc (suc zero))) name is = subst (K1_Name (rising g) (rise_claims mode grain)) (same_Some (process_in_t 49) name is) (inr (inr (1, refl)))
-names_known g mode grain (suc (suc (suc (suc zero)))) name is = subst (K1_Name (rising g) (rise_claims mode grain)) (same_Some (signal_in_t 97) name is) (inl (0, refl))
-names_known g mode grain (suc (suc (suc (suc (suc zero))))) name is = subst (K1_Name (rising g) (rise_claims mode grain)) (same_Some (signal_in_t 98) name is) (inl (1, refl))
-names_known g mode grain (suc (suc (suc (suc (suc (suc n)))))) name is = absurd (none-some name is)
+    good : Good g b
+    good = subst (Good g) begins_slot.is (all_good g begins_slot.moves)
 
-writers : (g : Global) (mode : Mode) (grain : Grain) (v : ℕ) → K2 (rising g) (rise_claims mode grain) v
-writers g mode grain v = record {
-  named = λ i w. inl (is_writer g mode grain v i (written g i v w));
-  writer_writes = λ name is. writes_at v name is;
-  second_writes = λ name is. absurd (none_named v name is);
-  no_block = λ i j is blk w. no_second g mode grain v i is;
-  early = λ i k is point w late. no_second g mode grain v i is;
-  first_alone = λ i j l is writer slot w. no_second g mode grain v i is;
-  first_alone_later = λ i j k l is point w writer slot more. no_second g mode grain v i is;
-}
-  where
-    writes_at : (n : ℕ) (name : Name) → writer_in (claim_of (rising g) (rise_claims mode grain) n) ≡ Some name → (i : ℕ) × IsWriter (rising g) (rise_claims mode grain) n i × Writes (rising g) i n
-    writes_at zero name is = (0, refl, first_writes g)
-    writes_at (suc zero) name is = (1, refl, second_writes g)
-    writes_at (suc (suc n)) name is = absurd (none-some name is)
+    shape : (i : ℕ) (th : Thread) (is : IsThread (rising g) no_blocks.blocks b i th) → Shape g b i is.input th
+    shape i th is = shape_of g b first_is i th is
 
-    none_named : (n : ℕ) (name : Name) → second_in (claim_of (rising g) (rise_claims mode grain) n) ≡ Some name → ⊥
-    none_named zero name is = none-some name is
-    none_named (suc zero) name is = none-some name is
-    none_named (suc (suc n)) name is = none-some name is
+    unmade : (i v : ℕ) (th : Thread) → IsThread (rising g) no_blocks.blocks b i th → any_names th.made v ≡ true → ⊥
+    unmade i v th is h = false≢true (ap (λ l. any_names l v) (sym (none_made g b i is.input th (shape i th is))) ∙ h)
 
-root_mode : (g : Global) (mode : Mode) (grain : Grain) → K3 (rising g) (rise_claims mode grain) 0
-root_mode g mode grain claimed is =
-    subst (IsAsModeSays (rising g) (rise_claims mode grain) 0) (same_Some blocking claimed is)
-    (0, refl, (inl ((1 ∷ []) ∷ [], refl), λ k point w. updates g 0 0 k (spot_at g 0 k point) w))
+    one_writer : (i k v : ℕ) (th other : Thread) (is : IsThread (rising g) no_blocks.blocks b i th) (that : IsThread (rising g) no_blocks.blocks b k other) → (IsSet g b i v th ⊎ IsCopied i v is.input) → (IsSet g b k v other ⊎ IsCopied k v that.input) → k ≡ i
+    one_writer i k v th other is that (inl x) (inl z) = z.who ∙ sym x.who
+    one_writer i k v th other is that (inr x) (inr z) = z.who ∙ sym x.who
+    one_writer i k v th other is that (inl x) (inr z) = absurd (let no_way : 0 ≡ 1 = sym x.what ∙ z.what in cc)
+    one_writer i k v th other is that (inr x) (inl z) = absurd (let no_way : 0 ≡ 1 = sym z.what ∙ x.what in cc)
 
-modes : (g : Global) (grain : Grain) (v : ℕ) → K3 (rising g) (rise_claims private grain) v
-modes g grain zero claimed is = root_mode g private grain claimed is
-modes g grain (suc zero) claimed is =
-    subst (IsAsModeSays (rising g) (rise_claims private grain) 1) (same_Some private claimed is) (
-      1,
-      refl,
-      (
-        inl refl,
-        record {
-          processes = λ j listed. absurd (unread g j listed);
-          assigns = λ j a is_at listed. none-some a is_at;
-          terms = λ j t has of. absurd (differ 0 1 refl (ap (λ (t : EventTerm). t.range.signal) (term_is g j t has).1 ∙ of));
-        },
-      ),
-    )
-modes g grain (suc (suc v)) claimed is = absurd (none-some claimed is)
+    at_others : (i k u : ℕ) (r : BitRange) (th other : Thread) (is : IsThread (rising g) no_blocks.blocks b i th) (that : IsThread (rising g) no_blocks.blocks b k other) → IsReading i is.input th r → r.signal ≡ u → (IsSet g b k u other ⊎ IsCopied k u that.input) →
+        (k ≡ i) ⊎ IsFiredBy (rising g) no_blocks.blocks b i th is r.signal
+    at_others i k u r th other is that x same (inl z) =
+        let f = x.input in
+        let may = subst (MayOpen (rising g) no_blocks.blocks b i) f.1 is.may in
+        inr (f.0, f.1, awaited g b first_is i (opening no_blocks.blocks b i None) f.0 (thread_opens (rising g) no_blocks.blocks b i) may ∙ ap (λ (q : BitRange). q.signal) (sym x.range))
+    at_others i k u r th other is that x same (inr z) = absurd (let no_way : 0 ≡ 1 = ap (λ (q : BitRange). q.signal) (sym x.range) ∙ same ∙ z.what in cc)
 
-order : (g : Global) (mode : Mode) (grain : Grain) (x : Driver) → K4 (rising g) (rise_claims mode grain) x
-order g mode grain (assign j) = record {
-  known = λ r is reads. absurd (none-some reads.0 reads.1);
-  earlier = λ r b y is reads bit has other writes. absurd (none-some reads.0 reads.1);
-}
-order g mode grain (block_driver i) = record {
-  known = λ r is reads. absurd (no_block g mode grain i is);
-  earlier = λ r b y is reads bit has other writes. absurd (no_block g mode grain i is);
+    timed_at : (i root : ℕ) (th : Thread) → IsRoot (rising g) no_blocks.blocks root → {o : Option Fired} → (IsSet g b i root th ⊎ IsCopied i root o) → is_timed (get_or b.places i ended) ≡ true
+    timed_at i root th r (inl x) = ap (λ k. is_timed (get_or b.places k ended)) x.who ∙ ap is_timed x.found
+    timed_at i root th r (inr x) = absurd (let no_way : 0 ≡ 1 = sym (root_is g root r) ∙ x.what in cc)
+
+    view_at : (i root : ℕ) (th : Thread) → IsRoot (rising g) no_blocks.blocks root → (IsSet g b i root th ⊎ IsCopied i root None) → th.view ≡ put b.store set_write
+    view_at i root th r (inl x) = x.view
+    view_at i root th r (inr x) = absurd (no_input x.input.0 x.input.1)
+
+    never : (i : ℕ) (th : Thread) (f : Fired) → IsTimed no_blocks.blocks b i th → Awaits (rising g) no_blocks.blocks b th f → ⊥
+    never i th f is aw = by_place (hearing g b i None th aw.terms aw.todo (timed_shape g b first_is i th is) aw.at).found
+      where
+        by_writer : get_or b.places 0 ended ≡ begins g → (IsSet g b aw.fires.writer aw.fires.root aw.fires.by ⊎ IsCopied aw.fires.writer aw.fires.root None) → ⊥
+        by_writer starts (inl x) = let no_way : begins g ≡ sets_now g = sym starts ∙ x.found in cc
+        by_writer starts (inr x) = no_input x.input.0 x.input.1
+
+        by_place : ((get_or b.places i ended ≡ listens_first g) ⊎ (get_or b.places i ended ≡ hears g)) → ⊥
+        by_place (inr waits) = true≢false (sym is.timed ∙ ap is_timed waits)
+        by_place (inl starts) = by_writer (first_starts g b first_is i starts)
+            (wrote g b aw.fires.writer aw.fires.root None aw.fires.by (timed_shape g b first_is aw.fires.writer aw.fires.by aw.fires.timed) aw.fires.writes)
+
+ordered : (g : Global) → IsOrdered (rising g) no_blocks
+ordered g = record {
+  rank = λ j. j;
+  block_rank = λ k. 0;
+  falls_from_block = λ k j b r is. absurd (false≢true is);
+  falls_to_block = λ i k a r at_i is. absurd (false≢true is);
+  falls_between = λ l k r is. absurd (false≢true is);
+  falls = λ i j a c r is_a is_c named shares. absurd (none-some a is_a);
 }
 
-blocks : (g : Global) (mode : Mode) (grain : Grain) (i : ℕ) → K5 (rising g) (rise_claims mode grain) i
-blocks g mode grain i = record {
-  grain = λ blk. absurd (no_block g mode grain i blk);
-  shape = λ p blk is. absurd (no_block g mode grain i blk);
-  quiet = λ k blk point. absurd (no_block g mode grain i blk);
-  covered = λ r b blk l s h. absurd (no_block g mode grain i blk);
-  before_reads = λ b k r blk is w u n same. no_block g mode grain i blk;
-  before_end = λ b k next blk is w u goes pauses. no_block g mode grain i blk;
-}
-
-copies_root : (g : Global) (mode : Mode) (grain : Grain) (root v : ℕ) → IsRootOf (rising g) (rise_claims mode grain) root v → CopiesRoot (rising g) root v
-copies_root g mode grain root v h =
-    let at = root_is g mode grain root v h in
-    subst (λ n. CopiesRoot (rising g) n v) (sym at.0) (subst (CopiesRoot (rising g) 0) (sym at.1) (itself (bit g 97 Reg, refl, refl, refl, refl)))
-
-sound_root : (g : Global) (mode : Mode) (grain : Grain) → IsSoundRoot (rising g) (rise_claims mode grain) 0
-sound_root g mode grain = record {
-  variable = (bit g 97 Reg, refl, refl);
-  mode = refl;
-  writer = (0, refl, ((1 ∷ []) ∷ [], refl));
-  once = λ i k writer point w hot. never_hot i k w hot;
-}
-  where
-    -- a way from the write of `a` leads to the end, where nothing is written
-    never_hot : (i : ℕ) (k : Todo) → WritesAny (rising g) k 0 → IsHot (rising g) i 0 k → ⊥
-    never_hot i k w hot =
-        let last : todo_behind hot.next ≡ [] = wrote_last g i 0 hot.at hot.next (wrote g i 0 hot.at (spot_at g i hot.at hot.point) hot.starts) hot.goes in
-        let over : k ≡ [] = ends_there is_zero_time k (subst (λ l. Path is_zero_time l k) last hot.path) in
-        early_any g i 0 [] (Early.rests i) (subst (λ l. WritesAny (rising g) l 0) over w)
-
-roots : (g : Global) (mode : Mode) (grain : Grain) (v : ℕ) → K6 (rising g) (rise_claims mode grain) v
-roots g mode grain v = record {
-  one_entry = λ name is edge. entry_at v name is (edge_signal_is g v edge);
-  no_entry = λ name is none. no_entry_at v name is none;
-  copies = λ root is. copies_root g mode grain root v is;
-  root = λ root is. subst (IsSoundRoot (rising g) (rise_claims mode grain)) (sym (root_is g mode grain root v is).0) (sound_root g mode grain);
-}
-  where
-    Once : Name → Type 0
-    Once name = times_in name (edge_signals (rise_claims mode grain)) ≡ 1
-
-    Never : Name → Type 0
-    Never name = times_in name (edge_signals (rise_claims mode grain)) ≡ 0
-
-    entry_at : (n : ℕ) (name : Name) → IsSignalNamed (rising g) n name → 0 ≡ n → Once name
-    entry_at zero name is at = subst Once (same_Some (signal_in_t 97) name is) refl
-    entry_at (suc n) name is at = cc
-
-    no_entry_at : (n : ℕ) (name : Name) → IsSignalNamed (rising g) n name → (IsEdgeSignal (rising g) n → ⊥) → Never name
-    no_entry_at zero name is none = absurd (none (edge_signal g))
-    no_entry_at (suc zero) name is none = subst Never (same_Some (signal_in_t 98) name is) refl
-    no_entry_at (suc (suc n)) name is none = absurd (none-some name is)
-
-waits : (g : Global) (mode : Mode) (grain : Grain) (i : ℕ) → K7 (rising g) (rise_claims mode grain) i
-waits g mode grain i = record {
-  events = λ k l number ts edge point goes. subst AreEdges (event g i k l number ts point goes).terms_are refl;
-  no_delay = λ k l number ticks edge point goes.
-      absurd (differ 0 1 refl (sym (pause g i k l number ticks (spot_at g i k point) goes).process ∙ edge_is g mode grain i edge));
-  one_signal = λ t u root edge has also is is_too.
-      ap (λ (t : EventTerm). t.range.signal) (sym (term_is g i t has).1 ∙ (term_is g i u also).1);
-  apart = λ one other r edge fires fires_too.
-      (root_is g mode grain one fires.term.range.signal fires.is_root).0 ∙ sym (root_is g mode grain other fires_too.term.range.signal fires_too.is_root).0;
-}
-
--- the delay control ends at the residue 1
-ends_at : (ns : List ℕ) (lists : List (List ℕ)) (number ticks : ℕ) → 0 ∷ [] ≡ ns → (1 ∷ []) ∷ [] ≡ lists → 0 ≡ number → 1 ≡ ticks → Contains (list_of ns lists number) (ticks % 2)
-ends_at ns lists number ticks ns_are lists_are number_is ticks_are =
-    subst (λ l. Contains (list_of l lists number) (ticks % 2)) ns_are
-    (subst (λ l. Contains (list_of (0 ∷ []) l number) (ticks % 2)) lists_are
-    (subst (λ n. Contains (list_of (0 ∷ []) ((1 ∷ []) ∷ []) n) (ticks % 2)) number_is
-    (subst (λ n. Contains (list_of (0 ∷ []) ((1 ∷ []) ∷ []) 0) (n % 2)) ticks_are (0, lit< tt, refl))))
-
-residues : (g : Global) (mode : Mode) (grain : Grain) (i : ℕ) → K8 (rising g) (rise_claims mode grain) i
-residues g mode grain i = record {
-  no_event = λ k l number ts delay point goes.
-      absurd (differ 0 1 refl (sym (lists_are g mode grain i delay.0 delay.1).0 ∙ (event g i k l number ts point goes).process));
-  one_each = λ lists is.
-      let there = lists_are g mode grain i lists is in
-      sym (ap length there.1) ∙ sym (ap length (controls_at i there.0));
-  from_start = λ lists k l number ticks is slot goes above.
-      let there = lists_are g mode grain i lists is in
-      let here = pause g i k l number ticks (early_spot g i k (early_at g i k slot)) goes in
-      ends_at (controls_of (rising g) i) lists number ticks (sym (controls_at i there.0)) there.1 here.number_is here.ticks_are;
-  from_residue = λ lists k l number ticks r is runs goes.
-      let behind = runs_behind g i runs.at k runs.next (way_at g i runs.at runs.next (spot_at g i runs.at runs.point) runs.goes) lists r runs.starts runs.path in
-      let no_way : on [] ≡ after number ticks l = behind_plain g k (after number ticks l) behind goes in
-      cc;
-}
-  where
-    controls_at : (n : ℕ) → n ≡ 0 → controls_of (rising g) n ≡ 0 ∷ []
-    controls_at n e = ap (controls_of (rising g)) e ∙ controls g
-
--- the process that waits for the edge reads its own edge signal
-own_edge : (g : Global) (mode : Mode) (grain : Grain) → IsOwnEdge (rising g) (rise_claims mode grain) 1 0
-own_edge g mode grain = record {
-  term = rise;
-  has = has_rise g;
-  edge = refl;
-  of = refl;
-  apart = λ root other r is slot fires. (root_is g mode grain other fires.term.range.signal fires.is_root).0 ∙ sym (root_is g mode grain root 0 is).0;
-}
-
-readings : (g : Global) (mode : Mode) (grain : Grain) (i : ℕ) → K9 (rising g) (rise_claims mode grain) i
-readings g mode grain i = record {
-  fixed = λ k r u seq point reads blocking cone. inr (inl (own_at i k r (needs g mode grain i k r (spot_at g i k point) reads)));
-}
-  where
-    own_at : (i : ℕ) (k : Todo) (r : BitRange) → Read g i k r → IsOwnEdge (rising g) (rise_claims mode grain) i r.signal
-    own_at _ _ _ Read.copies = own_edge g mode grain
-
-first_roots : (g : Global) (mode : Mode) (grain : Grain) (v : ℕ) → K10_Signal (rising g) (rise_claims mode grain) v
-first_roots g mode grain v = record {
-  once = λ i j k l root slot w late also. absurd (early_any g i v k (early_at g i k slot) w);
-  now = λ i k root slot w. early_any g i v k (early_at g i k slot) (inr w);
-  constant = λ i k root slot w. absurd (early_any g i v k (early_at g i k slot) (inl w));
-}
-
-first_slot : (g : Global) (mode : Mode) (grain : Grain) (i : ℕ) → K10_Process (rising g) (rise_claims mode grain) i
-first_slot g mode grain i = record {
-  variable = λ k r seq slot reads. absurd (no_early_needs g mode grain i k r (early_at g i k slot) reads);
-  written = λ k r seq slot reads. absurd (no_early_needs g mode grain i k r (early_at g i k slot) reads);
-  alone = λ k r j seq slot reads w. absurd (no_early_needs g mode grain i k r (early_at g i k slot) reads);
-  untouched = λ k u r prologue w needed cone. early_now g i u k (prologue_at g i k prologue) w;
-}
-
-keeping : (g : Global) (grain : Grain) → Keeping (rising g) (rise_claims private grain)
-keeping g grain = record {
-  names_signals = λ v. names_signals g private grain v;
-  names_assigns = λ j. no_assign g private grain j;
-  names_processes = λ i. names_processes g private grain i;
-  names_known = λ n name is. names_known g private grain n name is;
-  writers = λ v. writers g private grain v;
-  modes = λ v. modes g grain v;
-  order = λ x. order g private grain x;
-  blocks = λ i. blocks g private grain i;
-  roots = λ v. roots g private grain v;
-  edges = λ i. waits g private grain i;
-  residues = λ i. residues g private grain i;
-  readings = λ i. readings g private grain i;
-  first_roots = λ v. first_roots g private grain v;
-  first_slot = λ i. first_slot g private grain i;
-  starts = λ i start is. absurd (no_block g private grain i (start, is));
-}
-
--- ---- its certificate is one
-
-certificate : (mode : Mode) (grain : Grain) → IsCertificate (rise_claims mode grain)
-certificate mode grain = record {
-  version = inr refl;
-  displays = λ one. absurd (differ 2 1 refl one);
-  starts = λ p one has is. differ 2 1 refl one;
-  above = lit< tt;
-  below = lit≤ tt;
-  few_edges = lit≤ tt;
-  few_ordered = lit≤ tt;
-  few_processes = lit≤ tt;
-  few_signals = lit≤ tt;
-  lists = sound_lists (rise_claims mode grain).modulus (rise_claims mode grain).processes (one_list 2 (1 ∷ []) (record { few = lit≤ tt; rising = refl }), (tt, tt));
-}
-
-pub rise_keeps_the_rules : ARiseKeepsTheRules
-rise_keeps_the_rules g grain = keeps_rules (rising g) (rise_claims private grain) (rise_is_disciplined g grain).0 (certificate private grain) (keeping g grain)
-
--- ---- with a wrong mode
-
--- t#p1 writes `b` by `=`
-writes_b : (g : Global) → WritesNow (rising g) (copying g) 1
-unfolding out-Statement denote.Hole.Carrier.out
-writes_b g = one_listed g (slice_range (the_bit 1))
-
-copying_point : (g : Global) → IsPoint (rising g) 1 (copying g)
-unfolding out-Statement denote.Hole.Carrier.out
-copying_point g = Point.listens (listening g) (copying g) 0 (rise ∷ []) Point.begins (Among.first [])
-
-broken : (g : Global) (grain : Grain) → K3 (rising g) (rise_claims nonblocking grain) 1 → ⊥
-broken g grain h =
-    let there = h nonblocking refl in
-    never there.0 (writer_is g nonblocking grain 1 there.0 there.1) there.2.1
-  where
-    never : (i : ℕ) → Written i 1 → NeverNow (rising g) 1 i → ⊥
-    never _ Written.second none = none (copying g) (copying_point g) (writes_b g)
-
-lesser : (g : Global) (grain : Grain) (j : Rule) → number j < 3 → KeepsAll (rising g) (rise_claims nonblocking grain) j
-lesser g grain k1 below =
-    names_kept (rising g) (rise_claims nonblocking grain) (names_signals g nonblocking grain) (λ j. no_assign g nonblocking grain j) (names_processes g nonblocking grain) (names_known g nonblocking grain)
-lesser g grain k2 below = writers_kept (rising g) (rise_claims nonblocking grain) (writers g nonblocking grain)
-lesser g grain k3 below = absurd (omega (arith, below))
-lesser g grain k4 below = absurd (omega (arith, below))
-lesser g grain k5 below = absurd (omega (arith, below))
-lesser g grain k6 below = absurd (omega (arith, below))
-lesser g grain k7 below = absurd (omega (arith, below))
-lesser g grain k8 below = absurd (omega (arith, below))
-lesser g grain k9 below = absurd (omega (arith, below))
-lesser g grain k10 below = absurd (omega (arith, below))
-lesser g grain k11 below = absurd (omega (arith, below))
-
-pub wrong_mode_is_told : AWrongModeIsTold
-wrong_mode_is_told g grain = record {
-  below = λ j below. lesser g grain j below;
-  n = 1;
-  subject = signal 1;
-  is = refl;
-  told = refl;
-  first = λ m s below is. first_kept m s below is;
-  broken = broken g grain;
-}
-  where
-    first_kept : (m : ℕ) (s : Subject) → m < 1 → slice_get (subjects (rising g) (rise_claims nonblocking grain)) m ≡ Some s → Keeps (rising g) (rise_claims nonblocking grain) k3 s
-    first_kept zero s below is = subst (Keeps (rising g) (rise_claims nonblocking grain) k3) (same_Some (signal 0) s is) (root_mode g nonblocking grain)
-    first_kept (suc m) s below is = absurd (omega (arith, below))
+pub rise_is_disciplined : ARiseIsDisciplined
+rise_is_disciplined g grain = (formed g, record { roles = no_blocks; grained = λ k is. absurd (false≢true is); follows = λ k is. absurd (false≢true is); exclusive = λ k l v is. absurd (false≢true is); starts = λ k is. absurd (false≢true is); unstarted = λ k l q r is. absurd (false≢true is); first = λ i k u r th is at_k. absurd (false≢true at_k); ordered = ordered g; edges = edges g; apart = apart g grain }, fires g grain)

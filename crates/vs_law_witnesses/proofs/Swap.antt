@@ -8,10 +8,10 @@ use Rattle.vs_design.specs.declared.design.Process.{Process}
 use Rattle.vs_design.specs.declared.signal.Signal.{Signal}
 use Rattle.vs_design.specs.declared.statement.Statement.{Statement, out-Statement}
 use Rattle.vs_design.specs.WellFormed.{WellFormed, is_sound_process, is_sound_statement, numbers}
-use Rattle.vs_law_examples.specs.Mirror.{one_of}
-use Rattle.vs_law_examples.specs.Race.{initially, target}
-use Rattle.vs_law_examples.specs.Rise.{rise}
-use Rattle.vs_law_examples.proofs.Race.{numbers_assign, reads_number, size_number, sound_assign}
+use Rattle.vs_law_witnesses.specs.Mirror.{one_of}
+use Rattle.vs_law_witnesses.specs.Race.{initially, target}
+use Rattle.vs_law_witnesses.specs.Rise.{rise}
+use Rattle.vs_law_witnesses.proofs.Race.{numbers_assign, reads_number, size_number, sound_assign}
 use Rattle.vs_law_witnesses.specs.Swap.{always, clock, each_rise, five, half, inverse, on_rise, sets, swapping, turned}
 use Rattle.vs_law_witnesses.proofs.Texts.{numbers_delay, numbers_event, numbers_forever, reads_inverse, size_inverse, sound_delay, sound_event, sound_forever}
 

@@ -14,11 +14,11 @@ use Rattle.vs_design.specs.declared.statement.Statement.{out-Statement}
 use Rattle.vs_design.specs.declared.expression.Typed.TheVariants as e
 use Rattle.vs_design.specs.WellFormed.{WellFormed, is_sound_assignment}
 use Rattle.vs_law_rules.specs.vs_process.specs.declared.moves.Grain.{Grain}
-use Rattle.vs_flatcode.specs.Landings.{todo_behind}
-use Rattle.vs_flatcode.specs.Places.{Todo}
-use Rattle.vs_flatcode.specs.Steps.{Next}
-use Rattle.vs_law_examples.specs.Race.{bit, operand, target}
-use Rattle.vs_law_examples.proofs.Race.{reads_number, reads_operand, size_operand, value_number}
+use Rattle.vs_process.specs.Landings.{todo_behind}
+use Rattle.vs_process.specs.Places.{Todo}
+use Rattle.vs_process.specs.Steps.{Next}
+use Rattle.vs_law_witnesses.specs.Race.{bit, operand, target}
+use Rattle.vs_law_witnesses.proofs.Race.{reads_number, reads_operand, size_operand, value_number}
 use Rattle.vs_rules.specs.Claims.{Name, blocking, nonblocking, all_names, claim_of, edge_names, edge_signals, process_names, signal_names, second_in, times_in, writer_in, IsSignalNamed, IsProcessNamed, IsWriter, IsSecond, IsRootOf, IsRoot}
 use Rattle.vs_rules.specs.Constants.{zero as known_zero}
 use Rattle.vs_rules.specs.Controls.{controls_of, list_of}

@@ -16,13 +16,13 @@ use Rattle.vs_law_rules.specs.vs_process.specs.declared.moves.Move.{Move}
 use Rattle.vs_law_rules.specs.vs_process.specs.declared.moves.Move.TheVariants.{Step, EndSlot}
 use Rattle.vs_law_rules.specs.vs_process.specs.Executions.{after, allowed, apply, ended_slot, is_by, is_complete, is_enabled, is_kept_out, Legal, slots, trace}
 use Rattle.vs_law_rules.specs.vs_process.specs.States.{State, start}
-use Rattle.vs_flatcode.specs.declared.gait.Gait.TheVariants.{Fresh, Inside, Woken}
-use Rattle.vs_flatcode.specs.Places.{perform, Place, Todo, ended, going, sleeping, waiting}
+use Rattle.vs_process.specs.declared.gait.Gait.TheVariants.{Fresh, Inside, Woken}
+use Rattle.vs_process.specs.Places.{perform, Place, Todo, ended, going, sleeping, waiting}
 use Rattle.vs_law_rules.specs.vs_independence.specs.Discipline.{Independent}
-use Rattle.vs_rules.specs.vs_law_threads.specs.Edges.{one_bit}
-use Rattle.vs_law_examples.specs.Race.{operand, target}
-use Rattle.vs_law_examples.specs.Rise.{rise}
-use Rattle.vs_law_examples.proofs.Race.{numbers_assign, reads_operand, size_operand, sound_assign, value_number}
+use Rattle.vs_rules.specs.vs_threads.specs.Edges.{one_bit}
+use Rattle.vs_law_witnesses.specs.Race.{operand, target}
+use Rattle.vs_law_witnesses.specs.Rise.{rise}
+use Rattle.vs_law_witnesses.proofs.Race.{numbers_assign, reads_operand, size_operand, sound_assign, value_number}
 use Rattle.vs_law_rules.proofs.Ruled.{rules_make_independent}
 use Rattle.vs_law_witnesses.specs.Swap.{ARaceOfEdgesKeepsNoRules, clock, copies_now, each_rise, sets, swapping_now, turned}
 use Rattle.vs_law_witnesses.proofs.Swap.{IsSoundBody, formed, signals_of}

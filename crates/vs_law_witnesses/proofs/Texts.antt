@@ -28,12 +28,12 @@ use Rattle.vs_design.specs.WellFormed.{are_sound_terms, is_sound_assignment, is_
 use Rattle.vs_eval.specs.Values.{chained, operand_value, value_of, value_step}
 use Rattle.vs_design.specs.Parts.{Parts}
 use Rattle.vs_law_rules.specs.vs_process.specs.Examples.{between}
-use Rattle.vs_flatcode.specs.Landings.{todo_behind}
-use Rattle.vs_flatcode.specs.Places.{Todo}
-use Rattle.vs_flatcode.specs.Steps.{Next, on, after, wait}
-use Rattle.vs_law_writes.specs.Writes.{statement_writes, statement_writes_step}
-use Rattle.vs_law_examples.specs.Race.{boxed, operand}
-use Rattle.vs_law_examples.proofs.Race.{reads_operand, size_operand}
+use Rattle.vs_process.specs.Landings.{todo_behind}
+use Rattle.vs_process.specs.Places.{Todo}
+use Rattle.vs_process.specs.Steps.{Next, on, after, wait}
+use Rattle.vs_threads.specs.Writes.{statement_writes, statement_writes_step}
+use Rattle.vs_law_witnesses.specs.Race.{boxed, operand}
+use Rattle.vs_law_witnesses.proofs.Race.{reads_operand, size_operand}
 use Rattle.vs_law_witnesses.specs.Swap.{inverse}
 use Rattle.vs_rules.specs.Controls.{controls_in, controls_step}
 use Rattle.vs_rules.specs.Claims.{Name}

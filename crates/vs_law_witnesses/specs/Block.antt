@@ -20,8 +20,8 @@ use Rattle.vs_design.specs.declared.statement.Ticks.{Ticks}
 use Rattle.vs_design.specs.Parts.{Parts}
 use Rattle.vs_design.specs.Uses.{whole}
 use Rattle.vs_law_rules.specs.vs_process.specs.declared.moves.Grain.TheVariants.{Block}
-use Rattle.vs_law_examples.specs.Race.{bit, boxed, initially, letter, name, nanosecond, operand, target}
-use Rattle.vs_law_examples.specs.Mirror.{one_of}
+use Rattle.vs_law_witnesses.specs.Race.{bit, boxed, initially, letter, name, nanosecond, operand, target}
+use Rattle.vs_law_witnesses.specs.Mirror.{one_of}
 use Rattle.vs_rules.specs.Claims.{Name, Claims, SignalClaim, Start, sources, net, block, delays, combinational, nonblocking}
 use Rattle.vs_law_witnesses.specs.Kept.{KeepsRules}
 use Rattle.vs_law_witnesses.specs.Names.{assign_in_t, process_in_t, signal_in_t}

@@ -18,7 +18,7 @@ use Rattle.vs_design.specs.declared.statement.Statement.TheVariants as y
 use Rattle.vs_design.specs.Parts.{Parts}
 use Rattle.vs_law_rules.specs.vs_process.specs.declared.moves.Grain.TheVariants.{Block}
 use Rattle.vs_law_rules.specs.vs_process.specs.Examples.{mixer}
-use Rattle.vs_law_examples.specs.Race.{bit, letter, name, nanosecond, path, target}
+use Rattle.vs_law_witnesses.specs.Race.{bit, letter, name, nanosecond, path, target}
 use Rattle.vs_rules.specs.Claims.{Name, Claims, SignalClaim, Start, starter, block, delays, combinational, nonblocking}
 use Rattle.vs_law_witnesses.specs.Block.{no_ticks}
 use Rattle.vs_law_witnesses.specs.Kept.{KeepsRules}

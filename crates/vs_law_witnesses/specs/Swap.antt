@@ -19,9 +19,9 @@ use Rattle.vs_design.specs.Parts.{Parts}
 use Rattle.vs_design.specs.WellFormed.{WellFormed}
 use Rattle.vs_law_rules.specs.vs_process.specs.declared.moves.Grain.{Grain}
 use Rattle.vs_law_rules.specs.vs_independence.specs.Discipline.{Independent}
-use Rattle.vs_law_examples.specs.Mirror.{one_of}
-use Rattle.vs_law_examples.specs.Race.{bit, boxed, initially, letter, name, nanosecond, operand, target}
-use Rattle.vs_law_examples.specs.Rise.{rise}
+use Rattle.vs_law_witnesses.specs.Mirror.{one_of}
+use Rattle.vs_law_witnesses.specs.Race.{bit, boxed, initially, letter, name, nanosecond, operand, target}
+use Rattle.vs_law_witnesses.specs.Rise.{rise}
 use Rattle.vs_rules.specs.Claims.{Claims, edges, delays, blocking, nonblocking}
 use Rattle.vs_rules.specs.Verdict.{Disciplined}
 use Rattle.vs_law_witnesses.specs.Block.{no_ticks}

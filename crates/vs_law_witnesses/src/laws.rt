@@ -1,46 +1,33 @@
-//! Designs that keep the rules of a certificate, and designs that keep those of none.
-ghost use Rattle.vs_law_witnesses.specs.Block.{ABlockAtANetKeepsTheRules, ABlockKeepsTheRules};
-ghost use Rattle.vs_law_witnesses.specs.Mixer.{AMixerKeepsTheRules};
-ghost use Rattle.vs_law_witnesses.specs.Race.{ARaceKeepsNoRules};
-ghost use Rattle.vs_law_witnesses.specs.Rise.{ARiseKeepsTheRules, AWrongModeIsTold};
-ghost use Rattle.vs_law_witnesses.specs.Swap.{AClockedDesignKeepsTheRules, ARaceOfEdgesKeepsNoRules};
+//! Designs that are disciplined, and one that is not.
+ghost use Rattle.vs_law_witnesses.specs.Carry.{ACarryIsDisciplined};
+ghost use Rattle.vs_law_witnesses.specs.Lines.{LinesAreSeen};
+ghost use Rattle.vs_law_witnesses.specs.Mirror.{ABlockIsDisciplined};
+ghost use Rattle.vs_law_witnesses.specs.Race.{ARaceIsSeen};
+ghost use Rattle.vs_law_witnesses.specs.Rise.{ARiseIsDisciplined};
 
-/// A well formed design in which a write of one process fires another one, which reads the signal that fired it, keeps the rules of a certificate.
-pub fn a_rise_keeps_the_rules()
-    ensures { ARiseKeepsTheRules }
+/// A well formed design in which two processes write one signal at once is independent at no grain: the definition says something.
+pub fn a_race_is_seen()
+    ensures { ARaceIsSeen }
 {}
 
-/// Under a certificate that claims another mode of a signal it breaks a rule, and which and where is told.
-pub fn a_wrong_mode_is_told()
-    ensures { AWrongModeIsTold }
+/// A well formed design in which a process prints by `$display` what another one writes at once prints alike at no grain: that definition says
+/// something too.
+pub fn lines_are_seen()
+    ensures { LinesAreSeen }
 {}
 
-/// A well formed design with a combinational block keeps the rules of a certificate, with each start that a block can have.
-pub fn a_block_keeps_the_rules()
-    ensures { ABlockKeepsTheRules }
+/// A well formed design whose continuous assignments drive bits of one net, each by the one before, is disciplined: a chain through a net is no circle.
+pub fn a_carry_is_disciplined()
+    ensures { ACarryIsDisciplined }
 {}
 
-/// So does one whose block waits for a net that copies the variable, with both starts that it can have then.
-pub fn a_block_at_a_net_keeps_the_rules()
-    ensures { ABlockAtANetKeepsTheRules }
+/// A well formed design with a combinational block is disciplined at grain block: what is asked of blocks can be met.
+pub fn a_block_is_disciplined()
+    ensures { ABlockIsDisciplined }
 {}
 
-/// So does one whose block writes two variables, and reads the first for the second, with the two starts of a certificate of version 1.
-pub fn a_mixer_keeps_the_rules()
-    ensures { AMixerKeepsTheRules }
-{}
-
-/// A well formed design of a clock and two processes that exchange two bits by `<=` at its rising edges keeps the rules of a certificate.
-pub fn a_clocked_design_keeps_the_rules()
-    ensures { AClockedDesignKeepsTheRules }
-{}
-
-/// A design in which two processes write one signal at once keeps the rules of no certificate.
-pub fn a_race_keeps_no_rules()
-    ensures { ARaceKeepsNoRules }
-{}
-
-/// A well formed design in which two processes exchange two bits by `=` at one clock edge is not independent, and keeps the rules of no certificate.
-pub fn a_race_of_edges_keeps_no_rules()
-    ensures { ARaceOfEdgesKeepsNoRules }
+/// A well formed design in which a write of one process fires another one, which reads the signal that fired it, is disciplined; and some execution
+/// of it does so: event controls are no hole in the definition.
+pub fn a_rise_is_disciplined()
+    ensures { ARiseIsDisciplined }
 {}

@@ -8,3 +8,10 @@ pub mod Choices
 pub mod Selects
 pub mod Expressions
 pub mod Lefts
+pub mod Parts
+pub mod ListsLists
+pub mod Forms
+pub mod Blocks
+pub mod Labels
+pub mod Tasks
+pub mod ListsTrees

@@ -1,17 +1,29 @@
 //! Reading single tokens, expressions and the left sides of assignments (IEEE 1364-2005, clauses A.8.3 to A.8.6).
+//! Reading lists with commas, what declarations say of their names, names of blocks, labels, and what stands behind system tasks (IEEE
+//! 1364-2005, clauses A.2 and A.6).
 #![tactic(auto)]
 
 mod expression;
+mod form;
 mod head;
+mod label;
 mod left_side;
+mod list;
+mod local;
 mod operator;
 mod reading;
+mod task;
 mod token;
 
 pub use expression::expr;
+pub use form::{declared, declared_form, declared_range};
 pub use head::begins_expr;
+pub use label::case_label;
 pub use left_side::{left, name_selects};
+pub use list::{Element, ended, listed, others};
+pub use local::{BlockName, naming};
 pub use reading::{Parsed, ReadFault};
+pub use task::{dump_stmt, finish_stmt, print_stmt};
 pub use token::{
     SystemName, expect_mark, expect_name, expect_word, literal, mark_at, next, system_name, word_at,
 };

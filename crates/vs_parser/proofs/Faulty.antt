@@ -18,9 +18,9 @@ use Rattle.vs_syntax.proofs.Refused.{front_of, front_text, refused}
 use Rattle.vs_syntax.proofs.Viable.{viable}
 use Rattle.vs_syntax.proofs.Beginnings.{stuck_there}
 use Rattle.vs_syntax.proofs.Deeper.{deeper}
-use Rattle.vs_parse_items.specs.vs_parse_expressions.specs.declared.reading.ReadFault.{ReadFault}
-use Rattle.vs_parse_items.specs.vs_parse_expressions.specs.declared.reading.ReadFault.TheVariants as stop
-use Rattle.vs_parse_items.specs.vs_parse_expressions.specs.Answers.{seen, FailsToRead}
+use Rattle.vs_parser.specs.vs_parse_expressions.specs.declared.reading.ReadFault.{ReadFault}
+use Rattle.vs_parser.specs.vs_parse_expressions.specs.declared.reading.ReadFault.TheVariants as stop
+use Rattle.vs_parser.specs.vs_parse_expressions.specs.Answers.{seen, FailsToRead}
 use Rattle.vs_parser.specs.declared.fault.ParseFault.{ParseFault}
 use Rattle.vs_parser.specs.declared.fault.ParseFault.TheVariants as f
 use Rattle.vs_parser.specs.Faults.{Halts, StopsAt, IsWrong, IsTooDeep, IsUnfinished, IsRefused}

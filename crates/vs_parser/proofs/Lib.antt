@@ -1,3 +1,15 @@
+pub mod Heads
+pub mod Assignments
+pub mod Controls
+pub mod Statements
+pub mod Timings
+pub mod Declarations
+pub mod Headers
+pub mod InstanceLemmas
+pub mod PortLemmas
+pub mod Trees
+pub mod ItemsHeads
+pub mod Generated
 pub mod Modules
 pub mod Sources
 pub mod Faulty

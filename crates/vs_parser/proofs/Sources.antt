@@ -17,11 +17,11 @@ use Rattle.vs_syntax.specs.Reading.{Gets, Stuck, stuck_left, stuck_many}
 use Rattle.vs_syntax.specs.Views.{module_tree, directive_tree, directed_trees}
 use Rattle.vs_syntax.specs.declared.tree.Module.{Module}
 use Rattle.vs_syntax.proofs.Gets.{gets_token, gets_left, gets_right}
-use Rattle.vs_parse_items.specs.vs_parse_expressions.specs.Answers.{seen}
-use Rattle.vs_parse_items.specs.vs_parse_expressions.proofs.Exits.{goes_at}
-use Rattle.vs_parse_items.specs.vs_parse_expressions.proofs.Rows.{Along, along_none, along_one}
-use Rattle.vs_parser.specs.declared.head.SourceHead.{SourceHead}
-use Rattle.vs_parser.specs.Heads.{source_symbol, module_or_directive}
+use Rattle.vs_parser.specs.vs_parse_expressions.specs.Answers.{seen}
+use Rattle.vs_parser.specs.vs_parse_expressions.proofs.Exits.{goes_at}
+use Rattle.vs_parser.specs.vs_parse_expressions.proofs.Rows.{Along, along_none, along_one}
+use Rattle.vs_parser.specs.declared.parser_head.SourceHead.{SourceHead}
+use Rattle.vs_parser.specs.ParserHeads.{source_symbol, module_or_directive}
 
 -- the trees of modules, and of the directives behind them
 abbrev pub source_trees : List Module → List Directive → List Tree

@@ -5,9 +5,9 @@ use Rattle.std.specs.Str.{bytes_eq}
 use Rattle.vs_syntax.specs.Symbols.{Symbol, another, system_names, symbol_named, system_symbol}
 use Rattle.vs_syntax.proofs.Least.{not_true}
 use Rattle.vs_syntax.specs.vs_logic4.proofs.Basics.{and_left, and_right}
-use Rattle.vs_parse_items.specs.vs_parse_expressions.specs.declared.token.SystemName.{SystemName}
-use Rattle.vs_parse_items.specs.vs_parse_expressions.specs.declared.token.SystemName.TheVariants as n
-use Rattle.vs_parse_items.specs.vs_parse_expressions.specs.Heads.{system_spelled}
+use Rattle.vs_parser.specs.vs_parse_expressions.specs.declared.token.SystemName.{SystemName}
+use Rattle.vs_parser.specs.vs_parse_expressions.specs.declared.token.SystemName.TheVariants as n
+use Rattle.vs_parser.specs.vs_parse_expressions.specs.Heads.{system_spelled}
 use Rattle.vs_parser.specs.LeftOut.{is_no_system}
 
 -- whether a symbol is of a token that no rule of the grammar has

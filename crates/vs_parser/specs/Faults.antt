@@ -7,9 +7,9 @@ use Rattle.vs_syntax.specs.Derivation.{Tree, tokens, height, Is}
 use Rattle.vs_syntax.specs.Derives.{IsSource, BeginsSource}
 use Rattle.vs_parser.specs.declared.fault.ParseFault.{ParseFault}
 use Rattle.vs_parser.specs.declared.fault.ParseFault.TheVariants as f
-use Rattle.vs_parse_items.specs.vs_parse_expressions.specs.declared.reading.ReadFault.{ReadFault}
-use Rattle.vs_parse_items.specs.vs_parse_expressions.specs.declared.reading.ReadFault.TheVariants as stop
-use Rattle.vs_parse_items.specs.vs_parse_expressions.specs.Answers.{seen}
+use Rattle.vs_parser.specs.vs_parse_expressions.specs.declared.reading.ReadFault.{ReadFault}
+use Rattle.vs_parser.specs.vs_parse_expressions.specs.declared.reading.ReadFault.TheVariants as stop
+use Rattle.vs_parser.specs.vs_parse_expressions.specs.Answers.{seen}
 use Rattle.vs_parser.specs.LeftOut.{is_left_out}
 
 -- The token is the first one with which the tokens begin no source; those before it begin one of a nesting of at most 256.

@@ -1,3 +1,9 @@
 pub mod Heads
+pub mod Timings
+pub use Rattle.vs_parse_expressions
+pub mod Ports
+pub mod ItemsHeads
+pub mod Generated
+pub mod ParserHeads
 pub mod LeftOut
 pub mod Faults

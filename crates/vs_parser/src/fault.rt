@@ -3,9 +3,9 @@ ghost use Rattle.std.specs.Prelude.{◌≡◌, IfOk};
 ghost use Rattle.vs_parser.specs.Faults.{fault_text};
 ghost use Rattle.vs_parser.specs.LeftOut.{is_left_out};
 
+use crate::vs_parse_expressions::system_name;
 use std::alloc::{AllocError, Global};
 use thiserror::Error;
-use vs_parse_items::vs_parse_expressions::system_name;
 use vs_syntax::vs_lexer::{Kind, Token};
 
 /// What is wrong with the tokens. The place of a token is that of its first byte in the source.

@@ -6,13 +6,13 @@ ghost use Rattle.vs_syntax.specs.Derivation.{Tree};
 ghost use Rattle.vs_syntax.specs.Derives.{Derives};
 ghost use Rattle.vs_syntax.specs.Views.{source_tree};
 ghost use Rattle.vs_parser.specs.declared.fault.ParseFault.TheVariants.{Memory};
-ghost use Rattle.vs_parse_items.specs.vs_parse_expressions.specs.Answers.{seen};
+ghost use Rattle.vs_parser.specs.vs_parse_expressions.specs.Answers.{seen};
 ghost use Rattle.vs_parser.specs.Faults.{IsRefused, IsTreeOf, Halts, StopsAt};
 
 use crate::fault::{ParseFault, left_out};
 use crate::source::source;
+use crate::vs_parse_expressions::{ReadFault, next};
 use std::alloc::Global;
-use vs_parse_items::vs_parse_expressions::{ReadFault, next};
 use vs_syntax::Source;
 use vs_syntax::vs_lexer::Token;
 

@@ -4,15 +4,12 @@ ghost use Rattle.vs_syntax.specs.vs_lex_tokens.specs.declared.token.Word.TheVari
 ghost use Rattle.vs_syntax.specs.Symbols.{a_word};
 ghost use Rattle.vs_syntax.specs.Grammar.{part, a_source, a_module};
 ghost use Rattle.vs_syntax.specs.Views.{module_tree, source_tree};
-ghost use Rattle.vs_parse_items.specs.vs_parse_expressions.specs.Answers.{seen, ReadsTree};
+ghost use Rattle.vs_parser.specs.vs_parse_expressions.specs.Answers.{seen, ReadsTree};
 
-use crate::head::{SourceHead, source_head};
+use crate::parser_head::{SourceHead, source_head};
+use crate::vs_parse_expressions::{Parsed, ReadFault, expect_mark, expect_name, expect_word};
+use crate::{header_parameters, header_ports, items};
 use std::alloc::Global;
-use vs_parse_items::items;
-use vs_parse_items::vs_parse_expressions::{
-    Parsed, ReadFault, expect_mark, expect_name, expect_word,
-};
-use vs_parse_items::vs_parse_headers::{header_parameters, header_ports};
 use vs_syntax::vs_lexer::{Directive, Mark, Token, Word};
 use vs_syntax::{Module, Source};
 

@@ -16,10 +16,10 @@ use Rattle.vs_eval.specs.Laws.{digit_of}
 use Rattle.vs_eval.specs.Targets.{assigned}
 use Rattle.vs_eval.specs.Values.{target_value}
 use Rattle.vs_process.specs.States.{State, AssignState, start_assign, touched, evaluated, settled, written_behind}
-use Rattle.vs_flatcode.specs.Steps.{assignment}
+use Rattle.vs_process.specs.Steps.{assignment}
 use Rattle.vs_process.specs.Idle.{IsIdle}
 use Rattle.vs_process.proofs.Digits.{Keeps, kept_digit, put_again, put_swapped, unnamed_keeps}
-use Rattle.vs_process.proofs.Lists.{map_at, map_cases, none_at, none_from, set_cases}
+use Rattle.vs_process.proofs.ProcessLists.{map_at, map_cases, none_at, none_from, set_cases}
 use Rattle.std.proofs.lemmas.Map.Keys.{any_passes_from_place as at_any}
 use Rattle.vs_design.specs.vs_logic4.proofs.Basics.{element_of as any_at, same_lists as same_gets}
 use Rattle.vs_process.proofs.Ranges.{IsFixed, assigned_fixed, assigned_names, fixed_write, present, same_sizes, uncovered_keeps}

@@ -9,14 +9,14 @@ use Rattle.vs_design.specs.Stores.{Store, put}
 use Rattle.vs_design.specs.Writes.{Write}
 use Rattle.vs_edges.specs.Waking.{wake_any}
 use Rattle.vs_eval.specs.Targets.{assigned}
-use Rattle.vs_flatcode.specs.declared.gait.Gait.TheVariants.{Fresh, Woken}
+use Rattle.vs_process.specs.declared.gait.Gait.TheVariants.{Fresh, Woken}
 use Rattle.vs_process.specs.declared.moves.Grain.TheVariants.{Block}
 use Rattle.vs_process.specs.declared.moves.Move.{Move}
 use Rattle.vs_process.specs.declared.moves.Move.TheVariants.{Step, Evaluate, Propagate, Make, Rouse, Activate, EndSlot}
-use Rattle.vs_flatcode.specs.Places.{Todo, Place, going, sleeping, inactive, waiting, ended, active_at, is_going, is_inside, start_place, flat}
+use Rattle.vs_process.specs.Places.{Todo, Place, going, sleeping, inactive, waiting, ended, active_at, is_going, is_inside, start_place, flat}
 use Rattle.vs_process.specs.States.{State, AssignState, Update, stepped, evaluate, propagate, propagate_value, make, roused, wakened, woken_at, place_behind, written_behind}
-use Rattle.vs_flatcode.specs.Places.{todo_of}
-use Rattle.vs_flatcode.specs.Steps.{step}
+use Rattle.vs_process.specs.Places.{todo_of}
+use Rattle.vs_process.specs.Steps.{step}
 use Rattle.vs_process.specs.Blocks.{BlocksExclude, InsideFollows, InsideGoesOn, NoneInsideFirst, inside_behind, inside_block, inside_from, is_inside_at, is_inside_block, is_inside_number, is_step_of_any}
 use Rattle.vs_process.specs.Executions.{after, allowed, apply, Legal, is_enabled, is_free, is_kept_out, is_step_of, is_combinational, if_some, ends, next_time, places_at}
 use Rattle.vs_process.specs.Permitted.{CanGo}

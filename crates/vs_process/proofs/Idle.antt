@@ -12,16 +12,16 @@ use Rattle.vs_design.specs.Writes.{Write, names}
 use Rattle.vs_eval.specs.Targets.{assigned}
 use Rattle.vs_process.specs.declared.moves.Grain.{Grain}
 use Rattle.vs_process.specs.declared.moves.Move.{Move}
-use Rattle.vs_flatcode.specs.Places.{Place}
-use Rattle.vs_flatcode.specs.Steps.{Out, step, assignment}
+use Rattle.vs_process.specs.Places.{Place}
+use Rattle.vs_process.specs.Steps.{Out, step, assignment}
 use Rattle.vs_process.specs.States.{State, AssignState, Update, place_behind, performed, stepped, written_behind, evaluate, propagate_value, propagate, make, roused}
-use Rattle.vs_flatcode.specs.Places.{todo_of}
+use Rattle.vs_process.specs.Places.{todo_of}
 use Rattle.vs_process.specs.Executions.{after, apply, Legal, ends, next_time}
 use Rattle.vs_process.specs.declared.moves.Move.TheVariants.{Step, Evaluate, Propagate, Make, Rouse, Activate, EndSlot}
 use Rattle.vs_process.specs.Idle.{HasValueIfIdle}
 use Rattle.vs_process.proofs.WellFormed.{IsVariable, NamesVariables, any_activated, is_sound_place, is_sound_todo, next_todo, drives_apart, sound_made, sound_next, sound_all_wakened, sound_place_behind, sound_places_at, sound_roused, sound_start_places, step_names, variable_undriven}
 use Rattle.vs_process.proofs.Assigns.{AssignsSound, assign_fixed, assign_of, idle_value, sound_behind, sound_evaluated, sound_propagated, sound_start, sound_written}
-use Rattle.vs_process.proofs.Lists.{all_set, any_without, list_all_like}
+use Rattle.vs_process.proofs.ProcessLists.{all_set, any_without, list_all_like}
 use Rattle.std.proofs.lemmas.Map.Keys.{any_passes_from_place as at_any}
 use Rattle.vs_design.specs.vs_logic4.proofs.Basics.{all_at}
 

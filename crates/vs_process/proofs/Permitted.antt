@@ -9,7 +9,7 @@ use Rattle.vs_design.specs.Writes.{Write, shares}
 use Rattle.vs_process.specs.declared.moves.Grain.{Grain}
 use Rattle.vs_process.specs.declared.moves.Move.{Move}
 use Rattle.vs_process.specs.declared.moves.Move.TheVariants.{Step, Evaluate, Propagate, Make, Rouse, Activate, EndSlot}
-use Rattle.vs_flatcode.specs.Places.{Place, is_going}
+use Rattle.vs_process.specs.Places.{Place, is_going}
 use Rattle.vs_process.specs.States.{State, AssignState, Update, stepped, evaluate, propagate, propagate_value, make}
 use Rattle.vs_process.specs.Executions.{is_first, is_busy, has_inactive, has_due, is_free, is_enabled, if_some, allowed, apply}
 use Rattle.vs_process.specs.Permitted.{Permitted, runs, evaluates, propagates, updates, rouses, activates, ends_slot, CanGo}

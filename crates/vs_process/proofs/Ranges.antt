@@ -26,7 +26,7 @@ use Rattle.vs_design.specs.WellFormed.{width_at, bits_or_all, have_common, share
 use Rattle.vs_design.specs.Writes.{Write, names}
 use Rattle.vs_eval.specs.Laws.{digit_in, digit_of}
 use Rattle.vs_eval.specs.Targets.{part_at, parts_from, assigned}
-use Rattle.vs_process.proofs.Lists.{all_of}
+use Rattle.vs_process.proofs.ProcessLists.{all_of}
 use Rattle.std.proofs.lemmas.Map.Keys.{any_passes_from_place as at_any}
 use Rattle.vs_design.specs.vs_logic4.proofs.Basics.{element_of as any_at, same_lists as same_gets}
 use Rattle.vs_process.proofs.Stores.{shape}

@@ -10,8 +10,8 @@ use Rattle.vs_design.specs.Stores.{Store, word_of, start_store, start_word, star
 use Rattle.vs_design.specs.Traces.{Slot}
 use Rattle.vs_design.specs.Writes.{Write}
 use Rattle.vs_eval.specs.Targets.{assigned}
-use Rattle.vs_flatcode.specs.Places.{Place, todo_of}
-use Rattle.vs_flatcode.specs.Steps.{step}
+use Rattle.vs_process.specs.Places.{Place, todo_of}
+use Rattle.vs_process.specs.Steps.{step}
 use Rattle.vs_process.specs.declared.moves.Move.{Move}
 use Rattle.vs_process.specs.declared.moves.Move.TheVariants.{Step, Evaluate, Propagate, Make, Rouse, Activate, EndSlot}
 use Rattle.vs_process.specs.States.{State, AssignState, Update, stepped, written_behind, evaluate, propagate_value, propagate, make}

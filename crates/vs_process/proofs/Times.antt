@@ -14,17 +14,17 @@ use Rattle.vs_design.specs.Stores.{Store, put}
 use Rattle.vs_design.specs.Writes.{Write}
 use Rattle.vs_edges.specs.Waking.{wake_any}
 use Rattle.vs_eval.specs.Targets.{assigned}
-use Rattle.vs_flatcode.specs.declared.gait.Gait.{Gait}
-use Rattle.vs_flatcode.specs.declared.gait.Gait.TheVariants.{Fresh, Woken}
+use Rattle.vs_process.specs.declared.gait.Gait.{Gait}
+use Rattle.vs_process.specs.declared.gait.Gait.TheVariants.{Fresh, Woken}
 use Rattle.vs_process.specs.declared.moves.Grain.{Grain}
 use Rattle.vs_process.specs.declared.moves.Move.{Move}
 use Rattle.vs_process.specs.declared.moves.Move.TheVariants.{Step, Evaluate, Propagate, Make, Rouse, Activate, EndSlot}
 use Rattle.vs_process.specs.Executions.{after, apply, Legal, allowed, is_enabled, is_free, is_busy, has_inactive, has_due, earlier, next_wake, next_update, next_time, ends, places_at, time_at, slot_behind, slots, ended_slot, is_by, trace}
-use Rattle.vs_flatcode.specs.Places.{Todo, Place, going, sleeping, inactive, waiting, ended, active_at, is_going, start_place, flat}
+use Rattle.vs_process.specs.Places.{Todo, Place, going, sleeping, inactive, waiting, ended, active_at, is_going, start_place, flat}
 use Rattle.vs_process.specs.States.{State, AssignState, Update, stepped, performed, evaluate, propagate, propagate_value, make, without, roused, woken_at, is_due, activated, paused, place_behind, updates_behind, wakened, written_behind}
-use Rattle.vs_flatcode.specs.Places.{todo_of}
-use Rattle.vs_flatcode.specs.Steps.{Next, on, Out, step}
-use Rattle.vs_flatcode.specs.Steps as steps
+use Rattle.vs_process.specs.Places.{todo_of}
+use Rattle.vs_process.specs.Steps.{Next, on, Out, step}
+use Rattle.vs_process.specs.Steps as steps
 use Rattle.vs_design.specs.vs_logic4.proofs.Basics.{past_due}
 
 -- ---- a fact of each element

@@ -2,7 +2,7 @@
 use Rattle.std.proofs.Common.{◌≡◌, if◌then◌else◌, refl}
 use Rattle.vs_design.specs.Stores.{Store}
 use Rattle.vs_edges.specs.Waking.{wake_any}
-use Rattle.vs_flatcode.specs.Places.{Place, going, sleeping, inactive, waiting, ended}
+use Rattle.vs_process.specs.Places.{Place, going, sleeping, inactive, waiting, ended}
 use Rattle.vs_process.specs.States.{terms_of, triggered, wakened}
 
 -- a process becomes active where a change wakes one of the terms that it waits for, and otherwise stays as it is

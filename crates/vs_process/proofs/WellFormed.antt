@@ -28,21 +28,21 @@ use Rattle.vs_design.specs.Stores.{Store, is_driven}
 use Rattle.vs_design.specs.Uses.{aim_range, covers, is_of, writes, writes_signal}
 use Rattle.vs_design.specs.WellFormed.{WellFormed, aim_width, is_of_variable, is_of_net, is_variable_aim, is_net_aim, is_sound_target, is_within, share_a_bit, size_of, is_source, is_sound_assignment, is_sound_assign, sound_step, is_sound_statement, is_sound_process, is_sound_operand, are_sound_labels, are_sound_terms, counts_from, numbers, is_body_of}
 use Rattle.vs_design.specs.Writes.{Write, names}
-use Rattle.vs_flatcode.specs.declared.gait.Gait.{Gait}
-use Rattle.vs_flatcode.specs.declared.gait.Gait.TheVariants.{Fresh, Woken}
-use Rattle.vs_flatcode.specs.Places.{Item, perform, turns, Todo, Place, going, sleeping, inactive, waiting, ended, active_at, stepped_gait, start_place, flat}
-use Rattle.vs_flatcode.specs.Drafts.{flat_all}
+use Rattle.vs_process.specs.declared.gait.Gait.{Gait}
+use Rattle.vs_process.specs.declared.gait.Gait.TheVariants.{Fresh, Woken}
+use Rattle.vs_process.specs.Places.{Item, perform, turns, Todo, Place, going, sleeping, inactive, waiting, ended, active_at, stepped_gait, start_place, flat}
+use Rattle.vs_process.specs.Drafts.{flat_all}
 use Rattle.vs_edges.specs.Waking.{wake_any}
-use Rattle.vs_flatcode.specs.Steps.{Next, on, after, wait, Out, step, statement_step, assignment, branch, item_matches, is_default, first_of, flat_item, taken, turns_for, repeated}
+use Rattle.vs_process.specs.Steps.{Next, on, after, wait, Out, step, statement_step, assignment, branch, item_matches, is_default, first_of, flat_item, taken, turns_for, repeated}
 use Rattle.vs_process.specs.States.{Update, activated, roused, place_behind, paused, updates_behind, wakened, woken_at}
-use Rattle.vs_flatcode.specs.Places.{todo_of}
+use Rattle.vs_process.specs.Places.{todo_of}
 use Rattle.vs_process.specs.Executions.{places_at}
 use Rattle.vs_eval.specs.Values.{target_value, value_of}
 use Rattle.vs_process.proofs.Assigns.{DrivesApart}
-use Rattle.vs_process.proofs.Lists.{all_slice, list_all_like, map_cases}
+use Rattle.vs_process.proofs.ProcessLists.{all_slice, list_all_like, map_cases}
 use Rattle.vs_design.specs.vs_logic4.proofs.Basics.{all_at, element_of as any_at}
 use Rattle.vs_process.proofs.Ranges.{assigned_names, distinct_flat, is_fixed, shares_covered}
-use Rattle.vs_flatcode.proofs.Shapes.{flat-Block}
+use Rattle.vs_process.proofs.Shapes.{flat-Block}
 
 -- ---- continuous assignments
 

@@ -5,7 +5,7 @@ use Rattle.vs_design.specs.Parts.{Parts}
 use Rattle.vs_process.specs.declared.moves.Grain.TheVariants.{Block}
 use Rattle.vs_process.specs.declared.moves.Move.{Move}
 use Rattle.vs_process.specs.declared.moves.Move.TheVariants.{Step}
-use Rattle.vs_flatcode.specs.Places.{Place, is_inside}
+use Rattle.vs_process.specs.Places.{Place, is_inside}
 use Rattle.vs_process.specs.States.{State, start}
 use Rattle.vs_process.specs.Executions.{after, allowed, apply, is_combinational, is_enabled, is_free, is_step_of, Legal}
 

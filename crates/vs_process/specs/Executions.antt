@@ -20,9 +20,9 @@ use Rattle.vs_process.specs.declared.moves.Grain.{Grain}
 use Rattle.vs_process.specs.declared.moves.Grain.TheVariants as g
 use Rattle.vs_process.specs.declared.moves.Move.{Move}
 use Rattle.vs_process.specs.declared.moves.Move.TheVariants.{Step, Evaluate, Propagate, Make, Rouse, Activate, EndSlot}
-use Rattle.vs_flatcode.specs.vs_strobe.specs.Lines.{full_line}
-use Rattle.vs_flatcode.specs.Places.{Place, todo_of, sleeping, is_going, is_inactive, is_inside}
-use Rattle.vs_flatcode.specs.Steps.{step}
+use Rattle.vs_process.specs.vs_strobe.specs.Lines.{full_line}
+use Rattle.vs_process.specs.Places.{Place, todo_of, sleeping, is_going, is_inactive, is_inside}
+use Rattle.vs_process.specs.Steps.{step}
 use Rattle.vs_process.specs.States.{AssignState, Update, Called, State, start, stepped, evaluate, propagate, make, roused, is_due, activated, woken_at}
 
 -- whether an update is activated and no older activated one names a signal that it names (clause 11.4.1; the free order between signals: profile)

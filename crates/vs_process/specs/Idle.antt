@@ -8,7 +8,7 @@ use Rattle.vs_process.specs.declared.moves.Grain.{Grain}
 use Rattle.vs_process.specs.declared.moves.Move.{Move}
 use Rattle.vs_process.specs.Executions.{after, Legal}
 use Rattle.vs_process.specs.States.{AssignState, State}
-use Rattle.vs_flatcode.specs.Steps.{assignment}
+use Rattle.vs_process.specs.Steps.{assignment}
 
 -- a continuous assignment that neither has to be evaluated nor has a value that waits to be written (clause 11.3)
 abbrev pub IsIdle : AssignState → Type 0

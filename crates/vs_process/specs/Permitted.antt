@@ -5,10 +5,10 @@ use Rattle.vs_design.specs.Parts.{Parts}
 use Rattle.vs_process.specs.declared.moves.Grain.{Grain}
 use Rattle.vs_process.specs.declared.moves.Move.{Move}
 use Rattle.vs_process.specs.declared.moves.Move.TheVariants.{Step, Evaluate, Propagate, Make, Rouse, Activate, EndSlot}
-use Rattle.vs_flatcode.specs.Places.{Place, is_going}
-use Rattle.vs_flatcode.specs.Steps.{step}
+use Rattle.vs_process.specs.Places.{Place, is_going}
+use Rattle.vs_process.specs.Steps.{step}
 use Rattle.vs_process.specs.States.{State, AssignState, Update, performed, evaluate, propagate_value, make, roused, activated}
-use Rattle.vs_flatcode.specs.Places.{todo_of}
+use Rattle.vs_process.specs.Places.{todo_of}
 use Rattle.vs_process.specs.Executions.{is_first, is_busy, has_inactive, has_due, is_free, slot_behind, allowed, apply, after, Legal}
 
 -- nothing is enabled but a change of region: no active event is left (clause 11.3)

@@ -13,11 +13,11 @@ use Rattle.vs_design.specs.Uses.{reads}
 use Rattle.vs_design.specs.Writes.{Write}
 use Rattle.vs_eval.specs.Targets.{assigned}
 use Rattle.vs_eval.specs.Values.{target_value}
-use Rattle.vs_flatcode.specs.vs_strobe.specs.Lines.{Format}
-use Rattle.vs_flatcode.specs.declared.gait.Gait.TheVariants.{Woken}
+use Rattle.vs_process.specs.vs_strobe.specs.Lines.{Format}
+use Rattle.vs_process.specs.declared.gait.Gait.TheVariants.{Woken}
 use Rattle.vs_edges.specs.Waking.{wake_any}
-use Rattle.vs_flatcode.specs.Places.{Todo, Place, going, sleeping, inactive, waiting, ended, active_at, stepped_gait, start_place, todo_of}
-use Rattle.vs_flatcode.specs.Steps.{Next, on, after, wait, Out, step}
+use Rattle.vs_process.specs.Places.{Todo, Place, going, sleeping, inactive, waiting, ended, active_at, stepped_gait, start_place, todo_of}
+use Rattle.vs_process.specs.Steps.{Next, on, after, wait, Out, step}
 
 -- a continuous assignment in a state: what it is, whether it has to be evaluated, and the value that waits to be written (clause 6.1; one pending value: profile)
 pub record AssignState : Type 0 where

@@ -1,17 +1,41 @@
+//! What a process still has to do, its steps (IEEE 1364-2005, clauses 9 and 11), and the flat code of processes.
 //! Executions of a design (IEEE 1364-2005, clause 11): states, moves, and what is permitted.
 #![tactic(auto)]
 
+mod changes;
+mod choice;
+mod choices;
+mod code;
 mod combinational;
+mod cursor;
+mod draft;
+mod gait;
+mod halt;
 mod laws;
 mod moves;
+mod process_laws;
+mod script;
+mod spot;
+mod spots;
+mod stops;
 
+pub use changes::{Change, make};
+pub use choice::{Case, Repeat, Turns};
+pub use code::{Code, compile};
 pub use combinational::is_combinational;
-pub use laws::{
+pub use cursor::Cursor;
+pub use gait::Gait;
+pub use halt::Halt;
+pub use laws::{controls_are_apart, one_place, ways_are};
+pub use moves::{Grain, Move};
+pub use process_laws::{
     blocks_are_told, blocks_exclude, idle_assigns_have_values, inside_follows, inside_goes_on,
     moves_are_permitted, never_stuck, none_inside_first, stores_are_sized, times_rise,
 };
-pub use moves::{Grain, Move};
+pub use script::{Action, Instruction, Script};
+pub use spot::Spot;
+pub use spots::{spot_of, spots_hold};
+pub use stops::{Stop, TextMap};
 pub use vs_edges;
 pub use vs_eval;
-pub use vs_flatcode;
-pub use vs_flatcode::{Change, Code, Gait, compile};
+pub use vs_strobe;

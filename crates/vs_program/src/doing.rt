@@ -22,7 +22,7 @@ use vs_program_words::vs_certificate::{CertFault, ClaimedGrain, written_reads_ba
 use vs_program_words::{Order, OutputText, Request, Subcommand};
 use vs_race::Race;
 use vs_race::vs_propose::{Proposal, propose};
-use vs_run_turns::Dropped;
+use vs_run_steps::Dropped;
 
 /// What a call did.
 #[derive(Drop)]

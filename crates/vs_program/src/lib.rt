@@ -26,4 +26,4 @@ pub use vs_program_words::{
     Call, Hunt, Order, OutputText, Request, Sources, Subcommand, WordsFault, read_words,
 };
 pub use vs_race;
-pub use vs_run_turns::Dropped;
+pub use vs_run_steps::Dropped;

@@ -3,7 +3,7 @@ ghost use Rattle.std.specs.Prelude.{◌≡◌, [], IfOk, IfSome, IsSome};
 ghost use Rattle.vs_cert_check.specs.Answers.{verdict_view, HasNumber};
 ghost use Rattle.vs_certificate.specs.JsonValue.{value_of};
 ghost use Rattle.vs_certificate.specs.Reading.{IsSound};
-ghost use Rattle.vs_propose_plan.specs.vs_propose_assigns.specs.Settling.{CanSettle};
+ghost use Rattle.vs_propose_plan.specs.Settling.{CanSettle};
 ghost use Rattle.vs_cert_check.specs.vs_rules.specs.Certificates.{claims_of};
 ghost use Rattle.vs_cert_check.specs.vs_rules.specs.Verdict.{Disciplined, IsVerdict};
 ghost use Rattle.vs_propose.specs.Proposals.{IsMade, IsProposal, MayBeProposal, AnswersMade, HasMade};
@@ -14,8 +14,7 @@ use vs_cert_check::vs_rules::tested_are_certificates;
 use vs_cert_check::{Verdict, check};
 use vs_certificate::{Certificate, ClaimedGrain, Version};
 use vs_design::Design;
-use vs_propose_plan::vs_propose_assigns::certificate_of_assigns;
-use vs_propose_plan::{Plan, certificate_of, moduli_of, plan_of};
+use vs_propose_plan::{Plan, certificate_of, certificate_of_assigns, moduli_of, plan_of};
 
 // What the verdict on a certificate comes to.
 fn proposal_of(

@@ -1,1 +1,3 @@
-pub use Rattle.vs_propose_assigns
+pub mod Settling
+pub mod Needs
+pub mod Claimed

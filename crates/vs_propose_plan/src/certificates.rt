@@ -2,13 +2,12 @@
 ghost use Rattle.std.specs.Prelude.{◌≡◌, IfOk, IfSome};
 
 use crate::plans::{EdgePlan, KindPlan, Plan, SignalPlan};
-use std::alloc::{AllocError, Global};
-use vs_design::{Design, Process, Signal};
-use vs_propose_assigns::text_of;
-use vs_propose_assigns::vs_certificate::{
+use crate::vs_certificate::{
     Certificate, ClaimedGrain, ClaimedKind, EdgeSignal, ProcessEntry, SignalEntry, Version,
 };
-use vs_propose_texts::text_lists;
+use crate::{text_lists, text_of};
+use std::alloc::{AllocError, Global};
+use vs_design::{Design, Process, Signal};
 
 // The path of a signal.
 fn signal_name(alloc: Global, design: &Design, v: usize) -> Result<String, AllocError> {

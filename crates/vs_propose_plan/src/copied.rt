@@ -4,7 +4,7 @@ use crate::plans::EdgePlan;
 use std::alloc::{AllocError, Global};
 use vs_design::vs_logic4::Edge;
 use vs_design::{Assign, Design, EventTerm, event_terms, writes};
-use vs_slots_copies::Copies;
+use vs_drivers::Copies;
 
 // Whether a term waits for an edge.
 fn is_edge(term: EventTerm) -> bool {

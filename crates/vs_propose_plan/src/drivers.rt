@@ -1,12 +1,12 @@
 //! An order in which drivers settle.
 
+use crate::vs_drivers::share;
+use crate::vs_graph::sorted;
+use crate::{TextFacts, TextKind};
 use std::alloc::{AllocError, Global};
 use vs_design::{Assign, BitRange, Design, SignalKind, Statement, event_terms, reads, writes};
-use vs_law_writes::statement_writes;
-use vs_propose_assigns::vs_propose_order::sorted;
-use vs_propose_assigns::vs_slots_ranges::share;
-use vs_propose_texts::{TextFacts, TextKind};
-use vs_slots_copies::vs_slots_paths::text_reads;
+use vs_drivers::vs_maps::text_reads;
+use vs_threads::statement_writes;
 
 // A range that a driver writes.
 #[derive(Clone, Copy)]

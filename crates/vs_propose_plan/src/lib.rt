@@ -1,17 +1,37 @@
+//! Certificates of designs without processes: one is found wherever there is one.
+//! What the texts of processes do, and at which times: what a certificate is proposed from. A certificate is tested once it is made, so nothing of
+//! this is promised.
 //! What is to be claimed of a design: a certificate to be tried. It is tested once it is made, so nothing of this is promised.
 #![tactic(auto)]
 
+mod arrivals;
 mod certificates;
+mod claims;
+mod cold;
 mod copied;
 mod drivers;
+mod facts;
+mod kinds;
+mod lists;
 mod modes;
 mod moduli;
+mod order;
+mod periods;
 mod plans;
 mod readers;
 mod starts;
 mod writers;
+mod writing;
 
 pub use certificates::certificate_of;
+pub use claims::{certificate_of_assigns, text_of};
+pub use cold::Trial;
+pub use facts::{TextFacts, text_facts, text_lists};
+pub use kinds::TextKind;
 pub use moduli::moduli_of;
+pub use periods::{Timing, common_divisor};
 pub use plans::{EdgePlan, KindPlan, Plan, SignalPlan, plan_of};
-pub use vs_propose_assigns;
+pub use vs_certificate;
+pub use vs_drivers;
+pub use vs_graph;
+pub use writing::SignalWrite;

@@ -2,11 +2,11 @@
 
 use crate::plans::SignalPlan;
 use crate::readers::{Readers, is_private, readers_of};
+use crate::vs_certificate::SignalMode;
 use crate::writers::Writer;
+use crate::{TextFacts, TextKind};
 use std::alloc::{AllocError, Global};
 use vs_design::{Design, SignalKind};
-use vs_propose_assigns::vs_certificate::SignalMode;
-use vs_propose_texts::{TextFacts, TextKind};
 
 // Whether one process may be the second of a signal whose writer is another one.
 fn may_be_second(second: Writer, writer: Writer) -> bool {

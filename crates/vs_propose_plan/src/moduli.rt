@@ -1,9 +1,9 @@
 //! By what residues may be counted.
 
 use crate::plans::{EdgePlan, Plan};
+use crate::{TextFacts, common_divisor};
 use std::alloc::{AllocError, Global};
 use vs_design::Design;
-use vs_propose_texts::{TextFacts, common_divisor};
 
 /// The greatest modulus of a certificate.
 const MAX_MODULUS: u64 = 1 << 32;

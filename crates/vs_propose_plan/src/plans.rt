@@ -4,11 +4,11 @@ use crate::copied::edge_plans;
 use crate::drivers::{Needs, driver_order, drivers_needed};
 use crate::modes::signal_plans;
 use crate::starts::kind_plans;
+use crate::vs_certificate::{SignalMode, Start};
 use crate::writers::writers_of;
+use crate::{TextFacts, text_facts};
 use std::alloc::{AllocError, Global};
 use vs_design::Design;
-use vs_propose_assigns::vs_certificate::{SignalMode, Start};
-use vs_propose_texts::{TextFacts, text_facts};
 
 /// What is to be claimed of a signal. Processes go by their numbers.
 #[derive(Clone, Copy)]

@@ -2,7 +2,7 @@
 
 use std::alloc::{AllocError, Global};
 use vs_design::Design;
-use vs_slots_copies::vs_slots_paths::text_reads;
+use vs_drivers::vs_maps::text_reads;
 
 /// Which processes read a signal.
 #[derive(Clone, Copy, PartialEq, Eq)]

@@ -3,11 +3,11 @@
 use crate::copied::roots_of;
 use crate::drivers::{Needs, driver_order, drivers_needed};
 use crate::plans::{KindPlan, SignalPlan};
+use crate::vs_certificate::{SignalMode, Start};
+use crate::{TextFacts, TextKind, Trial};
 use std::alloc::{AllocError, Global};
 use vs_design::{BitRange, Design, EventTerm, Statement, event_terms};
-use vs_law_writes::statement_writes;
-use vs_propose_assigns::vs_certificate::{SignalMode, Start};
-use vs_propose_texts::{TextFacts, TextKind, Trial};
+use vs_threads::statement_writes;
 
 // Whether one of some ranges is of a signal.
 fn is_written(written: &[BitRange], signal: usize) -> bool {

@@ -1,7 +1,7 @@
 //! Which processes write a signal, and when.
 
+use crate::{SignalWrite, TextFacts};
 use std::alloc::{AllocError, Global};
-use vs_propose_texts::{SignalWrite, TextFacts};
 
 /// What a process does to a signal.
 #[derive(Clone, Copy)]

@@ -5,8 +5,8 @@ use Rattle.vs_design.specs.Parts.{Parts}
 use Rattle.vs_design.specs.Traces.{SameTrace}
 use Rattle.vs_law_rules.specs.vs_process.specs.declared.moves.Grain.{Grain}
 use Rattle.vs_law_rules.specs.vs_process.specs.Executions.{trace}
-use Rattle.vs_vcd_law.specs.vs_vcd_writing.specs.Shown.{Shows, ShowsOne}
-use Rattle.vs_vcd_law.specs.vs_vcd_writing.specs.Text.{vcd_text}
+use Rattle.vs_vcd_reader.specs.vs_vcd_writing.specs.Shown.{Shows, ShowsOne}
+use Rattle.vs_vcd_reader.specs.vs_vcd_writing.specs.Text.{vcd_text}
 use Rattle.vs_law_rules.specs.vs_independence.specs.Discipline.{Independent}
 use Rattle.vs_certified.specs.vs_simulate.specs.Honesty.{Defines}
 use Rattle.vs_certified.proofs.CertifiedLemmas.{legal_at}

@@ -1,7 +1,7 @@
 //! The search for a race, from source bytes.
 ghost use Rattle.std.specs.Prelude.{◌≡◌, ◌<◌, ◌^◌, IfOk, IfErr, true};
 ghost use Rattle.vs_design.specs.OneLine.{HasNamesOfOneLine};
-ghost use Rattle.vs_vcd_law.specs.Conditions.{IsOutlined};
+ghost use Rattle.vs_vcd_reader.specs.Conditions.{IsOutlined};
 ghost use Rattle.vs_certified.specs.vs_simulate.specs.Honesty.{SimulationFails, is_refusal};
 ghost use Rattle.vs_race.specs.Races.{IsAnswer};
 ghost use Rattle.vs_race.specs.passes.Sightings.{IsSighting};
@@ -16,7 +16,7 @@ use vs_propose::{Proposal, propose};
 use vs_race_shown::vs_race_orders::{Search, Sought, find};
 use vs_race_shown::vs_read_back::outline_is_in_order;
 use vs_race_shown::{Witness, witness_of};
-use vs_vcd_law::vs_vcd_writing::shows_one_value;
+use vs_vcd_reader::vs_vcd_writing::shows_one_value;
 
 /// What the orders of a search show.
 #[derive(Drop)]

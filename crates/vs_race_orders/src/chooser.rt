@@ -3,7 +3,7 @@ ghost use Rattle.std.specs.Prelude.{◌<◌};
 
 use crate::span::Span;
 use std::alloc::Global;
-use vs_run_policies::Pick;
+use vs_run_regions::Pick;
 
 /// Of a hundred choices so many draw a new place, from one try to the next.
 const REDRAWN: [u64; 3] = [8, 20, 40];

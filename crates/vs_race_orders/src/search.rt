@@ -9,7 +9,7 @@ use crate::trial::{Bounds, Ended, Reference, reference_of, run_trial};
 use std::alloc::{AllocError, Global};
 use vs_design::Design;
 use vs_run_moves::codes_of;
-use vs_run_updates::vs_process::Code;
+use vs_run_regions::vs_process::Code;
 use vs_vcd_writing::WriterFault;
 
 /// What is sought, and how far.

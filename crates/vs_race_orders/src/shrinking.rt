@@ -7,7 +7,7 @@ use crate::span::Span;
 use crate::trial::{Bounds, Ended, Reference, run_trial};
 use std::alloc::{AllocError, Global};
 use vs_design::Design;
-use vs_run_updates::vs_process::Code;
+use vs_run_regions::vs_process::Code;
 use vs_vcd_writing::WriterFault;
 
 /// The most runs that are made to find one delay that is enough.

@@ -6,12 +6,11 @@ use crate::chooser::Chooser;
 use crate::comparing::Comparing;
 use std::alloc::Global;
 use vs_design::Design;
-use vs_run_moves::vs_run_turns::Dropped;
+use vs_run_moves::vs_run_steps::Dropped;
 use vs_run_moves::{Run, scripts_of};
-use vs_run_policies::{Fifo, Pick};
-use vs_run_updates::Due;
-use vs_run_updates::vs_process::Code;
-use vs_run_updates::vs_time_wheel::{EventQueue, Wheel};
+use vs_run_regions::vs_process::Code;
+use vs_run_regions::vs_time_wheel::{EventQueue, Wheel};
+use vs_run_regions::{Due, Fifo, Pick};
 use vs_vcd_writing::{Counted, Sink, WriterFault};
 
 /// The first time that no run reaches, in ticks.

@@ -5,7 +5,7 @@ use Rattle.vs_design.specs.declared.design.Process.{Process}
 use Rattle.vs_design.specs.declared.statement.Statement.{Statement}
 use Rattle.vs_design.specs.Parts.{Parts}
 use Rattle.vs_design.specs.WellFormed.{WellFormed, counts_from, is_body_of, is_sound_process, is_sound_statement, numbers}
-use Rattle.vs_run_processes.specs.vs_process.proofs.Lists.{all_slice, map_cases}
+use Rattle.vs_run_active.specs.vs_process.proofs.ProcessLists.{all_slice, map_cases}
 use Rattle.vs_run_steps.specs.declared.run.RunState.{RunState}
 use Rattle.vs_run_steps.specs.Runs.{IsRunOf}
 

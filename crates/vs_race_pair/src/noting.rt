@@ -7,10 +7,10 @@ use crate::tracks::{Tracks, number_at, put};
 use std::alloc::{AllocError, Global};
 use vs_design::{Design, Statement, Store, Target, Typed};
 use vs_eval_resolved::vs_eval::{cut_value, write_of};
-use vs_flatcode::TextMap;
-use vs_run_events::vs_run_listed::Event;
-use vs_run_start::vs_run_updates::Due;
-use vs_run_start::vs_run_updates::vs_time_wheel::EventQueue;
+use vs_process::TextMap;
+use vs_run_events::vs_run_regions::Event;
+use vs_run_moves::vs_run_regions::Due;
+use vs_run_moves::vs_run_regions::vs_time_wheel::EventQueue;
 use vs_run_steps::RunState;
 
 /// The most bits of a word.

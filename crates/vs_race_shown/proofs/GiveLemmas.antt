@@ -18,18 +18,18 @@ use Rattle.vs_kernel.specs.vs_vcd_writing.specs.Codes.{shown}
 use Rattle.vs_kernel.specs.vs_vcd_writing.specs.Shown.{Shows, slot_at}
 use Rattle.vs_kernel.specs.vs_vcd_writing.specs.Text.{vcd_header, vcd_slots, vcd_text}
 use Rattle.vs_kernel.specs.vs_vcd_writing.specs.Values.{shown_value}
-use Rattle.vs_vcd_law.specs.vs_vcd_reading.specs.declared.dump.Dump.{Dump}
-use Rattle.vs_vcd_law.specs.vs_vcd_reading.specs.Layout.{IsDump}
-use Rattle.vs_vcd_law.specs.vs_vcd_reading.specs.Plain.{PlainDump, plain_dump}
-use Rattle.vs_vcd_law.specs.Conditions.{IsOutlined}
-use Rattle.vs_vcd_law.specs.Values.{values_at}
-use Rattle.vs_read_back.specs.vs_run_dumps.specs.ReadBack.{CompleteRunsEndSlots, DumpsReadBack, ReadsBack, dump_so_far}
-use Rattle.vs_read_back.specs.vs_run_dumps.proofs.ClockLemmas.{BeginsAtZero, clocked}
+use Rattle.vs_vcd_reader.specs.declared.dump.Dump.{Dump}
+use Rattle.vs_vcd_reader.specs.Layout.{IsDump}
+use Rattle.vs_vcd_reader.specs.Plain.{PlainDump, plain_dump}
+use Rattle.vs_vcd_reader.specs.Conditions.{IsOutlined}
+use Rattle.vs_vcd_reader.specs.Values.{values_at}
+use Rattle.vs_read_back.specs.ReadBack.{CompleteRunsEndSlots, DumpsReadBack, ReadsBack, dump_so_far}
+use Rattle.vs_read_back.proofs.ClockLemmas.{BeginsAtZero, clocked}
 use Rattle.vs_kernel.specs.Runs.{RanTo, text_so_far}
 use Rattle.vs_kernel.specs.Shows.{DumpsShow}
 use Rattle.vs_kernel.specs.declared.outcome.Outcome.{Outcome}
-use Rattle.vs_read_back.specs.ReadBack.{is_whole}
-use Rattle.vs_read_back.proofs.EndLemmas.{whole_complete}
+use Rattle.vs_read_back.specs.BackReadBack.{is_whole}
+use Rattle.vs_read_back.proofs.BackEndLemmas.{whole_complete}
 use Rattle.vs_race_shown.specs.passes.Unequal.{Give}
 use Rattle.vs_race_shown.specs.Witnesses.{Gives}
 

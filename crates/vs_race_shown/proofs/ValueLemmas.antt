@@ -4,11 +4,11 @@ use Rattle.std.proofs.lemmas.Bool.{cond-true, cond-false, le-leb, lt-leb}
 use Rattle.std.proofs.lemmas.List.{drop_more, drop_all}
 use Rattle.std.specs.Prelude.{nat_le, if◌then◌else◌}
 use Rattle.vs_design.specs.vs_logic4.specs.declared.digit.Digit.{Digit}
-use Rattle.vs_vcd_law.specs.Values.{values_after, values_at}
-use Rattle.vs_vcd_law.specs.vs_vcd_reading.specs.declared.dump.Moment.{Moment}
-use Rattle.vs_vcd_law.specs.vs_vcd_reading.specs.vs_vcd_lines.specs.declared.dump.ValueChange.{ValueChange}
-use Rattle.vs_vcd_law.specs.vs_vcd_reading.specs.Layout.{values_of, with_change, written}
-use Rattle.vs_vcd_law.specs.vs_vcd_reading.specs.Plain.{plain_moment}
+use Rattle.vs_vcd_reader.specs.Values.{values_after, values_at}
+use Rattle.vs_vcd_reader.specs.declared.dump.Moment.{Moment}
+use Rattle.vs_vcd_reader.specs.vs_vcd_lines.specs.declared.dump.ValueChange.{ValueChange}
+use Rattle.vs_vcd_reader.specs.Layout.{values_of, with_change, written}
+use Rattle.vs_vcd_reader.specs.Plain.{plain_moment}
 
 -- ---- changes
 

@@ -1,8 +1,8 @@
 //! What the dump of a run shows at a moment.
 ghost use Rattle.std.specs.Prelude.{◌≡◌, ◌<◌, ◌^◌, IfOk, IfSome};
 ghost use Rattle.vs_design.specs.OneLine.{HasNamesOfOneLine};
-ghost use Rattle.vs_read_back.specs.ReadBack.{is_whole};
-ghost use Rattle.vs_vcd_law.specs.Conditions.{IsOutlined};
+ghost use Rattle.vs_read_back.specs.BackReadBack.{is_whole};
+ghost use Rattle.vs_vcd_reader.specs.Conditions.{IsOutlined};
 ghost use Rattle.vs_race_shown.specs.Witnesses.{IsWitness};
 ghost use Rattle.vs_race_shown.specs.passes.Unequal.{Give};
 
@@ -12,13 +12,13 @@ use crate::witness::Witness;
 use std::alloc::{AllocError, Global};
 use vs_design::Design;
 use vs_design::vs_logic4::Vec4;
-use vs_kernel::vs_run_turns::Dropped;
+use vs_kernel::vs_run_steps::Dropped;
 use vs_kernel::vs_vcd_writing::Counted;
 use vs_kernel::{Outcome, dumps_show_slot_ends};
 use vs_race_orders::{Difference, choices_of};
-use vs_read_back::vs_run_dumps::{complete_runs_end_slots, run_dumps_are_read};
 use vs_read_back::vs_simulate::{Policy, run_design};
-use vs_vcd_law::vs_vcd_reading::read;
+use vs_read_back::{complete_runs_end_slots, run_dumps_are_read};
+use vs_vcd_reader::read;
 
 // Whether a run went to its end.
 fn is_whole(outcome: Outcome) -> bool

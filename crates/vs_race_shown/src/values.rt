@@ -1,12 +1,12 @@
 //! The values that a value change dump gives its variables at a time.
 ghost use Rattle.std.specs.Prelude.{◌≡◌, IfOk, IfSome, map};
-ghost use Rattle.vs_vcd_law.specs.Values.{values_after, values_at};
-ghost use Rattle.vs_vcd_law.specs.vs_vcd_reading.specs.Layout.{values_of, with_change, written};
-ghost use Rattle.vs_vcd_law.specs.vs_vcd_reading.specs.Plain.{plain_moment};
+ghost use Rattle.vs_vcd_reader.specs.Values.{values_after, values_at};
+ghost use Rattle.vs_vcd_reader.specs.Layout.{values_of, with_change, written};
+ghost use Rattle.vs_vcd_reader.specs.Plain.{plain_moment};
 
 use std::alloc::{AllocError, Global};
 use vs_design::vs_logic4::Vec4;
-use vs_vcd_law::vs_vcd_reading::{Moment, ValueChange};
+use vs_vcd_reader::{Moment, ValueChange};
 
 // Puts the value of a change into the place of its variable.
 #[tactic(auto, using(std::proofs::lemmas::List::set_past))]

@@ -1,7 +1,7 @@
 -- The design that a source defines is that of a text.
 use Rattle.std.proofs.Common.{ℕ, List}
 use Rattle.vs_design.specs.Parts.{Parts}
-use Rattle.vs_elab_outlines.specs.Outlined.{IsOfText}
+use Rattle.vs_read_back.specs.Outlined.{IsOfText}
 use Rattle.vs_simulate.specs.Honesty.{Defines}
 
 pub text_of : (bytes top : List ℕ) (d : Parts) → Defines bytes top d → IsOfText bytes top d

@@ -1,2 +1,7 @@
 pub mod ReadBack
-pub use Rattle.vs_run_dumps
+pub use Rattle.vs_kernel
+pub use Rattle.vs_vcd_reader
+pub mod Outlined
+pub use Rattle.vs_elab_laws
+pub use Rattle.vs_elab_laws.specs.vs_lex_names
+pub mod BackReadBack

@@ -1,30 +1,24 @@
-//! What a run of a source wrote, read back.
-ghost use Rattle.std.specs.Prelude.{ℕ, List};
-ghost use Rattle.vs_run_dumps.specs.vs_vcd_law.specs.Conditions.{IsOutlined};
-ghost use Rattle.vs_simulate.specs.Honesty.{Defines};
-ghost use Rattle.vs_read_back.specs.ReadBack.{RunsReadBack};
+//! Dumps of executions, read back.
+ghost use Rattle.vs_read_back.specs.ReadBack.{CompleteRunsEndSlots, DumpsReadBack};
 
-use crate::ranges::bounds_are_short;
-use vs_design::Design;
-use vs_elab_outlines::outlines_of_texts_are_in_order;
-use vs_run_dumps::{complete_runs_end_slots, run_dumps_are_read};
+use vs_process::{stores_are_sized, times_rise};
+use vs_vcd_reader::{dumps_are_one, dumps_give_values, faults_are_of_none, written_dumps_are_read};
 
-/// The outline of a design in memory that the bytes of a source and the name of a top module define declares each signal once, in design order, in
-/// scopes below one top module, under printed names: so its value change dumps read back.
-pub fn outline_is_in_order(design: &Design)
-    ensures { (bytes top : List ℕ) → Defines bytes top design.now → IsOutlined design.now }
+/// The value change dump of an execution so far, of which a slot has ended, is of the layout. The values of the variables in it, in the order of
+/// their codes, are at each time those that the signals have in the store at the end of the last slot at or before that time. Whatever
+/// `read` answers of it by its contract is this dump, and no fault of the text.
+pub fn run_dumps_are_read()
+    ensures { DumpsReadBack }
 {
-    outlines_of_texts_are_in_order();
-    bounds_are_short(design.signals());
+    written_dumps_are_read();
+    dumps_give_values();
+    times_rise();
+    stores_are_sized();
+    dumps_are_one();
+    faults_are_of_none();
 }
 
-/// The value change dump of each run of a source that defines this design is of the layout, where the run went to its end, and else once a slot has
-/// ended. At each time its variables have the values that the signals have at the end of the last slot at or before that time, and whatever `read`
-/// answers of it is this dump.
-pub fn dumps_of_runs_are_read(design: &Design)
-    ensures { RunsReadBack design.now }
-{
-    run_dumps_are_read();
-    complete_runs_end_slots();
-    outline_is_in_order(design);
-}
+/// Of an execution that is complete to a moment a slot has ended.
+pub fn complete_runs_end_slots()
+    ensures { CompleteRunsEndSlots }
+{}

@@ -3,7 +3,7 @@ use std::alloc::{AllocError, Global};
 use std::process::Abort;
 use std::test::Fail;
 use vs_design::{Magnitude, ScopeKind, SignalKind, TimeUnit};
-use vs_vcd_reading::vs_vcd_lines::{change_of, number_of, scope_of, span_of, time_of, variable_of};
+use vs_vcd_reader::vs_vcd_lines::{change_of, number_of, scope_of, span_of, time_of, variable_of};
 
 // What a tick stands for, by a line.
 fn is_span(line: &[u8], magnitude: Magnitude, unit: TimeUnit) -> bool {

@@ -1,7 +1,7 @@
 //! Whole dumps.
 use std::alloc::{AllocError, Global};
 use std::test::Fail;
-use vs_vcd_reading::{Moment, VcdFault, read};
+use vs_vcd_reader::{Moment, VcdFault, read};
 
 const HEADER_2: &[u8] =
     b"$timescale 1 ns $end\n$scope module t $end\n$var reg 1 ! a $end\n$upscope $end\n$enddefinitions $end\n";

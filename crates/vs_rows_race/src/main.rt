@@ -7,7 +7,7 @@ use vs_explain::{Asked, explain_pair};
 use vs_race::vs_simulate::{Policy, simulate};
 use vs_race::{Race, Search, Span, Witness, choices_of, race};
 use vs_row_files::{Answers, Text, compare_files, first_and_rest};
-use vs_run_turns::Dropped;
+use vs_run_steps::Dropped;
 use vs_vcd_writing::Counted;
 
 /// How many steps a run may take.

@@ -7,7 +7,7 @@ use crate::writing::put_dump;
 use std::alloc::Global;
 use std::io;
 use vs_row_files::{Answers, Text, compare_files};
-use vs_vcd_reading::{VcdFault, read};
+use vs_vcd_reader::{VcdFault, read};
 
 /// Who reads a dump and writes it again.
 #[derive(Clone, Copy)]

@@ -4,7 +4,7 @@ ghost use Rattle.std.specs.Prelude.{◌<◌, length};
 use vs_design::vs_logic4::{Digit, Vec4};
 use vs_design::{Magnitude, ScopeKind, SignalKind, TimeUnit};
 use vs_row_files::Text;
-use vs_vcd_reading::{Declaration, Dump, Moment, ValueChange, Variable};
+use vs_vcd_reader::{Declaration, Dump, Moment, ValueChange, Variable};
 
 fn put_word(word: &str, text: &mut Text) {
     text.put(word.as_bytes());

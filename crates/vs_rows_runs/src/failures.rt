@@ -7,8 +7,8 @@ use std::test::Fail;
 use vs_design::Design;
 use vs_kernel::vs_vcd_writing::Counted;
 use vs_kernel::{Fifo, Kernel, Outcome, RunFault};
-use vs_run_updates::Due;
-use vs_run_updates::vs_time_wheel::Wheel;
+use vs_run_regions::Due;
+use vs_run_regions::vs_time_wheel::Wheel;
 
 // The dump of `reg a` that is 0 at 0 and 1 from 5, to 10: 128 bytes.
 const DUMP: &[u8] =

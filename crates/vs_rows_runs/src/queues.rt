@@ -7,8 +7,8 @@ use std::process::Abort;
 use std::test::Fail;
 use vs_design::Design;
 use vs_kernel::{Fifo, Kernel, Lifo, Outcome, Pick};
-use vs_run_updates::Due;
-use vs_run_updates::vs_time_wheel::{EventQueue, ListQueue, Wheel};
+use vs_run_regions::Due;
+use vs_run_regions::vs_time_wheel::{EventQueue, ListQueue, Wheel};
 
 /// A source, how its run to 3000 ends, what ends the dump, and the lines under `fifo` and under `lifo`.
 struct Delayed {

@@ -6,7 +6,7 @@ use std::alloc::{AllocError, Global};
 use std::process::Abort;
 use vs_design::vs_logic4::Vec4;
 use vs_design::{CallKind, Design, Store};
-use vs_flatcode::vs_strobe::{Format, FormatFault, FormatReason, full_line, line};
+use vs_process::vs_strobe::{Format, FormatFault, FormatReason, full_line, line};
 
 /// What is asked of a text.
 #[derive(Clone, Copy)]

@@ -8,8 +8,8 @@ use std::alloc::Global;
 use std::process::Abort;
 use vs_design::vs_logic4::Vec4;
 use vs_design::{CallKind, Design, Statement, Store, Ticks, Typed};
-use vs_flatcode::vs_strobe::full_line;
-use vs_flatcode::{Action, Code, Cursor, Script, compile};
+use vs_process::vs_strobe::full_line;
+use vs_process::{Action, Code, Cursor, Script, compile};
 
 /// `1'b1`.
 fn one() -> Typed {

@@ -1,7 +1,7 @@
 //! What waits, slot by slot, with a list and with a wheel.
 ghost use Rattle.std.specs.Prelude.{◌≡◌, []};
-ghost use Rattle.vs_flatcode.specs.Spots.{IsSpotIn};
-ghost use Rattle.vs_run_updates.specs.Updates.{IsIn};
+ghost use Rattle.vs_process.specs.Spots.{IsSpotIn};
+ghost use Rattle.vs_run_regions.specs.Updates.{IsIn};
 
 use crate::small_design::{target_a, three_signals};
 use std::alloc::{AllocError, Global};
@@ -9,9 +9,9 @@ use std::process::Abort;
 use std::test::Fail;
 use vs_design::vs_logic4::Vec4;
 use vs_design::{Design, Part, Write};
-use vs_flatcode::{Spot, spot_of};
-use vs_run_updates::vs_time_wheel::{EventQueue, ListQueue, Wheel};
-use vs_run_updates::{Bits, Due, Regions, Update};
+use vs_process::{Spot, spot_of};
+use vs_run_regions::vs_time_wheel::{EventQueue, ListQueue, Wheel};
+use vs_run_regions::{Bits, Due, Regions, Update};
 
 // A write that tells a number: that of the word of its part.
 fn numbered(alloc: Global, number: usize) -> Write {

@@ -11,9 +11,9 @@ use Rattle.vs_design.specs.declared.signal.Signal.{Signal}
 use Rattle.vs_design.specs.declared.statement.EventTerm.{EventTerm}
 use Rattle.vs_design.specs.Parts.{Parts}
 use Rattle.vs_design.specs.Uses.{reads, writes}
-use Rattle.vs_law_threads.specs.vs_process.specs.Executions.{is_level}
-use Rattle.vs_law_threads.specs.vs_flatcode.specs.Places.{Todo}
-use Rattle.vs_law_threads.specs.vs_flatcode.specs.Steps.{after, wait}
+use Rattle.vs_threads.specs.vs_process.specs.Executions.{is_level}
+use Rattle.vs_threads.specs.vs_process.specs.Places.{Todo}
+use Rattle.vs_threads.specs.vs_process.specs.Steps.{after, wait}
 use Rattle.vs_rules.specs.Claims.{Name, Mode, net, unwritten, combinational, nonblocking, blocking, private, writer_in, second_in, times_in}
 use Rattle.vs_rules.specs.Controls.{controls_of}
 use Rattle.vs_rules.specs.Points.{Goes}

@@ -3,11 +3,11 @@ use Rattle.std.proofs.Common.{◌≡◌, ℕ, zero, suc, ◌+◌, ◌<◌, ◌�
 use Rattle.std.proofs.lemmas.Bool.{false≢true}
 use Rattle.std.proofs.lemmas.Option.{none-some}
 use Rattle.vs_design.specs.Stores.{changed_at}
-use Rattle.vs_run_wakes.specs.vs_run_processes.specs.declared.process.Process.{Process}
-use Rattle.vs_run_wakes.specs.vs_run_processes.specs.Standings.{is_active}
-use Rattle.vs_run_wakes.specs.vs_run_processes.specs.Listed.{count}
-use Rattle.vs_run_wakes.specs.vs_run_processes.proofs.ChangedLemmas.{changed_there}
-use Rattle.vs_run_wakes.specs.vs_run_processes.proofs.ListedLemmas.{count-le-length, set_itself}
+use Rattle.vs_run_active.specs.declared.process.Process.{Process}
+use Rattle.vs_run_active.specs.Standings.{is_active}
+use Rattle.vs_run_active.specs.Listed.{count}
+use Rattle.vs_run_active.proofs.ChangedLemmas.{changed_there}
+use Rattle.vs_run_active.proofs.ListedLemmas.{count-le-length, set_itself}
 
 pub going_fits : (xs : List Process) (n : ℕ) → n ≡ count is_active xs → length xs < 2 ^ 63 → n + 1 < 2 ^ 64
 going_fits xs n is short = omega (arith, is, count-le-length is_active xs)

@@ -1,3 +1,19 @@
+pub mod ChangedLemmas
+pub mod ListedLemmas
+pub mod GoneLemmas
+pub mod StandingsLemmas
+pub mod TakenLemmas
+pub mod TimelinesLemmas
+pub mod ChangesLemmas
+pub mod MarkingLemmas
+pub mod TouchesLemmas
+pub mod WaitsLemmas
+pub mod GroupsLemmas
+mod ListsLemmas
+pub mod RowsLemmas
+pub mod TablesLemmas
+mod TermsLemmas
+mod WordsLemmas
 mod EdgesExist
 mod LeftLemmas
 mod MasksTell

@@ -1,10 +1,10 @@
 -- Watchers that see a word wake what all of a row wake.
 use Rattle.std.proofs.Common.{◌≡◌, ℕ, ◌==◌, not, Bool, true, false, if◌then◌else◌, List, [], ◌∷◌, bit_and, refl, sym, ◌∙◌, ap}
 use Rattle.std.proofs.lemmas.Bool.{and_right}
-use Rattle.vs_run_wakes.specs.vs_run_processes.specs.vs_process.specs.States.{AssignState}
-use Rattle.vs_run_tables.specs.declared.watchers.Watcher.{Watcher}
-use Rattle.vs_run_tables.specs.Groups.{spelled, spelled_one}
-use Rattle.vs_run_tables.specs.Words.{seeing, sees_word}
+use Rattle.vs_run_active.specs.vs_process.specs.States.{AssignState}
+use Rattle.vs_run_active.specs.declared.watchers.Watcher.{Watcher}
+use Rattle.vs_run_active.specs.Groups.{spelled, spelled_one}
+use Rattle.vs_run_active.specs.Words.{seeing, sees_word}
 use Rattle.vs_run_active.specs.Wakes.{has_one, woken_watched}
 use Rattle.vs_run_active.proofs.WakesLemmas.{none_spelled, woken_watched-append}
 

@@ -10,37 +10,37 @@ use Rattle.vs_design.specs.declared.readers.Reader.{Reader}
 use Rattle.vs_design.specs.declared.statement.EventTerm.{EventTerm}
 use Rattle.vs_design.specs.Parts.{Parts}
 use Rattle.vs_design.specs.Readers.{readers}
-use Rattle.vs_run_wakes.specs.vs_edges.specs.declared.masks.WordChange.{WordChange}
-use Rattle.vs_run_wakes.specs.vs_edges.specs.Differences.{sees, word_changes}
-use Rattle.vs_run_wakes.specs.vs_edges.specs.Masks.{AreEdges, AreEdgesOf, IsChangeOf, every_word, has_bits}
-use Rattle.vs_run_wakes.specs.vs_edges.specs.Waking.{word_wakes}
+use Rattle.vs_run_active.specs.vs_edges.specs.declared.masks.WordChange.{WordChange}
+use Rattle.vs_run_active.specs.vs_edges.specs.Differences.{sees, word_changes}
+use Rattle.vs_run_active.specs.vs_edges.specs.Masks.{AreEdges, AreEdgesOf, IsChangeOf, every_word, has_bits}
+use Rattle.vs_run_active.specs.vs_edges.specs.Waking.{word_wakes}
 use Rattle.vs_run_active.proofs.MasksTell.{range_mask-has}
-use Rattle.vs_flatcode.specs.declared.gait.Gait.{Gait}
-use Rattle.vs_flatcode.specs.declared.gait.Gait.TheVariants.{Woken}
-use Rattle.vs_flatcode.specs.Places.{Place, Todo, active_at, waiting}
-use Rattle.vs_run_wakes.specs.vs_run_processes.specs.vs_process.specs.States.{AssignState, triggered}
-use Rattle.vs_run_wakes.specs.vs_run_processes.specs.Triggers.{triggered_by}
-use Rattle.vs_run_tables.specs.declared.rows.Row.{Row}
-use Rattle.vs_run_tables.specs.declared.tables.Tables.{Tables}
-use Rattle.vs_run_tables.specs.declared.watchers.ListedTerm.{ListedTerm}
-use Rattle.vs_run_tables.specs.declared.watchers.Watcher.{Watcher}
-use Rattle.vs_run_tables.specs.Groups.{meaning, numbered_as, spelled, spelled_one}
-use Rattle.vs_run_tables.specs.Lists.{named}
-use Rattle.vs_run_tables.specs.Rows.{Fits, HasRow, IsRow}
-use Rattle.vs_run_tables.specs.Waking.{kinds_watched, watched}
+use Rattle.vs_process.specs.declared.gait.Gait.{Gait}
+use Rattle.vs_process.specs.declared.gait.Gait.TheVariants.{Woken}
+use Rattle.vs_process.specs.Places.{Place, Todo, active_at, waiting}
+use Rattle.vs_run_active.specs.vs_process.specs.States.{AssignState, triggered}
+use Rattle.vs_run_active.specs.Triggers.{triggered_by}
+use Rattle.vs_run_active.specs.declared.rows.Row.{Row}
+use Rattle.vs_run_active.specs.declared.tables.Tables.{Tables}
+use Rattle.vs_run_active.specs.declared.watchers.ListedTerm.{ListedTerm}
+use Rattle.vs_run_active.specs.declared.watchers.Watcher.{Watcher}
+use Rattle.vs_run_active.specs.Groups.{meaning, numbered_as, spelled, spelled_one}
+use Rattle.vs_run_active.specs.Lists.{named}
+use Rattle.vs_run_active.specs.Rows.{Fits, HasRow, IsRow}
+use Rattle.vs_run_active.specs.Waking.{kinds_watched, watched}
 use Rattle.vs_run_active.specs.Walks.{is_hit, numbered, woken_where}
-use Rattle.vs_run_tables.specs.Watchers.{between, kind_watchers, reader_watcher}
+use Rattle.vs_run_active.specs.Watchers.{between, kind_watchers, reader_watcher}
 use Rattle.vs_run_active.proofs.EdgesExist.{edge_number, edge_number-fits, falls-are, rises-are}
-use Rattle.vs_run_tables.proofs.TablesLemmas.{row_is, row_means}
+use Rattle.vs_run_active.proofs.TablesLemmas.{row_is, row_means}
 use Rattle.vs_run_active.proofs.WakingLemmas.{kinds_wake, listed_wake}
 use Rattle.vs_run_active.proofs.WalksLemmas.{numbered_map, walked_none, walks_are}
-use Rattle.vs_run_wakes.specs.Touches.{AreOf, all_woken, woken_by, woken_in}
-use Rattle.vs_run_wakes.proofs.TouchesLemmas.{woken_for_word, woken_of}
-use Rattle.vs_run_wakes.specs.vs_run_processes.specs.declared.process.Process.{Process}
-use Rattle.vs_run_wakes.specs.vs_run_processes.specs.declared.process.Wait.{Wait}
-use Rattle.vs_run_wakes.specs.vs_run_processes.specs.declared.process.Wait.TheVariants.{Nothing, Until, Inactive, Terms}
-use Rattle.vs_flatcode.specs.Scripts.{todo_on}
-use Rattle.vs_run_wakes.specs.vs_run_processes.specs.Standings.{GoneOn, HasGone, gone_on, place_by, place_in, waits_at, waits_some}
+use Rattle.vs_run_active.specs.Touches.{AreOf, all_woken, woken_by, woken_in}
+use Rattle.vs_run_active.proofs.TouchesLemmas.{woken_for_word, woken_of}
+use Rattle.vs_run_active.specs.declared.process.Process.{Process}
+use Rattle.vs_run_active.specs.declared.process.Wait.{Wait}
+use Rattle.vs_run_active.specs.declared.process.Wait.TheVariants.{Nothing, Until, Inactive, Terms}
+use Rattle.vs_process.specs.Scripts.{todo_on}
+use Rattle.vs_run_active.specs.Standings.{GoneOn, HasGone, gone_on, place_by, place_in, waits_at, waits_some}
 use Rattle.vs_run_active.specs.Waiting.{AreWaiting, IsWaiting, places_of, waits_for}
 use Rattle.vs_run_active.specs.Wakes.{AreWalked, AreWatched, AreWoken, KindsWalked, has_one, walked_by, woken_all, woken_watched}
 

@@ -8,14 +8,14 @@ use Rattle.vs_design.specs.vs_logic4.specs.declared.edge.Edge.TheVariants.{Any, 
 use Rattle.vs_design.specs.declared.range.BitRange.{BitRange}
 use Rattle.vs_design.specs.declared.statement.EventTerm.{EventTerm}
 use Rattle.vs_design.specs.Uses.{is_of}
-use Rattle.vs_run_wakes.specs.vs_edges.specs.Masks.{AreEdges, every_word, has_bits}
-use Rattle.vs_run_wakes.specs.vs_edges.specs.Waking.{range_wakes, term_wakes, word_wakes}
+use Rattle.vs_run_active.specs.vs_edges.specs.Masks.{AreEdges, every_word, has_bits}
+use Rattle.vs_run_active.specs.vs_edges.specs.Waking.{range_wakes, term_wakes, word_wakes}
 use Rattle.vs_run_active.proofs.MasksTell.{term_mask-wakes}
-use Rattle.vs_run_tables.specs.declared.watchers.ListedTerm.{ListedTerm}
-use Rattle.vs_run_tables.specs.declared.watchers.Watcher.{Watcher}
-use Rattle.vs_run_tables.specs.Lists.{named}
-use Rattle.vs_run_tables.specs.Waking.{is_listed, is_watching, kinds_watched, listed_wakes, terms_at}
-use Rattle.vs_run_tables.specs.Watchers.{kind_watchers, names, same_edge, term_watcher}
+use Rattle.vs_run_active.specs.declared.watchers.ListedTerm.{ListedTerm}
+use Rattle.vs_run_active.specs.declared.watchers.Watcher.{Watcher}
+use Rattle.vs_run_active.specs.Lists.{named}
+use Rattle.vs_run_active.specs.Waking.{is_listed, is_watching, kinds_watched, listed_wakes, terms_at}
+use Rattle.vs_run_active.specs.Watchers.{kind_watchers, names, same_edge, term_watcher}
 
 -- ---- terms that name another signal
 

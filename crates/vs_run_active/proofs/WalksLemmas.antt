@@ -3,7 +3,7 @@ use Rattle.std.proofs.Common.{◌≡◌, ℕ, zero, suc, ◌+◌, ◌<◌, ◌==
 use Rattle.std.proofs.lemmas.Bool.{and_right, eq-eqb, ne_eqb}
 use Rattle.std.proofs.lemmas.List.{drop_more}
 use Rattle.vs_design.specs.Stores.{changed_at}
-use Rattle.vs_run_tables.specs.declared.watchers.Watcher.{Watcher}
+use Rattle.vs_run_active.specs.declared.watchers.Watcher.{Watcher}
 use Rattle.vs_run_active.specs.Walks.{is_hit, numbered, walked, woken_at, woken_where}
 
 -- ---- elements with their numbers

@@ -4,10 +4,10 @@ use Rattle.std.proofs.lemmas.Option.{none-some, same_Some}
 use Rattle.vs_design.specs.declared.expression.Typed.{Typed}
 use Rattle.vs_design.specs.Parts.{Parts}
 use Rattle.vs_design.specs.Stores.{changed_at}
-use Rattle.vs_run_wakes.specs.vs_run_processes.specs.vs_process.specs.States.{AssignState}
-use Rattle.vs_run_wakes.specs.vs_run_processes.specs.declared.process.Process.{Process}
-use Rattle.vs_run_tables.specs.declared.tables.Tables.{Tables}
-use Rattle.vs_run_tables.specs.declared.watchers.ListedTerm.{ListedTerm}
+use Rattle.vs_run_active.specs.vs_process.specs.States.{AssignState}
+use Rattle.vs_run_active.specs.declared.process.Process.{Process}
+use Rattle.vs_run_active.specs.declared.tables.Tables.{Tables}
+use Rattle.vs_run_active.specs.declared.watchers.ListedTerm.{ListedTerm}
 use Rattle.vs_run_active.specs.Waiting.{IsWaiting}
 use Rattle.vs_run_active.specs.Wakes.{AreWatched}
 

@@ -1,12 +1,12 @@
 -- Which event controls processes wait for.
 use Rattle.std.specs.Prelude.{ℕ, ◌≡◌, Bool, Some, List, [], ◌∷◌, slice_get}
-use Rattle.vs_flatcode.specs.Places.{Place}
-use Rattle.vs_run_wakes.specs.vs_run_processes.specs.declared.process.Process.{Process}
-use Rattle.vs_run_wakes.specs.vs_run_processes.specs.declared.process.Wait.{Wait}
-use Rattle.vs_run_wakes.specs.vs_run_processes.specs.declared.process.Wait.TheVariants.{Terms}
-use Rattle.vs_run_tables.specs.declared.watchers.ListedTerm.{ListedTerm}
-use Rattle.vs_run_wakes.specs.vs_run_processes.specs.Standings.{place_in, waits_at}
-use Rattle.vs_run_tables.specs.Waking.{terms_at}
+use Rattle.vs_process.specs.Places.{Place}
+use Rattle.vs_run_active.specs.declared.process.Process.{Process}
+use Rattle.vs_run_active.specs.declared.process.Wait.{Wait}
+use Rattle.vs_run_active.specs.declared.process.Wait.TheVariants.{Terms}
+use Rattle.vs_run_active.specs.declared.watchers.ListedTerm.{ListedTerm}
+use Rattle.vs_run_active.specs.Standings.{place_in, waits_at}
+use Rattle.vs_run_active.specs.Waking.{terms_at}
 
 -- whether a process waits for the event control of a number
 abbrev pub waits_for : Process → ℕ → Bool

@@ -4,22 +4,22 @@ use Rattle.vs_design.specs.vs_logic4.specs.declared.digit.Digit.{Digit}
 use Rattle.vs_design.specs.vs_logic4.specs.declared.edge.Edge.{Edge}
 use Rattle.vs_design.specs.vs_logic4.specs.declared.edge.Edge.TheVariants.{Any, Posedge, Negedge}
 use Rattle.vs_design.specs.Parts.{Parts}
-use Rattle.vs_run_wakes.specs.vs_edges.specs.declared.masks.WordChange.{WordChange}
-use Rattle.vs_run_wakes.specs.vs_edges.specs.Differences.{word_changes}
-use Rattle.vs_run_wakes.specs.vs_edges.specs.Masks.{AreEdges, IsChangeOf, has_bits}
-use Rattle.vs_run_wakes.specs.vs_run_processes.specs.vs_process.specs.States.{AssignState}
-use Rattle.vs_run_wakes.specs.vs_run_processes.specs.declared.process.Process.{Process}
-use Rattle.vs_run_wakes.specs.vs_run_processes.specs.Standings.{GoneOn, gone_on}
+use Rattle.vs_run_active.specs.vs_edges.specs.declared.masks.WordChange.{WordChange}
+use Rattle.vs_run_active.specs.vs_edges.specs.Differences.{word_changes}
+use Rattle.vs_run_active.specs.vs_edges.specs.Masks.{AreEdges, IsChangeOf, has_bits}
+use Rattle.vs_run_active.specs.vs_process.specs.States.{AssignState}
+use Rattle.vs_run_active.specs.declared.process.Process.{Process}
+use Rattle.vs_run_active.specs.Standings.{GoneOn, gone_on}
 use Rattle.vs_run_active.specs.Waiting.{AreWaiting, places_of, waits_for}
-use Rattle.vs_run_wakes.specs.vs_run_processes.specs.Triggers.{triggered_by}
-use Rattle.vs_run_tables.specs.declared.rows.Row.{Row}
-use Rattle.vs_run_tables.specs.declared.tables.Tables.{Tables}
-use Rattle.vs_run_tables.specs.declared.watchers.ListedTerm.{ListedTerm}
-use Rattle.vs_run_tables.specs.declared.watchers.Watcher.{Watcher}
-use Rattle.vs_run_tables.specs.Rows.{AreRows}
-use Rattle.vs_run_tables.specs.Watchers.{between}
+use Rattle.vs_run_active.specs.Triggers.{triggered_by}
+use Rattle.vs_run_active.specs.declared.rows.Row.{Row}
+use Rattle.vs_run_active.specs.declared.tables.Tables.{Tables}
+use Rattle.vs_run_active.specs.declared.watchers.ListedTerm.{ListedTerm}
+use Rattle.vs_run_active.specs.declared.watchers.Watcher.{Watcher}
+use Rattle.vs_run_active.specs.Rows.{AreRows}
+use Rattle.vs_run_active.specs.Watchers.{between}
 use Rattle.vs_run_active.specs.Walks.{walked}
-use Rattle.vs_run_wakes.specs.Touches.{AreOf, woken_by, woken_in}
+use Rattle.vs_run_active.specs.Touches.{AreOf, woken_by, woken_in}
 
 -- whether a watcher sees one of these bits of a word
 abbrev pub has_one : ℕ → ℕ → Watcher → Bool

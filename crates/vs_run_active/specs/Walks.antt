@@ -2,7 +2,7 @@
 use Rattle.std.specs.Prelude.{ℕ, suc, ◌==◌, ◌&&◌, Bool, List, [], ◌∷◌, if◌then◌else◌}
 use Rattle.std.specs.List.{list_any}
 use Rattle.vs_design.specs.Stores.{changed_at}
-use Rattle.vs_run_tables.specs.declared.watchers.Watcher.{Watcher}
+use Rattle.vs_run_active.specs.declared.watchers.Watcher.{Watcher}
 
 -- an element that is woken where it waits for an event control
 abbrev pub woken_at : {A : Type 0} → (A → ℕ → Bool) → (A → A) → ℕ → A → A

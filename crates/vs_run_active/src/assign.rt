@@ -1,8 +1,8 @@
 //! Continuous assignments in a run.
 ghost use Rattle.std.specs.Prelude.{◌≡◌, not};
 ghost use Rattle.vs_run_active.specs.Left.{valued};
-ghost use Rattle.vs_run_wakes.specs.Touches.{is_left, woken};
-ghost use Rattle.vs_run_wakes.specs.vs_run_processes.specs.vs_process.specs.States as states;
+ghost use Rattle.vs_run_active.specs.Touches.{is_left, woken};
+ghost use Rattle.vs_run_active.specs.vs_process.specs.States as states;
 
 use std::marker::Model;
 use vs_design::vs_logic4::Vec4;
@@ -21,7 +21,7 @@ pub struct AssignState<'a> {
 impl<'a> Model for AssignState<'a> {
     ghost use Rattle.std.specs.Coded.{codes};
     ghost use Rattle.vs_design.specs.contracts.expression.Typed as expression;
-    ghost use Rattle.vs_run_wakes.specs.vs_run_processes.specs.vs_process.specs.States as states;
+    ghost use Rattle.vs_run_active.specs.vs_process.specs.States as states;
 
     ghost Value = { states.AssignState };
 

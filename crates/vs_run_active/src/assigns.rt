@@ -2,16 +2,16 @@
 ghost use Rattle.std.specs.Prelude.{◌≡◌, Some, None, length, map, slice_get, IfOk, MatchOption};
 ghost use Rattle.std.specs.List.{list_any};
 ghost use Rattle.vs_design.specs.Stores.{changed_at};
-ghost use Rattle.vs_run_wakes.specs.vs_run_processes.specs.vs_process.specs.States as states;
+ghost use Rattle.vs_run_active.specs.vs_process.specs.States as states;
 ghost use Rattle.vs_run_active.specs.Left.{valued};
-ghost use Rattle.vs_run_wakes.specs.Touches.{is_left, woken_in};
+ghost use Rattle.vs_run_active.specs.Touches.{is_left, woken_in};
 
 use crate::assign::AssignState;
+use crate::recount;
 use std::alloc::{AllocError, Global};
 use std::marker::Model;
 use vs_design::Assign;
 use vs_design::vs_logic4::Vec4;
-use vs_run_wakes::vs_run_processes::recount;
 
 /// The continuous assignments, and how many of these have to be evaluated or have a value that waits to be written. A contract sees the
 /// assignments.
@@ -25,9 +25,9 @@ impl<'a> Model for Assigns<'a> {
     ghost use Rattle.std.specs.Prelude.{◌≡◌, List};
     ghost use Rattle.std.specs.Coded.{codes};
     ghost use Rattle.vs_design.specs.contracts.expression.Typed as expression;
-    ghost use Rattle.vs_run_wakes.specs.vs_run_processes.specs.vs_process.specs.States as states;
-    ghost use Rattle.vs_run_wakes.specs.vs_run_processes.specs.Listed.{count};
-    ghost use Rattle.vs_run_wakes.specs.Touches.{is_left};
+    ghost use Rattle.vs_run_active.specs.vs_process.specs.States as states;
+    ghost use Rattle.vs_run_active.specs.Listed.{count};
+    ghost use Rattle.vs_run_active.specs.Touches.{is_left};
 
     ghost Value = { List states.AssignState };
 

@@ -1,22 +1,22 @@
 //! What is active, and who is woken by the change of a word.
 ghost use Rattle.std.specs.Prelude.{◌≡◌, ◌<◌, get_or, length, if◌then◌else◌, OnOk};
 ghost use Rattle.vs_design.specs.Stores.{changed_at};
-ghost use Rattle.vs_run_wakes.specs.vs_edges.specs.Masks.{every_word};
-ghost use Rattle.vs_run_tables.specs.Groups.{group_members, meaning, no_group, spelled, spelled_one};
-ghost use Rattle.vs_run_tables.specs.Rows.{Fits};
-ghost use Rattle.vs_run_wakes.specs.Touches.{woken_in};
-ghost use Rattle.vs_run_wakes.specs.vs_run_processes.specs.Standings as standings;
-ghost use Rattle.vs_run_wakes.specs.vs_run_processes.specs.Standings.{roused_in, triggered_at};
+ghost use Rattle.vs_run_active.specs.vs_edges.specs.Masks.{every_word};
+ghost use Rattle.vs_run_active.specs.Groups.{group_members, meaning, no_group, spelled, spelled_one};
+ghost use Rattle.vs_run_active.specs.Rows.{Fits};
+ghost use Rattle.vs_run_active.specs.Touches.{woken_in};
+ghost use Rattle.vs_run_active.specs.Standings as standings;
+ghost use Rattle.vs_run_active.specs.Standings.{roused_in, triggered_at};
 ghost use Rattle.vs_design.specs.vs_logic4.specs.declared.edge.Edge.TheVariants.{Any, Negedge, Posedge};
-ghost use Rattle.vs_run_tables.specs.Watchers.{between};
+ghost use Rattle.vs_run_active.specs.Watchers.{between};
 ghost use Rattle.vs_run_active.specs.Wakes.{KindsWalked, RowWalked, Wakes, has_one, walked_by, woken_all, woken_watched};
 
 use crate::assigns::Assigns;
 use crate::processes::Processes;
 use crate::queue::Queue;
+use crate::vs_edges::WordChange;
+use crate::{FEW, Groups, Row, Tables, Watcher};
 use std::alloc::AllocError;
-use vs_run_tables::{FEW, Groups, Row, Tables, Watcher};
-use vs_run_wakes::vs_edges::WordChange;
 
 /// The events of a run. Their numbers in the queue: the continuous assignments, then the processes. The queue is a hint: nothing is promised of it.
 #[derive(Drop)]

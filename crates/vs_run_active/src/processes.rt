@@ -2,11 +2,11 @@
 ghost use Rattle.std.specs.Prelude.{◌≡◌, ◌++◌, ◌∷◌, [], Some, None, length, slice_get, slice_set, MatchOption, OnOk, OnErr};
 ghost use Rattle.std.specs.List.{list_any};
 ghost use Rattle.vs_design.specs.Stores.{changed_at};
-ghost use Rattle.vs_run_wakes.specs.vs_run_processes.specs.Standings.{is_active, roused_in, triggered_at, waits_at, woken_in};
+ghost use Rattle.vs_run_active.specs.Standings.{is_active, roused_in, triggered_at, waits_at, woken_in};
 
+use crate::{Process, Wait, recount};
 use std::alloc::{AllocError, Global};
 use std::marker::Model;
-use vs_run_wakes::vs_run_processes::{Process, Wait, recount};
 
 /// A process in its place among the others.
 #[derive(Drop)]
@@ -17,7 +17,7 @@ struct Kept<'a> {
 impl<'a> Model for Kept<'a> {
     ghost use Rattle.std.specs.Coded.{codes};
     ghost use Rattle.vs_design.specs.contracts.statement.Statement as statement;
-    ghost use Rattle.vs_run_wakes.specs.vs_run_processes.specs.declared.process.Process.{Process};
+    ghost use Rattle.vs_run_active.specs.declared.process.Process.{Process};
 
     ghost Value = { Process };
 
@@ -55,9 +55,9 @@ impl<'a> Model for Processes<'a> {
     ghost use Rattle.std.specs.Prelude.{◌≡◌, List};
     ghost use Rattle.std.specs.Coded.{codes};
     ghost use Rattle.vs_design.specs.contracts.statement.Statement as statement;
-    ghost use Rattle.vs_run_wakes.specs.vs_run_processes.specs.declared.process.Process.{Process};
-    ghost use Rattle.vs_run_wakes.specs.vs_run_processes.specs.Standings.{is_active};
-    ghost use Rattle.vs_run_wakes.specs.vs_run_processes.specs.Listed.{count};
+    ghost use Rattle.vs_run_active.specs.declared.process.Process.{Process};
+    ghost use Rattle.vs_run_active.specs.Standings.{is_active};
+    ghost use Rattle.vs_run_active.specs.Listed.{count};
 
     ghost Value = { List Process };
 

@@ -24,13 +24,13 @@ use Rattle.vs_eval_resolved.specs.vs_eval.specs.Values.{operand_value, target_va
 use Rattle.vs_eval_resolved.specs.Meant.{IsWordOf, Meaning}
 use Rattle.vs_eval_resolved.proofs.MeantLemmas.{word_named}
 use Rattle.vs_eval_resolved.proofs.WordLemmas.{all_selected}
-use Rattle.vs_run_active.specs.vs_process.specs.vs_flatcode.specs.declared.spot.Spot.{Spot}
-use Rattle.vs_run_active.specs.vs_process.specs.vs_flatcode.specs.Spots.{IsSpotIn, SpotHolds, spot_part, spot_write}
-use Rattle.vs_run_active.specs.vs_process.specs.vs_flatcode.proofs.SpotLemmas.{spots_hold}
+use Rattle.vs_run_active.specs.vs_process.specs.declared.spot.Spot.{Spot}
+use Rattle.vs_run_active.specs.vs_process.specs.Spots.{IsSpotIn, SpotHolds, spot_part, spot_write}
+use Rattle.vs_run_active.specs.vs_process.proofs.SpotLemmas.{spots_hold}
 use Rattle.vs_run_assigns.specs.declared.forms.Form.{Form}
 use Rattle.vs_run_active.specs.vs_process.specs.States.{State, written}
 use Rattle.vs_run_steps.proofs.RunsLemmas.{planes_hold}
-use Rattle.vs_run_steps.specs.vs_run_writes.proofs.FastLemmas.{word_differs}
+use Rattle.vs_run_steps.proofs.FastLemmas.{word_differs}
 use Rattle.vs_run_assigns.specs.Evaluations.{HasDigits, IsDriven, IsEvaluation}
 use Rattle.vs_run_assigns.specs.Forms.{IsCopy, IsFixed, IsForm, IsPlaceOf, IsSized}
 use Rattle.vs_run_assigns.proofs.DiffersLemmas.{bits_held, one_kept, twice_not}

@@ -6,9 +6,9 @@ use Rattle.vs_run_active.specs.vs_process.specs.declared.moves.Move.{Move}
 use Rattle.vs_run_active.specs.vs_process.specs.declared.moves.Move.TheVariants.{Evaluate, Propagate}
 use Rattle.vs_run_active.specs.vs_process.specs.Executions.{apply, if_some, is_enabled}
 use Rattle.vs_run_active.specs.vs_process.specs.States.{AssignState, State}
-use Rattle.vs_run_steps.specs.vs_run_turns.specs.Turns.{is_silent}
-use Rattle.vs_run_steps.specs.vs_run_turns.proofs.MadeLemmas.{made_more}
-use Rattle.vs_run_wakes.specs.Changes.{MarkChanges}
+use Rattle.vs_run_steps.specs.Turns.{is_silent}
+use Rattle.vs_run_steps.proofs.MadeLemmas.{made_more}
+use Rattle.vs_run_active.specs.Changes.{MarkChanges}
 use Rattle.vs_run_steps.specs.declared.run.RunState.{RunState}
 use Rattle.vs_run_steps.specs.Runs.{IsRunOf, marks_of, state_of}
 use Rattle.vs_run_assigns.proofs.RunLemmas.{marks_then, none_marked}

@@ -8,9 +8,9 @@ use Rattle.vs_design.specs.Stores.{Store, changes_nothing, put}
 use Rattle.vs_design.specs.Writes.{Write}
 use Rattle.vs_eval_resolved.specs.vs_eval.specs.Targets.{assigned}
 use Rattle.vs_eval_resolved.specs.vs_eval.specs.Values.{target_value, value_of}
-use Rattle.vs_run_active.specs.vs_process.specs.vs_flatcode.specs.Places.{Place, todo_of}
-use Rattle.vs_run_active.specs.vs_process.specs.vs_flatcode.specs.Steps.{step}
-use Rattle.vs_run_active.specs.vs_process.proofs.Lists.{map_cases, set_cases}
+use Rattle.vs_run_active.specs.vs_process.specs.Places.{Place, todo_of}
+use Rattle.vs_run_active.specs.vs_process.specs.Steps.{step}
+use Rattle.vs_run_active.specs.vs_process.proofs.ProcessLists.{map_cases, set_cases}
 use Rattle.vs_run_active.specs.vs_process.specs.declared.moves.Move.{Move}
 use Rattle.vs_run_active.specs.vs_process.specs.declared.moves.Move.TheVariants.{Step, Evaluate, Propagate, Make, Rouse, Activate, EndSlot}
 use Rattle.vs_run_active.specs.vs_process.specs.Executions.{after, apply}

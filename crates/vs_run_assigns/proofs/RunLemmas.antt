@@ -16,12 +16,12 @@ use Rattle.vs_run_active.specs.vs_process.specs.States.{AssignState, State, sett
 use Rattle.vs_run_active.specs.declared.queue.Queue.{Queue}
 use Rattle.vs_run_active.specs.Left.{valued}
 use Rattle.vs_run_active.specs.Wakes.{AreWatched}
-use Rattle.vs_run_active.specs.vs_run_tables.specs.declared.watchers.ListedTerm.{ListedTerm}
+use Rattle.vs_run_active.specs.declared.watchers.ListedTerm.{ListedTerm}
 use Rattle.vs_run_active.proofs.WatchedLemmas.{watched_assigns}
-use Rattle.vs_run_steps.specs.vs_run_turns.specs.Turns.{AreMade, IsReached}
-use Rattle.vs_run_steps.specs.vs_run_turns.proofs.AssignLemmas.{driven, evaluated_none, evaluated_some, propagated}
-use Rattle.vs_run_steps.specs.vs_run_turns.proofs.MadeLemmas.{made_reached}
-use Rattle.vs_run_wakes.specs.Changes.{MarkChanges}
+use Rattle.vs_run_steps.specs.Turns.{AreMade, IsReached}
+use Rattle.vs_run_steps.proofs.AssignLemmas.{driven, evaluated_none, evaluated_some, propagated}
+use Rattle.vs_run_steps.proofs.MadeLemmas.{made_reached}
+use Rattle.vs_run_active.specs.Changes.{MarkChanges}
 use Rattle.vs_run_steps.specs.declared.run.RunState.{RunState}
 use Rattle.vs_run_steps.specs.Runs.{Agrees, IsRunOf, Plan, plan_of, state_of}
 use Rattle.vs_run_steps.proofs.RunsLemmas.{plan_in, plan_out}

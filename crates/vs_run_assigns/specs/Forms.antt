@@ -8,8 +8,8 @@ use Rattle.vs_design.specs.Parts.{Parts}
 use Rattle.vs_design.specs.Stores.{Store}
 use Rattle.vs_eval_resolved.specs.vs_eval.specs.Values.{target_value}
 use Rattle.vs_eval_resolved.specs.Meant.{Meaning}
-use Rattle.vs_run_active.specs.vs_process.specs.vs_flatcode.specs.declared.spot.Spot.{Spot}
-use Rattle.vs_run_active.specs.vs_process.specs.vs_flatcode.specs.Spots.{IsSpotOf}
+use Rattle.vs_run_active.specs.vs_process.specs.declared.spot.Spot.{Spot}
+use Rattle.vs_run_active.specs.vs_process.specs.Spots.{IsSpotOf}
 use Rattle.vs_run_assigns.specs.declared.forms.Form.{Form}
 use Rattle.vs_run_assigns.specs.declared.forms.Form.TheVariants as f
 

@@ -6,4 +6,3 @@ pub mod MembersMade
 pub mod Outcomes
 pub mod Placed
 pub use Rattle.vs_run_active
-pub use Rattle.vs_run_active.specs.vs_run_tables

@@ -4,8 +4,8 @@ use Rattle.vs_run_active.specs.vs_process.specs.declared.moves.Move.{Move}
 use Rattle.vs_run_active.specs.vs_process.specs.declared.moves.Move.TheVariants.{Evaluate, Propagate}
 use Rattle.vs_run_active.specs.vs_process.specs.Executions.{if_some}
 use Rattle.vs_run_active.specs.vs_process.specs.States.{AssignState}
-use Rattle.vs_run_active.specs.vs_run_tables.specs.declared.tables.Tables.{Tables}
-use Rattle.vs_run_active.specs.vs_run_tables.specs.Groups.{group_members, no_group}
+use Rattle.vs_run_active.specs.declared.tables.Tables.{Tables}
+use Rattle.vs_run_active.specs.Groups.{group_members, no_group}
 
 -- the members of a group
 abbrev pub members_in : Tables → ℕ → List ℕ

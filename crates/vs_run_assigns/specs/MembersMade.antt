@@ -6,8 +6,8 @@ use Rattle.vs_run_active.specs.vs_process.specs.Executions.{is_enabled}
 use Rattle.vs_run_active.specs.vs_process.specs.States.{State}
 use Rattle.vs_run_steps.specs.declared.run.RunState.{RunState}
 use Rattle.vs_run_steps.specs.Runs.{IsRunOf, marks_of, state_of}
-use Rattle.vs_run_steps.specs.vs_run_turns.specs.Turns.{AreMade}
-use Rattle.vs_run_wakes.specs.Changes.{MarkChanges}
+use Rattle.vs_run_steps.specs.Turns.{AreMade}
+use Rattle.vs_run_active.specs.Changes.{MarkChanges}
 
 -- so many moves were made in a run, at most so many
 pub record AreDone {Q : Type 0} (d : Parts) (limit : ℕ) (old : RunState Q) (taken : ℕ) (now : RunState Q) : Type 0 where

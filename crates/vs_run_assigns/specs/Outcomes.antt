@@ -5,7 +5,7 @@ use Rattle.vs_run_active.specs.vs_process.specs.Executions.{apply}
 use Rattle.vs_run_active.specs.vs_process.specs.States.{State}
 use Rattle.vs_run_assigns.specs.declared.assigns.Evaluated.{Evaluated}
 use Rattle.vs_run_assigns.specs.declared.assigns.Evaluated.TheVariants.{Same, Waits, Written}
-use Rattle.vs_run_steps.specs.vs_run_turns.specs.Turns.{AreMade}
+use Rattle.vs_run_steps.specs.Turns.{AreMade}
 
 -- its move was made; and that of its update too, where the value was written at once, as it may be
 abbrev pub HasCome : Bool → ℕ → Evaluated → State → State → Type 0

@@ -6,18 +6,17 @@ ghost use Rattle.vs_run_assigns.specs.Evaluations.{IsEvaluation};
 ghost use Rattle.vs_run_assigns.specs.Forms.{IsPlaceOf};
 ghost use Rattle.vs_run_assigns.specs.Outcomes.{HasCome};
 ghost use Rattle.vs_run_steps.specs.Runs.{IsRunOf, marks_of, state_of};
-ghost use Rattle.vs_run_steps.specs.vs_run_turns.specs.Turns.{AreMade};
-ghost use Rattle.vs_run_wakes.specs.Changes.{MarkChanges};
+ghost use Rattle.vs_run_steps.specs.Turns.{AreMade};
+ghost use Rattle.vs_run_active.specs.Changes.{MarkChanges};
 
 use crate::evaluation::{copy_evaluation, drive, evaluation_any, spot_evaluation};
 use crate::forms::Forms;
 use std::alloc::AllocError;
 use vs_design::vs_logic4::Vec4;
-use vs_run_active::vs_process::Move;
-use vs_run_active::vs_process::vs_flatcode::Spot;
+use vs_run_active::vs_process::{Move, Spot};
+use vs_run_regions::Due;
+use vs_run_regions::vs_time_wheel::EventQueue;
 use vs_run_steps::RunState;
-use vs_run_updates::Due;
-use vs_run_updates::vs_time_wheel::EventQueue;
 
 /// What the evaluation of a continuous assignment has come to.
 #[derive(Clone, Copy)]

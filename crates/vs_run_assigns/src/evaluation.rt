@@ -13,11 +13,11 @@ use std::alloc::AllocError;
 use vs_design::Store;
 use vs_design::vs_logic4::Vec4;
 use vs_eval_resolved::vs_eval::{cut_value, write_of};
+use vs_run_active::vs_process::Spot;
 use vs_run_active::vs_process::vs_edges::WordChange;
-use vs_run_active::vs_process::vs_flatcode::Spot;
+use vs_run_regions::Due;
+use vs_run_regions::vs_time_wheel::EventQueue;
 use vs_run_steps::RunState;
-use vs_run_updates::Due;
-use vs_run_updates::vs_time_wheel::EventQueue;
 
 /// The evaluation of a copy: the word that it gives a value, and what that makes of it.
 #[derive(Clone, Copy)]

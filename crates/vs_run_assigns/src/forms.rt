@@ -7,7 +7,7 @@ use std::alloc::{AllocError, Global};
 use std::marker::Model;
 use vs_design::{Assign, Design, Typed};
 use vs_eval_resolved::Resolved;
-use vs_run_active::vs_process::vs_flatcode::{Spot, spot_of};
+use vs_run_active::vs_process::{Spot, spot_of};
 
 /// How a continuous assignment is evaluated and driven.
 #[derive(Drop)]

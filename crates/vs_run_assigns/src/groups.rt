@@ -4,16 +4,16 @@ ghost use Rattle.vs_run_active.specs.vs_process.specs.Executions as executions;
 ghost use Rattle.vs_run_assigns.specs.Members.{group_move, members_in};
 ghost use Rattle.vs_run_assigns.specs.MembersMade.{HasBegun};
 ghost use Rattle.vs_run_steps.specs.Runs.{IsRunOf, marks_of, state_of};
-ghost use Rattle.vs_run_steps.specs.vs_run_turns.specs.Turns.{AreMade};
-ghost use Rattle.vs_run_wakes.specs.Changes.{MarkChanges};
+ghost use Rattle.vs_run_steps.specs.Turns.{AreMade};
+ghost use Rattle.vs_run_active.specs.Changes.{MarkChanges};
 
 use crate::assigns::{evaluate_alone, is_pending, needs, update_member};
 use crate::forms::Forms;
 use std::alloc::AllocError;
 use vs_run_active::vs_process::Move;
+use vs_run_regions::Due;
+use vs_run_regions::vs_time_wheel::EventQueue;
 use vs_run_steps::RunState;
-use vs_run_updates::Due;
-use vs_run_updates::vs_time_wheel::EventQueue;
 
 /// A member of a group; past the end there is none.
 #[inline(always)]

@@ -10,4 +10,3 @@ pub use assigns::{evaluate, is_pending, needs, propagate};
 pub use forms::Forms;
 pub use groups::{is_group_active, run_group};
 pub use vs_run_active;
-pub use vs_run_active::vs_run_tables;

@@ -5,18 +5,18 @@ use Rattle.std.specs.List.{list_any}
 use Rattle.std.proofs.lemmas.Bool.{ltb-false}
 use borrow.Author.Tests.{ltb-true}
 use Rattle.vs_design.specs.Parts.{Parts}
-use Rattle.vs_run_updates.specs.vs_process.specs.vs_flatcode.specs.Places.{is_going}
-use Rattle.vs_run_updates.specs.vs_process.specs.declared.moves.Move.TheVariants.{Rouse, Activate, EndSlot}
-use Rattle.vs_run_updates.specs.vs_process.specs.Executions.{has_due, has_inactive, if_some, is_busy, is_enabled}
-use Rattle.vs_run_updates.specs.vs_process.specs.States.{AssignState, State}
-use Rattle.vs_run_wakes.specs.vs_run_processes.specs.declared.process.Process.{Process}
-use Rattle.vs_run_wakes.specs.vs_run_processes.specs.Standings.{is_active}
-use Rattle.vs_run_wakes.specs.vs_run_processes.proofs.StandingsLemmas.{active_told}
-use Rattle.vs_run_wakes.specs.vs_run_processes.proofs.TimelinesLemmas.{any_inactive, any_number}
+use Rattle.vs_run_regions.specs.vs_process.specs.Places.{is_going}
+use Rattle.vs_run_regions.specs.vs_process.specs.declared.moves.Move.TheVariants.{Rouse, Activate, EndSlot}
+use Rattle.vs_run_regions.specs.vs_process.specs.Executions.{has_due, has_inactive, if_some, is_busy, is_enabled}
+use Rattle.vs_run_regions.specs.vs_process.specs.States.{AssignState, State}
+use Rattle.vs_run_active.specs.declared.process.Process.{Process}
+use Rattle.vs_run_active.specs.Standings.{is_active}
+use Rattle.vs_run_active.proofs.StandingsLemmas.{active_told}
+use Rattle.vs_run_active.proofs.TimelinesLemmas.{any_inactive, any_number}
 use Rattle.vs_run_steps.specs.declared.run.RunState.{RunState}
 use Rattle.vs_run_steps.specs.Runs.{IsRunOf, state_of}
 use Rattle.vs_run_assigns.specs.vs_run_active.specs.Waiting.{places_of}
-use Rattle.vs_run_wakes.specs.Touches.{is_left}
+use Rattle.vs_run_active.specs.Touches.{is_left}
 
 -- ---- lists of which none is active
 

@@ -9,31 +9,31 @@ use Rattle.std.proofs.lemmas.Bool.{and_parts, false≢true, or_parts}
 use Rattle.std.proofs.lemmas.Option.{none-some, same_Some}
 use Rattle.vs_design.specs.Parts.{Parts}
 use Rattle.vs_design.specs.Stores.{changed_at}
-use Rattle.vs_run_updates.specs.vs_process.specs.vs_flatcode.specs.declared.gait.Gait.TheVariants.{Woken}
-use Rattle.vs_run_updates.specs.vs_process.specs.vs_flatcode.specs.Places.{Place, is_going}
-use Rattle.vs_run_updates.specs.vs_process.specs.vs_flatcode.specs.Texts.{Text}
-use Rattle.vs_run_updates.specs.vs_process.specs.declared.moves.Move.TheVariants.{Rouse, Activate, EndSlot}
-use Rattle.vs_run_updates.specs.vs_process.specs.Executions.{apply, ends, has_due, is_busy, is_enabled, next_time, next_update, places_at, time_at}
-use Rattle.vs_run_updates.specs.vs_process.specs.States.{AssignState, Called, State, Update, activated, is_due, roused, woken_at}
-use Rattle.vs_run_updates.specs.vs_time_wheel.proofs.Bags.{SameBag-from_eq}
-use Rattle.vs_run_updates.specs.vs_time_wheel.specs.Bag.{events_at, least_time}
-use Rattle.vs_run_wakes.specs.vs_run_processes.specs.declared.process.Process.{Process}
-use Rattle.vs_run_wakes.specs.vs_run_processes.specs.declared.process.Wait.{Wait}
-use Rattle.vs_run_wakes.specs.vs_run_processes.specs.declared.process.Wait.TheVariants.{Nothing, Until, Inactive, Terms}
-use Rattle.vs_run_wakes.specs.vs_run_processes.specs.Standings.{place_in, roused_in, roused_wait, woken_in, woken_wait}
-use Rattle.vs_run_wakes.specs.vs_run_processes.specs.Timelines.{AreKept}
-use Rattle.vs_run_wakes.specs.vs_run_processes.specs.Triggers.{changed_all}
-use Rattle.vs_run_wakes.specs.vs_run_processes.proofs.StandingsLemmas.{roused_told, woken_told}
-use Rattle.vs_run_wakes.specs.vs_run_processes.proofs.TimelinesLemmas.{all_roused, all_woken_at, kept_all_roused, kept_all_woken, least_wake}
+use Rattle.vs_run_regions.specs.vs_process.specs.declared.gait.Gait.TheVariants.{Woken}
+use Rattle.vs_run_regions.specs.vs_process.specs.Places.{Place, is_going}
+use Rattle.vs_run_regions.specs.vs_process.specs.Texts.{Text}
+use Rattle.vs_run_regions.specs.vs_process.specs.declared.moves.Move.TheVariants.{Rouse, Activate, EndSlot}
+use Rattle.vs_run_regions.specs.vs_process.specs.Executions.{apply, ends, has_due, is_busy, is_enabled, next_time, next_update, places_at, time_at}
+use Rattle.vs_run_regions.specs.vs_process.specs.States.{AssignState, Called, State, Update, activated, is_due, roused, woken_at}
+use Rattle.vs_run_regions.specs.vs_time_wheel.proofs.Bags.{SameBag-from_eq}
+use Rattle.vs_run_regions.specs.vs_time_wheel.specs.Bag.{events_at, least_time}
+use Rattle.vs_run_active.specs.declared.process.Process.{Process}
+use Rattle.vs_run_active.specs.declared.process.Wait.{Wait}
+use Rattle.vs_run_active.specs.declared.process.Wait.TheVariants.{Nothing, Until, Inactive, Terms}
+use Rattle.vs_run_active.specs.Standings.{place_in, roused_in, roused_wait, woken_in, woken_wait}
+use Rattle.vs_run_active.specs.Timelines.{AreKept}
+use Rattle.vs_run_active.specs.Triggers.{changed_all}
+use Rattle.vs_run_active.proofs.StandingsLemmas.{roused_told, woken_told}
+use Rattle.vs_run_active.proofs.TimelinesLemmas.{all_roused, all_woken_at, kept_all_roused, kept_all_woken, least_wake}
 use Rattle.vs_run_steps.specs.declared.run.RunState.{RunState}
 use Rattle.vs_run_steps.specs.Runs.{Agrees, AreScriptsIn, IsRunOf, IsScriptIn, counters_of, plan_of, state_of}
 use Rattle.vs_run_steps.proofs.RunsLemmas.{keeps_regions, plan_in}
 use Rattle.vs_run_assigns.specs.vs_run_active.specs.declared.events.Events.{Events}
-use Rattle.vs_run_assigns.specs.vs_run_tables.specs.declared.watchers.ListedTerm.{ListedTerm}
+use Rattle.vs_run_assigns.specs.vs_run_active.specs.declared.watchers.ListedTerm.{ListedTerm}
 use Rattle.vs_run_assigns.specs.vs_run_active.specs.Waiting.{AreWaiting, IsWaiting, places_of}
-use Rattle.vs_run_updates.specs.Active.{is_active}
-use Rattle.vs_run_updates.specs.Regions.{Waiting}
-use Rattle.vs_run_wakes.specs.Touches.{AreOf}
+use Rattle.vs_run_regions.specs.Active.{is_active}
+use Rattle.vs_run_regions.specs.Regions.{Waiting}
+use Rattle.vs_run_active.specs.Touches.{AreOf}
 use Rattle.vs_run_events.specs.Leaving.{changed_each}
 use Rattle.vs_run_events.proofs.RunLemmas.{run_after}
 

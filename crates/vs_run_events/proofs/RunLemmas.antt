@@ -4,28 +4,28 @@ use Rattle.std.specs.declared.alloc.Global.{Global}
 use Rattle.std.specs.declared.vec.Vec.{Vec}
 use Rattle.std.specs.Io.KnownBytes.{Appends}
 use Rattle.vs_design.specs.Parts.{Parts}
-use Rattle.vs_run_updates.specs.vs_process.specs.declared.moves.Move.{Move}
-use Rattle.vs_run_updates.specs.vs_process.specs.declared.moves.Move.TheVariants.{Step, EndSlot}
-use Rattle.vs_run_updates.specs.vs_process.specs.Executions.{apply, move_lines}
-use Rattle.vs_run_updates.specs.vs_process.specs.States.{State}
-use Rattle.vs_run_wakes.specs.vs_run_processes.specs.Taken.{AreTaken, step_text}
+use Rattle.vs_run_regions.specs.vs_process.specs.declared.moves.Move.{Move}
+use Rattle.vs_run_regions.specs.vs_process.specs.declared.moves.Move.TheVariants.{Step, EndSlot}
+use Rattle.vs_run_regions.specs.vs_process.specs.Executions.{apply, move_lines}
+use Rattle.vs_run_regions.specs.vs_process.specs.States.{State}
+use Rattle.vs_run_active.specs.Taken.{AreTaken, step_text}
 use Rattle.vs_run_steps.specs.declared.run.RunState.{RunState}
 use Rattle.vs_run_steps.specs.Runs.{Agrees, IsRunOf, Plan, marks_of, plan_of, state_of}
 use Rattle.vs_run_steps.proofs.RunsLemmas.{plan_in, plan_out}
 use Rattle.vs_run_steps.proofs.TakingLemmas.{part_none}
 use Rattle.vs_run_assigns.specs.vs_run_active.specs.declared.queue.Queue.{Queue}
-use Rattle.vs_run_steps.specs.vs_run_turns.specs.Prints.{lines_text}
-use Rattle.vs_run_steps.specs.vs_run_turns.specs.Taken.{TakenPart}
-use Rattle.vs_run_steps.specs.vs_run_turns.specs.Turns.{AreMade, IsReached, is_silent}
-use Rattle.vs_run_steps.specs.vs_run_turns.proofs.Appending.{append_none, part_more}
-use Rattle.vs_run_steps.specs.vs_run_turns.proofs.MadeLemmas.{made_reached}
-use Rattle.vs_run_steps.specs.vs_run_turns.proofs.MoveLemmas.{silent_lines}
-use Rattle.vs_run_steps.specs.vs_run_turns.proofs.PrintsLemmas.{step_prints}
-use Rattle.vs_run_wakes.specs.Changes.{MarkChanges}
-use Rattle.vs_run_wakes.proofs.MarkingLemmas.{changes_more, changes_none}
+use Rattle.vs_run_steps.specs.Prints.{lines_text}
+use Rattle.vs_run_steps.specs.Taken.{TakenPart}
+use Rattle.vs_run_steps.specs.Turns.{AreMade, IsReached, is_silent}
+use Rattle.vs_run_steps.proofs.Appending.{append_none, part_more}
+use Rattle.vs_run_steps.proofs.MadeLemmas.{made_reached}
+use Rattle.vs_run_steps.proofs.MoveLemmas.{silent_lines}
+use Rattle.vs_run_steps.proofs.PrintsLemmas.{step_prints}
+use Rattle.vs_run_active.specs.Changes.{MarkChanges}
+use Rattle.vs_run_active.proofs.MarkingLemmas.{changes_more, changes_none}
 use Rattle.vs_vcd_writing.specs.Sinks.{AppendsPart}
-use Rattle.vs_run_listed.specs.declared.event.Event.{Event}
-use Rattle.vs_run_listed.specs.declared.event.Event.TheVariants as e
+use Rattle.vs_run_regions.specs.declared.event.Event.{Event}
+use Rattle.vs_run_regions.specs.declared.event.Event.TheVariants as e
 use Rattle.vs_run_events.specs.Running.{IsActive, IsMade, IsSingle, move_of}
 
 -- ---- a run of its design

@@ -6,24 +6,24 @@ use Rattle.std.proofs.lemmas.Bool.{and_parts, false≢true, true≢false}
 use Rattle.std.proofs.lemmas.Option.{none-some, same_Some}
 use Rattle.vs_design.specs.Parts.{Parts}
 use Rattle.vs_design.specs.Writes.{Write}
-use Rattle.vs_run_updates.specs.vs_time_wheel.proofs.Bags.{SameBag-from_eq}
-use Rattle.vs_run_updates.specs.vs_process.specs.declared.moves.Move.TheVariants.{Make}
-use Rattle.vs_run_updates.specs.vs_process.specs.Executions.{apply, if_some, is_first}
-use Rattle.vs_run_updates.specs.vs_process.specs.States.{State, Update, without, written}
-use Rattle.vs_run_updates.specs.vs_process.proofs.Lists.{none_at}
+use Rattle.vs_run_regions.specs.vs_time_wheel.proofs.Bags.{SameBag-from_eq}
+use Rattle.vs_run_regions.specs.vs_process.specs.declared.moves.Move.TheVariants.{Make}
+use Rattle.vs_run_regions.specs.vs_process.specs.Executions.{apply, if_some, is_first}
+use Rattle.vs_run_regions.specs.vs_process.specs.States.{State, Update, without, written}
+use Rattle.vs_run_regions.specs.vs_process.proofs.ProcessLists.{none_at}
 use Rattle.vs_run_steps.specs.declared.run.RunState.{RunState}
 use Rattle.vs_run_steps.specs.Runs.{Agrees, Keeps, state_of}
 use Rattle.vs_run_steps.proofs.RunsLemmas.{keeps_regions}
-use Rattle.vs_run_assigns.specs.vs_run_tables.specs.declared.watchers.ListedTerm.{ListedTerm}
-use Rattle.vs_run_steps.specs.vs_run_turns.specs.Turns.{AreMade}
-use Rattle.vs_run_steps.specs.vs_run_turns.proofs.AssignLemmas.{updated}
-use Rattle.vs_run_steps.specs.vs_run_turns.proofs.MadeLemmas.{made_one}
-use Rattle.vs_run_updates.specs.declared.update.Update as declared
-use Rattle.vs_run_updates.specs.declared.update.Update.TheVariants as u
-use Rattle.vs_run_updates.specs.Active.{is_active, place_of_active}
-use Rattle.vs_run_updates.specs.Regions.{Waiting, place_of_number, without_oldest}
-use Rattle.vs_run_updates.specs.Updates.{bits_write, is_there, left_of, what_of}
-use Rattle.vs_run_listed.specs.declared.event.Event.TheVariants as e
+use Rattle.vs_run_assigns.specs.vs_run_active.specs.declared.watchers.ListedTerm.{ListedTerm}
+use Rattle.vs_run_steps.specs.Turns.{AreMade}
+use Rattle.vs_run_steps.proofs.AssignLemmas.{updated}
+use Rattle.vs_run_steps.proofs.MadeLemmas.{made_one}
+use Rattle.vs_run_regions.specs.declared.update.Update as declared
+use Rattle.vs_run_regions.specs.declared.update.Update.TheVariants as u
+use Rattle.vs_run_regions.specs.Active.{is_active, place_of_active}
+use Rattle.vs_run_regions.specs.Regions.{Waiting, place_of_number, without_oldest}
+use Rattle.vs_run_regions.specs.Updates.{bits_write, is_there, left_of, what_of}
+use Rattle.vs_run_regions.specs.declared.event.Event.TheVariants as e
 use Rattle.vs_run_events.specs.Making.{WritesUpdate}
 use Rattle.vs_run_events.specs.Running.{IsActive}
 

@@ -1,5 +1,5 @@
 pub mod Leaving
 pub mod Making
 pub mod Running
-pub use Rattle.vs_run_listed
-pub use Rattle.vs_run_wakes
+pub use Rattle.vs_run_regions
+pub use Rattle.vs_run_active

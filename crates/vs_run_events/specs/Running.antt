@@ -1,19 +1,19 @@
 -- What is active in a run.
 use Rattle.std.specs.Prelude.{ℕ, ◌≡◌, Bool, true, Option, List, slice_get}
 use Rattle.std.specs.Io.KnownBytes.{Appends}
-use Rattle.vs_run_updates.specs.vs_process.specs.declared.moves.Move.{Move}
-use Rattle.vs_run_updates.specs.vs_process.specs.declared.moves.Move.TheVariants.{Step, Evaluate, Propagate, Make, Rouse, Activate, EndSlot}
-use Rattle.vs_run_updates.specs.vs_process.specs.Executions.{apply, is_enabled, move_lines}
-use Rattle.vs_run_updates.specs.vs_process.specs.States.{AssignState, State}
-use Rattle.vs_run_assigns.specs.vs_run_tables.specs.declared.tables.Tables.{Tables}
-use Rattle.vs_run_updates.specs.Regions.{Waiting, place_of_number}
-use Rattle.vs_run_updates.specs.Updates.{is_there}
+use Rattle.vs_run_regions.specs.vs_process.specs.declared.moves.Move.{Move}
+use Rattle.vs_run_regions.specs.vs_process.specs.declared.moves.Move.TheVariants.{Step, Evaluate, Propagate, Make, Rouse, Activate, EndSlot}
+use Rattle.vs_run_regions.specs.vs_process.specs.Executions.{apply, is_enabled, move_lines}
+use Rattle.vs_run_regions.specs.vs_process.specs.States.{AssignState, State}
+use Rattle.vs_run_assigns.specs.vs_run_active.specs.declared.tables.Tables.{Tables}
+use Rattle.vs_run_regions.specs.Regions.{Waiting, place_of_number}
+use Rattle.vs_run_regions.specs.Updates.{is_there}
 use Rattle.vs_run_steps.specs.declared.run.RunState.{RunState}
 use Rattle.vs_run_steps.specs.Runs.{state_of}
-use Rattle.vs_run_steps.specs.vs_run_turns.specs.Prints.{lines_text}
+use Rattle.vs_run_steps.specs.Prints.{lines_text}
 use Rattle.vs_run_assigns.specs.Members.{group_move}
-use Rattle.vs_run_listed.specs.declared.event.Event.{Event}
-use Rattle.vs_run_listed.specs.declared.event.Event.TheVariants as e
+use Rattle.vs_run_regions.specs.declared.event.Event.{Event}
+use Rattle.vs_run_regions.specs.declared.event.Event.TheVariants as e
 use Rattle.vs_run_events.specs.declared.state.Region.{Region}
 use Rattle.vs_run_events.specs.declared.state.Region.TheVariants as r
 

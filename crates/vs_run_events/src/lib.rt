@@ -6,6 +6,6 @@ mod state;
 
 pub use moves::{leave, run_event};
 pub use state::{Region, first_event, is_active, is_going, is_inside, lost_event, next_region};
+pub use vs_run_active;
 pub use vs_run_assigns;
-pub use vs_run_listed;
-pub use vs_run_wakes;
+pub use vs_run_regions;

@@ -1,15 +1,15 @@
 //! The moves of events.
 ghost use Rattle.std.specs.Prelude.{◌≡◌, ◌<◌, ◌≤◌, ◌^◌, false, true, Bool, Some, List, IfOk, OnOk, OnErr};
-ghost use Rattle.vs_run_updates.specs.vs_process.specs.Executions as executions;
+ghost use Rattle.vs_run_regions.specs.vs_process.specs.Executions as executions;
 ghost use Rattle.vs_run_events.specs.Leaving.{changed_each};
 ghost use Rattle.vs_run_events.specs.Making.{WritesUpdate};
 ghost use Rattle.vs_run_events.specs.Running.{IsActive, IsMade, IsSingle, move_of, region_move};
-ghost use Rattle.vs_run_wakes.specs.vs_run_processes.specs.Standings as standings;
+ghost use Rattle.vs_run_active.specs.Standings as standings;
 ghost use Rattle.vs_run_steps.specs.Runs.{Agrees, IsRunOf, Keeps, marks_of, plan_of, state_of};
-ghost use Rattle.vs_run_steps.specs.vs_run_turns.specs.Prints.{lines_text};
-ghost use Rattle.vs_run_steps.specs.vs_run_turns.specs.Turns.{AreMade, EventTurned, EventTurnedPart};
-ghost use Rattle.vs_run_updates.specs.Updates.{IsIn};
-ghost use Rattle.vs_run_wakes.specs.Changes.{MarkChanges};
+ghost use Rattle.vs_run_steps.specs.Prints.{lines_text};
+ghost use Rattle.vs_run_steps.specs.Turns.{AreMade, EventTurned, EventTurnedPart};
+ghost use Rattle.vs_run_regions.specs.Updates.{IsIn};
+ghost use Rattle.vs_run_active.specs.Changes.{MarkChanges};
 ghost use Rattle.vs_vcd_writing.specs.Progress.{is_write_fault};
 ghost use Rattle.vs_vcd_writing.specs.Sinks.{AppendsPart, failed_after};
 
@@ -17,10 +17,9 @@ use crate::state::Region;
 use std::alloc::AllocError;
 use vs_run_assigns::vs_run_active::Events;
 use vs_run_assigns::{Forms, evaluate, propagate, run_group};
-use vs_run_listed::Event;
+use vs_run_regions::vs_time_wheel::EventQueue;
+use vs_run_regions::{Due, Event, Update};
 use vs_run_steps::RunState;
-use vs_run_updates::vs_time_wheel::EventQueue;
-use vs_run_updates::{Due, Update};
 use vs_vcd_writing::{Sink, WriterFault};
 
 /// Writes what an update writes, where it isn't gone: whether it isn't.

@@ -2,19 +2,18 @@
 ghost use Rattle.std.specs.Prelude.{◌≡◌, false, true, slice_get, IfNone, IfSome, MatchOption};
 ghost use Rattle.std.specs.List.{list_any};
 ghost use Rattle.vs_design.specs.Parts.{Parts};
-ghost use Rattle.vs_run_updates.specs.vs_process.specs.vs_flatcode.specs.Places.{is_going, is_inside};
-ghost use Rattle.vs_run_updates.specs.vs_process.specs.declared.moves.Move.TheVariants as moves;
-ghost use Rattle.vs_run_updates.specs.vs_process.specs.Executions as executions;
+ghost use Rattle.vs_run_regions.specs.vs_process.specs.Places.{is_going, is_inside};
+ghost use Rattle.vs_run_regions.specs.vs_process.specs.declared.moves.Move.TheVariants as moves;
+ghost use Rattle.vs_run_regions.specs.vs_process.specs.Executions as executions;
 ghost use Rattle.vs_run_events.specs.Running.{IsActive, IsChoice, region_move};
 ghost use Rattle.vs_run_steps.specs.Runs.{IsRunOf, state_of};
-ghost use Rattle.vs_run_updates.specs.Active.{is_active};
-ghost use Rattle.vs_run_wakes.specs.Touches.{is_left};
+ghost use Rattle.vs_run_regions.specs.Active.{is_active};
+ghost use Rattle.vs_run_active.specs.Touches.{is_left};
 
 use vs_run_assigns::{is_group_active, is_pending, needs};
-use vs_run_listed::Event;
+use vs_run_regions::vs_time_wheel::EventQueue;
+use vs_run_regions::{Due, Event};
 use vs_run_steps::RunState;
-use vs_run_updates::Due;
-use vs_run_updates::vs_time_wheel::EventQueue;
 
 /// What is done where no event is active.
 #[derive(Clone, Copy)]

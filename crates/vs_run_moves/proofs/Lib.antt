@@ -1,3 +1,5 @@
+mod ScriptLemmas
+mod StartLemmas
 pub mod MarkingLemmas
 pub mod RegionLemmas
 pub mod StandingLemmas

@@ -10,20 +10,20 @@ use Rattle.vs_design.specs.Parts.{Parts}
 use Rattle.vs_design.specs.Stores.{Store, word_in}
 use Rattle.std.specs.Io.KnownBytes.{Appends}
 use Rattle.vs_design.specs.Traces.{Line, Slot}
-use Rattle.vs_run_processes.specs.vs_process.specs.declared.moves.Move.TheVariants.{EndSlot}
-use Rattle.vs_run_processes.specs.vs_process.specs.Executions.{ended_slot}
-use Rattle.vs_run_processes.specs.vs_process.specs.States.{Called, State}
-use Rattle.vs_run_steps.specs.vs_run_turns.specs.Prints.{lines_text}
-use Rattle.vs_run_steps.specs.vs_run_turns.specs.Slots.{AppendsSlots}
-use Rattle.vs_run_steps.specs.vs_run_turns.proofs.Appending.{append_none}
-use Rattle.vs_run_steps.specs.vs_run_turns.proofs.WritingLemmas.{ended_here}
+use Rattle.vs_run_active.specs.vs_process.specs.declared.moves.Move.TheVariants.{EndSlot}
+use Rattle.vs_run_active.specs.vs_process.specs.Executions.{ended_slot}
+use Rattle.vs_run_active.specs.vs_process.specs.States.{Called, State}
+use Rattle.vs_run_steps.specs.Prints.{lines_text}
+use Rattle.vs_run_steps.specs.Slots.{AppendsSlots}
+use Rattle.vs_run_steps.proofs.Appending.{append_none}
+use Rattle.vs_run_steps.proofs.WritingLemmas.{ended_here}
 use Rattle.vs_vcd_writing.proofs.ProgressLemmas.{vcd_slots-push}
-use Rattle.vs_run_events.specs.vs_run_wakes.specs.Changes.{MarkChanges}
+use Rattle.vs_run_events.specs.vs_run_active.specs.Changes.{MarkChanges}
 use Rattle.vs_vcd_writing.specs.Codes.{is_array}
 use Rattle.vs_vcd_writing.specs.CodeTables.{code_table}
-use Rattle.vs_run_events.specs.vs_run_wakes.proofs.MarkingLemmas.{unmarked}
+use Rattle.vs_run_events.specs.vs_run_active.proofs.MarkingLemmas.{unmarked}
 use Rattle.vs_vcd_writing.specs.Progress.{Covers, HasWritten, Progress, vcd_slot}
-use Rattle.vs_run_steps.specs.vs_run_turns.specs.Recording.{CoversNoted, HasNoted, HasRoom}
+use Rattle.vs_run_steps.specs.Recording.{CoversNoted, HasNoted, HasRoom}
 use Rattle.vs_run_steps.specs.Runs.{Running, marks_of, state_of}
 use Rattle.vs_run_moves.specs.Standing.{HasKept, IsKept}
 

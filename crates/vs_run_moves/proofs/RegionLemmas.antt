@@ -3,18 +3,18 @@ use Rattle.std.proofs.Common.{◌≡◌, ℕ, Bool, true, Option, None, List, �
 use Rattle.std.specs.Io.KnownBytes.{Appends}
 use Rattle.vs_design.specs.Parts.{Parts}
 use Rattle.vs_design.specs.Traces.{Slot}
-use Rattle.vs_run_processes.specs.vs_process.specs.declared.moves.Move.TheVariants.{Rouse, Activate, EndSlot}
-use Rattle.vs_run_processes.specs.vs_process.specs.Executions.{apply, ended_slot, is_enabled, strobe_lines}
-use Rattle.vs_run_processes.specs.vs_process.specs.States.{State}
+use Rattle.vs_run_active.specs.vs_process.specs.declared.moves.Move.TheVariants.{Rouse, Activate, EndSlot}
+use Rattle.vs_run_active.specs.vs_process.specs.Executions.{apply, ended_slot, is_enabled, strobe_lines}
+use Rattle.vs_run_active.specs.vs_process.specs.States.{State}
 use Rattle.vs_vcd_writing.specs.Progress.{Progress}
 use Rattle.vs_vcd_writing.specs.Sinks.{AppendsPart}
-use Rattle.vs_run_steps.specs.vs_run_turns.specs.Points.{point}
-use Rattle.vs_run_steps.specs.vs_run_turns.specs.Prints.{lines_text}
-use Rattle.vs_run_steps.specs.vs_run_turns.specs.Recording.{HasNoted}
-use Rattle.vs_run_steps.specs.vs_run_turns.specs.Slots.{AppendsSlots, AppendsSlotsPart}
-use Rattle.vs_run_steps.specs.vs_run_turns.specs.Turns.{Turned, TurnedPart}
-use Rattle.vs_run_steps.specs.vs_run_turns.proofs.Appending.{append_none}
-use Rattle.vs_run_steps.specs.vs_run_turns.proofs.TurnsLemmas.{one_turned}
+use Rattle.vs_run_steps.specs.Points.{point}
+use Rattle.vs_run_steps.specs.Prints.{lines_text}
+use Rattle.vs_run_steps.specs.Recording.{HasNoted}
+use Rattle.vs_run_steps.specs.Slots.{AppendsSlots, AppendsSlotsPart}
+use Rattle.vs_run_steps.specs.Turns.{Turned, TurnedPart}
+use Rattle.vs_run_steps.proofs.Appending.{append_none}
+use Rattle.vs_run_steps.proofs.TurnsLemmas.{one_turned}
 
 rouse_inner : Rouse ≡ EndSlot → ⊥
 rouse_inner e = cc

@@ -1,30 +1,30 @@
 -- A run that goes on.
 use Rattle.std.proofs.Common.{◌≡◌, ℕ, ◌+◌, ◌-◌, ◌<◌, Bool, true, false, Option, Some, None, List, slice_get, if◌then◌else◌, refl, sym, ◌∙◌, ap, ap₂, subst, arith}
 use Rattle.std.proofs.lemmas.Bool.{and_parts, false≢true, true≢false}
-use Rattle.vs_flatcode.specs.declared.gait.Gait.TheVariants as gaits
-use Rattle.vs_flatcode.specs.Places.{Place, going, sleeping, inactive, waiting, ended, is_going, is_inside}
-use Rattle.vs_run_processes.specs.vs_process.specs.declared.moves.Move.{Move}
-use Rattle.vs_run_processes.specs.vs_process.specs.declared.moves.Move.TheVariants.{Step, Evaluate, Propagate, Make, Rouse, Activate, EndSlot}
+use Rattle.vs_process.specs.declared.gait.Gait.TheVariants as gaits
+use Rattle.vs_process.specs.Places.{Place, going, sleeping, inactive, waiting, ended, is_going, is_inside}
+use Rattle.vs_run_active.specs.vs_process.specs.declared.moves.Move.{Move}
+use Rattle.vs_run_active.specs.vs_process.specs.declared.moves.Move.TheVariants.{Step, Evaluate, Propagate, Make, Rouse, Activate, EndSlot}
 use Rattle.std.specs.Io.KnownBytes.{Appends}
-use Rattle.vs_run_processes.specs.vs_process.specs.Blocks.{is_step_of_any}
-use Rattle.vs_run_processes.specs.vs_process.specs.Executions.{apply, if_some, is_enabled, move_lines}
-use Rattle.vs_run_processes.specs.vs_process.specs.States.{State}
+use Rattle.vs_run_active.specs.vs_process.specs.Blocks.{is_step_of_any}
+use Rattle.vs_run_active.specs.vs_process.specs.Executions.{apply, if_some, is_enabled, move_lines}
+use Rattle.vs_run_active.specs.vs_process.specs.States.{State}
 use Rattle.vs_run_steps.specs.Runs.{IsRunOf, Running, marks_of, state_of}
 use Rattle.vs_run_moves.specs.Standing.{HasMoved, HasMovedPart, IsStanding, Standing, point_of}
-use Rattle.vs_run_steps.specs.vs_run_turns.specs.Insides.{inside_told, is_told}
-use Rattle.vs_run_steps.specs.vs_run_turns.specs.Points.{Point, point}
-use Rattle.vs_run_steps.specs.vs_run_turns.specs.Prints.{lines_text}
-use Rattle.vs_run_steps.specs.vs_run_turns.specs.Turns.{AllTurned, AllTurnedPart, EventTurned, EventTurnedPart, GoesOn, RunsTo, Turned, TurnedPart, Turning}
-use Rattle.vs_run_steps.specs.vs_run_turns.proofs.TurnsLemmas.{all_then, once_part, one_part, one_turned, turned_last, turned_so_far, turning_one, turning_part}
+use Rattle.vs_run_steps.specs.Insides.{inside_told, is_told}
+use Rattle.vs_run_steps.specs.Points.{Point, point}
+use Rattle.vs_run_steps.specs.Prints.{lines_text}
+use Rattle.vs_run_steps.specs.Turns.{AllTurned, AllTurnedPart, EventTurned, EventTurnedPart, GoesOn, RunsTo, Turned, TurnedPart, Turning}
+use Rattle.vs_run_steps.proofs.TurnsLemmas.{all_then, once_part, one_part, one_turned, turned_last, turned_so_far, turning_one, turning_part}
 use Rattle.vs_vcd_writing.specs.Progress.{Progress}
 use Rattle.vs_vcd_writing.specs.Sinks.{AppendsPart}
 use Rattle.vs_run_steps.specs.declared.run.RunState.{RunState}
-use Rattle.vs_run_start.specs.vs_run_active.specs.declared.queue.Queue.{Queue}
-use Rattle.vs_run_events.specs.vs_run_listed.specs.declared.event.Event.{Event}
-use Rattle.vs_run_events.specs.vs_run_listed.specs.declared.event.Event.TheVariants as e
+use Rattle.vs_run_moves.specs.vs_run_active.specs.declared.queue.Queue.{Queue}
+use Rattle.vs_run_events.specs.vs_run_regions.specs.declared.event.Event.{Event}
+use Rattle.vs_run_events.specs.vs_run_regions.specs.declared.event.Event.TheVariants as e
 use Rattle.vs_run_events.specs.Running.{IsMade, IsSingle, move_of}
 use Rattle.vs_run_events.proofs.RunLemmas.{event_inner, queue_run}
-use Rattle.vs_run_events.specs.vs_run_wakes.specs.Changes.{MarkChanges}
+use Rattle.vs_run_events.specs.vs_run_active.specs.Changes.{MarkChanges}
 use Rattle.vs_run_moves.proofs.MarkingLemmas.{kept_on}
 
 -- where no block has left its control, none goes on

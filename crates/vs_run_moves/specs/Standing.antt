@@ -2,15 +2,15 @@
 use Rattle.std.specs.Prelude.{ℕ, ◌≡◌, ◌<◌, ◌≤◌, ◌^◌, Bool, false, Option, Some, None, List, ◌++◌, length}
 use Rattle.vs_design.specs.Parts.{Parts}
 use Rattle.vs_design.specs.Traces.{Slot}
-use Rattle.vs_run_processes.specs.vs_process.specs.declared.moves.Move.TheVariants.{EndSlot}
-use Rattle.vs_run_processes.specs.vs_process.specs.Executions.{ended_slot}
-use Rattle.vs_run_processes.specs.vs_process.specs.States.{State}
+use Rattle.vs_run_active.specs.vs_process.specs.declared.moves.Move.TheVariants.{EndSlot}
+use Rattle.vs_run_active.specs.vs_process.specs.Executions.{ended_slot}
+use Rattle.vs_run_active.specs.vs_process.specs.States.{State}
 use Rattle.vs_vcd_writing.specs.Progress.{HasWritten, Progress}
 use Rattle.vs_run_steps.specs.Runs.{IsRunOf, Running, marks_of, state_of}
-use Rattle.vs_run_steps.specs.vs_run_turns.specs.Points.{Point, point}
-use Rattle.vs_run_steps.specs.vs_run_turns.specs.Recording.{CoversNoted, HasNoted, HasRoom}
-use Rattle.vs_run_steps.specs.vs_run_turns.specs.Slots.{AppendsSlots, AppendsSlotsPart}
-use Rattle.vs_run_steps.specs.vs_run_turns.specs.Turns.{AllTurned, AllTurnedPart, GoesOn}
+use Rattle.vs_run_steps.specs.Points.{Point, point}
+use Rattle.vs_run_steps.specs.Recording.{CoversNoted, HasNoted, HasRoom}
+use Rattle.vs_run_steps.specs.Slots.{AppendsSlots, AppendsSlotsPart}
+use Rattle.vs_run_steps.specs.Turns.{AllTurned, AllTurnedPart, GoesOn}
 
 -- where a run stands: its design, of each process whether it is a combinational block, its state, the block that has taken a step since its control,
 -- where there is one, whether a policy chooses, and the writer of its dump, where it has one

@@ -1,12 +1,17 @@
+//! The start of a run: the scripts of a design's processes, and the state in which every run of it begins (IEEE 1364-2005, clause 11).
 //! A run: what it is made of, its start, and its next moves (IEEE 1364-2005, clause 11).
 #![tactic(auto)]
 
 mod choosing;
+mod moves_start;
 mod run;
+mod scripts;
 mod slot;
 mod start;
 
 pub use run::Run;
-pub use vs_run_events::vs_run_listed::Event;
-pub use vs_run_start::{codes_of, scripts_of};
-pub use vs_run_steps::vs_run_turns;
+pub use scripts::{codes_of, scripts_of};
+pub use start::running_of;
+pub use vs_run_events::vs_run_regions::Event;
+pub use vs_run_regions;
+pub use vs_run_steps;

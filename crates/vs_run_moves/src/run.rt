@@ -3,19 +3,18 @@ ghost use Rattle.std.specs.Prelude.{◌≡◌, List};
 ghost use Rattle.vs_design.specs.Parts.{Parts};
 ghost use Rattle.vs_design.specs.Traces.{Slot};
 ghost use Rattle.vs_run_steps.specs.Runs.{state_of};
-ghost use Rattle.vs_run_steps.specs.vs_run_turns.specs.Recording.{HasNoted};
+ghost use Rattle.vs_run_steps.specs.Recording.{HasNoted};
 ghost use Rattle.vs_vcd_writing.specs.Progress.{is_write_fault, WritesPiece};
 ghost use Rattle.vs_vcd_writing.specs.Sinks.{failed_after};
 ghost use Rattle.vs_vcd_writing.specs.Text.{vcd_end};
 
+use crate::vs_run_regions::Due;
+use crate::vs_run_regions::vs_time_wheel::EventQueue;
 use std::alloc::Global;
 use std::marker::Model;
 use vs_run_events::vs_run_assigns::Forms;
-use vs_run_events::vs_run_listed::{Agenda, Event};
-use vs_run_start::vs_run_updates::Due;
-use vs_run_start::vs_run_updates::vs_time_wheel::EventQueue;
-use vs_run_steps::RunState;
-use vs_run_steps::vs_run_turns::Recorder;
+use vs_run_events::vs_run_regions::{Agenda, Event};
+use vs_run_steps::{Recorder, RunState};
 use vs_vcd_writing::{Sink, WriterFault};
 
 /// A run: its state, what records its dump, and where a policy chooses, the combinational block that has taken a step since its control.

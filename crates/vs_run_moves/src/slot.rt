@@ -1,32 +1,31 @@
 //! The moves of a slot.
 ghost use Rattle.std.specs.Io.KnownBytes.{Appends};
 ghost use Rattle.std.specs.Prelude.{◌≡◌, ◌<◌, ◌≤◌, ◌^◌, false, true, None, Option, length, map, IfOk, OnOk, OnErr, IfNone, IfSome};
-ghost use Rattle.vs_run_processes.specs.vs_process.specs.Blocks.{is_step_of_any};
-ghost use Rattle.vs_run_processes.specs.vs_process.specs.Executions as executions;
-ghost use Rattle.vs_run_processes.specs.vs_process.specs.declared.moves.Move.TheVariants as moves;
+ghost use Rattle.vs_run_active.specs.vs_process.specs.Blocks.{is_step_of_any};
+ghost use Rattle.vs_run_active.specs.vs_process.specs.Executions as executions;
+ghost use Rattle.vs_run_active.specs.vs_process.specs.declared.moves.Move.TheVariants as moves;
 ghost use Rattle.vs_design.specs.Parts.{Parts};
 ghost use Rattle.vs_run_events.specs.Running.{IsActive, IsSingle, move_of};
 ghost use Rattle.vs_run_moves.specs.Standing.{HasMoved, HasMovedPart, IsRecorded, IsRecordedPart, IsStanding, point_of};
 ghost use Rattle.vs_run_steps.specs.Runs.{IsRunOf, marks_of, running_of, state_of};
-ghost use Rattle.vs_run_steps.specs.vs_run_turns.specs.Failures.{OneFailed};
-ghost use Rattle.vs_run_steps.specs.vs_run_turns.specs.Prints.{lines_text};
-ghost use Rattle.vs_run_steps.specs.vs_run_turns.specs.Recording.{CoversNoted};
-ghost use Rattle.vs_run_steps.specs.vs_run_turns.specs.Turns.{AllTurnedPart, RunsTo, Turned, TurnedPart};
+ghost use Rattle.vs_run_steps.specs.Failures.{OneFailed};
+ghost use Rattle.vs_run_steps.specs.Prints.{lines_text};
+ghost use Rattle.vs_run_steps.specs.Recording.{CoversNoted};
+ghost use Rattle.vs_run_steps.specs.Turns.{AllTurnedPart, RunsTo, Turned, TurnedPart};
 ghost use Rattle.vs_vcd_writing.specs.Progress.{is_write_fault};
 ghost use Rattle.vs_vcd_writing.specs.Sinks.{AppendsPart, failed_after};
 
 use crate::run::Run;
+use crate::vs_run_regions::Due;
+use crate::vs_run_regions::vs_time_wheel::EventQueue;
 use std::alloc::{AllocError, Global};
 use vs_design::Store;
-use vs_flatcode::vs_strobe::full_line;
-use vs_run_events::vs_run_listed::Event;
-use vs_run_events::vs_run_wakes::clear;
+use vs_process::vs_strobe::full_line;
+use vs_run_events::vs_run_active::clear;
+use vs_run_events::vs_run_regions::Event;
 use vs_run_events::{Region, first_event, leave, next_region, run_event};
-use vs_run_policies::Pick;
-use vs_run_start::vs_run_updates::Due;
-use vs_run_start::vs_run_updates::vs_time_wheel::EventQueue;
-use vs_run_steps::vs_run_turns::Recorder;
-use vs_run_steps::{Called, RunState};
+use vs_run_regions::Pick;
+use vs_run_steps::{Called, Recorder, RunState};
 use vs_vcd_writing::{Sink, WriterFault, write_all};
 
 /// Writes the lines of calls of `$strobe`, in their order (IEEE 1364-2005, clause 17.1.2).

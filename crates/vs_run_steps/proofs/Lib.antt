@@ -1,3 +1,14 @@
+pub mod Appending
+pub mod AssignLemmas
+pub mod EventLemmas
+pub mod MadeLemmas
+pub mod MoveLemmas
+pub mod PrintsLemmas
+pub mod TakenLemmas
+pub mod TurnsLemmas
+pub mod WritingLemmas
+pub mod FastLemmas
+pub mod WritesLemmas
 pub mod RunsLemmas
 pub mod StepsLemmas
 pub mod TakingLemmas

@@ -15,40 +15,40 @@ use Rattle.vs_design.specs.Writes.{Write}
 use Rattle.vs_design.specs.vs_logic4.specs.declared.digit.Digit.{Digit}
 use Rattle.vs_design.specs.vs_logic4.specs.PlaneLaws.{digits_of_planes-of, unknown_plane-lt, value_plane-lt}
 use Rattle.vs_design.specs.vs_logic4.specs.Planes.{ArePlanes, digits_of_planes, unknown_plane, value_plane}
-use Rattle.vs_run_writes.specs.vs_edges.specs.Waking.{wake_any}
-use Rattle.vs_run_updates.specs.vs_time_wheel.specs.Bag.{SameBag}
-use Rattle.vs_run_updates.specs.vs_time_wheel.specs.declared.timing.Timed.{Timed}
-use Rattle.vs_flatcode.specs.declared.changes.Change.{Change}
-use Rattle.vs_flatcode.specs.declared.gait.Gait.{Gait}
-use Rattle.vs_flatcode.specs.declared.spot.Spot.{Spot}
-use Rattle.vs_flatcode.specs.declared.gait.Gait.TheVariants.{Woken}
-use Rattle.vs_flatcode.specs.Places.{Place, Todo, active_at, going, sleeping, inactive, waiting, ended, is_going, is_inactive}
-use Rattle.vs_flatcode.specs.Scripts.{todo_on}
-use Rattle.vs_flatcode.specs.Spots.{spot_write}
-use Rattle.vs_flatcode.specs.Texts.{HasControl, Text}
-use Rattle.vs_run_processes.specs.vs_process.specs.Executions.{if_some}
-use Rattle.vs_run_processes.specs.vs_process.specs.States.{AssignState, Called, State, Update, wakened, written}
-use Rattle.vs_run_processes.specs.vs_process.proofs.Stores.{shape-put}
-use Rattle.vs_run_processes.specs.declared.process.Process.{Process}
-use Rattle.vs_run_processes.specs.declared.process.Wait.{Wait}
-use Rattle.vs_run_processes.specs.declared.process.Wait.TheVariants.{Nothing, Until, Inactive, Terms}
-use Rattle.vs_run_processes.specs.Standings.{GoneOn, HasGone, gone_on, place_by, place_in, waits_some}
-use Rattle.vs_run_processes.specs.Taken.{placed}
-use Rattle.vs_run_processes.specs.Timelines.{AreKept, AreKeptBut, sleeps_until}
-use Rattle.vs_run_processes.proofs.GoneLemmas.{gone_none}
-use Rattle.vs_run_processes.proofs.StandingsLemmas.{active_due, active_still, active_told, none_past}
-use Rattle.vs_run_processes.proofs.TakenLemmas.{set_there}
-use Rattle.vs_run_processes.proofs.TimelinesLemmas.{kept_but, kept_inactive, kept_other, kept_sleeping, same_bag}
-use Rattle.vs_run_writes.specs.vs_run_tables.specs.declared.watchers.ListedTerm.{ListedTerm}
-use Rattle.vs_run_writes.specs.vs_run_tables.specs.declared.tables.Tables.{Tables}
-use Rattle.vs_run_writes.specs.vs_run_active.specs.Waiting.{IsWaiting, places_of}
-use Rattle.vs_run_writes.specs.vs_run_active.specs.Wakes.{AreWatched}
-use Rattle.vs_run_writes.specs.vs_run_active.proofs.WatchedLemmas.{watched_put}
-use Rattle.vs_run_updates.specs.Regions.{Waiting}
-use Rattle.vs_run_updates.specs.Updates.{Listed}
-use Rattle.vs_run_writes.specs.vs_run_wakes.specs.Changes.{MarkChanges}
-use Rattle.vs_run_writes.specs.declared.writes.Watched.{Watched}
-use Rattle.vs_run_writes.specs.Writes.{IsMade, Makes}
+use Rattle.vs_run_steps.specs.vs_edges.specs.Waking.{wake_any}
+use Rattle.vs_run_regions.specs.vs_time_wheel.specs.Bag.{SameBag}
+use Rattle.vs_run_regions.specs.vs_time_wheel.specs.declared.timing.Timed.{Timed}
+use Rattle.vs_process.specs.declared.changes.Change.{Change}
+use Rattle.vs_process.specs.declared.gait.Gait.{Gait}
+use Rattle.vs_process.specs.declared.spot.Spot.{Spot}
+use Rattle.vs_process.specs.declared.gait.Gait.TheVariants.{Woken}
+use Rattle.vs_process.specs.Places.{Place, Todo, active_at, going, sleeping, inactive, waiting, ended, is_going, is_inactive}
+use Rattle.vs_process.specs.Scripts.{todo_on}
+use Rattle.vs_process.specs.Spots.{spot_write}
+use Rattle.vs_process.specs.Texts.{HasControl, Text}
+use Rattle.vs_run_active.specs.vs_process.specs.Executions.{if_some}
+use Rattle.vs_run_active.specs.vs_process.specs.States.{AssignState, Called, State, Update, wakened, written}
+use Rattle.vs_run_active.specs.vs_process.proofs.Stores.{shape-put}
+use Rattle.vs_run_active.specs.declared.process.Process.{Process}
+use Rattle.vs_run_active.specs.declared.process.Wait.{Wait}
+use Rattle.vs_run_active.specs.declared.process.Wait.TheVariants.{Nothing, Until, Inactive, Terms}
+use Rattle.vs_run_active.specs.Standings.{GoneOn, HasGone, gone_on, place_by, place_in, waits_some}
+use Rattle.vs_run_active.specs.Taken.{placed}
+use Rattle.vs_run_active.specs.Timelines.{AreKept, AreKeptBut, sleeps_until}
+use Rattle.vs_run_active.proofs.GoneLemmas.{gone_none}
+use Rattle.vs_run_active.proofs.StandingsLemmas.{active_due, active_still, active_told, none_past}
+use Rattle.vs_run_active.proofs.TakenLemmas.{set_there}
+use Rattle.vs_run_active.proofs.TimelinesLemmas.{kept_but, kept_inactive, kept_other, kept_sleeping, same_bag}
+use Rattle.vs_run_steps.specs.vs_run_active.specs.declared.watchers.ListedTerm.{ListedTerm}
+use Rattle.vs_run_steps.specs.vs_run_active.specs.declared.tables.Tables.{Tables}
+use Rattle.vs_run_steps.specs.vs_run_active.specs.Waiting.{IsWaiting, places_of}
+use Rattle.vs_run_steps.specs.vs_run_active.specs.Wakes.{AreWatched}
+use Rattle.vs_run_steps.specs.vs_run_active.proofs.WatchedLemmas.{watched_put}
+use Rattle.vs_run_regions.specs.Regions.{Waiting}
+use Rattle.vs_run_regions.specs.Updates.{Listed}
+use Rattle.vs_run_steps.specs.vs_run_active.specs.Changes.{MarkChanges}
+use Rattle.vs_run_steps.specs.declared.writes.Watched.{Watched}
+use Rattle.vs_run_steps.specs.Writes.{IsMade, Makes}
 use Rattle.vs_run_steps.specs.declared.run.RunState.{RunState}
 use Rattle.vs_run_steps.specs.Runs.{Agrees, AreScriptsIn, IsRun, IsRunOf, IsScriptIn, Keeps, Plan, counters_at, counters_of, plan_of, state_of}
 use Rattle.vs_run_steps.specs.Stepping.{Enters, IsLater, IsStand, Noted, StandsElsewhere}

@@ -16,32 +16,32 @@ use Rattle.vs_design.specs.Stores.{Store}
 use Rattle.vs_design.specs.Writes.{Write}
 use Rattle.vs_eval_resolved.specs.vs_eval.specs.Values.{value_of}
 use Rattle.vs_eval_resolved.specs.Meant.{Meaning}
-use Rattle.vs_flatcode.specs.vs_strobe.specs.Lines.{full_line}
-use Rattle.vs_flatcode.specs.declared.choice.Case.{Case}
-use Rattle.vs_flatcode.specs.declared.choice.Repeat.{Repeat}
-use Rattle.vs_flatcode.specs.declared.choice.Turns.{Turns}
-use Rattle.vs_flatcode.specs.declared.draft.Op.{Op}
-use Rattle.vs_flatcode.specs.declared.script.Action.{Action}
-use Rattle.vs_flatcode.specs.declared.script.Action.TheVariants as a
-use Rattle.vs_flatcode.specs.declared.script.Instruction.{Instruction}
-use Rattle.vs_flatcode.specs.declared.spot.Spot.{Spot}
-use Rattle.vs_flatcode.specs.Choices.{case_index, index_of, repeat_lands, turns_lands}
-use Rattle.vs_flatcode.specs.Landings.{Landing, turned}
-use Rattle.vs_flatcode.specs.Places.{Place, Todo, going, inactive, sleeping}
-use Rattle.vs_flatcode.specs.Scripts.{Does, IsScriptOf, IsStep, Steps, instruction_control, spot_value, todo_landed, todo_on}
-use Rattle.vs_flatcode.specs.Spots.{spot_write}
-use Rattle.vs_flatcode.specs.Steps.{Next, Out, after, assignment, branch, goes, on, step, turns_for, wait}
-use Rattle.vs_flatcode.specs.Texts.{Control, HasControl, Text, controls_of}
-use Rattle.vs_run_processes.specs.vs_process.specs.States.{State, calls_behind, paused, place_behind, updates_behind, written}
-use Rattle.vs_run_processes.specs.declared.process.Process.{Process}
-use Rattle.vs_run_processes.specs.declared.process.Wait.{Wait}
-use Rattle.vs_run_processes.specs.declared.process.Wait.TheVariants as w
-use Rattle.vs_run_processes.specs.Standings.{place_by}
-use Rattle.vs_run_processes.specs.Taken.{left_by, placed, text_of_line}
-use Rattle.vs_run_processes.proofs.TakenLemmas.{left_call, left_finish, left_line, left_nothing, left_update, left_write}
+use Rattle.vs_process.specs.vs_strobe.specs.Lines.{full_line}
+use Rattle.vs_process.specs.declared.choice.Case.{Case}
+use Rattle.vs_process.specs.declared.choice.Repeat.{Repeat}
+use Rattle.vs_process.specs.declared.choice.Turns.{Turns}
+use Rattle.vs_process.specs.declared.draft.Op.{Op}
+use Rattle.vs_process.specs.declared.script.Action.{Action}
+use Rattle.vs_process.specs.declared.script.Action.TheVariants as a
+use Rattle.vs_process.specs.declared.script.Instruction.{Instruction}
+use Rattle.vs_process.specs.declared.spot.Spot.{Spot}
+use Rattle.vs_process.specs.Choices.{case_index, index_of, repeat_lands, turns_lands}
+use Rattle.vs_process.specs.Landings.{Landing, turned}
+use Rattle.vs_process.specs.Places.{Place, Todo, going, inactive, sleeping}
+use Rattle.vs_process.specs.Scripts.{Does, IsScriptOf, IsStep, Steps, instruction_control, spot_value, todo_landed, todo_on}
+use Rattle.vs_process.specs.Spots.{spot_write}
+use Rattle.vs_process.specs.Steps.{Next, Out, after, assignment, branch, goes, on, step, turns_for, wait}
+use Rattle.vs_process.specs.Texts.{Control, HasControl, Text, controls_of}
+use Rattle.vs_run_active.specs.vs_process.specs.States.{State, calls_behind, paused, place_behind, updates_behind, written}
+use Rattle.vs_run_active.specs.declared.process.Process.{Process}
+use Rattle.vs_run_active.specs.declared.process.Wait.{Wait}
+use Rattle.vs_run_active.specs.declared.process.Wait.TheVariants as w
+use Rattle.vs_run_active.specs.Standings.{place_by}
+use Rattle.vs_run_active.specs.Taken.{left_by, placed, text_of_line}
+use Rattle.vs_run_active.proofs.TakenLemmas.{left_call, left_finish, left_line, left_nothing, left_update, left_write}
 use Rattle.std.proofs.lemmas.Option.{slice_get-map}
-use Rattle.vs_run_writes.specs.vs_run_tables.specs.declared.watchers.ListedTerm.{ListedTerm}
-use Rattle.vs_run_writes.specs.vs_run_active.specs.Waiting.{places_of}
+use Rattle.vs_run_steps.specs.vs_run_active.specs.declared.watchers.ListedTerm.{ListedTerm}
+use Rattle.vs_run_steps.specs.vs_run_active.specs.Waiting.{places_of}
 use Rattle.vs_run_steps.specs.declared.run.RunState.{RunState}
 use Rattle.vs_run_steps.specs.declared.step.Went.{Went}
 use Rattle.vs_run_steps.specs.declared.step.Went.TheVariants.{On, Rests}

@@ -7,33 +7,33 @@ use Rattle.std.proofs.lemmas.List.{append-nil}
 use Rattle.std.proofs.lemmas.Option.{none-some, same_Some}
 use Rattle.vs_design.specs.Parts.{Parts}
 use Rattle.vs_design.specs.Stores.{Store}
-use Rattle.vs_run_updates.specs.vs_time_wheel.specs.Bag.{SameBag}
-use Rattle.vs_flatcode.specs.declared.gait.Gait.{Gait}
-use Rattle.vs_flatcode.specs.declared.gait.Gait.TheVariants.{Fresh, Woken, Inside}
-use Rattle.vs_flatcode.specs.declared.script.Action.{Action}
-use Rattle.vs_flatcode.specs.declared.script.Instruction.{Instruction}
-use Rattle.vs_flatcode.specs.Places.{Place, Todo, active_at, going, is_going, stepped_gait, todo_of}
-use Rattle.vs_flatcode.specs.Scripts.{Does, IsScriptOf, todo_on}
-use Rattle.vs_flatcode.specs.Steps.{Out, has_nothing, on, step}
-use Rattle.vs_flatcode.specs.Texts.{HasControl, Text}
-use Rattle.vs_run_processes.specs.vs_process.specs.declared.moves.Move.{Move}
-use Rattle.vs_run_processes.specs.vs_process.specs.declared.moves.Move.TheVariants.{Step}
-use Rattle.vs_run_processes.specs.vs_process.specs.Executions.{after, apply, if_some, is_enabled}
-use Rattle.vs_run_processes.specs.vs_process.specs.States.{State, place_behind}
-use Rattle.vs_run_processes.specs.declared.process.Process.{Process}
-use Rattle.vs_run_processes.specs.declared.process.Wait.{Wait}
-use Rattle.vs_run_processes.specs.declared.process.Wait.TheVariants as w
-use Rattle.vs_run_processes.specs.Standings.{GoneOn, is_active, place_by, place_in, waits_some}
-use Rattle.vs_run_processes.specs.Taken.{AreTaken, left_by, line_at, placed, step_text, text_of_line}
-use Rattle.vs_run_processes.proofs.GoneLemmas.{gone_more}
-use Rattle.vs_run_processes.proofs.StandingsLemmas.{active_told, going_more}
-use Rattle.vs_run_processes.proofs.TakenLemmas.{gait_twice, set_there, taken_more, taken_none}
-use Rattle.vs_run_writes.specs.vs_run_tables.specs.declared.watchers.ListedTerm.{ListedTerm}
-use Rattle.vs_run_writes.specs.vs_run_active.specs.Waiting.{places_of}
-use Rattle.vs_run_turns.specs.Taken.{TakenPart}
-use Rattle.vs_run_turns.proofs.Appending.{append_more, append_none, part_all}
-use Rattle.vs_run_turns.proofs.TakenLemmas.{known_after, known_last}
-use Rattle.vs_run_writes.specs.vs_run_wakes.specs.Changes.{MarkChanges}
+use Rattle.vs_run_regions.specs.vs_time_wheel.specs.Bag.{SameBag}
+use Rattle.vs_process.specs.declared.gait.Gait.{Gait}
+use Rattle.vs_process.specs.declared.gait.Gait.TheVariants.{Fresh, Woken, Inside}
+use Rattle.vs_process.specs.declared.script.Action.{Action}
+use Rattle.vs_process.specs.declared.script.Instruction.{Instruction}
+use Rattle.vs_process.specs.Places.{Place, Todo, active_at, going, is_going, stepped_gait, todo_of}
+use Rattle.vs_process.specs.Scripts.{Does, IsScriptOf, todo_on}
+use Rattle.vs_process.specs.Steps.{Out, has_nothing, on, step}
+use Rattle.vs_process.specs.Texts.{HasControl, Text}
+use Rattle.vs_run_active.specs.vs_process.specs.declared.moves.Move.{Move}
+use Rattle.vs_run_active.specs.vs_process.specs.declared.moves.Move.TheVariants.{Step}
+use Rattle.vs_run_active.specs.vs_process.specs.Executions.{after, apply, if_some, is_enabled}
+use Rattle.vs_run_active.specs.vs_process.specs.States.{State, place_behind}
+use Rattle.vs_run_active.specs.declared.process.Process.{Process}
+use Rattle.vs_run_active.specs.declared.process.Wait.{Wait}
+use Rattle.vs_run_active.specs.declared.process.Wait.TheVariants as w
+use Rattle.vs_run_active.specs.Standings.{GoneOn, is_active, place_by, place_in, waits_some}
+use Rattle.vs_run_active.specs.Taken.{AreTaken, left_by, line_at, placed, step_text, text_of_line}
+use Rattle.vs_run_active.proofs.GoneLemmas.{gone_more}
+use Rattle.vs_run_active.proofs.StandingsLemmas.{active_told, going_more}
+use Rattle.vs_run_active.proofs.TakenLemmas.{gait_twice, set_there, taken_more, taken_none}
+use Rattle.vs_run_steps.specs.vs_run_active.specs.declared.watchers.ListedTerm.{ListedTerm}
+use Rattle.vs_run_steps.specs.vs_run_active.specs.Waiting.{places_of}
+use Rattle.vs_run_steps.specs.Taken.{TakenPart}
+use Rattle.vs_run_steps.proofs.Appending.{append_more, append_none, part_all}
+use Rattle.vs_run_steps.proofs.TakenLemmas.{known_after, known_last}
+use Rattle.vs_run_steps.specs.vs_run_active.specs.Changes.{MarkChanges}
 use Rattle.vs_vcd_writing.specs.Sinks.{AppendsPart}
 use Rattle.vs_run_steps.specs.declared.run.RunState.{RunState}
 use Rattle.vs_run_steps.specs.declared.step.Went.{Went}

@@ -1,4 +1,13 @@
+pub mod Failures
+pub mod Insides
+pub mod Points
+pub mod Prints
+pub mod Recording
+pub mod Slots
+pub mod Taken
+pub mod Turns
+pub mod Writes
+pub use Rattle.vs_run_active
+pub use Rattle.vs_run_active.specs.vs_edges
 pub mod Runs
 pub mod Stepping
-pub use Rattle.vs_run_turns
-pub use Rattle.vs_run_writes

@@ -6,17 +6,17 @@ use Rattle.vs_design.specs.declared.signal.Signal.{Signal}
 use Rattle.vs_design.specs.declared.statement.EventTerm.{EventTerm}
 use Rattle.vs_design.specs.InOrder.{IsStoreOf}
 use Rattle.vs_design.specs.Parts.{Parts}
-use Rattle.vs_flatcode.specs.Texts.{HasControl, Text}
-use Rattle.vs_run_processes.specs.vs_process.specs.States.{State}
-use Rattle.vs_run_processes.specs.declared.process.Process.{Process}
-use Rattle.vs_run_processes.specs.Standings.{GoneOn}
-use Rattle.vs_run_processes.specs.Timelines.{AreKept}
-use Rattle.vs_run_writes.specs.vs_run_tables.specs.declared.watchers.ListedTerm.{ListedTerm}
-use Rattle.vs_run_writes.specs.vs_run_active.specs.Waiting.{places_of}
-use Rattle.vs_run_writes.specs.vs_run_tables.specs.Waking.{terms_at}
-use Rattle.vs_run_writes.specs.vs_run_active.specs.Wakes.{AreWatched}
-use Rattle.vs_run_turns.specs.Turns.{IsReached}
-use Rattle.vs_run_writes.specs.vs_run_wakes.specs.Changes.{MarkChanges}
+use Rattle.vs_process.specs.Texts.{HasControl, Text}
+use Rattle.vs_run_active.specs.vs_process.specs.States.{State}
+use Rattle.vs_run_active.specs.declared.process.Process.{Process}
+use Rattle.vs_run_active.specs.Standings.{GoneOn}
+use Rattle.vs_run_active.specs.Timelines.{AreKept}
+use Rattle.vs_run_steps.specs.vs_run_active.specs.declared.watchers.ListedTerm.{ListedTerm}
+use Rattle.vs_run_steps.specs.vs_run_active.specs.Waiting.{places_of}
+use Rattle.vs_run_steps.specs.vs_run_active.specs.Waking.{terms_at}
+use Rattle.vs_run_steps.specs.vs_run_active.specs.Wakes.{AreWatched}
+use Rattle.vs_run_steps.specs.Turns.{IsReached}
+use Rattle.vs_run_steps.specs.vs_run_active.specs.Changes.{MarkChanges}
 use Rattle.vs_run_steps.specs.declared.run.RunState.{RunState}
 
 -- the design of a run, and the terms of its processes' event controls

@@ -4,24 +4,24 @@ use Rattle.std.specs.Io.KnownBytes.{Appends}
 use Rattle.vs_design.specs.declared.signal.Signal.{Signal}
 use Rattle.vs_design.specs.Parts.{Parts}
 use Rattle.vs_design.specs.Stores.{Store}
-use Rattle.vs_flatcode.specs.vs_strobe.specs.Lines.{full_line}
-use Rattle.vs_flatcode.specs.declared.gait.Gait.{Gait}
-use Rattle.vs_flatcode.specs.declared.script.Action.{Action}
-use Rattle.vs_flatcode.specs.declared.script.Action.TheVariants as a
-use Rattle.vs_flatcode.specs.Places.{Place, Todo, active_at, going, stepped_gait}
-use Rattle.vs_flatcode.specs.Scripts.{Does, IsStep, todo_on}
-use Rattle.vs_flatcode.specs.Spots.{IsSpotIn}
-use Rattle.vs_flatcode.specs.Steps.{Next, Out, on}
-use Rattle.vs_flatcode.specs.Texts.{HasControl, Text}
-use Rattle.vs_run_processes.specs.vs_process.specs.States.{State, place_behind}
-use Rattle.vs_run_updates.specs.vs_time_wheel.specs.Bag.{SameBag}
-use Rattle.vs_run_processes.specs.declared.process.Process.{Process}
-use Rattle.vs_run_processes.specs.declared.process.Wait.{Wait}
-use Rattle.vs_run_processes.specs.declared.process.Wait.TheVariants as w
-use Rattle.vs_run_processes.specs.Standings.{is_active, place_by}
-use Rattle.vs_run_processes.specs.Taken.{AreTaken, left_by, placed}
-use Rattle.vs_run_writes.specs.vs_run_tables.specs.declared.watchers.ListedTerm.{ListedTerm}
-use Rattle.vs_run_updates.specs.Regions.{Waiting}
+use Rattle.vs_process.specs.vs_strobe.specs.Lines.{full_line}
+use Rattle.vs_process.specs.declared.gait.Gait.{Gait}
+use Rattle.vs_process.specs.declared.script.Action.{Action}
+use Rattle.vs_process.specs.declared.script.Action.TheVariants as a
+use Rattle.vs_process.specs.Places.{Place, Todo, active_at, going, stepped_gait}
+use Rattle.vs_process.specs.Scripts.{Does, IsStep, todo_on}
+use Rattle.vs_process.specs.Spots.{IsSpotIn}
+use Rattle.vs_process.specs.Steps.{Next, Out, on}
+use Rattle.vs_process.specs.Texts.{HasControl, Text}
+use Rattle.vs_run_active.specs.vs_process.specs.States.{State, place_behind}
+use Rattle.vs_run_regions.specs.vs_time_wheel.specs.Bag.{SameBag}
+use Rattle.vs_run_active.specs.declared.process.Process.{Process}
+use Rattle.vs_run_active.specs.declared.process.Wait.{Wait}
+use Rattle.vs_run_active.specs.declared.process.Wait.TheVariants as w
+use Rattle.vs_run_active.specs.Standings.{is_active, place_by}
+use Rattle.vs_run_active.specs.Taken.{AreTaken, left_by, placed}
+use Rattle.vs_run_steps.specs.vs_run_active.specs.declared.watchers.ListedTerm.{ListedTerm}
+use Rattle.vs_run_regions.specs.Regions.{Waiting}
 use Rattle.vs_run_steps.specs.declared.run.RunState.{RunState}
 use Rattle.vs_run_steps.specs.declared.step.Went.{Went}
 use Rattle.vs_run_steps.specs.declared.step.Went.TheVariants.{On, Rests}

@@ -2,7 +2,7 @@
 ghost use Rattle.std.specs.Prelude.{◌≡◌};
 
 use std::marker::Model;
-use vs_flatcode::vs_strobe::Format;
+use vs_process::vs_strobe::Format;
 
 /// A call of `$strobe` in this slot, and the process that made it (IEEE 1364-2005, clause 17.1.2).
 #[derive(Drop)]
@@ -14,7 +14,7 @@ pub struct Called<'a> {
 impl<'a> Model for Called<'a> {
     ghost use Rattle.std.specs.Coded.{codes};
     ghost use Rattle.vs_design.specs.contracts.expression.Typed as expression;
-    ghost use Rattle.vs_run_processes.specs.vs_process.specs.States as states;
+    ghost use Rattle.vs_run_active.specs.vs_process.specs.States as states;
 
     ghost Value = { states.Called };
 

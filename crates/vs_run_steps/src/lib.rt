@@ -1,13 +1,22 @@
+//! Steps of a run, one by one and one after another: what each prints, and what is recorded of the dump (IEEE 1364-2005, clause 11).
+//! Writes in a run: the words that they change, what those wake by the tables of watchers, and the marks of their signals
+//! (IEEE 1364-2005, clause 11.2).
 //! The state of a run, and the steps of its processes (IEEE 1364-2005, clauses 9 and 11).
 #![tactic(auto)]
 
 mod called;
+mod dropped;
+mod marks;
 mod process;
+mod recorder;
 mod run;
 mod step;
+mod steps_writes;
 mod writes;
 
 pub use called::Called;
+pub use dropped::Dropped;
+pub use recorder::Recorder;
 pub use run::RunState;
-pub use vs_run_turns;
-pub use vs_run_writes;
+pub use vs_run_active;
+pub use writes::Watched;

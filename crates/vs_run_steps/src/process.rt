@@ -1,25 +1,25 @@
 //! The steps of a process in a run, one after another, until it waits or is at its end (IEEE 1364-2005, clauses 9 and 11.3).
 ghost use Rattle.std.specs.Prelude.{◌≡◌, ◌<◌, ◌≤◌, ◌^◌, true, false, Some, slice_get, IfOk, OnOk, OnErr};
-ghost use Rattle.vs_flatcode.specs.Places.{is_going};
-ghost use Rattle.vs_flatcode.specs.Scripts.{todo_on};
-ghost use Rattle.vs_run_processes.specs.vs_process.specs.Executions as executions;
-ghost use Rattle.vs_run_processes.specs.Standings.{is_active, place_by, place_in};
-ghost use Rattle.vs_run_processes.specs.Taken.{placed};
+ghost use Rattle.vs_process.specs.Places.{is_going};
+ghost use Rattle.vs_process.specs.Scripts.{todo_on};
+ghost use Rattle.vs_run_active.specs.vs_process.specs.Executions as executions;
+ghost use Rattle.vs_run_active.specs.Standings.{is_active, place_by, place_in};
+ghost use Rattle.vs_run_active.specs.Taken.{placed};
 ghost use Rattle.vs_run_steps.specs.Runs.{Agrees, IsRun, Keeps, Plan, counters_at, state_of};
 ghost use Rattle.vs_run_steps.specs.Stepping.{Enters, HaveTaken, IsLater, IsStand, StandsElsewhere};
-ghost use Rattle.vs_run_turns.specs.Taken.{TakenPart};
-ghost use Rattle.vs_run_writes.specs.vs_run_wakes.specs.Changes.{MarkChanges};
+ghost use Rattle.vs_run_steps.specs.Taken.{TakenPart};
+ghost use Rattle.vs_run_steps.specs.vs_run_active.specs.Changes.{MarkChanges};
 ghost use Rattle.vs_vcd_writing.specs.Progress.{is_write_fault};
 ghost use Rattle.vs_vcd_writing.specs.Sinks.{failed_after};
 
 use crate::run::RunState;
 use crate::step::Went;
 use std::alloc::AllocError;
-use vs_flatcode::Gait;
-use vs_run_processes::vs_process::Move;
-use vs_run_processes::{Process, Wait, gait_after};
-use vs_run_updates::vs_time_wheel::EventQueue;
-use vs_run_updates::{Due, Regions};
+use vs_process::Gait;
+use vs_run_active::vs_process::Move;
+use vs_run_active::{Process, Wait, gait_after};
+use vs_run_regions::vs_time_wheel::EventQueue;
+use vs_run_regions::{Due, Regions};
 use vs_vcd_writing::{Sink, WriterFault};
 
 /// What steps of a process have come to: how many were taken, the index where it stands after them, and what it waits for there.

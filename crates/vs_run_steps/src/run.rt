@@ -1,13 +1,13 @@
 //! The state of a run.
 
+use crate::Watched;
 use crate::called::Called;
+use crate::vs_run_active::ListedTerm;
 use std::alloc::Global;
 use vs_design::Design;
-use vs_flatcode::Change;
-use vs_run_updates::vs_time_wheel::EventQueue;
-use vs_run_updates::{Due, Regions};
-use vs_run_writes::Watched;
-use vs_run_writes::vs_run_tables::ListedTerm;
+use vs_process::Change;
+use vs_run_regions::vs_time_wheel::EventQueue;
+use vs_run_regions::{Due, Regions};
 
 /// What a run holds of the state of an execution (IEEE 1364-2005, clause 11).
 #[derive(Drop)]

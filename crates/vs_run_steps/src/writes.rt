@@ -1,154 +1,132 @@
-//! Writes in a run, and its nonblocking updates (IEEE 1364-2005, clauses 9.2 and 11.2).
-ghost use Rattle.std.specs.Prelude.{◌≡◌, ◌<◌, ◌^◌, [], Some, length, get_or, OnOk};
+//! The store of a run, and what its changes wake.
+ghost use Rattle.std.specs.Prelude.{◌≡◌, ◌*◌, ◌%◌, ◌^◌, List, length, bit_and, OnOk};
+ghost use Rattle.std.specs.Int.RustNames.{bit_xor};
 ghost use Rattle.vs_design.specs.vs_logic4.specs.Planes.{ArePlanes, digits_of_planes};
-ghost use Rattle.vs_flatcode.specs.Spots.{IsSpotIn, spot_write};
-ghost use Rattle.vs_flatcode.specs.Steps.{assignment};
-ghost use Rattle.vs_run_processes.specs.vs_process.specs.States.{updates_behind, written};
-ghost use Rattle.vs_run_steps.specs.Runs.{Agrees, Keeps, Plan, state_of};
+ghost use Rattle.vs_design.specs.declared.signal.Signal.{Signal};
+ghost use Rattle.vs_design.specs.InOrder.{IsStoreOf};
+ghost use Rattle.vs_design.specs.Stores.{put};
+ghost use Rattle.vs_run_active.specs.vs_edges.specs.Masks.{IsChangeOf};
+ghost use Rattle.vs_run_active.specs.Changes.{MarkChanges};
+ghost use Rattle.vs_process.specs.Spots.{IsSpotIn, spot_write};
+ghost use Rattle.vs_run_steps.specs.Writes.{AreNamed, Follows, Makes, MakesWritten};
 
-use crate::run::RunState;
+use crate::marks::{mark, mark_signals};
 use std::alloc::AllocError;
 use vs_design::vs_logic4::Vec4;
-use vs_design::{Target, Ticks, Typed, Write};
-use vs_eval_resolved::vs_eval::{cut_value, write_of};
-use vs_flatcode::Spot;
-use vs_run_updates::vs_time_wheel::EventQueue;
-use vs_run_updates::{Bits, Due};
+use vs_design::{Store, Write};
+use vs_process::{Change, Spot, make};
+use vs_run_active::vs_edges::WordChange;
+use vs_run_active::{Events, Tables};
 
-impl<'a, Q: EventQueue<Due>> RunState<'a, Q> {
-    /// Writes digits to bits of one word, and what that wakes goes on.
-    #[inline(always)]
-    pub fn write(&mut self, spot: &Spot, digits: Vec4) -> Result<(), AllocError>
-        ghost plan: { Plan }
-        requires agrees { Agrees plan.design plan.terms self.old }
-        requires spot { IsSpotIn plan.design.signals spot.now }
-        requires size { length digits ≡ spot.now.width }
-        ensures state { OnOk result (state_of self.new ≡ written (state_of self.old) (spot_write spot.now digits)) }
-        ensures keeps { OnOk result (Keeps plan.design plan.terms self.old self.new) }
-        ensures others { self.new ≡ record self.old { watched = self.new.watched } }
-    {
-        let value = digits.value_plane();
-        let unknown = digits.unknown_plane();
-        self.watched.write(spot, value, unknown)?;
-        Ok(())
+/// The store, the tables of who watches its signals, what is active, and the marks of the signals that were written.
+#[derive(Drop)]
+pub struct Watched<'a> {
+    pub store: Store<'a>,
+    pub tables: Tables,
+    pub events: Events<'a>,
+    pub marks: Vec<u64>,
+}
+
+/// The planes of a word before and after a write.
+#[inline(always)]
+fn change_of(before: Vec4, after: Vec4) -> WordChange
+    requires { length before ≡ length after }
+    ensures { IsChangeOf result before after }
+{
+    let _size = before.width();
+    WordChange {
+        value: before.value_plane(),
+        unknown: before.unknown_plane(),
+        new_value: after.value_plane(),
+        new_unknown: after.unknown_plane(),
     }
+}
 
-    /// Writes both planes of digits to bits of one word, and what that wakes goes on.
+/// A plane of a word with that of digits in the bits of a spot.
+#[inline(always)]
+fn laid(spot: &Spot, plane: u64, digits: u64) -> u64
+    ensures { result ≡ bit_xor plane (bit_and (bit_xor plane (digits * 2 ^ spot.now.shift % 2 ^ 64)) spot.now.mask) }
+{
+    plane ^ (plane ^ digits << spot.shift) & spot.mask
+}
+
+impl<'a> Watched<'a> {
+    /// Writes both planes of digits to bits of one word.
     #[inline(always)]
-    pub fn write_planes(&mut self, spot: &Spot, value: u64, unknown: u64) -> Result<(), AllocError>
-        ghost plan: { Plan }
-        requires agrees { Agrees plan.design plan.terms self.old }
-        requires spot { IsSpotIn plan.design.signals spot.now }
+    pub fn write(&mut self, spot: &Spot, value: u64, unknown: u64) -> Result<(), AllocError>
+        ghost signals: { List Signal }
+        requires spot { IsSpotIn signals spot.now }
         requires planes { ArePlanes spot.now.width value unknown }
-        ensures state { OnOk result (state_of self.new
-            ≡ written (state_of self.old) (spot_write spot.now (digits_of_planes spot.now.width value unknown))) }
-        ensures keeps { OnOk result (Keeps plan.design plan.terms self.old self.new) }
-        ensures others { self.new ≡ record self.old { watched = self.new.watched } }
+        requires store { IsStoreOf signals self.old.store }
+        requires rows { length signals ≡ length self.old.tables.rows.items }
+        ensures store { self.new.store ≡ put self.old.store (spot_write spot.now (digits_of_planes spot.now.width value unknown)) }
+        ensures tables { self.new.tables ≡ self.old.tables }
+        ensures made { OnOk result (Makes self.old.tables self.old.store
+            (spot_write spot.now (digits_of_planes spot.now.width value unknown))
+            self.old.events.assigns self.old.events.processes self.new.events.assigns self.new.events.processes) }
+        ensures marked { MarkChanges self.old.marks.items self.new.marks.items self.old.store self.new.store }
     {
-        self.watched.write(spot, value, unknown)?;
-        Ok(())
-    }
-
-    /// Makes a write of any kind, and what that wakes goes on.
-    #[inline(always)]
-    pub fn write_any(&mut self, write: &Write) -> Result<(), AllocError>
-        ghost plan: { Plan }
-        requires { Agrees plan.design plan.terms self.old }
-        ensures state { OnOk result (state_of self.new ≡ written (state_of self.old) write.now) }
-        ensures keeps { OnOk result (Keeps plan.design plan.terms self.old self.new) }
-        ensures others { self.new ≡ record self.old { watched = self.new.watched; changes = self.new.changes } }
-    {
-        self.watched.write_any(write, &mut self.changes)?;
-        Ok(())
-    }
-
-    /// Makes the write of an activated update of any kind, by its number among those.
-    #[inline(always)]
-    pub fn write_listed(&mut self, number: usize) -> Result<(), AllocError>
-        ghost plan: { Plan }
-        requires agrees { Agrees plan.design plan.terms self.old }
-        requires there { number < length self.old.regions.listed.writes }
-        ensures state { OnOk result (state_of self.new ≡ written (state_of self.old) (get_or self.old.regions.listed.writes number [])) }
-        ensures keeps { OnOk result (Keeps plan.design plan.terms self.old self.new) }
-        ensures others { self.new ≡ record self.old { watched = self.new.watched; changes = self.new.changes } }
-    {
-        let write = self.regions.write_of(number);
-        self.watched.write_any(write, &mut self.changes)?;
-        Ok(())
-    }
-
-    /// Gives a target the value of an expression.
-    #[inline(never)]
-    pub fn assign_any(&mut self, target: &Target, e: &Typed) -> Result<(), AllocError>
-        ghost plan: { Plan }
-        requires { Agrees plan.design plan.terms self.old }
-        ensures state { OnOk result (state_of self.new
-            ≡ written (state_of self.old) (assignment target.now e.now self.old.watched.store self.old.regions.time)) }
-        ensures keeps { OnOk result (Keeps plan.design plan.terms self.old self.new) }
-        ensures others { OnOk result (self.new ≡ record self.old { watched = self.new.watched; changes = self.new.changes }) }
-    {
-        let time = self.regions.time();
-        let digits = cut_value(target, e, &self.watched.store, time);
-        let write = write_of(self.alloc, target, digits, &self.watched.store, time)?;
-        self.write_any(&write)?;
-        Ok(())
-    }
-
-    /// A nonblocking update of bits of one word by a process, due in this slot.
-    #[inline(always)]
-    pub(crate) fn update(
-        &mut self,
-        process: usize,
-        spot: &'a Spot,
-        digits: Vec4,
-    ) -> Result<(), AllocError>
-        ghost plan: { Plan }
-        requires agrees { Agrees plan.design plan.terms self.old }
-        requires spot { IsSpotIn plan.design.signals spot.now }
-        requires size { length digits ≡ spot.now.width }
-        ensures state { OnOk result (state_of self.new ≡ record (state_of self.old) {
-          updates = updates_behind process self.old.regions.time (Some (0, spot_write spot.now digits)) self.old.regions.updates;
-        }) }
-        ensures keeps { OnOk result (Keeps plan.design plan.terms self.old self.new) }
-        ensures others { self.new ≡ record self.old { regions = self.new.regions } }
-    {
-        let bits = Bits {
-            spot,
-            value: digits.value_plane(),
-            unknown: digits.unknown_plane(),
+        let (old_value, old_unknown) = self.store.planes_of(spot.index);
+        let change = WordChange {
+            value: old_value,
+            unknown: old_unknown,
+            new_value: laid(spot, old_value, value),
+            new_unknown: laid(spot, old_unknown, unknown),
         };
-        self.regions.push_bits(process, bits)?;
-        Ok(())
-    }
-
-    /// A nonblocking update of a target by a process, due in so many ticks.
-    #[inline(never)]
-    pub(crate) fn update_any(
-        &mut self,
-        process: usize,
-        ticks: Ticks,
-        target: &Target,
-        e: &Typed,
-    ) -> Result<(), AllocError>
-        ghost plan: { Plan }
-        requires agrees { Agrees plan.design plan.terms self.old }
-        requires early { self.old.regions.time < 2 ^ 62 }
-        ensures state { OnOk result (state_of self.new ≡ record (state_of self.old) {
-          updates = updates_behind process self.old.regions.time
-              (Some (ticks.count, assignment target.now e.now self.old.watched.store self.old.regions.time)) self.old.regions.updates;
-        }) }
-        ensures keeps { OnOk result (Keeps plan.design plan.terms self.old self.new) }
-        ensures others { self.new ≡ record self.old { regions = self.new.regions } }
-    {
-        let time = self.regions.time();
-        let digits = cut_value(target, e, &self.watched.store, time);
-        let write = write_of(self.alloc, target, digits, &self.watched.store, time)?;
-        if ticks.count == 0 {
-            self.regions.push_any(process, write)?;
+        if change.differing() == 0 {
             return Ok(());
         }
-        let due = time + ticks.count;
-        self.regions.push_late(process, due, write)?;
+        self.store
+            .set_planes(spot.index, change.new_value, change.new_unknown);
+        mark(&mut self.marks, spot.signal);
+        self.events
+            .wake(&self.tables, spot.signal, spot.word, change)
+    }
+
+    /// What the words that a write has changed wake, one after another.
+    fn wake_changes(&mut self, changes: &Vec<Change>) -> Result<(), AllocError>
+        requires named { AreNamed (length self.old.tables.rows.items) changes.now.items }
+        ensures store { self.new.store ≡ self.old.store }
+        ensures tables { self.new.tables ≡ self.old.tables }
+        ensures marks { self.new.marks ≡ self.old.marks }
+        ensures followed { OnOk result (Follows self.old.tables changes.now.items
+            self.old.events.assigns self.old.events.processes self.new.events.assigns self.new.events.processes) }
+    {
+        for change in changes {
+            self.events.wake_word(
+                &self.tables,
+                change.signal,
+                change.word,
+                change_of(change.before, change.behind),
+                true,
+            )?;
+        }
+        Ok(())
+    }
+
+    /// Makes a write of any kind; the words that it changes are noted in `changes`, in place of what was there.
+    #[inline(never)]
+    pub fn write_any(&mut self, write: &Write, changes: &mut Vec<Change>) -> Result<(), AllocError>
+        ghost signals: { List Signal }
+        requires store { IsStoreOf signals self.old.store }
+        requires rows { length signals ≡ length self.old.tables.rows.items }
+        ensures store { OnOk result (self.new.store ≡ put self.old.store write.now) }
+        ensures tables { self.new.tables ≡ self.old.tables }
+        ensures made { OnOk result (Makes self.old.tables self.old.store write.now
+            self.old.events.assigns self.old.events.processes self.new.events.assigns self.new.events.processes) }
+        ensures marked { MarkChanges self.old.marks.items self.new.marks.items self.old.store self.new.store }
+    {
+        changes.clear();
+        make(&mut self.store, write, changes)?;
+        mark_signals(&mut self.marks, changes);
+        let from = self.events.queue.len();
+        self.wake_changes(changes)?;
+        self.events.queue.sort_from(from);
         Ok(())
     }
 }
+
+/// What a write makes of the store, the continuous assignments and the processes is the definition's state after it.
+pub fn makes_written()
+    ensures { MakesWritten }
+{}

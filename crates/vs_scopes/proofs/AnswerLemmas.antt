@@ -8,8 +8,8 @@ use Rattle.vs_scopes.specs.declared.faults.BodyFault.TheVariants as b
 use Rattle.vs_scopes.specs.declared.faults.ElabFault.{ElabFault}
 use Rattle.vs_scopes.specs.declared.faults.ElabFault.TheVariants.{Memory, At}
 use Rattle.vs_scopes.specs.Printed.{Path}
-use Rattle.vs_scopes.specs.passes.Answers.{Refuses, Elaborates, Told, IsFaultAt, IsRefusal, Grows}
-use Rattle.vs_elab_connections.proofs.Folds.{flat_more}
+use Rattle.vs_scopes.specs.scopes_passes.Answers.{Refuses, Elaborates, Told, IsFaultAt, IsRefusal, Grows}
+use Rattle.vs_scopes.proofs.Folds.{flat_more}
 use Rattle.std.proofs.lemmas.List.Concat.{flat_map_single as flat_one}
 
 -- a fault of a part is one of the whole

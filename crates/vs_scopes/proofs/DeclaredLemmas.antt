@@ -10,18 +10,18 @@ use Rattle.vs_syntax.specs.declared.tree.Form.{Form}
 use Rattle.vs_syntax.specs.declared.tree.Item.{Item}
 use Rattle.vs_syntax.specs.declared.tree.PortForm.{PortForm}
 use Rattle.vs_design.specs.declared.signal.SignalKind.{SignalKind}
-use Rattle.vs_elab_connections.specs.vs_elab_pieces.specs.Pieces.{Piece}
-use Rattle.vs_elab_connections.specs.vs_elab_pieces.specs.Reads.{read_piece}
-use Rattle.vs_elab_connections.specs.vs_elab_pieces.specs.declared.scope.ScopePiece.{ScopePiece as FoundPiece}
-use Rattle.vs_elab_connections.specs.vs_elab_pieces.specs.declared.scope.ScopePiece.TheVariants as pieces
-use Rattle.vs_elab_connections.specs.vs_widths.specs.Names.{meaning_of, Declares}
+use Rattle.vs_scopes.specs.vs_elab_pieces.specs.Pieces.{Piece}
+use Rattle.vs_scopes.specs.vs_elab_pieces.specs.Reads.{read_piece}
+use Rattle.vs_scopes.specs.vs_elab_pieces.specs.declared.scope.ScopePiece.{ScopePiece as FoundPiece}
+use Rattle.vs_scopes.specs.vs_elab_pieces.specs.declared.scope.ScopePiece.TheVariants as pieces
+use Rattle.vs_scopes.specs.vs_widths.specs.Names.{meaning_of, Declares}
 use Rattle.vs_scopes.specs.Parameters.{said}
 use Rattle.vs_scopes.specs.Ports.{is_among, said_in, port_said, KindSaid, kind_among, kind_in, kind_said}
 use Rattle.vs_scopes.specs.declared.declared.KindSaid.{KindSaid as FoundSaid}
-use Rattle.vs_scopes.specs.passes.Parts.{read_end}
-use Rattle.vs_scopes.specs.passes.Declared.{first_of, AddsNames, said_by, read_kind, read_said}
+use Rattle.vs_scopes.specs.scopes_passes.Parts.{read_end}
+use Rattle.vs_scopes.specs.scopes_passes.Declared.{first_of, AddsNames, said_by, read_kind, read_said}
 use Rattle.vs_design.specs.vs_logic4.proofs.Basics.{take_push}
-pub use Rattle.vs_elab_connections.proofs.ConnectionLemmas.{bytes_eq-sym}
+pub use Rattle.vs_scopes.proofs.ConnectionLemmas.{bytes_eq-sym}
 
 pub first_none : {A : Type 0} (o : Option A) → first_of o None ≡ o
 first_none None = refl

@@ -1,8 +1,8 @@
+pub mod Folds
+pub mod PassLemmas
+pub mod ConnectionLemmas
 pub mod AnswerLemmas
-pub use Rattle.vs_elab_connections.proofs.Folds
 pub mod PrintedLemmas
 pub mod SizeLemmas
-pub use Rattle.vs_elab_connections.proofs.PassLemmas
 pub mod PortLemmas
-pub use Rattle.vs_elab_connections.proofs.ConnectionLemmas
 pub mod DeclaredLemmas

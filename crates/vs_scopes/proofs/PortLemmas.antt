@@ -2,7 +2,7 @@
 use Rattle.std.proofs.Common.{◌≡◌, ℕ, ◌+◌, ◌<◌, List, ◌∷◌, Option, length, drop, get_or, ap, sym, ◌∙◌}
 use Rattle.vs_syntax.specs.declared.tree.Port.{Port}
 use Rattle.vs_syntax.specs.declared.tree.PortForm.{PortForm}
-use Rattle.vs_elab_connections.specs.Overrides.{said}
+use Rattle.vs_scopes.specs.Overrides.{said}
 use Rattle.vs_design.specs.vs_logic4.proofs.Basics.{front_of as drop_at}
 use Rattle.vs_scopes.specs.Ports.{port_as, ports_from}
 

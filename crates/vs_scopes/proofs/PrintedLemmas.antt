@@ -4,7 +4,7 @@ use Rattle.std.specs.List.{join_with_byte}
 use Rattle.std.proofs.lemmas.List.{append-nil, map-append, length-map, length-take, take_more, take_all}
 use Rattle.vs_scopes.specs.Printed.{PathName, Path, plainly, printed_name, printed_part, printed}
 use Rattle.vs_scopes.specs.declared.printed.PathName.{PathName as FoundName}
-use Rattle.vs_scopes.specs.passes.Names.{read_title, read_path}
+use Rattle.vs_scopes.specs.scopes_passes.Names.{read_title, read_path}
 
 join_push : (c : ℕ) (xs : List (List ℕ)) (y : List ℕ) → 0 < length xs → join_with_byte c (xs ++ y ∷ []) ≡ join_with_byte c xs ++ c ∷ y
 join_push c [] y h = absurd (omega arith)

@@ -18,8 +18,8 @@ use Rattle.vs_scopes.specs.declared.faults.BodyFault.{BodyFault}
 use Rattle.vs_scopes.specs.declared.sizes.Size.{Size}
 use Rattle.vs_scopes.specs.declared.words.WordCount.{WordCount}
 use Rattle.vs_scopes.specs.Ranges.{range_bounds, distance, bounds_fault, range_fault, is_over, shape_with, distance_or, sized_as, is_array_of_nets, words_fault, words_as, word_count}
-use Rattle.vs_scopes.specs.passes.Answers.{Refuses}
-use Rattle.vs_scopes.specs.passes.Sizes.{width_faults, IsSize, AreWords, IsRange}
+use Rattle.vs_scopes.specs.scopes_passes.Answers.{Refuses}
+use Rattle.vs_scopes.specs.scopes_passes.Sizes.{width_faults, IsSize, AreWords, IsRange}
 use Rattle.vs_scopes.proofs.AnswerLemmas.{refused_by}
 use Rattle.std.proofs.lemmas.Bool.{or_from as both_false, or_left as left_true, or_right as right_true}
 

@@ -22,8 +22,8 @@ use Rattle.vs_width_selects.specs.Environment.{Environment}
 use Rattle.vs_width_selects.specs.Findings.{stands}
 use Rattle.vs_width_selects.specs.Meants.{own}
 use Rattle.vs_width_selects.specs.Constants.{constant_finding, whole_number}
-use Rattle.vs_elab_connections.specs.vs_widths.specs.Expressions.{meant}
-use Rattle.vs_elab_connections.specs.vs_elab_pieces.specs.Pieces.{NamedBlock, blocks_of, Piece, plain, loop, choice, local, inside, net, Content, nothing, block, content_step, content_of}
+use Rattle.vs_scopes.specs.vs_widths.specs.Expressions.{meant}
+use Rattle.vs_scopes.specs.vs_elab_pieces.specs.Pieces.{NamedBlock, blocks_of, Piece, plain, loop, choice, local, inside, net, Content, nothing, block, content_step, content_of}
 use Rattle.vs_scopes.specs.declared.faults.Reason.{Reason}
 use Rattle.vs_scopes.specs.declared.faults.Reason.TheVariants.{Endless, Unnamed, Width}
 use Rattle.vs_scopes.specs.Printed.{PathName}

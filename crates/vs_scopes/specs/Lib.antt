@@ -1,7 +1,10 @@
+pub mod Connections
+pub mod Overrides
+pub mod passes
+pub use Rattle.vs_elab_pieces
+pub use Rattle.vs_widths
 pub mod Printed
 pub mod Ranges
-pub use Rattle.vs_elab_connections.specs.Connections
-pub use Rattle.vs_elab_connections.specs.Overrides
 pub mod Parameters
 pub mod Ports
 pub mod Declarations
@@ -9,6 +12,6 @@ pub mod Nets
 pub mod Generate
 pub mod Scopes
 pub mod Texts
-pub mod passes
+pub mod scopes_passes
 pub use Rattle.vs_width_selects
 pub use Rattle.vs_strobe

@@ -13,9 +13,9 @@ use Rattle.vs_syntax.specs.declared.tree.Module.{Module}
 use Rattle.vs_design.specs.Kinds.{is_variable}
 use Rattle.vs_width_selects.specs.declared.bindings.Binding.{Binding}
 use Rattle.vs_width_selects.specs.declared.bindings.Binding.TheVariants as b
-use Rattle.vs_elab_connections.specs.vs_widths.specs.Names.{meaning_of}
-use Rattle.vs_elab_connections.specs.vs_elab_pieces.specs.Pieces.{Piece, plain, net}
-use Rattle.vs_elab_connections.specs.vs_elab_pieces.specs.Uses.{names_used}
+use Rattle.vs_scopes.specs.vs_widths.specs.Names.{meaning_of}
+use Rattle.vs_scopes.specs.vs_elab_pieces.specs.Pieces.{Piece, plain, net}
+use Rattle.vs_scopes.specs.vs_elab_pieces.specs.Uses.{names_used}
 use Rattle.vs_scopes.specs.Printed.{Path}
 use Rattle.vs_scopes.specs.Declarations.{Bindings}
 

@@ -17,10 +17,10 @@ use Rattle.vs_width_selects.specs.Findings.{Finding, Has, Lacks, stands}
 use Rattle.vs_width_selects.specs.Meants.{Meant, own}
 use Rattle.vs_width_selects.specs.Selects.{size_found}
 use Rattle.vs_width_selects.specs.Constants.{constant_finding, constant_in}
-use Rattle.vs_elab_connections.specs.vs_widths.specs.Expressions.{meant}
+use Rattle.vs_scopes.specs.vs_widths.specs.Expressions.{meant}
 use Rattle.vs_scopes.specs.Ranges.{Sized, sized_as}
-pub use Rattle.vs_elab_connections.specs.Overrides.{Parameter, said, header_parameters, item_parameter, parameters_in, piece_parameters, parameters_among, parameters_of, overridable}
-pub use Rattle.vs_elab_connections.specs.Overrides.{Given, first_end, other_ends, given_from, overriding, given_to, do_not_fit, is_override_mismatch}
+pub use Rattle.vs_scopes.specs.Overrides.{Parameter, said, header_parameters, item_parameter, parameters_in, piece_parameters, parameters_among, parameters_of, overridable}
+pub use Rattle.vs_scopes.specs.Overrides.{Given, first_end, other_ends, given_from, overriding, given_to, do_not_fit, is_override_mismatch}
 
 -- ---- values
 

@@ -14,7 +14,7 @@ use Rattle.vs_width_selects.specs.Environment.{Environment}
 use Rattle.vs_width_selects.specs.Findings.{Finding, Has, Lacks, not_constant, too_wide}
 use Rattle.vs_width_selects.specs.Meants.{own}
 use Rattle.vs_width_selects.specs.Constants.{constant_finding, whole_at}
-use Rattle.vs_elab_connections.specs.vs_widths.specs.Expressions.{meant}
+use Rattle.vs_scopes.specs.vs_widths.specs.Expressions.{meant}
 use Rattle.vs_scopes.specs.declared.faults.Reason.{Reason}
 use Rattle.vs_scopes.specs.declared.faults.Reason.TheVariants.{Limit, Width}
 

@@ -15,12 +15,12 @@ use Rattle.vs_width_selects.specs.declared.bindings.Binding.TheVariants as b
 use Rattle.vs_width_selects.specs.declared.constants.Const.{Const}
 use Rattle.vs_width_selects.specs.declared.faults.WidthReason.{WidthReason}
 use Rattle.vs_width_selects.specs.Environment.{Environment}
-use Rattle.vs_elab_connections.specs.vs_widths.specs.Names.{meaning_of}
-use Rattle.vs_elab_connections.specs.vs_widths.specs.Lefts.{is_left}
-use Rattle.vs_elab_connections.specs.vs_elab_pieces.specs.Pieces.{block_pieces, Piece, plain, pieces_of}
-use Rattle.vs_elab_connections.specs.vs_elab_pieces.specs.Uses.{names_used}
+use Rattle.vs_scopes.specs.vs_widths.specs.Names.{meaning_of}
+use Rattle.vs_scopes.specs.vs_widths.specs.Lefts.{is_left}
+use Rattle.vs_scopes.specs.vs_elab_pieces.specs.Pieces.{block_pieces, Piece, plain, pieces_of}
+use Rattle.vs_scopes.specs.vs_elab_pieces.specs.Uses.{names_used}
 use Rattle.vs_scopes.specs.Printed.{PathName, plainly, Path, same_path}
-use Rattle.vs_elab_connections.specs.Connections.{ends_of, is_mismatch}
+use Rattle.vs_scopes.specs.Connections.{ends_of, is_mismatch}
 use Rattle.vs_scopes.specs.Parameters.{said, parameters_of, parameters_among, Given, given_from, given_to, is_override_mismatch, with_constant, known_behind, constants_of, own_faults, outer_faults, any_fault}
 use Rattle.vs_scopes.specs.Ports.{ModulePort, ports_of, port_names, ports_again}
 use Rattle.vs_scopes.specs.Declarations.{Bindings, DeclaredName, declared_names, names_in, meaning_as, Use, uses_among, genvars_in, inner_names_among, bound_to, unsized_of, valueless_of, early_names}

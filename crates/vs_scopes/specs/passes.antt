@@ -1,6 +1,2 @@
--- What the functions of this crate and of the one above tell one another: nothing that is promised rests on these.
-pub mod Answers
-pub mod Sizes
-pub mod Parts
-pub mod Declared
-pub mod Names
+-- What the functions of this crate and of those above tell one another: nothing that is promised rests on these.
+pub mod Ends

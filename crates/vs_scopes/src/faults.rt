@@ -3,7 +3,7 @@ ghost use Rattle.std.specs.Prelude.{◌≡◌};
 ghost use Rattle.vs_scopes.specs.declared.faults.ElabFault.TheVariants as elaboration;
 ghost use Rattle.vs_scopes.specs.declared.faults.BodyFault.TheVariants as body;
 ghost use Rattle.vs_scopes.specs.declared.faults.ParameterRefusal.TheVariants as parameter;
-ghost use Rattle.vs_scopes.specs.passes.Answers.{body_fault};
+ghost use Rattle.vs_scopes.specs.scopes_passes.Answers.{body_fault};
 
 use std::alloc::{AllocError, AllocFailed};
 use thiserror::Error;

@@ -1,18 +1,27 @@
+//! Connections in order or by name, and the parameters that they override (IEEE 1364-2005, clauses 12.2 and 12.3).
 //! The scopes of a source: names and paths, sizes of declarations, parameters, connections (IEEE 1364-2005, clause 12).
 #![tactic(auto)]
 
+mod connections;
 mod declared;
 mod faults;
+mod forms;
 mod modules;
+mod parameters;
 mod ports;
 mod printed;
 mod sizes;
 mod texts;
 mod words;
 
+pub use connections::ends;
 pub use declared::{KindSaid, add_first, kinds_said};
 pub use faults::{BodyFault, ElabFault, ParameterRefusal, Reason};
+pub use forms::said;
 pub use modules::with_first;
+pub use parameters::{
+    Given, Parameter, block_parameters, given_alone, given_to, module_parameters,
+};
 pub use ports::{ModulePort, PortSource, module_ports};
 pub use printed::{
     PartName, PathName, numbered_name, print_member, print_name, print_part, print_path,
@@ -20,9 +29,8 @@ pub use printed::{
 };
 pub use sizes::{INTEGER, Size, declared_bounds, declared_size, declared_words, port_size};
 pub use texts::{fault_text, push_bytes};
-pub use vs_elab_connections::{
-    Given, Parameter, block_parameters, ends, given_alone, given_to, module_parameters,
-};
+pub use vs_elab_pieces;
 pub use vs_strobe;
 pub use vs_width_selects;
+pub use vs_widths;
 pub use words::WordCount;

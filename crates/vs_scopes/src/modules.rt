@@ -1,6 +1,6 @@
 //! The names of the modules that an instance stands in (IEEE 1364-2005, clause 12.1.2).
 ghost use Rattle.std.specs.Prelude.{◌≡◌, ◌∷◌, IfOk};
-ghost use Rattle.vs_scopes.specs.passes.Answers.{borrowed};
+ghost use Rattle.vs_scopes.specs.scopes_passes.Answers.{borrowed};
 
 use std::alloc::{AllocError, Global};
 

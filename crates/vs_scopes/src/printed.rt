@@ -3,7 +3,7 @@ ghost use Rattle.std.specs.Prelude.{◌≡◌, ◌<◌, ◌++◌, ◌∷◌, [],
 ghost use Rattle.std.specs.List.{flat_map, list_all};
 ghost use Rattle.vs_scopes.specs.Printed.{is_letter, is_name_byte, is_simple, escaped_byte, plainly, printed_name, printed_turn, printed_part, printed, own_name, port_assign_name, part_name};
 ghost use Rattle.vs_scopes.specs.Generate.{numbered_name};
-ghost use Rattle.vs_scopes.specs.passes.Names.{read_part, read_title, read_path};
+ghost use Rattle.vs_scopes.specs.scopes_passes.Names.{read_part, read_title, read_path};
 
 use itoa::Buffer;
 use std::alloc::{AllocError, Global};

@@ -1,20 +1,20 @@
 //! Sizes, signs, ranges and words of declarations.
 ghost use Rattle.std.specs.Prelude.{◌≡◌, ◌<◌, Some};
-ghost use Rattle.vs_elab_connections.specs.vs_widths.specs.Names.{meaning_of};
+ghost use Rattle.vs_scopes.specs.vs_widths.specs.Names.{meaning_of};
 ghost use Rattle.vs_scopes.specs.declared.faults.BodyFault.TheVariants as fault;
 ghost use Rattle.vs_scopes.specs.declared.faults.Reason.TheVariants as reasons;
 ghost use Rattle.vs_scopes.specs.Ranges.{bound_of, bound_fault, range_bounds, bounds_fault, range_fault, sized_as, words_as};
 ghost use Rattle.vs_scopes.specs.Declarations.{size_of_kind};
-ghost use Rattle.vs_scopes.specs.passes.Answers.{Elaborates};
-ghost use Rattle.vs_scopes.specs.passes.Parts.{read_end, read_port};
-ghost use Rattle.vs_scopes.specs.passes.Sizes.{width_faults, IsRange, IsSize, AreWords};
+ghost use Rattle.vs_scopes.specs.scopes_passes.Answers.{Elaborates};
+ghost use Rattle.vs_scopes.specs.scopes_passes.Parts.{read_end, read_port};
+ghost use Rattle.vs_scopes.specs.scopes_passes.Sizes.{width_faults, IsRange, IsSize, AreWords};
 
 use crate::faults::{BodyFault, Reason};
 use crate::ports::ModulePort;
+use crate::vs_widths::{Levels, constant};
 use crate::words::WordCount;
 use std::alloc::Global;
 use vs_design::{Bounds, SignalKind};
-use vs_elab_connections::vs_widths::{Levels, constant};
 use vs_syntax::{Expr, Form, Range};
 use vs_width_selects::{Shape, WidthReason};
 

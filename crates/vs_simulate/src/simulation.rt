@@ -3,7 +3,7 @@ ghost use Rattle.std.specs.Prelude.{◌≡◌, ◌<◌, ◌^◌, true, false, If
 ghost use Rattle.vs_kernel.specs.Faults.{FaultAt, OneFailed, is_write as is_run_write};
 ghost use Rattle.vs_kernel.specs.Runs.{RanTo, HasBegun};
 ghost use Rattle.vs_kernel.specs.declared.kernel.Status.TheVariants.{Ready};
-ghost use Rattle.vs_run_updates.specs.vs_process.specs.Permitted.{NeverStuck};
+ghost use Rattle.vs_run_regions.specs.vs_process.specs.Permitted.{NeverStuck};
 ghost use Rattle.vs_simulate.specs.Honesty.{Defines, DefinesNone, IsRun, HasBegunRun, SimulationFails, is_refusal, is_write};
 
 use crate::fault::SimFault;
@@ -14,9 +14,9 @@ use vs_elab_laws::vs_elaborate::elaborate;
 use vs_kernel::vs_vcd_writing::Sink;
 use vs_kernel::{Fifo, Kernel, Lifo, Listed, Outcome, Pick, RunFault, dumps_show_slot_ends};
 use vs_parser::parse;
-use vs_run_updates::Due;
-use vs_run_updates::vs_process::never_stuck;
-use vs_run_updates::vs_time_wheel::Wheel;
+use vs_run_regions::Due;
+use vs_run_regions::vs_process::never_stuck;
+use vs_run_regions::vs_time_wheel::Wheel;
 use vs_syntax::vs_lexer::lex;
 
 /// Which enabled item is next.

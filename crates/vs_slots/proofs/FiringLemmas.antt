@@ -12,17 +12,17 @@ use Rattle.vs_design.specs.declared.statement.Statement.{Statement}
 use Rattle.vs_design.specs.declared.statement.Statement.TheOpen.{Statement-F}
 use Rattle.vs_design.specs.declared.statement.Statement.TheViews.{out-Statement}
 use Rattle.vs_design.specs.Parts.{Parts}
-use Rattle.vs_flatcode.specs.Places.{perform, turns, Todo}
-use Rattle.vs_flatcode.specs.Numbers.{number_next, number_of}
-use Rattle.vs_flatcode.specs.Stops.{Stop, next_statement, IsText}
-use Rattle.vs_slots_uses.specs.vs_rules.specs.Claims.{Claims, Kind, HasLists, IsDelay, IsWriter}
-use Rattle.vs_slots_uses.specs.vs_rules.specs.Constants.{bit_of, given_by, todo_assigns, Gives}
-use Rattle.vs_slots_uses.specs.vs_rules.specs.Paths.{PathFrom, ListsSignal, WritesNow, WritesAny, todo_now, todo_later, statement_now, statement_later, is_plain}
-use Rattle.vs_slots_uses.specs.vs_rules.specs.Slots.{counts, Ends, Fires, HasSlot, RunsByDelays}
-use Rattle.vs_cert_facts.specs.vs_slots_paths.proofs.EachPoint.{now_here, later_here}
-use Rattle.vs_cert_facts.specs.vs_slots_paths.proofs.Texts.{place_of, place_back}
+use Rattle.vs_process.specs.Places.{perform, turns, Todo}
+use Rattle.vs_process.specs.Numbers.{number_next, number_of}
+use Rattle.vs_process.specs.Stops.{Stop, next_statement, IsText}
+use Rattle.vs_maps.specs.vs_rules.specs.Claims.{Claims, Kind, HasLists, IsDelay, IsWriter}
+use Rattle.vs_maps.specs.vs_rules.specs.Constants.{bit_of, given_by, todo_assigns, Gives}
+use Rattle.vs_maps.specs.vs_rules.specs.Paths.{PathFrom, ListsSignal, WritesNow, WritesAny, todo_now, todo_later, statement_now, statement_later, is_plain}
+use Rattle.vs_maps.specs.vs_rules.specs.Slots.{counts, Ends, Fires, HasSlot, RunsByDelays}
+use Rattle.vs_claims.specs.vs_maps.proofs.EachPoint.{now_here, later_here}
+use Rattle.vs_claims.specs.vs_maps.proofs.Texts.{place_of, place_back}
 use Rattle.vs_slots_constants.specs.Givings.{given_here}
-use Rattle.vs_cert_facts.specs.vs_slots_paths.specs.Ranges.{HasSignal, now_at, later_at, statement_at}
+use Rattle.vs_claims.specs.vs_maps.specs.Ranges.{HasSignal, now_at, later_at, statement_at}
 use Rattle.vs_slots.specs.Firing.{RootFiresBy, TermFires, WritesAt, CountsAt, FiresAt, FiringIsExact}
 use Rattle.vs_slots.proofs.RunLemmas.{runs_are_exact}
 

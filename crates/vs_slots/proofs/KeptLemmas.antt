@@ -13,22 +13,22 @@ use Rattle.vs_design.specs.declared.signal.Signal.{Signal}
 use Rattle.vs_design.specs.declared.statement.EventTerm.{EventTerm}
 use Rattle.vs_design.specs.Parts.{Parts}
 use Rattle.vs_design.specs.Tables.{rows}
-use Rattle.vs_flatcode.specs.Places.{Todo}
-use Rattle.vs_flatcode.specs.Stops.{IsText}
-use Rattle.vs_flatcode.specs.Ways.{Pause, none, delay, event, next_by}
-use Rattle.vs_slots_uses.specs.vs_rules.specs.Claims.{Name, Claims, Kind, block, edges, delays, kind_of, names_process, writer_in, claim_for, claim_of, signal_name}
-use Rattle.vs_slots_uses.specs.vs_rules.specs.Claims.{HasLists, IsDelay, IsEdge, IsRootOf, IsWriter}
-use Rattle.vs_slots_uses.specs.vs_rules.specs.Constants.{IsClock}
-use Rattle.vs_slots_uses.specs.vs_rules.specs.Constants as k
-use Rattle.vs_slots_uses.specs.vs_rules.specs.Controls.{controls_at, controls_in, controls_of, list_of}
-use Rattle.vs_slots_uses.specs.vs_rules.specs.Paths.{WritesNow}
-use Rattle.vs_slots_uses.specs.vs_rules.specs.Slots.{EdgeEnds, Ends, HasSlot, HasWriteSlot}
+use Rattle.vs_process.specs.Places.{Todo}
+use Rattle.vs_process.specs.Stops.{IsText}
+use Rattle.vs_process.specs.Ways.{Pause, none, delay, event, next_by}
+use Rattle.vs_maps.specs.vs_rules.specs.Claims.{Name, Claims, Kind, block, edges, delays, kind_of, names_process, writer_in, claim_for, claim_of, signal_name}
+use Rattle.vs_maps.specs.vs_rules.specs.Claims.{HasLists, IsDelay, IsEdge, IsRootOf, IsWriter}
+use Rattle.vs_maps.specs.vs_rules.specs.Constants.{IsClock}
+use Rattle.vs_maps.specs.vs_rules.specs.Constants as k
+use Rattle.vs_maps.specs.vs_rules.specs.Controls.{controls_at, controls_in, controls_of, list_of}
+use Rattle.vs_maps.specs.vs_rules.specs.Paths.{WritesNow}
+use Rattle.vs_maps.specs.vs_rules.specs.Slots.{EdgeEnds, Ends, HasSlot, HasWriteSlot}
 use Rattle.vs_slots_constants.specs.declared.clocks.Clock.{Clock}
-use Rattle.vs_cert_facts.specs.vs_slots_paths.specs.Ranges.{pause_terms}
-use Rattle.vs_cert_facts.specs.vs_slots_paths.specs.Reaches.{Chart, IsPlace, pause_at, places}
-use Rattle.vs_cert_facts.specs.vs_slots_paths.proofs.Texts.{place_of, place_back}
-use Rattle.vs_cert_facts.specs.vs_slots_paths.proofs.WalkLemmas.{place_below}
-use Rattle.vs_cert_facts.specs.Facts.{Case, AreCharts}
+use Rattle.vs_claims.specs.vs_maps.specs.Ranges.{pause_terms}
+use Rattle.vs_claims.specs.vs_maps.specs.Reaches.{Chart, IsPlace, pause_at, places}
+use Rattle.vs_claims.specs.vs_maps.proofs.Texts.{place_of, place_back}
+use Rattle.vs_claims.specs.vs_maps.proofs.WalkLemmas.{place_below}
+use Rattle.vs_claims.specs.Facts.{Case, AreCharts}
 use Rattle.vs_slots.specs.declared.roots.Firing.{Firing}
 use Rattle.vs_slots.specs.declared.runs.Runs.{Runs}
 use Rattle.vs_slots.specs.Firing.{RootFires}

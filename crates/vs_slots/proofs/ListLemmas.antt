@@ -2,8 +2,8 @@
 use Rattle.std.proofs.Common.{◌≡◌, ℕ, zero, suc, ◌+◌, ◌<◌, ◌≤◌, ◌⊎◌, inl, inr, ◌==◌, Bool, true, false, List, [], ◌∷◌, length, map, get_or, refl, sym, ◌∙◌, ap, subst, arith, if◌then◌else◌}
 use Rattle.std.specs.declared.vec.Vec.{Vec}
 use Rattle.std.specs.declared.alloc.Global.{Global}
-use Rattle.vs_slots_uses.specs.vs_rules.specs.Certificates.{residues_from}
-use Rattle.vs_slots_uses.specs.vs_rules.specs.Controls.{list_of}
+use Rattle.vs_maps.specs.vs_rules.specs.Certificates.{residues_from}
+use Rattle.vs_maps.specs.vs_rules.specs.Controls.{list_of}
 
 -- none of the first controls has the number
 abbrev pub NoneYet : List ℕ → ℕ → ℕ → Type 0

@@ -2,20 +2,20 @@
 use Rattle.std.proofs.Common.{◌≡◌, ℕ, ◌<◌, ◌↔◌, true, Option, Some, None, List, [], slice_get, refl, sym, subst}
 use Rattle.vs_design.specs.declared.design.Process.{Process}
 use Rattle.vs_design.specs.Parts.{Parts}
-use Rattle.vs_flatcode.specs.Places.{Todo, flat}
-use Rattle.vs_flatcode.specs.Steps.{Next}
-use Rattle.vs_flatcode.specs.Stops.{Stop, stop_at, stop_statement, stops_tos, stops_behind, IsText}
-use Rattle.vs_flatcode.specs.Ways.{Pause, none, delay, event, next_by}
-use Rattle.vs_slots_uses.specs.vs_rules.specs.Points.{Goes}
-use Rattle.vs_slots_uses.specs.vs_rules.specs.Claims.{Claims, Kind, block, edges, delays, kind_of, HasLists}
-use Rattle.vs_slots_uses.specs.vs_rules.specs.Controls.{controls_of, list_of}
-use Rattle.vs_slots_uses.specs.vs_rules.specs.Paths.{Path, is_plain}
-use Rattle.vs_slots_uses.specs.vs_rules.specs.Slots.{DelayEnds, Ends, HasSlot}
-use Rattle.vs_cert_facts.specs.vs_slots_paths.specs.declared.along.Along.TheVariants.{Plain}
-use Rattle.vs_cert_facts.specs.vs_slots_paths.specs.Reaches.{Chart, IsPlace, pause_at, pause_of, places}
-use Rattle.vs_cert_facts.specs.vs_slots_paths.proofs.Join.{same_place}
-use Rattle.vs_cert_facts.specs.vs_slots_paths.proofs.Texts.{place_of, place_back, walk_on, walk_back, step_on, step_back, behind_step}
-use Rattle.vs_cert_facts.specs.vs_slots_paths.specs.Walks.{IsControlBefore, is_control}
+use Rattle.vs_process.specs.Places.{Todo, flat}
+use Rattle.vs_process.specs.Steps.{Next}
+use Rattle.vs_process.specs.Stops.{Stop, stop_at, stop_statement, stops_tos, stops_behind, IsText}
+use Rattle.vs_process.specs.Ways.{Pause, none, delay, event, next_by}
+use Rattle.vs_maps.specs.vs_rules.specs.Points.{Goes}
+use Rattle.vs_maps.specs.vs_rules.specs.Claims.{Claims, Kind, block, edges, delays, kind_of, HasLists}
+use Rattle.vs_maps.specs.vs_rules.specs.Controls.{controls_of, list_of}
+use Rattle.vs_maps.specs.vs_rules.specs.Paths.{Path, is_plain}
+use Rattle.vs_maps.specs.vs_rules.specs.Slots.{DelayEnds, Ends, HasSlot}
+use Rattle.vs_claims.specs.vs_maps.specs.declared.along.Along.TheVariants.{Plain}
+use Rattle.vs_claims.specs.vs_maps.specs.Reaches.{Chart, IsPlace, pause_at, pause_of, places}
+use Rattle.vs_claims.specs.vs_maps.proofs.Join.{same_place}
+use Rattle.vs_claims.specs.vs_maps.proofs.Texts.{place_of, place_back, walk_on, walk_back, step_on, step_back, behind_step}
+use Rattle.vs_claims.specs.vs_maps.specs.Walks.{IsControlBefore, is_control}
 use Rattle.vs_slots.specs.Lists.{row, IsOneOf}
 use Rattle.vs_slots.specs.Runs.{HasRun, RunsAreExact, PauseEnds, AreRuns, DelayEndsBy}
 

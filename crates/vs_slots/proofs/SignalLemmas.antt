@@ -5,8 +5,8 @@ use Rattle.std.proofs.lemmas.Option.{none-some, slice_get_past}
 use Rattle.vs_design.specs.declared.design.Process.{Process}
 use Rattle.vs_design.specs.declared.range.BitRange.{BitRange}
 use Rattle.vs_design.specs.Parts.{Parts}
-use Rattle.vs_slots_uses.specs.vs_rules.specs.vs_law_threads.specs.Blocks.{outputs_for}
-use Rattle.vs_slots_uses.specs.vs_rules.specs.Paths.{Writes}
+use Rattle.vs_maps.specs.vs_rules.specs.vs_threads.specs.Blocks.{outputs_for}
+use Rattle.vs_maps.specs.vs_rules.specs.Paths.{Writes}
 use Rattle.vs_slots.specs.Lists.{signals_of}
 
 in_either : {A : Type 0} (x : A) (xs : List A) (y : A) → Contains (x ∷ xs) y → (x ≡ y) ⊎ Contains xs y

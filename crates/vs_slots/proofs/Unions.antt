@@ -1,7 +1,7 @@
 -- Unions of lists, list by list.
 use Rattle.std.proofs.Common.{◌≡◌, ℕ, zero, suc, ◌+◌, ◌<◌, ◌≤◌, ◌⊎◌, ◌↔◌, inl, inr, List, [], ◌∷◌, length, get_or, ◌∙◌, refl, sym, subst, arith}
 use Rattle.std.specs.List.{Contains}
-use Rattle.vs_slots_residues.specs.vs_reach.proofs.Sets.{contains_at}
+use Rattle.vs_graph.proofs.Sets.{contains_at}
 
 -- one of the first elements of a list is such a one
 abbrev pub SomeBefore : List ℕ → ℕ → (ℕ → Type 0) → Type 0

@@ -6,10 +6,10 @@ use Rattle.std.specs.declared.alloc.Global.{Global}
 use Rattle.std.proofs.lemmas.List.{length-map, length-replicate}
 use Rattle.std.proofs.lemmas.Option.{slice_get_within}
 use Rattle.vs_design.specs.Tables.{rows}
-use Rattle.vs_cert_facts.specs.vs_slots_paths.specs.Indexes.{row_of}
-use Rattle.vs_cert_facts.specs.vs_slots_paths.specs.Reaches.{Chart, places}
-use Rattle.vs_slots_uses.specs.Written.{HasGrown, IsWrittenAt, StandsIn}
-use Rattle.vs_cert_facts.specs.Facts.{Case, AreCharts}
+use Rattle.vs_claims.specs.vs_maps.specs.Indexes.{row_of}
+use Rattle.vs_claims.specs.vs_maps.specs.Reaches.{Chart, places}
+use Rattle.vs_maps.specs.Written.{HasGrown, IsWrittenAt, StandsIn}
+use Rattle.vs_claims.specs.Facts.{Case, AreCharts}
 use Rattle.vs_slots.specs.Kept.{AreWrittenPlaces}
 
 below_or : (i n : ℕ) → i < n + 1 → (i < n) ⊎ (i ≡ n)

@@ -5,16 +5,16 @@ use Rattle.vs_design.specs.vs_logic4.specs.declared.edge.Edge.{Edge}
 use Rattle.vs_design.specs.declared.design.Process.{Process}
 use Rattle.vs_design.specs.declared.statement.EventTerm.{EventTerm}
 use Rattle.vs_design.specs.Parts.{Parts}
-use Rattle.vs_flatcode.specs.Places.{Todo}
-use Rattle.vs_flatcode.specs.Stops.{Stop, IsText}
-use Rattle.vs_slots_uses.specs.vs_rules.specs.Claims.{Claims, IsDelay, IsWriter, IsRootOf}
-use Rattle.vs_slots_uses.specs.vs_rules.specs.Constants.{bit_of, Gives}
-use Rattle.vs_slots_uses.specs.vs_rules.specs.Paths.{IsPoint, WritesAny}
-use Rattle.vs_slots_uses.specs.vs_rules.specs.Slots.{counts, phase, Fires, HasSlot, InPhase}
+use Rattle.vs_process.specs.Places.{Todo}
+use Rattle.vs_process.specs.Stops.{Stop, IsText}
+use Rattle.vs_maps.specs.vs_rules.specs.Claims.{Claims, IsDelay, IsWriter, IsRootOf}
+use Rattle.vs_maps.specs.vs_rules.specs.Constants.{bit_of, Gives}
+use Rattle.vs_maps.specs.vs_rules.specs.Paths.{IsPoint, WritesAny}
+use Rattle.vs_maps.specs.vs_rules.specs.Slots.{counts, phase, Fires, HasSlot, InPhase}
 use Rattle.vs_slots_constants.specs.declared.clocks.Clock.{Clock}
 use Rattle.vs_slots_constants.specs.Givings.{given_here}
-use Rattle.vs_cert_facts.specs.vs_slots_paths.specs.Reaches.{Chart, IsPlace}
-use Rattle.vs_cert_facts.specs.vs_slots_paths.specs.Ranges.{HasSignal, now_at, later_at, statement_at}
+use Rattle.vs_claims.specs.vs_maps.specs.Reaches.{Chart, IsPlace}
+use Rattle.vs_claims.specs.vs_maps.specs.Ranges.{HasSignal, now_at, later_at, statement_at}
 use Rattle.vs_slots.specs.Runs.{HasRun}
 
 -- by a process, of kind delay, an edge of a root can fire at a residue: the process, the root's writer, writes it there, by no constant that doesn't

@@ -9,15 +9,15 @@ use Rattle.vs_design.specs.vs_logic4.specs.declared.edge.Edge.TheVariants.{Any, 
 use Rattle.vs_design.specs.declared.statement.EventTerm.{EventTerm}
 use Rattle.vs_design.specs.Parts.{Parts}
 use Rattle.vs_design.specs.Tables.{rows}
-use Rattle.vs_slots_uses.specs.vs_rules.specs.Claims.{Claims, IsDelay, IsEdge, IsRoot, IsRootOf, IsWriter}
-use Rattle.vs_slots_uses.specs.vs_rules.specs.Constants.{IsClock}
-use Rattle.vs_slots_uses.specs.vs_rules.specs.Paths.{Writes}
-use Rattle.vs_slots_uses.specs.vs_rules.specs.Slots.{HasWriteSlot}
+use Rattle.vs_maps.specs.vs_rules.specs.Claims.{Claims, IsDelay, IsEdge, IsRoot, IsRootOf, IsWriter}
+use Rattle.vs_maps.specs.vs_rules.specs.Constants.{IsClock}
+use Rattle.vs_maps.specs.vs_rules.specs.Paths.{Writes}
+use Rattle.vs_maps.specs.vs_rules.specs.Slots.{HasWriteSlot}
 use Rattle.vs_slots_constants.specs.declared.clocks.Clock.{Clock}
-use Rattle.vs_cert_facts.specs.vs_slots_paths.specs.Ranges.{HasSignal, now_at}
-use Rattle.vs_cert_facts.specs.vs_slots_paths.specs.Reaches.{Chart, IsPlace, places}
-use Rattle.vs_slots_uses.specs.Written.{IsWrittenAt, StandsIn}
-use Rattle.vs_cert_facts.specs.Facts.{Case, AreCharts}
+use Rattle.vs_claims.specs.vs_maps.specs.Ranges.{HasSignal, now_at}
+use Rattle.vs_claims.specs.vs_maps.specs.Reaches.{Chart, IsPlace, places}
+use Rattle.vs_maps.specs.Written.{IsWrittenAt, StandsIn}
+use Rattle.vs_claims.specs.Facts.{Case, AreCharts}
 use Rattle.vs_slots.specs.declared.roots.Firing.{Firing}
 use Rattle.vs_slots.specs.declared.runs.Runs.{Runs}
 use Rattle.vs_slots.specs.Firing.{CountsAt, InPhaseOf, RootFires, WritesAt}

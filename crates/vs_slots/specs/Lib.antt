@@ -5,4 +5,4 @@ pub mod Controls
 pub mod Firing
 pub mod Kept
 pub mod Places
-pub use Rattle.vs_cert_facts
+pub use Rattle.vs_claims

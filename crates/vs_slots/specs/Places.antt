@@ -1,8 +1,8 @@
 -- Run slots of places, as they are told.
 use Rattle.std.specs.Prelude.{ℕ, ◌≡◌, ◌<◌, ◌↔◌, Some, List, slice_get}
 use Rattle.std.specs.List.{Contains}
-use Rattle.vs_cert_facts.specs.vs_slots_paths.specs.Reaches.{Chart, places}
-use Rattle.vs_cert_facts.specs.Facts.{Case}
+use Rattle.vs_claims.specs.vs_maps.specs.Reaches.{Chart, places}
+use Rattle.vs_claims.specs.Facts.{Case}
 use Rattle.vs_slots.specs.Runs.{HasRun}
 
 -- these are the run slots of a place of a process, by its number

@@ -3,15 +3,15 @@ use Rattle.std.specs.Prelude.{ℕ, ◌≡◌, ◌<◌, ◌↔◌, Some, List, []
 use Rattle.std.specs.List.{Contains}
 use Rattle.vs_design.specs.declared.design.Process.{Process}
 use Rattle.vs_design.specs.Parts.{Parts}
-use Rattle.vs_flatcode.specs.Numbers.{number_next}
-use Rattle.vs_flatcode.specs.Stops.{Stop, IsText}
-use Rattle.vs_flatcode.specs.Ways.{Pause, none, delay, event, next_by}
-use Rattle.vs_slots_uses.specs.vs_rules.specs.Claims.{Claims, kind_of}
-use Rattle.vs_slots_uses.specs.vs_rules.specs.Slots.{Ends, HasSlot}
-use Rattle.vs_cert_facts.specs.vs_slots_paths.specs.declared.along.Along.TheVariants.{Plain}
-use Rattle.vs_cert_facts.specs.vs_slots_paths.specs.Reaches.{Chart, IsPlace, pause_at, places}
-use Rattle.vs_cert_facts.specs.vs_slots_paths.specs.Ranges.{pause_terms}
-use Rattle.vs_cert_facts.specs.vs_slots_paths.specs.Walks.{WalkFrom, IsControlBefore}
+use Rattle.vs_process.specs.Numbers.{number_next}
+use Rattle.vs_process.specs.Stops.{Stop, IsText}
+use Rattle.vs_process.specs.Ways.{Pause, none, delay, event, next_by}
+use Rattle.vs_maps.specs.vs_rules.specs.Claims.{Claims, kind_of}
+use Rattle.vs_maps.specs.vs_rules.specs.Slots.{Ends, HasSlot}
+use Rattle.vs_claims.specs.vs_maps.specs.declared.along.Along.TheVariants.{Plain}
+use Rattle.vs_claims.specs.vs_maps.specs.Reaches.{Chart, IsPlace, pause_at, places}
+use Rattle.vs_claims.specs.vs_maps.specs.Ranges.{pause_terms}
+use Rattle.vs_claims.specs.vs_maps.specs.Walks.{WalkFrom, IsControlBefore}
 use Rattle.vs_slots.specs.Terms.{TermsFire}
 use Rattle.vs_slots.specs.Lists.{row}
 

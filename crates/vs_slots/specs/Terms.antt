@@ -3,8 +3,8 @@ use Rattle.std.specs.Prelude.{ℕ, List}
 use Rattle.std.specs.List.{Contains}
 use Rattle.vs_design.specs.declared.statement.EventTerm.{EventTerm}
 use Rattle.vs_design.specs.Parts.{Parts}
-use Rattle.vs_slots_uses.specs.vs_rules.specs.Claims.{Claims}
-use Rattle.vs_slots_uses.specs.vs_rules.specs.Slots.{Fires}
+use Rattle.vs_maps.specs.vs_rules.specs.Claims.{Claims}
+use Rattle.vs_maps.specs.vs_rules.specs.Slots.{Fires}
 
 -- one of some terms can fire at a residue
 abbrev pub TermsFire : Parts → Claims → List EventTerm → ℕ → Type 0

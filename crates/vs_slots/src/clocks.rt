@@ -1,17 +1,17 @@
 //! The clocks of a design.
 ghost use Rattle.std.specs.Prelude.{ℕ, ◌≡◌, ◌++◌, ◌↔◌, get_or, IfOk, OnOk};
 ghost use Rattle.std.specs.List.{Contains};
-ghost use Rattle.vs_slots_uses.specs.vs_rules.specs.Paths.{Writes};
+ghost use Rattle.vs_maps.specs.vs_rules.specs.Paths.{Writes};
 ghost use Rattle.vs_slots.specs.Kept.{AreClocks, AreWriterRows, IsClockOf};
 ghost use Rattle.vs_slots.specs.Lists.{signals_of};
 
 use std::alloc::{AllocError, Global};
-use vs_cert_facts::Facts;
-use vs_cert_facts::vs_slots_paths::index_of;
+use vs_claims::Facts;
+use vs_claims::vs_maps::index_of;
 use vs_design::{BitRange, Design};
+use vs_graph::Family;
+use vs_maps::vs_threads::statement_writes;
 use vs_slots_constants::{Clock, clock_of};
-use vs_slots_residues::vs_reach::Family;
-use vs_slots_uses::vs_law_writes::statement_writes;
 
 // Puts the signals of ranges at a list's end.
 fn put_signals(out: &mut Vec<usize>, ranges: &[BitRange]) -> Result<(), AllocError>

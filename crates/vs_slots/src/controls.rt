@@ -2,17 +2,17 @@
 ghost use Rattle.std.specs.Prelude.{ℕ, ◌≡◌, ◌<◌, ◌↔◌, map, IfOk};
 ghost use Rattle.std.specs.List.{Contains};
 ghost use Rattle.vs_design.specs.Tables.{rows};
-ghost use Rattle.vs_slots_uses.specs.vs_rules.specs.Certificates.{residues_from};
-ghost use Rattle.vs_slots_uses.specs.vs_rules.specs.Controls.{list_of};
-ghost use Rattle.vs_cert_facts.specs.vs_slots_paths.specs.Reaches.{places, pause_at, pause_view, IsPlace};
+ghost use Rattle.vs_maps.specs.vs_rules.specs.Certificates.{residues_from};
+ghost use Rattle.vs_maps.specs.vs_rules.specs.Controls.{list_of};
+ghost use Rattle.vs_claims.specs.vs_maps.specs.Reaches.{places, pause_at, pause_view, IsPlace};
 ghost use Rattle.vs_slots.specs.Lists.{row};
 ghost use Rattle.vs_slots.specs.Controls.{list_by};
 ghost use Rattle.vs_slots.specs.Runs.{DelayEndsBy};
 
 use crate::listing::{Listing, table_of};
 use std::alloc::{AllocError, Global};
-use vs_cert_facts::vs_slots_paths::{Pause, Tables};
-use vs_slots_residues::Numbers;
+use vs_claims::vs_maps::{Pause, Tables};
+use vs_graph::Numbers;
 
 /// The lists of residues of a process of kind delay: one for each delay control of its text, in the order of the text.
 #[derive(Drop)]

@@ -1,17 +1,17 @@
 //! The run slots of processes of kind delay.
 ghost use Rattle.std.specs.Prelude.{IfOk, map};
 ghost use Rattle.vs_design.specs.Tables.{rows};
-ghost use Rattle.vs_slots_uses.specs.vs_rules.specs.Certificates.{residues_from};
-ghost use Rattle.vs_slots_uses.specs.vs_rules.specs.Claims.{IsDelay};
-ghost use Rattle.vs_slots_uses.specs.vs_rules.specs.Controls.{controls_in, list_of};
+ghost use Rattle.vs_maps.specs.vs_rules.specs.Certificates.{residues_from};
+ghost use Rattle.vs_maps.specs.vs_rules.specs.Claims.{IsDelay};
+ghost use Rattle.vs_maps.specs.vs_rules.specs.Controls.{controls_in, list_of};
 ghost use Rattle.vs_slots.specs.Runs.{AreListedRuns};
 ghost use Rattle.vs_slots.specs.Kept.{RunsWhere, AreAllRuns};
 
 use crate::controls::{ControlLists, delay_ends};
 use crate::runs::Runs;
 use std::alloc::{AllocError, Global};
-use vs_cert_facts::Facts;
-use vs_cert_facts::vs_slots_paths::{Tables, controls, controls_before};
+use vs_claims::Facts;
+use vs_claims::vs_maps::{Tables, controls, controls_before};
 use vs_design::Statement;
 
 // The runs of a process of kind delay, by its text, its tables and its lists.

@@ -2,9 +2,9 @@
 ghost use Rattle.std.specs.Prelude.{ℕ, ◌<◌, ◌↔◌, IfOk};
 ghost use Rattle.std.specs.List.{Contains};
 ghost use Rattle.vs_design.specs.Tables.{rows};
-ghost use Rattle.vs_slots_uses.specs.vs_rules.specs.Claims.{IsEdge};
-ghost use Rattle.vs_cert_facts.specs.vs_slots_paths.specs.Ranges.{pause_terms};
-ghost use Rattle.vs_cert_facts.specs.vs_slots_paths.specs.Reaches.{places, pause_at, pause_view, IsPlace};
+ghost use Rattle.vs_maps.specs.vs_rules.specs.Claims.{IsEdge};
+ghost use Rattle.vs_claims.specs.vs_maps.specs.Ranges.{pause_terms};
+ghost use Rattle.vs_claims.specs.vs_maps.specs.Reaches.{places, pause_at, pause_view, IsPlace};
 ghost use Rattle.vs_slots.specs.Kept.{AreAllRuns, AreFirings, AreTermsIn, RunsWhere};
 ghost use Rattle.vs_slots.specs.Runs.{AreFiredRuns};
 
@@ -12,8 +12,8 @@ use crate::listing::{Listing, table_of};
 use crate::roots::Firing;
 use crate::runs::Runs;
 use std::alloc::{AllocError, Global};
-use vs_cert_facts::Facts;
-use vs_cert_facts::vs_slots_paths::{Pause, Tables, controls_before};
+use vs_claims::Facts;
+use vs_claims::vs_maps::{Pause, Tables, controls_before};
 
 // The places of a process of kind edge, and when terms can fire.
 #[derive(Drop)]

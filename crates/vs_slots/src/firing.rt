@@ -1,10 +1,10 @@
 //! The residues at which edges of roots can fire.
 ghost use Rattle.std.specs.Prelude.{ℕ, ◌≡◌, ◌<◌, ◌↔◌, ◌⊎◌, Some, length, slice_get, IfOk, OnOk, IsTrue};
 ghost use Rattle.std.specs.List.{Contains};
-ghost use Rattle.vs_flatcode.specs.Stops.{statement_view};
-ghost use Rattle.vs_slots_uses.specs.vs_rules.specs.Constants.{bit_of};
+ghost use Rattle.vs_process.specs.Stops.{statement_view};
+ghost use Rattle.vs_maps.specs.vs_rules.specs.Constants.{bit_of};
 ghost use Rattle.vs_slots_constants.specs.Givings.{given_here};
-ghost use Rattle.vs_cert_facts.specs.vs_slots_paths.specs.Ranges.{statement_at};
+ghost use Rattle.vs_claims.specs.vs_maps.specs.Ranges.{statement_at};
 ghost use Rattle.vs_slots.specs.Firing.{CountsAt, InPhaseOf, WritesAt};
 ghost use Rattle.vs_slots.specs.Kept.{AreWrittenPlaces, IsFiringBy, IsFiringOf, IsPlaceFiring, IsTurned};
 
@@ -12,8 +12,8 @@ use crate::listing::{Listing, union_of};
 use crate::phases::{is_in_phase, write_counts};
 use crate::runs::{Runs, numbers_of, runs_at};
 use std::alloc::{AllocError, Global};
-use vs_cert_facts::Facts;
-use vs_cert_facts::vs_slots_paths::Tables;
+use vs_claims::Facts;
+use vs_claims::vs_maps::Tables;
 use vs_design::Statement;
 use vs_design::vs_logic4::{Digit, Edge};
 use vs_slots_constants::{Bit, Clock, given_by};

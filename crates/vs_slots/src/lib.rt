@@ -19,5 +19,5 @@ pub use controls::ControlLists;
 pub use laws::{firing_is_exact, runs_are_exact};
 pub use listing::{Listing, table_of, union_of};
 pub use slots::Slots;
-pub use vs_cert_facts;
-pub use vs_slots_residues::are_apart;
+pub use vs_claims;
+pub use vs_graph::are_apart;

@@ -5,7 +5,7 @@ ghost use Rattle.vs_design.specs.Tables.{rows};
 ghost use Rattle.vs_slots.specs.Lists.{row};
 
 use std::alloc::{AllocError, Global};
-use vs_slots_residues::Gathered;
+use vs_graph::Gathered;
 
 /// A list of residues for each number.
 pub trait Listing {

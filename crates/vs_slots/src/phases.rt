@@ -1,7 +1,7 @@
 //! Which writes of a clock an edge fires at.
 ghost use Rattle.std.specs.Prelude.{◌≡◌, ◌+◌, ◌*◌, ◌%◌, ◌<◌, ◌↔◌, true, Some, IsTrue};
 ghost use Rattle.vs_design.specs.vs_logic4.specs.declared.digit.Digit.{Digit};
-ghost use Rattle.vs_slots_uses.specs.vs_rules.specs.Slots.{counts, phase};
+ghost use Rattle.vs_maps.specs.vs_rules.specs.Slots.{counts, phase};
 
 use vs_design::vs_logic4::{Digit, Edge};
 

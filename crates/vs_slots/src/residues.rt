@@ -5,7 +5,7 @@ ghost use Rattle.vs_design.specs.Tables.{rows};
 ghost use Rattle.vs_slots.specs.Lists.{row, IsOneOf};
 
 use std::alloc::{AllocError, Global};
-use vs_slots_residues::Gathered;
+use vs_graph::Gathered;
 
 /// The list of a number; of one past the end, none.
 pub(crate) fn row_of(table: &[Vec<u64>], i: usize) -> &[u64]

@@ -2,7 +2,7 @@
 ghost use Rattle.std.specs.Prelude.{ℕ, ◌≡◌, ◌↔◌, ◌⊎◌, None, get_or, IfOk, OnOk};
 ghost use Rattle.std.specs.List.{Contains};
 ghost use Rattle.vs_design.specs.Tables.{rows};
-ghost use Rattle.vs_slots_uses.specs.vs_rules.specs.Claims.{IsDelay, IsRoot};
+ghost use Rattle.vs_maps.specs.vs_rules.specs.Claims.{IsDelay, IsRoot};
 ghost use Rattle.vs_slots.specs.Kept.{AreAllRuns, AreClocks, AreFirings, AreTermsIn, AreWrittenPlaces, IsFiring, IsFiringOf, IsTermIn, IsTurned, table_by};
 ghost use Rattle.vs_slots.specs.Lists.{row, IsOneOf};
 
@@ -12,11 +12,11 @@ use crate::listing::{Listing, table_of};
 use crate::residues::row_of;
 use crate::runs::Runs;
 use std::alloc::{AllocError, Global};
-use vs_cert_facts::Facts;
+use vs_claims::Facts;
 use vs_design::EventTerm;
 use vs_design::vs_logic4::Edge;
+use vs_graph::Gathered;
 use vs_slots_constants::Clock;
-use vs_slots_residues::Gathered;
 
 // What a signal is as a clock; one past the end is none.
 fn clock_at(clocks: &[Option<Clock>], v: usize) -> Option<Clock>

@@ -1,7 +1,7 @@
 //! The run slots, write slots and firing slots of a design and a certificate.
 ghost use Rattle.std.specs.Prelude.{ℕ, ◌≡◌, ◌<◌, ◌↔◌, Some, length, slice_get, IfOk};
 ghost use Rattle.std.specs.List.{Contains};
-ghost use Rattle.vs_slots_uses.specs.vs_rules.specs.Slots.{HasWriteSlot};
+ghost use Rattle.vs_maps.specs.vs_rules.specs.Slots.{HasWriteSlot};
 ghost use Rattle.vs_slots.specs.Kept.{AreBothRuns, AreWriteSlots, AreWrittenPlaces, IsKeptRun, IsPlaceWrite, IsWriteBy, IsWriteIn};
 ghost use Rattle.vs_slots.specs.Places.{RunsOf};
 ghost use Rattle.vs_slots.specs.Terms.{TermsFire};
@@ -15,8 +15,8 @@ use crate::runs::{Runs, numbers_of, runs_at};
 use crate::written::written_places;
 use std::alloc::{AllocError, Global};
 use std::marker::Model;
-use vs_cert_facts::Facts;
-use vs_cert_facts::vs_slots_paths::Tables;
+use vs_claims::Facts;
+use vs_claims::vs_maps::Tables;
 use vs_design::EventTerm;
 
 // The run slots of a place of a process of kind edge or delay; of another one there are none.
@@ -177,7 +177,7 @@ impl<'a> Model for Slots<'a> {
     ghost use Rattle.std.specs.Coded.{codes};
     ghost use Rattle.vs_design.specs.contracts.expression.Typed as expression;
     ghost use Rattle.vs_design.specs.contracts.statement.Statement as statement;
-    ghost use Rattle.vs_cert_facts.specs.Facts.{Case};
+    ghost use Rattle.vs_claims.specs.Facts.{Case};
     ghost use Rattle.vs_slots.specs.Kept.{AreSlots};
 
     ghost Value = { Case };

@@ -1,13 +1,13 @@
 //! At which places of their writers signals are written.
 ghost use Rattle.std.specs.Prelude.{ℕ, ◌≡◌, ◌<◌, Some, length, slice_get, IfOk, OnOk};
-ghost use Rattle.vs_cert_facts.specs.vs_slots_paths.specs.Reaches.{Chart, places};
-ghost use Rattle.vs_slots_uses.specs.Written.{HasGrown, IsWrittenAt, StandsIn};
+ghost use Rattle.vs_claims.specs.vs_maps.specs.Reaches.{Chart, places};
+ghost use Rattle.vs_maps.specs.Written.{HasGrown, IsWrittenAt, StandsIn};
 ghost use Rattle.vs_slots.specs.Kept.{AreWrittenPlaces};
 
 use std::alloc::{AllocError, Global};
-use vs_cert_facts::Facts;
-use vs_cert_facts::vs_slots_paths::empty_rows;
-use vs_slots_uses::put_writes;
+use vs_claims::Facts;
+use vs_claims::vs_maps::empty_rows;
+use vs_maps::put_writes;
 
 // Puts the places of a process at the end of the rows of the signals that are written there.
 fn put_process<'a>(

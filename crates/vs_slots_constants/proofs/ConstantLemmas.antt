@@ -8,8 +8,8 @@ use Rattle.vs_design.specs.Uses.{aim_range, is_of}
 use Rattle.vs_design.specs.WellFormed.{aim_width}
 use Rattle.vs_eval.specs.Places.{after}
 use Rattle.vs_eval.proofs.Digits.{selected_past}
-use Rattle.vs_flatcode.specs.Places.{perform, turns, Todo}
-use Rattle.vs_flatcode.specs.Stops.{next_statement}
+use Rattle.vs_process.specs.Places.{perform, turns, Todo}
+use Rattle.vs_process.specs.Stops.{next_statement}
 use Rattle.vs_rules.specs.Paths.{Bit}
 use Rattle.vs_rules.specs.Constants.{any_aims, place_gives, places_give, given_by, todo_assigns}
 use Rattle.vs_slots_constants.specs.Givings.{given_here, GivesByPlaces}

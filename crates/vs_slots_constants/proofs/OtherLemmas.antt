@@ -15,8 +15,8 @@ use Rattle.vs_design.specs.declared.statement.Statement.TheFolds.{fold_out-State
 use Rattle.vs_design.specs.declared.statement.Statement.TheViews.{out-Statement}
 use Rattle.vs_design.specs.Uses.{aim_range, joined, slice_range}
 use Rattle.vs_design.specs.Parts.{Parts}
-use Rattle.vs_rules.specs.vs_law_threads.specs.Blocks.{outputs_for}
-use Rattle.vs_law_writes.specs.Writes.{statement_writes, statement_writes_step}
+use Rattle.vs_rules.specs.vs_threads.specs.Blocks.{outputs_for}
+use Rattle.vs_threads.specs.Writes.{statement_writes, statement_writes_step}
 use Rattle.vs_rules.specs.Constants.{HasBody, IsBare, itself, inside, Sets, SetsAndTurns, TurnsForever}
 use Rattle.vs_rules.specs.Constants as k
 use Rattle.vs_rules.specs.Paths.{Writes}

@@ -3,7 +3,7 @@ use Rattle.std.specs.Prelude.{ℕ, ◌≡◌, ◌↔◌, Option, Some, None, Lis
 use Rattle.vs_design.specs.vs_logic4.specs.declared.digit.Digit.{Digit}
 use Rattle.vs_design.specs.declared.statement.Statement.{Statement}
 use Rattle.vs_design.specs.declared.statement.Statement.TheViews.{out-Statement}
-use Rattle.vs_flatcode.specs.Stops.{Stop, stop_at, stop_statement, IsText}
+use Rattle.vs_process.specs.Stops.{Stop, stop_at, stop_statement, IsText}
 use Rattle.vs_rules.specs.Paths.{Bit}
 use Rattle.vs_rules.specs.Constants.{given_by, statement_assigns, Gives}
 use Rattle.vs_slots_constants.specs.declared.constants.Bit as b

@@ -4,7 +4,7 @@ ghost use Rattle.vs_design.specs.Uses.{aim_range, is_of, reads};
 ghost use Rattle.vs_design.specs.WellFormed.{aim_width};
 ghost use Rattle.vs_eval.specs.Places.{after};
 ghost use Rattle.vs_eval.specs.Values.{target_value};
-ghost use Rattle.vs_flatcode.specs.Stops.{statement_view};
+ghost use Rattle.vs_process.specs.Stops.{statement_view};
 ghost use Rattle.vs_rules.specs.Constants.{any_aims, bit_of, digit_there, given, is_nothing, place_gives, places_give};
 ghost use Rattle.vs_slots_constants.specs.Givings.{bit_view, given_here};
 

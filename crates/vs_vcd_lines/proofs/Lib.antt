@@ -9,3 +9,15 @@ pub mod ValueLemmas
 pub mod ChangeLemmas
 pub mod DeclarationLemmas
 pub mod LawLemmas
+pub mod TextLemmas
+pub mod BeginningsNumberLemmas
+pub mod BeginningsCodeLemmas
+pub mod TickLemmas
+pub mod BeginningsValueLemmas
+pub mod DigitLemmas
+pub mod BeginningsWordLemmas
+pub mod SignedLemmas
+pub mod PartLemmas
+pub mod BeginningsNameLemmas
+pub mod ScopeLemmas
+pub mod BeginningsVariableLemmas

@@ -5,34 +5,34 @@ use Rattle.vs_design.specs.declared.signal.Signal.{Signal}
 use Rattle.vs_design.specs.declared.design.Assign.{Assign}
 use Rattle.vs_design.specs.declared.design.Process.{Process}
 use Rattle.vs_design.specs.WellFormed.{driven}
-use Rattle.vs_elab_operands.specs.vs_scopes.specs.declared.faults.Reason.{Reason}
-use Rattle.vs_elab_operands.specs.vs_scopes.specs.declared.faults.Reason.TheVariants.{DrivenTwice}
-use Rattle.vs_elab_operands.specs.vs_scopes.specs.declared.faults.ElabFault.{ElabFault}
-use Rattle.vs_elab_operands.specs.vs_scopes.specs.declared.faults.ElabFault.TheVariants.{Memory, At}
+use Rattle.vs_elab_statements.specs.vs_scopes.specs.declared.faults.Reason.{Reason}
+use Rattle.vs_elab_statements.specs.vs_scopes.specs.declared.faults.Reason.TheVariants.{DrivenTwice}
+use Rattle.vs_elab_statements.specs.vs_scopes.specs.declared.faults.ElabFault.{ElabFault}
+use Rattle.vs_elab_statements.specs.vs_scopes.specs.declared.faults.ElabFault.TheVariants.{Memory, At}
 use Rattle.vs_syntax.specs.declared.tree.Expr.{Expr}
-use Rattle.vs_elab_path_laws.specs.vs_elab_pieces.specs.Pieces.{NamedBlock, Piece, blocks_of, plain}
-use Rattle.vs_elab_path_laws.specs.vs_elab_pieces.specs.Reads.{read_piece}
-use Rattle.vs_elab_path_laws.specs.vs_elab_pieces.specs.declared.scope.ScopePiece.{ScopePiece as FoundPiece}
-use Rattle.vs_elab_operands.specs.vs_scopes.specs.Ports.{ModulePort}
-use Rattle.vs_elab_operands.specs.vs_scopes.specs.Printed.{Path}
-use Rattle.vs_elab_operands.specs.vs_scopes.specs.Scopes.{Scope, environment, is_wrong_end, has_wrong_end}
-use Rattle.vs_elab_operands.specs.vs_scopes.specs.passes.Answers.{IsFaultAt, Told}
-use Rattle.vs_elab_operands.specs.vs_scopes.specs.passes.Names.{read_path}
-use Rattle.vs_elab_operands.specs.vs_scopes.specs.passes.Parts.{read_port, read_ends}
-use Rattle.vs_elab_operands.specs.vs_elab_listed.specs.declared.opened.ListedScope.{ListedScope as FoundScope}
-use Rattle.vs_elab_contents.specs.declared.contents.Contents.{Contents}
-use Rattle.vs_elab_operands.specs.declared.faults.StatementFault.{StatementFault}
-use Rattle.vs_elab_operands.specs.Members.{Assignment, PortDriver, Driver, of_text, Behavior, drivers_of, port_drivers_of}
-use Rattle.vs_elab_operands.specs.Processes.{HasBehaviorFault}
-use Rattle.vs_elab_operands.specs.Surroundings.{Surroundings}
-use Rattle.vs_elab_operands.specs.passes.Views.{IsView, IsSite}
-use Rattle.vs_elab_operands.specs.passes.Bodies.{BodyFails}
+use Rattle.vs_elab_hierarchy.specs.vs_elab_pieces.specs.Pieces.{NamedBlock, Piece, blocks_of, plain}
+use Rattle.vs_elab_hierarchy.specs.vs_elab_pieces.specs.Reads.{read_piece}
+use Rattle.vs_elab_hierarchy.specs.vs_elab_pieces.specs.declared.scope.ScopePiece.{ScopePiece as FoundPiece}
+use Rattle.vs_elab_statements.specs.vs_scopes.specs.Ports.{ModulePort}
+use Rattle.vs_elab_statements.specs.vs_scopes.specs.Printed.{Path}
+use Rattle.vs_elab_statements.specs.vs_scopes.specs.Scopes.{Scope, environment, is_wrong_end, has_wrong_end}
+use Rattle.vs_elab_statements.specs.vs_scopes.specs.scopes_passes.Answers.{IsFaultAt, Told}
+use Rattle.vs_elab_statements.specs.vs_scopes.specs.scopes_passes.Names.{read_path}
+use Rattle.vs_elab_statements.specs.vs_scopes.specs.scopes_passes.Parts.{read_port, read_ends}
+use Rattle.vs_elab_statements.specs.vs_elab_listed.specs.declared.opened.ListedScope.{ListedScope as FoundScope}
+use Rattle.vs_elaborate.specs.declared.contents.Contents.{Contents}
+use Rattle.vs_elab_statements.specs.declared.faults.StatementFault.{StatementFault}
+use Rattle.vs_elab_statements.specs.Members.{Assignment, PortDriver, Driver, of_text, Behavior, drivers_of, port_drivers_of}
+use Rattle.vs_elab_statements.specs.Processes.{HasBehaviorFault}
+use Rattle.vs_elab_statements.specs.Surroundings.{Surroundings}
+use Rattle.vs_elab_statements.specs.passes.Views.{IsView, IsSite}
+use Rattle.vs_elab_statements.specs.passes.Bodies.{BodyFails}
 use Rattle.vs_elab_statements.specs.Blocks.{HaveScopes}
 use Rattle.vs_elaborate.specs.declared.frames.Frame.{Frame}
 use Rattle.vs_elaborate.specs.Drivers.{driver_fault, port_driver_fault}
 use Rattle.vs_elaborate.specs.Faults.{HasFault, HasPortFault}
 use Rattle.vs_elaborate.specs.DesignOf.{PartOf, port_part, parts_from, assigns_of, processes_of, IsProcess, IsAssign}
-use Rattle.vs_elab_contents.specs.Marks.{SharesBit}
+use Rattle.vs_elaborate.specs.Marks.{SharesBit}
 
 -- ---- frames
 

@@ -1,7 +1,7 @@
 use Rattle.std.proofs.Common.{◌↔◌, List, sym, subst}
 use Rattle.std.specs.List.{Contains}
 use Rattle.vs_design.specs.declared.statement.EventTerm.{EventTerm}
-use Rattle.vs_cert_facts.specs.vs_slots_paths.specs.Ranges.{HasTermAt}
+use Rattle.vs_claims.specs.vs_maps.specs.Ranges.{HasTermAt}
 use Rattle.vs_cert_blocks.proofs.BlockLemmas.{named_is}
 use Rattle.vs_cert_blocks.proofs.blocks.are_named.Goals as goal
 

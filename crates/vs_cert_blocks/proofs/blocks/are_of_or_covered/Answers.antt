@@ -1,7 +1,7 @@
 use Rattle.std.proofs.Common.{◌⊎◌, inl, inr, sym, ◌∙◌}
 use Rattle.std.proofs.lemmas.Bool.{false≢true}
 use Rattle.std.specs.List.{Contains}
-use Rattle.vs_slots_ranges.specs.Ranges.{Cover}
+use Rattle.vs_drivers.specs.Ranges.{Cover}
 use Rattle.vs_cert_blocks.proofs.BlockLemmas.{cover_part}
 use Rattle.vs_cert_blocks.proofs.CornerLemmas.{more_ranges, not_all}
 use Rattle.vs_cert_blocks.proofs.blocks.are_of_or_covered.Goals as goal

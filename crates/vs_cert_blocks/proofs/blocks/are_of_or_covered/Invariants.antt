@@ -1,7 +1,7 @@
 use Rattle.std.proofs.Common.{ℕ, ◌≡◌, ◌<◌, ◌⊎◌, get_or}
 use Rattle.std.specs.List.{Contains}
 use Rattle.vs_design.specs.declared.range.BitRange.{BitRange}
-use Rattle.vs_slots_ranges.specs.Ranges.{Cover}
+use Rattle.vs_drivers.specs.Ranges.{Cover}
 use Rattle.vs_cert_blocks.proofs.blocks.are_of_or_covered.Given as goal
 
 abbrev pub invariant-loop-range : goal.invariant-loop-range

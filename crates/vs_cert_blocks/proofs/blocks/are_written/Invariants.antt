@@ -1,6 +1,6 @@
 use Rattle.std.proofs.Common.{ℕ, ◌<◌, get_or}
-use Rattle.vs_reach_local.specs.Clear.{AreClear}
-use Rattle.vs_cert_facts.specs.vs_slots_paths.specs.Reaches.{places}
+use Rattle.vs_graph.specs.Clear.{AreClear}
+use Rattle.vs_claims.specs.vs_maps.specs.Reaches.{places}
 use Rattle.vs_cert_blocks.specs.Blocks.{IsSignalFirst}
 use Rattle.vs_cert_blocks.proofs.blocks.are_written.Given as goal
 

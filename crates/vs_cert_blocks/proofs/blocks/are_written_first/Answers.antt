@@ -1,7 +1,7 @@
 use Rattle.std.proofs.Common.{ℕ, List, sym, subst}
 use Rattle.vs_design.specs.declared.range.BitRange.{BitRange}
 use Rattle.std.specs.declared.vec.Vec.{Vec}
-use Rattle.vs_reach_local.specs.Clear.{AreClear}
+use Rattle.vs_graph.specs.Clear.{AreClear}
 use Rattle.std.specs.declared.alloc.Global.{Global}
 use Rattle.vs_cert_blocks.specs.Walks.{AreReads, AreWoken}
 use Rattle.vs_cert_blocks.proofs.EarlyLemmas.{early_same}

@@ -1,5 +1,5 @@
 use Rattle.std.proofs.Common.{ℕ, ◌≡◌, ◌<◌, length}
-use Rattle.vs_cert_facts.specs.vs_slots_paths.specs.Ranges.{reads_at}
+use Rattle.vs_claims.specs.vs_maps.specs.Ranges.{reads_at}
 use Rattle.vs_cert_blocks.specs.Walks.{row_at}
 use Rattle.vs_cert_blocks.proofs.blocks.reads.Given as goal
 

@@ -1,7 +1,7 @@
 use Rattle.std.proofs.Common.{◌≡◌, ℕ, ◌<◌, ◌↔◌, IsTrue, Some, slice_get}
 use Rattle.std.proofs.lemmas.Result.{IfOk-weaker}
-use Rattle.vs_slots_ranges.specs.Places.{bit}
-use Rattle.vs_slots_ranges.proofs.Words.{there}
+use Rattle.vs_drivers.specs.Places.{bit}
+use Rattle.vs_drivers.proofs.Words.{there}
 use Rattle.vs_cert_blocks.specs.Blocks.{IsSignalFirst}
 use Rattle.vs_cert_blocks.specs.Walks.{IsWrittenFirst}
 use Rattle.vs_cert_blocks.proofs.BlockLemmas.{signal_first_is}

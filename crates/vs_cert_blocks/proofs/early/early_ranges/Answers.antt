@@ -1,7 +1,7 @@
 use Rattle.std.proofs.Common.{◌≡◌, ◌≤◌, ◌⊎◌, ℕ, suc, ◌+◌, ◌-◌, List, refl, sym, ◌∙◌, subst, arith}
 use Rattle.std.specs.List.{Contains}
 use Rattle.vs_design.specs.declared.range.BitRange.{BitRange}
-use Rattle.vs_cert_facts.specs.vs_slots_paths.specs.Ranges.{reads_at, HasSignal}
+use Rattle.vs_claims.specs.vs_maps.specs.Ranges.{reads_at, HasSignal}
 use Rattle.vs_cert_blocks.specs.Early.{IsScanned}
 use Rattle.vs_cert_blocks.proofs.EarlyLemmas.{early_more, none_early, scan_begins, scan_more}
 use Rattle.vs_cert_blocks.proofs.early.early_ranges.Goals as goal

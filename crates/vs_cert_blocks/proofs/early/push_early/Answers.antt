@@ -2,8 +2,8 @@ use Rattle.std.proofs.Common.{List, ◌++◌, inl, inr, ◌∙◌, ap, subst, ar
 use Rattle.std.specs.List.{Contains}
 use Rattle.std.proofs.lemmas.Result.{on_ok_weaker}
 use Rattle.vs_design.specs.declared.range.BitRange.{BitRange}
-use Rattle.vs_flatcode.specs.Stops.{statement_view}
-use Rattle.vs_cert_facts.specs.vs_slots_paths.specs.Ranges.{ranges_of}
+use Rattle.vs_process.specs.Stops.{statement_view}
+use Rattle.vs_claims.specs.vs_maps.specs.Ranges.{ranges_of}
 use Rattle.vs_cert_blocks.specs.Walks.{statement_sure}
 use Rattle.vs_cert_blocks.proofs.early.push_early.Goals as goal
 

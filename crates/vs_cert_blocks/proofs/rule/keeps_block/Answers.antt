@@ -1,6 +1,6 @@
 use Rattle.std.proofs.Common.{◌↔◌, IsTrue, refl, sym, arith}
 use Rattle.std.proofs.lemmas.Result.{IfOk-weaker}
-use Rattle.vs_slots_ranges.specs.vs_rules.specs.Blocks.{K5}
+use Rattle.vs_drivers.specs.vs_rules.specs.Blocks.{K5}
 use Rattle.vs_cert_blocks.specs.Blocks.{KeepsBlock}
 use Rattle.vs_cert_blocks.proofs.Points.{kept_is}
 use Rattle.vs_cert_blocks.proofs.rule.keeps_block.Goals as goal

@@ -1,5 +1,5 @@
 use Rattle.std.proofs.Common.{arith}
-use Rattle.vs_flatcode.specs.Stops.{statement_view}
+use Rattle.vs_process.specs.Stops.{statement_view}
 use Rattle.vs_cert_blocks.proofs.Gathered.{sure_more, sure_all}
 use Rattle.vs_cert_blocks.proofs.walks.sure.Goals as goal
 

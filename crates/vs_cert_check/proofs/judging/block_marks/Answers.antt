@@ -1,6 +1,6 @@
 use Rattle.std.proofs.Common.{◌≡◌, ℕ, ◌+◌, suc, [], ◌∷◌, ◌++◌, List, Bool, map, ◌∙◌, ap, arith}
-use Rattle.vs_cert_starts.specs.vs_rules.specs.Claims.{blocks_of}
-use Rattle.vs_cert_starts.specs.vs_rules.specs.Verdict.{numbers}
+use Rattle.vs_rules_of_starts.specs.vs_rules.specs.Claims.{blocks_of}
+use Rattle.vs_rules_of_starts.specs.vs_rules.specs.Verdict.{numbers}
 use Rattle.vs_cert_check.proofs.Wired.{mark_is, marks_more}
 use Rattle.vs_cert_check.proofs.judging.block_marks.Goals as goal
 

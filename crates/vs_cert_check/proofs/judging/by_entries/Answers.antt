@@ -1,6 +1,6 @@
 use Rattle.std.proofs.Common.{sym, subst}
-use Rattle.vs_cert_order.specs.vs_cert_facts.specs.Facts.{Case}
-use Rattle.vs_cert_first_slot.specs.vs_slots_cones.specs.Wires.{IsWiringOf}
+use Rattle.vs_rules_of_signals.specs.vs_claims.specs.Facts.{Case}
+use Rattle.vs_rules_of_processes.specs.vs_drivers.specs.Wires.{IsWiringOf}
 use Rattle.vs_cert_check.proofs.Wired.{wired}
 use Rattle.vs_cert_check.proofs.judging.by_entries.Goals as goal
 

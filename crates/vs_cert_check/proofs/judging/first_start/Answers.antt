@@ -1,5 +1,5 @@
 use Rattle.std.proofs.Common.{ℕ, Option, List, length, slice_get, sym, ◌∙◌, ap, subst}
-use Rattle.vs_cert_writers.specs.vs_reach.specs.Verdicts.{IsFirst}
+use Rattle.vs_rules_of_signals.specs.vs_graph.specs.Verdicts.{IsFirst}
 use Rattle.vs_cert_check.specs.Verdicts.{KeepsAt}
 use Rattle.vs_cert_check.proofs.BrokenLemmas.{is_first}
 use Rattle.vs_cert_check.proofs.judging.first_start.Goals as goal

@@ -1,5 +1,5 @@
 use Rattle.std.proofs.Common.{sym, subst, arith}
-use Rattle.vs_cert_first_slot.specs.vs_slots_cones.specs.Wires.{IsWiringOf}
+use Rattle.vs_rules_of_processes.specs.vs_drivers.specs.Wires.{IsWiringOf}
 use Rattle.vs_cert_check.proofs.Wired.{wired}
 use Rattle.vs_law_rules.proofs.Keeps.{assigns_named, blocks_kept, order_kept}
 use Rattle.vs_cert_check.proofs.Judged.{kept_all}

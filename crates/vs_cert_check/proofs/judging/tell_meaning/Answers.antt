@@ -1,4 +1,4 @@
-use Rattle.vs_cert_starts.specs.vs_rules.specs.Certificates.{claims_of}
+use Rattle.vs_rules_of_starts.specs.vs_rules.specs.Certificates.{claims_of}
 use Rattle.vs_cert_check.proofs.Meaning.{meant}
 use Rattle.vs_cert_check.proofs.judging.tell_meaning.Goals as goal
 

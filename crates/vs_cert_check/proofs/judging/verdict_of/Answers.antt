@@ -1,10 +1,10 @@
 use Rattle.std.proofs.Common.{◌≡◌, ℕ, ◌+◌, ◌-◌, Some, length, subst, sym, ap, ◌∙◌, slice_index_or, arith}
 use Rattle.std.proofs.lemmas.Option.{slice_get-get_or}
-use Rattle.vs_cert_order.specs.vs_cert_facts.specs.Facts.{seen}
-use Rattle.vs_cert_names.specs.declared.subjects.Subject.TheVariants.{Signal}
-use Rattle.vs_cert_names.specs.Subjects.{subject_view}
-use Rattle.vs_cert_writers.specs.vs_reach.specs.Verdicts.{IsLeast}
-use Rattle.vs_cert_starts.specs.vs_rules.specs.Verdict.{Breaks, place_of}
+use Rattle.vs_rules_of_signals.specs.vs_claims.specs.Facts.{seen}
+use Rattle.vs_claims.specs.declared.subjects.Subject.TheVariants.{Signal}
+use Rattle.vs_claims.specs.Subjects.{subject_view}
+use Rattle.vs_rules_of_signals.specs.vs_graph.specs.Verdicts.{IsLeast}
+use Rattle.vs_rules_of_starts.specs.vs_rules.specs.Verdict.{Breaks, place_of}
 use Rattle.vs_cert_check.specs.Verdicts.{rule_of, KeepsAt}
 use Rattle.vs_cert_check.proofs.Judged.{as_many, subject_at}
 use Rattle.vs_cert_check.proofs.SubjectLemmas.{subject_named, subject_of}

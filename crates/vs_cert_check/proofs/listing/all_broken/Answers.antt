@@ -3,8 +3,8 @@ use Rattle.std.proofs.lemmas.Result.{IfOk-weaker}
 use Rattle.std.specs.Prelude.{Vec}
 use Rattle.std.specs.Global.{Global}
 use Rattle.vs_cert_check.specs.declared.verdict.Broken.{Broken}
-use Rattle.vs_cert_writers.specs.vs_reach.specs.Verdicts.{IsLeast}
-use Rattle.vs_cert_starts.specs.vs_rules.specs.Verdict.{subjects}
+use Rattle.vs_rules_of_signals.specs.vs_graph.specs.Verdicts.{IsLeast}
+use Rattle.vs_rules_of_starts.specs.vs_rules.specs.Verdict.{subjects}
 use Rattle.vs_cert_check.specs.Broken.{AreListed, IsListed}
 use Rattle.vs_cert_check.specs.Verdicts.{KeepsAt, AllKeptBelow}
 use Rattle.vs_cert_check.proofs.BrokenLemmas.{none_told}

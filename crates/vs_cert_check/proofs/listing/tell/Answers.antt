@@ -3,10 +3,10 @@ use Rattle.std.specs.Prelude.{Vec}
 use Rattle.std.specs.Global.{Global}
 use Rattle.std.proofs.lemmas.List.Elements.{All-get_or}
 use Rattle.std.proofs.lemmas.Option.{slice_get-get_or}
-use Rattle.vs_cert_order.specs.vs_cert_facts.specs.Facts.{seen}
-use Rattle.vs_cert_names.specs.declared.subjects.Subject.TheVariants.{Signal}
-use Rattle.vs_cert_names.specs.Subjects.{subject_view}
-use Rattle.vs_cert_starts.specs.vs_rules.specs.Verdict.{place_of}
+use Rattle.vs_rules_of_signals.specs.vs_claims.specs.Facts.{seen}
+use Rattle.vs_claims.specs.declared.subjects.Subject.TheVariants.{Signal}
+use Rattle.vs_claims.specs.Subjects.{subject_view}
+use Rattle.vs_rules_of_starts.specs.vs_rules.specs.Verdict.{place_of}
 use Rattle.vs_cert_check.specs.declared.verdict.Broken.{Broken}
 use Rattle.vs_cert_check.proofs.BrokenLemmas.{told_next}
 use Rattle.vs_cert_check.proofs.Judged.{subject_at, told_here}

@@ -1,7 +1,7 @@
 use Rattle.std.proofs.Common.{◌↔◌, IfOk, IsTrue, sym, subst}
-use Rattle.vs_cert_names.specs.declared.subjects.Subject.{Subject}
-use Rattle.vs_cert_names.specs.Subjects.{subject_view}
-use Rattle.vs_cert_starts.specs.vs_rules.specs.Verdict.{Keeps}
+use Rattle.vs_claims.specs.declared.subjects.Subject.{Subject}
+use Rattle.vs_claims.specs.Subjects.{subject_view}
+use Rattle.vs_rules_of_starts.specs.vs_rules.specs.Verdict.{Keeps}
 use Rattle.vs_cert_check.specs.Verdicts.{rule_of}
 use Rattle.vs_cert_check.proofs.sheet.keeps.Goals as goal
 

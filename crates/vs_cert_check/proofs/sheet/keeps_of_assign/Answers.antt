@@ -1,7 +1,7 @@
 use Rattle.std.proofs.Common.{◌↔◌, ℕ, IfOk, IsTrue, sym, subst}
-use Rattle.vs_cert_starts.specs.vs_rules.specs.Verdict.{Keeps}
-use Rattle.vs_cert_starts.specs.vs_rules.specs.Verdict as verdict
-use Rattle.vs_cert_first_slot.specs.vs_slots_cones.specs.Wires.{IsWiringOf}
+use Rattle.vs_rules_of_starts.specs.vs_rules.specs.Verdict.{Keeps}
+use Rattle.vs_rules_of_starts.specs.vs_rules.specs.Verdict as verdict
+use Rattle.vs_rules_of_processes.specs.vs_drivers.specs.Wires.{IsWiringOf}
 use Rattle.vs_cert_check.specs.Verdicts.{rule_of}
 use Rattle.vs_cert_check.proofs.Wired.{wired}
 use Rattle.vs_cert_check.proofs.sheet.keeps_of_assign.Goals as goal

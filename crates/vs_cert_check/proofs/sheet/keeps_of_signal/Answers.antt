@@ -1,8 +1,8 @@
 use Rattle.std.proofs.Common.{◌↔◌, ℕ, IfOk, IsTrue, sym, subst}
-use Rattle.vs_cert_order.specs.vs_cert_facts.specs.Facts.{Case}
-use Rattle.vs_cert_starts.specs.vs_rules.specs.Rules.{K6, K10_Signal}
-use Rattle.vs_cert_starts.specs.vs_rules.specs.Verdict.{Keeps}
-use Rattle.vs_cert_starts.specs.vs_rules.specs.Verdict as verdict
+use Rattle.vs_rules_of_signals.specs.vs_claims.specs.Facts.{Case}
+use Rattle.vs_rules_of_starts.specs.vs_rules.specs.Rules.{K6, K10_Signal}
+use Rattle.vs_rules_of_starts.specs.vs_rules.specs.Verdict.{Keeps}
+use Rattle.vs_rules_of_starts.specs.vs_rules.specs.Verdict as verdict
 use Rattle.vs_cert_check.specs.Verdicts.{rule_of}
 use Rattle.vs_cert_check.proofs.sheet.keeps_of_signal.Goals as goal
 

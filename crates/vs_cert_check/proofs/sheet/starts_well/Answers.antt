@@ -1,10 +1,10 @@
 use Rattle.std.proofs.Common.{◌↔◌, IfOk, IsTrue, sym, ◌∙◌, ap, subst}
-use Rattle.vs_cert_names.specs.declared.subjects.Subject.{Subject}
-use Rattle.vs_cert_names.specs.Subjects.{subject_view}
-use Rattle.vs_cert_order.specs.vs_cert_facts.specs.Facts.{Case}
-use Rattle.vs_cert_starts.specs.vs_rules.specs.Blocks.{K5, K11}
-use Rattle.vs_cert_starts.specs.vs_rules.specs.Verdict.{OfProcess}
-use Rattle.vs_cert_first_slot.specs.vs_slots_cones.specs.Wires.{IsWiringOf}
+use Rattle.vs_claims.specs.declared.subjects.Subject.{Subject}
+use Rattle.vs_claims.specs.Subjects.{subject_view}
+use Rattle.vs_rules_of_signals.specs.vs_claims.specs.Facts.{Case}
+use Rattle.vs_rules_of_starts.specs.vs_rules.specs.Blocks.{K5, K11}
+use Rattle.vs_rules_of_starts.specs.vs_rules.specs.Verdict.{OfProcess}
+use Rattle.vs_rules_of_processes.specs.vs_drivers.specs.Wires.{IsWiringOf}
 use Rattle.vs_cert_check.proofs.Wired.{wired}
 use Rattle.vs_cert_check.proofs.sheet.starts_well.Goals as goal
 

@@ -1,7 +1,7 @@
 use Rattle.std.proofs.Common.{ℕ, refl, arith}
 use Rattle.std.proofs.lemmas.Bool.{false≢true}
 use Rattle.vs_cert_roots.specs.Entries.{WakesAt}
-use Rattle.vs_cert_ranks.proofs.ListLemmas.{further, all_do, one_not}
+use Rattle.vs_rules_of_signals.proofs.ListLemmas.{further, all_do, one_not}
 use Rattle.vs_cert_roots.proofs.entries.none_wakes.Goals as goal
 
 pub loop-k-preserved : goal.loop-k-preserved

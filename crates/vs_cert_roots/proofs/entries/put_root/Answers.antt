@@ -1,5 +1,5 @@
-use Rattle.vs_cert_ranks.specs.vs_cert_facts.specs.Facts.{IsRootAt}
-use Rattle.vs_cert_ranks.specs.vs_cert_facts.proofs.RootLemmas.{put_some, put_none, other_signal, no_signals}
+use Rattle.vs_rules_of_signals.specs.vs_claims.specs.Facts.{IsRootAt}
+use Rattle.vs_rules_of_signals.specs.vs_claims.proofs.RootLemmas.{put_some, put_none, other_signal, no_signals}
 use Rattle.vs_cert_roots.proofs.entries.put_root.Goals as goal
 
 pub returns-in_ok-push : goal.returns-in_ok-push

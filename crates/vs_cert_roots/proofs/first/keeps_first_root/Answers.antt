@@ -1,6 +1,6 @@
 use Rattle.std.proofs.Common.{◌↔◌, Bool, IsTrue, refl, subst}
 use Rattle.std.proofs.lemmas.Result.{IfOk-weaker}
-use Rattle.vs_cert_ranks.specs.vs_cert_facts.specs.Facts.{Case, AreCharts}
+use Rattle.vs_rules_of_signals.specs.vs_claims.specs.Facts.{Case, AreCharts}
 use Rattle.vs_cert_roots.specs.First.{StartsWell}
 use Rattle.vs_cert_roots.proofs.FirstLemmas.{no_root}
 use Rattle.vs_cert_roots.proofs.FirstRows.{none_kept, one_kept, within_of_root}

@@ -2,7 +2,7 @@ use Rattle.std.proofs.Common.{List, ◌↔◌, ◌⊎◌, ◌∙◌, subst}
 use Rattle.std.specs.List.{Contains}
 use Rattle.std.proofs.lemmas.Result.{on_ok_weaker}
 use Rattle.vs_design.specs.declared.range.BitRange.{BitRange}
-use Rattle.vs_slots_copies.specs.vs_slots_paths.specs.Ranges.{HasSignal}
+use Rattle.vs_drivers.specs.vs_maps.specs.Ranges.{HasSignal}
 use Rattle.vs_cert_roots.proofs.first.push_now.Goals as goal
 
 pub returns : goal.returns

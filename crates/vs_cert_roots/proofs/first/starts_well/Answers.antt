@@ -1,6 +1,6 @@
 use Rattle.std.proofs.Common.{◌≡◌, ◌↔◌, Bool, IsTrue, Some, None, slice_get, sym, ap, ◌∙◌}
 use Rattle.std.proofs.lemmas.Result.{IfOk-weaker}
-use Rattle.vs_cert_ranks.specs.vs_cert_facts.specs.Facts.{Case}
+use Rattle.vs_rules_of_signals.specs.vs_claims.specs.Facts.{Case}
 use Rattle.vs_cert_roots.specs.First.{StartsWellIn}
 use Rattle.vs_cert_roots.proofs.FirstRows.{well_at}
 use Rattle.vs_cert_roots.proofs.first.starts_well.Goals as goal

@@ -1,6 +1,6 @@
 use Rattle.std.proofs.Common.{ℕ, IsTrue, arith, rules}
 use Rattle.vs_cert_roots.specs.Roots.{IsRight}
-use Rattle.vs_cert_ranks.proofs.ListLemmas.{further, all_do}
+use Rattle.vs_rules_of_signals.proofs.ListLemmas.{further, all_do}
 use Rattle.vs_cert_roots.proofs.roots.are_right.Goals as goal
 
 pub loop-root-preserved : goal.loop-root-preserved

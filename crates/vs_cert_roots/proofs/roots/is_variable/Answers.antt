@@ -1,7 +1,7 @@
 use Rattle.std.proofs.Common.{◌≡◌, List, Some, slice_get, refl, sym, ap, ◌∙◌}
 use Rattle.vs_design.specs.declared.signal.Signal.{Signal}
-use Rattle.vs_slots_copies.specs.vs_slots_constants.proofs.OtherLemmas.{found_there}
-use Rattle.vs_slots_copies.proofs.CopyLemmas.{variable_kind}
+use Rattle.vs_drivers.specs.vs_slots_constants.proofs.OtherLemmas.{found_there}
+use Rattle.vs_drivers.proofs.CopyLemmas.{variable_kind}
 use Rattle.vs_cert_roots.proofs.roots.is_variable.Goals as goal
 
 pub returns-in-Reg : goal.returns-in-Reg

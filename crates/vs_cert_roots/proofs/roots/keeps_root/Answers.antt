@@ -1,7 +1,7 @@
 use Rattle.std.proofs.Common.{List, ◌↔◌, ℕ, Bool, IsTrue, refl, sym, ap, ◌∙◌, subst}
 use Rattle.std.specs.List.{Contains}
 use Rattle.std.proofs.lemmas.Result.{IfOk-weaker}
-use Rattle.vs_cert_ranks.specs.vs_cert_facts.specs.Facts.{Case}
+use Rattle.vs_rules_of_signals.specs.vs_claims.specs.Facts.{Case}
 use Rattle.vs_cert_roots.specs.Roots.{IsRight}
 use Rattle.vs_cert_roots.proofs.HotLemmas.{k6_is, k6_not}
 use Rattle.vs_cert_roots.proofs.roots.keeps_root.Goals as goal

@@ -1,8 +1,8 @@
 use Rattle.std.proofs.Common.{◌≡◌, ◌↔◌, Bool, IsTrue, Some, slice_get, refl, sym, subst}
 use Rattle.std.proofs.lemmas.Result.{IfOk-weaker}
 use Rattle.vs_rules.specs.Claims.{IsDelay, IsWriter}
-use Rattle.vs_cert_ranks.specs.vs_cert_facts.specs.Facts.{Case}
-use Rattle.vs_cert_ranks.specs.Places.{NeverHotIn}
+use Rattle.vs_rules_of_signals.specs.vs_claims.specs.Facts.{Case}
+use Rattle.vs_rules_of_signals.specs.Places.{NeverHotIn}
 use Rattle.vs_cert_roots.proofs.HotLemmas.{past_never_hot, roots_by_places}
 use Rattle.vs_cert_roots.proofs.TermLemmas.{chart_is, no_chart}
 use Rattle.vs_cert_roots.proofs.roots.never_hot.Goals as goal

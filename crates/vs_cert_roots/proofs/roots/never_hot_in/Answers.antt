@@ -1,6 +1,6 @@
 use Rattle.std.proofs.Common.{◌≡◌, ◌<◌, ℕ, length, sym, ap, ◌∙◌, subst}
-use Rattle.vs_slots_copies.specs.vs_slots_paths.specs.Reaches.{places}
-use Rattle.vs_slots_copies.specs.vs_slots_paths.specs.Walks.{AreMarked, InHot}
+use Rattle.vs_drivers.specs.vs_maps.specs.Reaches.{places}
+use Rattle.vs_drivers.specs.vs_maps.specs.Walks.{AreMarked, InHot}
 use Rattle.vs_cert_roots.proofs.HotLemmas.{marks_keep}
 use Rattle.vs_cert_roots.proofs.roots.never_hot_in.Goals as goal
 

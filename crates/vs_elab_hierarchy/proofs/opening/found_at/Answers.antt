@@ -1,12 +1,12 @@
 use Rattle.std.proofs.Common.{◌≡◌, ◌++◌, Some, map, ap, ◌∙◌}
 use Rattle.std.specs.List.{slice_get}
-use Rattle.vs_elab_parameters.specs.vs_widths.specs.Names.{meaning_of, nested_names}
+use Rattle.vs_elab_constants.specs.vs_widths.specs.Names.{meaning_of, nested_names}
 use Rattle.vs_elab_listed.specs.vs_elab_pieces.specs.Reads.{read_piece}
-use Rattle.vs_elab_listed.specs.vs_elab_generate.specs.Reads.{read_inner}
+use Rattle.vs_elab_listed.specs.vs_elab_constants.specs.Reads.{read_inner}
 use Rattle.vs_scopes.specs.Declarations.{Bindings}
 use Rattle.vs_scopes.specs.Scopes.{environment, text_names}
-use Rattle.vs_elab_scope.specs.vs_elab_entered.proofs.EnterLemmas.{got}
-use Rattle.vs_elab_scope.specs.vs_elab_entered.proofs.SeatLemmas.{opened_here}
+use Rattle.vs_elab_hierarchy.proofs.EnterLemmas.{got}
+use Rattle.vs_elab_hierarchy.proofs.SeatLemmas.{opened_here}
 use Rattle.vs_elab_hierarchy.proofs.InsideLemmas.{names_are, names_mean, inner_found, fault_found}
 use Rattle.vs_elab_hierarchy.proofs.opening.found_at.Goals as goal
 

@@ -1,13 +1,13 @@
 use Rattle.std.proofs.Common.{◌≡◌, false, inl, inr, map, ap, subst, ◌∙◌}
 use Rattle.std.specs.List.{list_any}
 use Rattle.std.proofs.lemmas.Result.{err_from_is_err_and}
-use Rattle.vs_elab_listed.specs.vs_elab_generate.specs.Reads.{read_inner}
+use Rattle.vs_elab_listed.specs.vs_elab_constants.specs.Reads.{read_inner}
 use Rattle.vs_scopes.specs.Scopes.{inner_of, is_named_as_net}
-use Rattle.vs_scopes.specs.passes.Answers.{Told}
+use Rattle.vs_scopes.specs.scopes_passes.Answers.{Told}
 use Rattle.vs_scopes.proofs.AnswerLemmas.{told_by}
 use Rattle.vs_elab_listed.specs.ScopeFaults.{HasConstructFault}
-use Rattle.vs_elab_scope.specs.vs_elab_entered.specs.vs_elab_implicit_nets.specs.passes.Nets.{IsNamedAsNet}
-use Rattle.vs_elab_hierarchy.specs.passes.Opens.{HasInnerNot}
+use Rattle.vs_elab_hierarchy.specs.vs_elab_listed.specs.nets_passes.Nets.{IsNamedAsNet}
+use Rattle.vs_elab_hierarchy.specs.hierarchy_passes.Opens.{HasInnerNot}
 use Rattle.vs_elab_hierarchy.proofs.opening.inner_at.Goals as goal
 
 pub returns-in_err-inner : goal.returns-in_err-inner

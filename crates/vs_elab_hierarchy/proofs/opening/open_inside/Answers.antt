@@ -2,7 +2,7 @@ use Rattle.std.proofs.Common.{◌∷◌, ◌++◌, [], length, refl, sym, subst,
 use Rattle.std.proofs.lemmas.Result.{err_from_is_err_and}
 use Rattle.vs_elab_listed.specs.Opened.{AreOpened}
 use Rattle.vs_elab_hierarchy.specs.declared.opening.Opening.{Opening}
-use Rattle.vs_elab_hierarchy.specs.passes.InHand.{InHand}
+use Rattle.vs_elab_hierarchy.specs.hierarchy_passes.InHand.{InHand}
 use Rattle.vs_elab_hierarchy.proofs.FaultLemmas.{inner_not_told}
 use Rattle.vs_elab_hierarchy.proofs.InHandLemmas.{asked, first_in_hand, last_in_hand}
 use Rattle.vs_elab_hierarchy.proofs.opening.open_inside.Goals as goal

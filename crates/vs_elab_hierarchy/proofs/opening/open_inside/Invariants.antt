@@ -1,8 +1,8 @@
 use Rattle.std.proofs.Common.{◌+◌, ◌-◌, ◌*◌, ◌^◌, List, length}
 use Rattle.vs_syntax.specs.declared.tree.Module.{Module}
 use Rattle.vs_scopes.specs.Scopes.{Scope}
-use Rattle.vs_elab_hierarchy.specs.passes.Opens.{IsReady}
-use Rattle.vs_elab_hierarchy.specs.passes.InHand.{InHand}
+use Rattle.vs_elab_hierarchy.specs.hierarchy_passes.Opens.{IsReady}
+use Rattle.vs_elab_hierarchy.specs.hierarchy_passes.InHand.{InHand}
 use Rattle.vs_elab_hierarchy.proofs.InHandLemmas.{asked}
 use Rattle.vs_elab_hierarchy.proofs.opening.open_inside.Given as goal
 

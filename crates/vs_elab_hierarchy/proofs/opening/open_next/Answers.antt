@@ -1,7 +1,7 @@
 use Rattle.std.proofs.Common.{◌≡◌, ◌+◌, ◌∷◌, ◌++◌, [], length, refl, sym, subst, ap, ◌∙◌, arith}
 use Rattle.std.proofs.lemmas.Result.{err_from_is_err_and}
 use Rattle.vs_elab_hierarchy.specs.declared.opening.Opening.{Opening}
-use Rattle.vs_elab_hierarchy.specs.passes.InHand.{InHand}
+use Rattle.vs_elab_hierarchy.specs.hierarchy_passes.InHand.{InHand}
 use Rattle.vs_elab_hierarchy.proofs.InHandLemmas.{next_is, none_is, top, closes, around, adds_here, adds_not, within_ready, within_place, finds_not, goes_on, one_more}
 use Rattle.vs_elab_hierarchy.proofs.opening.open_next.Goals as goal
 

@@ -1,4 +1,4 @@
-use Rattle.vs_elab_scope.specs.vs_elab_entered.specs.passes.Blocks.{AreIndexedUpTo}
+use Rattle.vs_elab_hierarchy.specs.passes.Blocks.{AreIndexedUpTo}
 use Rattle.vs_elab_hierarchy.proofs.source.index_all.Given as goal
 
 abbrev pub invariant-loop-place : goal.invariant-loop-place

@@ -1,5 +1,5 @@
 use Rattle.std.proofs.Common.{◌≡◌, true, take}
-use Rattle.vs_elab_scope.specs.vs_elab_entered.specs.passes.Entering.{Lists}
+use Rattle.vs_elab_hierarchy.specs.passes.Entering.{Lists}
 use Rattle.vs_elab_hierarchy.proofs.SourceLemmas.{permits_all}
 use Rattle.vs_elab_hierarchy.proofs.source.list_modules.Given as goal
 

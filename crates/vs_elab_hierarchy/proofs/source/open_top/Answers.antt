@@ -3,7 +3,7 @@ use Rattle.std.proofs.lemmas.Result.{err_from_is_err_and, MatchResult-weaker}
 use Rattle.vs_scopes.specs.Scopes.{top_scope}
 use Rattle.vs_elab_hierarchy.proofs.SourceLemmas.{nothing_told, top_told, top_next}
 use Rattle.vs_elab_hierarchy.proofs.TopLemmas.{module_permits, top_own, ready_with, made_with, opening_with}
-use Rattle.vs_elab_scope.specs.vs_elab_entered.proofs.EnterLemmas.{found_none as nothing_found, found_some as module_found}
+use Rattle.vs_elab_hierarchy.proofs.EnterLemmas.{found_none as nothing_found, found_some as module_found}
 use Rattle.vs_elab_hierarchy.proofs.source.open_top.Goals as goal
 
 pub returns-in_default : goal.returns-in_default

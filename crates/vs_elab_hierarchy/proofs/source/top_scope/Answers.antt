@@ -4,7 +4,7 @@ use Rattle.vs_elab_listed.specs.vs_elab_pieces.specs.Pieces.{pieces_of}
 use Rattle.vs_elab_listed.specs.vs_elab_pieces.specs.Reads.{read_piece}
 use Rattle.vs_scopes.specs.Printed.{plainly}
 use Rattle.vs_scopes.specs.Ports.{listed_ports}
-use Rattle.vs_scopes.specs.passes.Answers.{borrowed}
+use Rattle.vs_scopes.specs.scopes_passes.Answers.{borrowed}
 use Rattle.vs_scopes.specs.Scopes.{top_scope}
 use Rattle.vs_elab_hierarchy.proofs.SourceLemmas.{opened_none, entered_top}
 use Rattle.vs_elab_hierarchy.proofs.source.top_scope.Goals as goal

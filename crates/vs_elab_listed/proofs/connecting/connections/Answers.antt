@@ -1,8 +1,8 @@
 use Rattle.std.proofs.Common.{map, ap, sym, ◌∙◌}
-use Rattle.vs_elab_generate.specs.Reads.{read_use}
+use Rattle.vs_elab_constants.specs.Reads.{read_use}
 use Rattle.vs_scopes.specs.Scopes.{has_wrong_end}
-use Rattle.vs_scopes.specs.passes.Answers.{borrowed}
-use Rattle.vs_scopes.specs.passes.Parts.{read_port, read_ends}
+use Rattle.vs_scopes.specs.scopes_passes.Answers.{borrowed}
+use Rattle.vs_scopes.specs.scopes_passes.Parts.{read_port, read_ends}
 use Rattle.vs_elab_listed.proofs.ConnectLemmas.{connects_wrong, connects_right}
 use Rattle.vs_elab_listed.proofs.connecting.connections.Goals as goal
 

@@ -1,5 +1,5 @@
 use Rattle.std.proofs.Common.{sym, ◌∙◌, arith}
-use Rattle.vs_scopes.specs.passes.Parts.{read_port, read_end}
+use Rattle.vs_scopes.specs.scopes_passes.Parts.{read_port, read_end}
 use Rattle.vs_elab_listed.proofs.ConnectLemmas.{wrong_none}
 use Rattle.vs_elab_listed.proofs.connecting.has_wrong_connection.Goals as goal
 

@@ -1,6 +1,6 @@
 use Rattle.std.proofs.Common.{◌≡◌, map, drop}
 use Rattle.vs_scopes.specs.Scopes.{has_wrong_end}
-use Rattle.vs_scopes.specs.passes.Parts.{read_port, read_end}
+use Rattle.vs_scopes.specs.scopes_passes.Parts.{read_port, read_end}
 use Rattle.vs_elab_listed.proofs.connecting.has_wrong_connection.Given as goal
 
 abbrev pub invariant-loop-place : goal.invariant-loop-place

@@ -1,7 +1,7 @@
 use Rattle.std.proofs.Common.{refl, ap, map, arith}
 use Rattle.std.proofs.lemmas.List.{drop_all}
 use Rattle.vs_scopes.specs.Ports.{port_names}
-use Rattle.vs_scopes.specs.passes.Parts.{read_port}
+use Rattle.vs_scopes.specs.scopes_passes.Parts.{read_port}
 use Rattle.vs_scopes.proofs.PassLemmas.{moved, ended}
 use Rattle.vs_design.specs.vs_logic4.proofs.Basics.{front_of as drop_at}
 use Rattle.vs_elab_listed.proofs.connecting.names_of_ports.Goals as goal

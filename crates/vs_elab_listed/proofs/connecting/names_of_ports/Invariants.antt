@@ -1,7 +1,7 @@
 use Rattle.std.proofs.Common.{◌≡◌, ◌++◌, map, drop}
 use Rattle.vs_scopes.specs.Ports.{port_names}
-use Rattle.vs_scopes.specs.passes.Answers.{borrowed}
-use Rattle.vs_scopes.specs.passes.Parts.{read_port}
+use Rattle.vs_scopes.specs.scopes_passes.Answers.{borrowed}
+use Rattle.vs_scopes.specs.scopes_passes.Parts.{read_port}
 use Rattle.vs_elab_listed.proofs.connecting.names_of_ports.Given as goal
 
 abbrev pub invariant-loop-port : goal.invariant-loop-port

@@ -2,7 +2,7 @@ use Rattle.std.proofs.Common.{[], ◌∷◌, ◌++◌, refl, ap, subst, ◌∙�
 use Rattle.vs_scopes.specs.declared.faults.Reason.TheVariants.{DeclaredTwice, Limit}
 use Rattle.vs_scopes.specs.Printed.{plainly}
 use Rattle.vs_scopes.specs.Declarations.{DeclaredName, selectable}
-use Rattle.vs_scopes.specs.passes.Answers.{IsFaultAt}
+use Rattle.vs_scopes.specs.scopes_passes.Answers.{IsFaultAt}
 use Rattle.vs_scopes.proofs.SizeLemmas.{meaning_is}
 use Rattle.vs_elab_listed.proofs.DeclareLemmas.{declared_twice, declared_over, keeps_push}
 use Rattle.vs_elab_listed.proofs.declarations.add_signal.Goals as goal

@@ -1,6 +1,6 @@
 use Rattle.std.proofs.Common.{None, true, refl}
 use Rattle.vs_scopes.specs.Ranges.{sized_as}
-use Rattle.vs_elab_listed.specs.passes.Declaring.{Declares}
+use Rattle.vs_elab_listed.specs.listed_passes.Declaring.{Declares}
 use Rattle.vs_elab_listed.proofs.DeclareLemmas.{size_at, size_integer, kept_still, quiet_item}
 use Rattle.vs_elab_listed.proofs.declarations.declare_item.Goals as goal
 

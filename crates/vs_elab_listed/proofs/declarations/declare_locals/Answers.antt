@@ -3,7 +3,7 @@ use Rattle.std.proofs.lemmas.Result.{err_from_is_err_and}
 use Rattle.vs_syntax.specs.declared.tree.Local.{Local}
 use Rattle.vs_scopes.specs.Declarations.{DeclaredName, declared_local}
 use Rattle.vs_scopes.proofs.AnswerLemmas.{kept_none, one_more, one_all, one_fault}
-use Rattle.vs_elab_listed.specs.passes.Declaring.{Declares, DeclaresNot}
+use Rattle.vs_elab_listed.specs.listed_passes.Declaring.{Declares, DeclaresNot}
 use Rattle.vs_elab_listed.proofs.DeclareLemmas.{declares_not_more, words_at}
 use Rattle.vs_elab_listed.proofs.declarations.declare_locals.Goals as goal
 

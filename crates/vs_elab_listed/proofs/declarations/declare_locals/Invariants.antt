@@ -1,11 +1,11 @@
 use Rattle.std.proofs.Common.{map, take}
 use Rattle.vs_scopes.specs.Ranges.{Sized}
 use Rattle.vs_scopes.specs.Declarations.{declared_local}
-use Rattle.vs_scopes.specs.passes.Answers.{Elaborates}
-use Rattle.vs_scopes.specs.passes.Sizes.{width_faults, IsSize}
+use Rattle.vs_scopes.specs.scopes_passes.Answers.{Elaborates}
+use Rattle.vs_scopes.specs.scopes_passes.Sizes.{width_faults, IsSize}
 use Rattle.vs_scopes.proofs.AnswerLemmas.{Kept}
 use Rattle.vs_scopes.specs.Scopes.{Scope}
-use Rattle.vs_elab_listed.specs.passes.Declaring.{IsAt, Declares}
+use Rattle.vs_elab_listed.specs.listed_passes.Declaring.{IsAt, Declares}
 use Rattle.vs_elab_listed.proofs.declarations.declare_locals.Given as goal
 
 abbrev pub invariant-loop-one : goal.invariant-loop-one

@@ -1,6 +1,6 @@
 use Rattle.std.proofs.Common.{refl, subst}
-use Rattle.vs_scopes.specs.passes.Answers.{IsRefusal}
-use Rattle.vs_elab_listed.specs.passes.Declaring.{declared_so, joined_names, still_joined}
+use Rattle.vs_scopes.specs.scopes_passes.Answers.{IsRefusal}
+use Rattle.vs_elab_listed.specs.listed_passes.Declaring.{declared_so, joined_names, still_joined}
 use Rattle.vs_elab_listed.proofs.DeclareLemmas.{size_wrong, words_wrong, declared_right, declares_wrong, declares_taken, declares_pushed}
 use Rattle.vs_elab_listed.proofs.declarations.declare_name.Goals as goal
 

@@ -1,4 +1,4 @@
-use Rattle.vs_elab_listed.specs.passes.Declaring.{Declares}
+use Rattle.vs_elab_listed.specs.listed_passes.Declaring.{Declares}
 use Rattle.vs_elab_listed.proofs.DeclareLemmas.{kept_still, quiet_piece}
 use Rattle.vs_elab_listed.proofs.declarations.declare_piece.Goals as goal
 

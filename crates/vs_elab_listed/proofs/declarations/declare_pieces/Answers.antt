@@ -1,11 +1,11 @@
 use Rattle.std.proofs.Common.{arith}
 use Rattle.std.proofs.lemmas.Result.{err_from_is_err_and}
-use Rattle.vs_elab_ports.specs.vs_elab_pieces.specs.declared.scope.ScopePiece.{ScopePiece as FoundPiece}
-use Rattle.vs_elab_ports.specs.vs_elab_pieces.specs.Reads.{read_piece}
+use Rattle.vs_elab_listed.specs.vs_elab_pieces.specs.declared.scope.ScopePiece.{ScopePiece as FoundPiece}
+use Rattle.vs_elab_listed.specs.vs_elab_pieces.specs.Reads.{read_piece}
 use Rattle.vs_scopes.specs.Declarations.{DeclaredName, declared_in}
 use Rattle.std.proofs.Common.{List}
 use Rattle.vs_scopes.proofs.AnswerLemmas.{kept_none, kept_more, kept_all, kept_fault}
-use Rattle.vs_elab_listed.specs.passes.Declaring.{Declares, DeclaresNot}
+use Rattle.vs_elab_listed.specs.listed_passes.Declaring.{Declares, DeclaresNot}
 use Rattle.vs_elab_listed.proofs.DeclareLemmas.{declares_not_more, flat_twice}
 use Rattle.vs_elab_listed.proofs.declarations.declare_pieces.Goals as goal
 

@@ -1,10 +1,10 @@
 use Rattle.std.proofs.Common.{take}
 use Rattle.std.specs.List.{flat_map}
-use Rattle.vs_elab_ports.specs.vs_elab_pieces.specs.Reads.{read_piece}
+use Rattle.vs_elab_listed.specs.vs_elab_pieces.specs.Reads.{read_piece}
 use Rattle.vs_scopes.specs.Declarations.{declared_in}
 use Rattle.vs_scopes.proofs.AnswerLemmas.{Kept}
 use Rattle.vs_scopes.specs.Scopes.{Scope}
-use Rattle.vs_elab_listed.specs.passes.Declaring.{IsAt, Declares}
+use Rattle.vs_elab_listed.specs.listed_passes.Declaring.{IsAt, Declares}
 use Rattle.vs_elab_listed.proofs.declarations.declare_pieces.Given as goal
 
 abbrev pub invariant-loop-piece : goal.invariant-loop-piece

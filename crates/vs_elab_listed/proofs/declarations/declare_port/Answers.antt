@@ -1,8 +1,8 @@
 use Rattle.std.proofs.Common.{None, refl, subst}
 use Rattle.vs_scopes.specs.Ranges.{words_as}
 use Rattle.vs_scopes.specs.Declarations.{size_of_kind, declared_by_port}
-use Rattle.vs_scopes.specs.passes.Answers.{IsRefusal}
-use Rattle.vs_scopes.specs.passes.Parts.{read_port}
+use Rattle.vs_scopes.specs.scopes_passes.Answers.{IsRefusal}
+use Rattle.vs_scopes.specs.scopes_passes.Parts.{read_port}
 use Rattle.vs_elab_listed.proofs.DeclareLemmas.{size_wrong, declared_right, ports_wrong, ports_push, port_size_at, port_words}
 use Rattle.vs_elab_listed.proofs.declarations.declare_port.Goals as goal
 

@@ -2,9 +2,9 @@ use Rattle.std.proofs.Common.{arith}
 use Rattle.std.proofs.lemmas.Result.{err_from_is_err_and}
 use Rattle.vs_scopes.specs.declared.ports.ModulePort.{ModulePort as FoundPort}
 use Rattle.vs_scopes.specs.Declarations.{DeclaredName, declared_by_port}
-use Rattle.vs_scopes.specs.passes.Parts.{read_port}
+use Rattle.vs_scopes.specs.scopes_passes.Parts.{read_port}
 use Rattle.vs_scopes.proofs.AnswerLemmas.{kept_none, one_more, one_all, one_fault}
-use Rattle.vs_elab_listed.specs.passes.Declaring.{DeclaresPorts, DeclaresPortsNot}
+use Rattle.vs_elab_listed.specs.listed_passes.Declaring.{DeclaresPorts, DeclaresPortsNot}
 use Rattle.vs_elab_listed.proofs.DeclareLemmas.{ports_not_more}
 use Rattle.vs_design.specs.vs_logic4.proofs.Basics.{map_twice}
 use Rattle.vs_elab_listed.proofs.declarations.declare_ports.Goals as goal

@@ -1,9 +1,9 @@
 use Rattle.std.proofs.Common.{map, take}
 use Rattle.vs_scopes.specs.Declarations.{declared_by_port}
-use Rattle.vs_scopes.specs.passes.Parts.{read_port}
+use Rattle.vs_scopes.specs.scopes_passes.Parts.{read_port}
 use Rattle.vs_scopes.proofs.AnswerLemmas.{Kept}
 use Rattle.vs_scopes.specs.Scopes.{Scope}
-use Rattle.vs_elab_listed.specs.passes.Declaring.{IsAt, DeclaresPorts}
+use Rattle.vs_elab_listed.specs.listed_passes.Declaring.{IsAt, DeclaresPorts}
 use Rattle.vs_elab_listed.proofs.declarations.declare_ports.Given as goal
 
 abbrev pub invariant-loop-port : goal.invariant-loop-port

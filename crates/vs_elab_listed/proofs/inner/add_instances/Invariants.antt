@@ -1,7 +1,7 @@
 use Rattle.std.proofs.Common.{◌≡◌, ℕ, ◌++◌, List, Option, map, take}
 use Rattle.vs_syntax.specs.declared.tree.Connections.{Connections}
 use Rattle.vs_scopes.specs.Declarations.{Use, use_of}
-use Rattle.vs_scopes.specs.passes.Answers.{borrowed}
+use Rattle.vs_scopes.specs.scopes_passes.Answers.{borrowed}
 use Rattle.vs_elab_listed.proofs.inner.add_instances.Given as goal
 
 abbrev pub invariant-loop-instance : goal.invariant-loop-instance

@@ -1,9 +1,9 @@
 use Rattle.std.proofs.Common.{ap, map, arith}
 use Rattle.std.specs.List.{flat_map}
 use Rattle.std.proofs.lemmas.List.{drop_all}
-use Rattle.vs_elab_ports.specs.vs_elab_pieces.specs.Reads.{read_piece}
+use Rattle.vs_elab_listed.specs.vs_elab_pieces.specs.Reads.{read_piece}
 use Rattle.vs_scopes.specs.Declarations.{genvars_in}
-use Rattle.vs_scopes.specs.passes.Answers.{borrowed}
+use Rattle.vs_scopes.specs.scopes_passes.Answers.{borrowed}
 use Rattle.vs_scopes.proofs.PassLemmas.{moved_by, ended}
 use Rattle.vs_design.specs.vs_logic4.proofs.Basics.{front_of as drop_at}
 use Rattle.vs_elab_listed.proofs.inner.genvars.Goals as goal

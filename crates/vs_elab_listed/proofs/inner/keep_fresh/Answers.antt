@@ -1,7 +1,7 @@
 use Rattle.std.proofs.Common.{ℕ, List, [], ◌∷◌, is_some, ap, sym, ◌∙◌}
 use Rattle.std.specs.Borrow.{Bor}
 use Rattle.std.proofs.lemmas.List.{map-append}
-use Rattle.vs_scopes.specs.passes.Answers.{borrowed}
+use Rattle.vs_scopes.specs.scopes_passes.Answers.{borrowed}
 use Rattle.vs_elab_listed.proofs.InnerLemmas.{keeps_old, keeps_fresh}
 use Rattle.vs_elab_listed.proofs.inner.keep_fresh.Goals as goal
 

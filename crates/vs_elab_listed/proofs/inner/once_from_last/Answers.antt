@@ -2,8 +2,8 @@ use Rattle.std.proofs.Common.{◌≡◌, ℕ, ◌+◌, ◌-◌, ◌<◌, List, �
 use Rattle.std.specs.Borrow.{Bor}
 use Rattle.std.proofs.lemmas.List.{drop_more}
 use Rattle.vs_scopes.specs.Declarations.{each_once}
-use Rattle.vs_scopes.specs.passes.Answers.{borrowed}
-use Rattle.vs_elab_listed.specs.passes.Naming.{KeepsOnce}
+use Rattle.vs_scopes.specs.scopes_passes.Answers.{borrowed}
+use Rattle.vs_elab_listed.specs.listed_passes.Naming.{KeepsOnce}
 use Rattle.vs_elab_listed.proofs.InnerLemmas.{map_reverse}
 use Rattle.vs_elab_listed.proofs.inner.once_from_last.Goals as goal
 

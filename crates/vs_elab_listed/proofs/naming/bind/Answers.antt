@@ -1,4 +1,4 @@
-use Rattle.vs_scopes.specs.passes.Names.{read_path}
+use Rattle.vs_scopes.specs.scopes_passes.Names.{read_path}
 use Rattle.vs_elab_listed.proofs.BindLemmas.{binds_push, binds_twice}
 use Rattle.vs_elab_listed.proofs.naming.bind.Goals as goal
 

@@ -1,8 +1,8 @@
 use Rattle.std.proofs.Common.{ℕ, List, [], get_or, arith}
 use Rattle.std.specs.Borrow.{Bor}
 use Rattle.std.proofs.lemmas.Result.{err_from_is_err_and}
-use Rattle.vs_scopes.specs.passes.Names.{read_path}
-use Rattle.vs_elab_listed.specs.passes.Naming.{BoundBehind, BoundNot}
+use Rattle.vs_scopes.specs.scopes_passes.Names.{read_path}
+use Rattle.vs_elab_listed.specs.listed_passes.Naming.{BoundBehind, BoundNot}
 use Rattle.vs_scopes.proofs.AnswerLemmas.{one_more, one_all, one_fault}
 use Rattle.vs_elab_listed.proofs.BindLemmas.{bound_not_more, alikes_bind, alike_bind}
 use Rattle.vs_design.specs.vs_logic4.proofs.Basics.{get_or_same}

@@ -1,7 +1,7 @@
 use Rattle.std.proofs.Common.{take}
 use Rattle.vs_scopes.specs.Declarations.{bound_to}
-use Rattle.vs_scopes.specs.passes.Answers.{borrowed}
-use Rattle.vs_elab_listed.specs.passes.Naming.{BoundBehind}
+use Rattle.vs_scopes.specs.scopes_passes.Answers.{borrowed}
+use Rattle.vs_elab_listed.specs.listed_passes.Naming.{BoundBehind}
 use Rattle.vs_scopes.proofs.AnswerLemmas.{Kept}
 use Rattle.vs_elab_listed.proofs.naming.bind_all.Given as goal
 

@@ -1,7 +1,7 @@
 use Rattle.std.proofs.Common.{arith}
 use Rattle.std.proofs.lemmas.Result.{err_from_is_err_and}
-use Rattle.vs_scopes.specs.passes.Names.{read_path}
-use Rattle.vs_elab_listed.specs.passes.Naming.{BoundBehind, BoundNot}
+use Rattle.vs_scopes.specs.scopes_passes.Names.{read_path}
+use Rattle.vs_elab_listed.specs.listed_passes.Naming.{BoundBehind, BoundNot}
 use Rattle.vs_scopes.proofs.AnswerLemmas.{one_more, one_all, one_fault}
 use Rattle.vs_elab_listed.proofs.BindLemmas.{bound_not_more, constants_bind, constant_bind}
 use Rattle.vs_elab_listed.proofs.naming.bind_constants.Goals as goal

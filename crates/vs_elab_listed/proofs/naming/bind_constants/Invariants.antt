@@ -1,7 +1,7 @@
 use Rattle.std.proofs.Common.{take}
-use Rattle.vs_elab_ports.specs.vs_widths.specs.Names.{by_bytes}
+use Rattle.vs_elab_listed.specs.vs_widths.specs.Names.{by_bytes}
 use Rattle.vs_scopes.specs.Scopes.{constant_names}
-use Rattle.vs_elab_listed.specs.passes.Naming.{BoundBehind}
+use Rattle.vs_elab_listed.specs.listed_passes.Naming.{BoundBehind}
 use Rattle.vs_scopes.proofs.AnswerLemmas.{Kept}
 use Rattle.vs_elab_listed.proofs.naming.bind_constants.Given as goal
 

@@ -2,7 +2,7 @@ use Rattle.std.proofs.Common.{ℕ, List, [], ◌∷◌, map, arith}
 use Rattle.vs_syntax.specs.declared.tree.Declarator.{Declarator}
 use Rattle.vs_scopes.proofs.PassLemmas.{maps_two}
 use Rattle.vs_scopes.proofs.DeclaredLemmas.{adds_step}
-use Rattle.vs_elab_listed.specs.passes.Sights.{placed}
+use Rattle.vs_elab_listed.specs.listed_passes.Sights.{placed}
 use Rattle.vs_elab_listed.proofs.sights.add_declarators.Goals as goal
 
 pub loop-declarator-preserved : goal.loop-declarator-preserved

@@ -1,7 +1,7 @@
 use Rattle.std.proofs.Common.{map, take}
 use Rattle.vs_syntax.specs.declared.tree.Declarator.{Declarator}
-use Rattle.vs_scopes.specs.passes.Declared.{AddsNames}
-use Rattle.vs_elab_listed.specs.passes.Sights.{placed}
+use Rattle.vs_scopes.specs.scopes_passes.Declared.{AddsNames}
+use Rattle.vs_elab_listed.specs.listed_passes.Sights.{placed}
 use Rattle.vs_elab_listed.proofs.sights.add_declarators.Given as goal
 
 abbrev pub invariant-loop-declarator : goal.invariant-loop-declarator

@@ -3,7 +3,7 @@ use Rattle.std.specs.declared.vec.Vec.{Vec}
 use Rattle.std.specs.declared.alloc.Global.{Global}
 use Rattle.vs_scopes.proofs.PassLemmas.{maps_two}
 use Rattle.vs_scopes.proofs.DeclaredLemmas.{adds_step}
-use Rattle.vs_elab_listed.specs.passes.Sights.{placed}
+use Rattle.vs_elab_listed.specs.listed_passes.Sights.{placed}
 use Rattle.vs_elab_listed.proofs.sights.add_names.Goals as goal
 
 pub loop-name-preserved : goal.loop-name-preserved

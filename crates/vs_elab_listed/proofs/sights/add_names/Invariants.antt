@@ -1,8 +1,8 @@
 use Rattle.std.proofs.Common.{ℕ, map, take}
 use Rattle.std.specs.declared.vec.Vec.{Vec}
 use Rattle.std.specs.declared.alloc.Global.{Global}
-use Rattle.vs_scopes.specs.passes.Declared.{AddsNames}
-use Rattle.vs_elab_listed.specs.passes.Sights.{placed}
+use Rattle.vs_scopes.specs.scopes_passes.Declared.{AddsNames}
+use Rattle.vs_elab_listed.specs.listed_passes.Sights.{placed}
 use Rattle.vs_elab_listed.proofs.sights.add_names.Given as goal
 
 abbrev pub invariant-loop-name : goal.invariant-loop-name

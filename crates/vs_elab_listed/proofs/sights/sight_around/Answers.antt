@@ -1,5 +1,5 @@
 use Rattle.std.proofs.Common.{sym, subst, ap, ◌∙◌}
-use Rattle.vs_elab_listed.specs.passes.Sights.{IsSight}
+use Rattle.vs_elab_listed.specs.listed_passes.Sights.{IsSight}
 use Rattle.vs_elab_listed.specs.declared.sights.Sight.TheVariants as f
 use Rattle.vs_elab_listed.proofs.SightLemmas.{seen_around, nothing_around}
 use Rattle.vs_elab_listed.proofs.sights.sight_around.Goals as goal

@@ -3,7 +3,7 @@ use Rattle.std.specs.Borrow.{Bor}
 use Rattle.std.specs.declared.vec.Vec.{Vec}
 use Rattle.std.specs.declared.alloc.Global.{Global}
 use Rattle.std.proofs.lemmas.Result.{IfOk-weaker}
-use Rattle.vs_elab_ports.specs.vs_widths.specs.Names.{meaning_of, nested_names}
+use Rattle.vs_elab_listed.specs.vs_widths.specs.Names.{meaning_of, nested_names}
 use Rattle.vs_scopes.specs.Declarations.{Bindings}
 use Rattle.vs_scopes.specs.Scopes.{seen_from, environment}
 use Rattle.vs_elab_listed.specs.Opened.{StandsAround}

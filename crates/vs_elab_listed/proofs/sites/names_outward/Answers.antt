@@ -1,7 +1,7 @@
 use Rattle.std.proofs.Common.{List, refl, sym, subst, ◌∙◌, arith}
 use Rattle.std.specs.Borrow.{Bor}
 use Rattle.vs_scopes.specs.Declarations.{Bindings}
-use Rattle.vs_elab_ports.specs.vs_widths.specs.Names.{nested_names}
+use Rattle.vs_elab_listed.specs.vs_widths.specs.Names.{nested_names}
 use Rattle.vs_elab_listed.proofs.SiteLemmas.{Gathers, opened_at, seated_next, place_outward, seen_nothing, gathers_none, gathers_more, gathers_all}
 use Rattle.vs_elab_listed.proofs.sites.names_outward.Goals as goal
 

@@ -1,5 +1,5 @@
 use Rattle.std.proofs.Common.{◌≡◌, ◌+◌, ◌≤◌, List, Some, slice_get}
-use Rattle.vs_elab_ports.specs.vs_widths.specs.Names.{nested_names}
+use Rattle.vs_elab_listed.specs.vs_widths.specs.Names.{nested_names}
 use Rattle.vs_scopes.specs.Scopes.{Scope}
 use Rattle.vs_elab_listed.specs.Opened.{AreOpened}
 use Rattle.vs_elab_listed.proofs.SiteLemmas.{Gathers}

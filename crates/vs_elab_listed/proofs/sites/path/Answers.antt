@@ -1,6 +1,6 @@
 use Rattle.std.proofs.Common.{List, ◌∙◌, ap, sym, subst, arith}
 use Rattle.vs_scopes.specs.declared.printed.PathName.{PathName as FoundName}
-use Rattle.vs_scopes.specs.passes.Names.{read_path}
+use Rattle.vs_scopes.specs.scopes_passes.Names.{read_path}
 use Rattle.vs_elab_listed.proofs.SiteLemmas.{Climbs, opened_at, seated_next, climbs_none, climbs_more, climbs_all, outermost_around}
 use Rattle.vs_elab_listed.proofs.sites.path.Goals as goal
 

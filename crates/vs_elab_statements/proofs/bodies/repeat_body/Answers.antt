@@ -1,5 +1,5 @@
 use Rattle.std.proofs.lemmas.Result.{err_from_is_err_and}
-use Rattle.vs_elab_statement_forms.specs.vs_elab_operands.proofs.StatementLemmas.{means_repeat, repeat_body_refused, repeat_overfull}
+use Rattle.vs_elab_statements.proofs.StatementLemmas.{means_repeat, repeat_body_refused, repeat_overfull}
 use Rattle.vs_elab_statements.proofs.bodies.repeat_body.Goals as goal
 
 pub returns-clause-answer : goal.returns-clause-answer

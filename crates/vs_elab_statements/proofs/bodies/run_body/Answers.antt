@@ -1,4 +1,4 @@
-use Rattle.vs_elab_statement_forms.specs.vs_elab_operands.proofs.StatementLemmas.{means_run_all}
+use Rattle.vs_elab_statements.proofs.StatementLemmas.{means_run_all}
 use Rattle.vs_elab_statements.proofs.bodies.run_body.Goals as goal
 
 pub returns-clause-answer : goal.returns-clause-answer

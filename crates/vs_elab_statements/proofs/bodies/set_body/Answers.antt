@@ -1,6 +1,6 @@
 use Rattle.std.proofs.lemmas.Result.{err_from_is_err_and}
-use Rattle.vs_elab_statement_forms.specs.vs_elab_operands.specs.Members.{named_signal}
-use Rattle.vs_elab_statement_forms.specs.vs_elab_operands.proofs.StatementLemmas.{means_set, set_refused}
+use Rattle.vs_elab_statements.specs.Members.{named_signal}
+use Rattle.vs_elab_statements.proofs.StatementLemmas.{means_set, set_refused}
 use Rattle.vs_elab_statements.proofs.bodies.set_body.Goals as goal
 
 pub returns-clause-answer : goal.returns-clause-answer

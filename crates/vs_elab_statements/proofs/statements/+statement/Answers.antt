@@ -5,14 +5,14 @@ use Rattle.vs_elab_pieces.specs.Pieces.{NamedBlock, blocks_in}
 use Rattle.vs_syntax.specs.declared.tree.CaseLabel.{CaseLabel}
 use Rattle.vs_syntax.specs.declared.tree.Stmt.{Stmt, size-Stmt, the_lemmas}
 use Rattle.vs_syntax.specs.declared.tree.Stmt.TheVariants as s
-use Rattle.vs_elab_statement_forms.specs.vs_elab_operands.specs.vs_scopes.specs.Printed.{plainly}
-use Rattle.vs_elab_statement_forms.specs.vs_elab_operands.proofs.BlockLemmas.{blocks_Delay, blocks_Event, blocks_For, blocks_Forever, blocks_Repeat, blocks_While, got, placed_inside, site_inside, ratio_inside, names_at, inside_free, inside_fails, below_deeper}
-use Rattle.vs_elab_statement_forms.specs.vs_elab_operands.proofs.DepthLemmas.{items_depth, items_falls, item_within}
-use Rattle.vs_elab_statement_forms.specs.vs_elab_operands.proofs.StatementLemmas.{begin_refused, behind_overfull, behind_refused, block_refused, case_overfull, case_refused_by, delay_inner, else_refused, event_inner, forever_inner, item_refused, items_refused, label_refused, listed_all, listed_more, listed_none, named_refused, otherwise_none, otherwise_some, repeat_inner, stated_all, stated_more, stated_none, statement_refused, states_Block, states_Case, states_Named, states_behind, then_refused, turn_refused, while_inner}
+use Rattle.vs_elab_statements.specs.vs_scopes.specs.Printed.{plainly}
+use Rattle.vs_elab_statements.proofs.BlockLemmas.{blocks_Delay, blocks_Event, blocks_For, blocks_Forever, blocks_Repeat, blocks_While, got, placed_inside, site_inside, ratio_inside, names_at, inside_free, inside_fails, below_deeper}
+use Rattle.vs_elab_statements.proofs.DepthLemmas.{items_depth, items_falls, item_within}
+use Rattle.vs_elab_statements.proofs.StatementLemmas.{begin_refused, behind_overfull, behind_refused, block_refused, case_overfull, case_refused_by, delay_inner, else_refused, event_inner, forever_inner, item_refused, items_refused, label_refused, listed_all, listed_more, listed_none, named_refused, otherwise_none, otherwise_some, repeat_inner, stated_all, stated_more, stated_none, statement_refused, states_Block, states_Case, states_Named, states_behind, then_refused, turn_refused, while_inner}
 use Rattle.vs_elab_statements.specs.Blocks.{HaveScopes}
 use Rattle.vs_elab_statements.proofs.BelowLemmas.{overfull_below, refused_below}
 use Rattle.vs_elab_statements.proofs.ScopeLemmas.{has_inside, has_place, have_at, in_around, in_block, in_case, in_else, in_named, in_other, in_then, stmt_within}
-use Rattle.vs_elab_statement_forms.proofs.NumberLemmas.{null_answers, finish_answers, dump_answers, none_below}
+use Rattle.vs_elab_statements.proofs.NumberLemmas.{null_answers, finish_answers, dump_answers, none_below}
 use Rattle.vs_elab_statements.proofs.statements.+statement.Goals as goal
 
 pub statement-returns-in-Later-clause-answer : goal.statement-returns-in-Later-clause-answer

@@ -1,8 +1,8 @@
 use Rattle.std.proofs.Common.{take}
-use Rattle.vs_elab_statement_forms.specs.vs_elab_operands.specs.vs_scopes.specs.Printed.{Path}
-use Rattle.vs_elab_statement_forms.specs.vs_elab_operands.specs.Surroundings.{Surroundings}
-use Rattle.vs_elab_statement_forms.specs.vs_elab_operands.specs.passes.Views.{IsView}
-use Rattle.vs_elab_statement_forms.specs.vs_elab_operands.proofs.PartLemmas.{Stated, Listed}
+use Rattle.vs_elab_statements.specs.vs_scopes.specs.Printed.{Path}
+use Rattle.vs_elab_statements.specs.Surroundings.{Surroundings}
+use Rattle.vs_elab_statements.specs.passes.Views.{IsView}
+use Rattle.vs_elab_statements.proofs.PartLemmas.{Stated, Listed}
 use Rattle.vs_elab_statements.proofs.statements.+statement.Given as goal
 
 abbrev pub invariant-statements-loop-s : goal.invariant-statements-loop-s

@@ -1,9 +1,9 @@
 use Rattle.std.proofs.Common.{◌<◌, [], length, map, refl, ap, sym, ◌∙◌, arith}
 use Rattle.std.proofs.lemmas.Result.{err_from_is_err_and}
-use Rattle.vs_elab_operands.specs.vs_scopes.specs.Scopes.{is_wrong_end}
-use Rattle.vs_elab_operands.specs.vs_scopes.specs.passes.Parts.{read_port, read_end}
-use Rattle.vs_elab_operands.specs.vs_scopes.proofs.AnswerLemmas.{kept_none}
-use Rattle.vs_elab_operands.specs.Members.{port_driver, port_drivers}
+use Rattle.vs_elab_statements.specs.vs_scopes.specs.Scopes.{is_wrong_end}
+use Rattle.vs_elab_statements.specs.vs_scopes.specs.scopes_passes.Parts.{read_port, read_end}
+use Rattle.vs_elab_statements.specs.vs_scopes.proofs.AnswerLemmas.{kept_none}
+use Rattle.vs_elab_statements.specs.Members.{port_driver, port_drivers}
 use Rattle.vs_elaborate.specs.passes.Filling.{Connects, ConnectsNot}
 use Rattle.vs_elaborate.proofs.FillingLemmas.{connects_not_more}
 use Rattle.vs_elaborate.proofs.PortLemmas.{left_at, kept_to_more, kept_to_skip, kept_to_end, kept_to_fault}

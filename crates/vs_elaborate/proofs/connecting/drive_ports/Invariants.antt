@@ -1,11 +1,11 @@
 use Rattle.std.proofs.Common.{◌≡◌, map}
-use Rattle.vs_elab_operands.specs.vs_widths.specs.Names.{meaning_of}
-use Rattle.vs_elab_operands.specs.vs_scopes.specs.Printed.{Path}
-use Rattle.vs_elab_operands.specs.vs_scopes.specs.Scopes.{Scope}
-use Rattle.vs_elab_operands.specs.Surroundings.{Surroundings}
-use Rattle.vs_elab_operands.specs.vs_scopes.specs.passes.Parts.{read_port, read_end}
+use Rattle.vs_elab_statements.specs.vs_widths.specs.Names.{meaning_of}
+use Rattle.vs_elab_statements.specs.vs_scopes.specs.Printed.{Path}
+use Rattle.vs_elab_statements.specs.vs_scopes.specs.Scopes.{Scope}
+use Rattle.vs_elab_statements.specs.Surroundings.{Surroundings}
+use Rattle.vs_elab_statements.specs.vs_scopes.specs.scopes_passes.Parts.{read_port, read_end}
 use Rattle.vs_elaborate.specs.passes.Filling.{IsFrame, Connects}
-use Rattle.vs_elab_operands.specs.Members.{port_drivers}
+use Rattle.vs_elab_statements.specs.Members.{port_drivers}
 use Rattle.vs_elaborate.proofs.PortLemmas.{KeptTo}
 use Rattle.vs_elaborate.proofs.connecting.drive_ports.Given as goal
 

@@ -1,8 +1,8 @@
 use Rattle.std.proofs.Common.{arith}
 use Rattle.std.proofs.lemmas.Result.{err_from_is_err_and}
-use Rattle.vs_elab_operands.specs.Members.{net_assignment}
+use Rattle.vs_elab_statements.specs.Members.{net_assignment}
 use Rattle.vs_elaborate.specs.passes.Filling.{Drives, DrivesNot}
-use Rattle.vs_elab_operands.specs.vs_scopes.proofs.AnswerLemmas.{one_more, one_all, one_fault}
+use Rattle.vs_elab_statements.specs.vs_scopes.proofs.AnswerLemmas.{one_more, one_all, one_fault}
 use Rattle.vs_elaborate.proofs.FillingLemmas.{drives_not_more}
 use Rattle.vs_elaborate.proofs.drivers.drive_assigned.Goals as goal
 

@@ -1,9 +1,9 @@
 use Rattle.std.proofs.Common.{map, take}
-use Rattle.vs_elab_operands.specs.Members.{net_assignment}
-use Rattle.vs_elab_operands.specs.vs_scopes.specs.Printed.{Path}
-use Rattle.vs_elab_operands.specs.vs_scopes.specs.Scopes.{Scope}
-use Rattle.vs_elab_operands.specs.Surroundings.{Surroundings}
-use Rattle.vs_elab_operands.specs.vs_scopes.proofs.AnswerLemmas.{Kept}
+use Rattle.vs_elab_statements.specs.Members.{net_assignment}
+use Rattle.vs_elab_statements.specs.vs_scopes.specs.Printed.{Path}
+use Rattle.vs_elab_statements.specs.vs_scopes.specs.Scopes.{Scope}
+use Rattle.vs_elab_statements.specs.Surroundings.{Surroundings}
+use Rattle.vs_elab_statements.specs.vs_scopes.proofs.AnswerLemmas.{Kept}
 use Rattle.vs_elaborate.specs.passes.Filling.{IsFrame, Drives}
 use Rattle.vs_elaborate.proofs.drivers.drive_assigned.Given as goal
 

@@ -2,10 +2,10 @@ use Rattle.std.proofs.Common.{◌++◌, subst, arith}
 use Rattle.std.proofs.lemmas.List.{append-nil}
 use Rattle.std.proofs.lemmas.Result.{err_from_is_err_and}
 use Rattle.vs_syntax.specs.declared.tree.Declarator.{Declarator}
-use Rattle.vs_elab_operands.specs.Members.{assignment_of, named_signal}
-use Rattle.vs_elab_operands.specs.vs_scopes.specs.passes.Answers.{Told}
+use Rattle.vs_elab_statements.specs.Members.{assignment_of, named_signal}
+use Rattle.vs_elab_statements.specs.vs_scopes.specs.scopes_passes.Answers.{Told}
 use Rattle.vs_elaborate.specs.passes.Filling.{Drives, DrivesNot}
-use Rattle.vs_elab_operands.specs.vs_scopes.proofs.AnswerLemmas.{kept_more, kept_all, kept_fault}
+use Rattle.vs_elab_statements.specs.vs_scopes.proofs.AnswerLemmas.{kept_more, kept_all, kept_fault}
 use Rattle.vs_elaborate.proofs.FillingLemmas.{drives_not_more, assignment_some}
 use Rattle.vs_elaborate.proofs.drivers.drive_declared.Goals as goal
 use Rattle.vs_elaborate.proofs.drivers.drive_declared.Goals.{in-Some+in_ok-drive, in_default}

@@ -1,7 +1,7 @@
 use Rattle.std.proofs.Common.{List, take}
-use Rattle.vs_elab_operands.specs.vs_scopes.specs.Scopes.{Scope}
-use Rattle.vs_elab_operands.specs.Surroundings.{surroundings_at}
-use Rattle.vs_elab_operands.specs.passes.Views.{AreSites}
+use Rattle.vs_elab_statements.specs.vs_scopes.specs.Scopes.{Scope}
+use Rattle.vs_elab_statements.specs.Surroundings.{surroundings_at}
+use Rattle.vs_elab_statements.specs.passes.Views.{AreSites}
 use Rattle.vs_elaborate.specs.passes.Filling.{Fills}
 use Rattle.vs_elaborate.proofs.filling.fill_all.Given as goal
 

@@ -1,11 +1,11 @@
 use Rattle.std.proofs.Common.{◌≡◌, ℕ, List, sym, subst, refl}
-use Rattle.vs_elab_operands.specs.vs_widths.specs.Names.{meaning_of, nested_names}
-use Rattle.vs_elab_operands.specs.vs_scopes.specs.Scopes.{seen_from}
-use Rattle.vs_elab_operands.specs.Surroundings.{surroundings_at}
-use Rattle.vs_elab_operands.specs.passes.Views.{IsSite}
-use Rattle.vs_elab_operands.proofs.BlockLemmas.{got, outward_within, site_names}
+use Rattle.vs_elab_statements.specs.vs_widths.specs.Names.{meaning_of, nested_names}
+use Rattle.vs_elab_statements.specs.vs_scopes.specs.Scopes.{seen_from}
+use Rattle.vs_elab_statements.specs.Surroundings.{surroundings_at}
+use Rattle.vs_elab_statements.specs.passes.Views.{IsSite}
+use Rattle.vs_elab_statements.proofs.BlockLemmas.{got, outward_within, site_names}
 use Rattle.vs_design.specs.vs_logic4.proofs.Basics.{zip_at}
-use Rattle.vs_elab_operands.specs.vs_elab_listed.specs.Opened.{IsOpened}
+use Rattle.vs_elab_statements.specs.vs_elab_listed.specs.Opened.{IsOpened}
 use Rattle.vs_elaborate.proofs.PortLemmas.{path_around}
 use Rattle.vs_elaborate.proofs.filling.fill_named.Goals as goal
 

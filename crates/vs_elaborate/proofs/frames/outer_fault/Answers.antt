@@ -1,7 +1,7 @@
 use Rattle.std.proofs.Common.{◌≡◌, ◌-◌, length, take, ap, sym, subst, ◌∙◌, arith}
 use Rattle.std.proofs.lemmas.List.{take-map}
-use Rattle.vs_elab_operands.specs.vs_scopes.specs.passes.Answers.{IsFaultAt}
-use Rattle.vs_elab_operands.specs.vs_scopes.specs.passes.Names.{read_title, read_path}
+use Rattle.vs_elab_statements.specs.vs_scopes.specs.scopes_passes.Answers.{IsFaultAt}
+use Rattle.vs_elab_statements.specs.vs_scopes.specs.scopes_passes.Names.{read_title, read_path}
 use Rattle.vs_elaborate.proofs.frames.outer_fault.Goals as goal
 
 pub returns-in-Refused : goal.returns-in-Refused

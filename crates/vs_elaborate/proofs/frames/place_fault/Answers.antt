@@ -1,5 +1,5 @@
 use Rattle.std.proofs.Common.{subst, ◌∙◌}
-use Rattle.vs_elab_operands.specs.vs_scopes.specs.passes.Answers.{IsFaultAt}
+use Rattle.vs_elab_statements.specs.vs_scopes.specs.scopes_passes.Answers.{IsFaultAt}
 use Rattle.vs_elaborate.proofs.frames.place_fault.Goals as goal
 
 pub returns-in-Ok : goal.returns-in-Ok

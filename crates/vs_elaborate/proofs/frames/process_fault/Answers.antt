@@ -1,6 +1,6 @@
-use Rattle.vs_elab_operands.specs.vs_scopes.specs.declared.faults.Reason.TheVariants.{Limit}
-use Rattle.vs_elab_operands.specs.vs_scopes.proofs.AnswerLemmas.{told_at}
-use Rattle.vs_elab_operands.specs.Processes.{HasBehaviorFault}
+use Rattle.vs_elab_statements.specs.vs_scopes.specs.declared.faults.Reason.TheVariants.{Limit}
+use Rattle.vs_elab_statements.specs.vs_scopes.proofs.AnswerLemmas.{told_at}
+use Rattle.vs_elab_statements.specs.Processes.{HasBehaviorFault}
 use Rattle.vs_elaborate.proofs.frames.process_fault.Goals as goal
 
 pub returns-in-Overfull : goal.returns-in-Overfull

@@ -1,9 +1,9 @@
 use Rattle.std.proofs.Common.{arith}
 use Rattle.std.proofs.lemmas.Result.{err_from_is_err_and}
 use Rattle.vs_syntax.specs.declared.tree.Declarator.{Declarator}
-use Rattle.vs_elab_operands.specs.Members.{setting}
+use Rattle.vs_elab_statements.specs.Members.{setting}
 use Rattle.vs_elaborate.specs.passes.Filling.{Runs, RunsNot}
-use Rattle.vs_elab_operands.specs.vs_scopes.proofs.AnswerLemmas.{kept_more, kept_all, kept_fault}
+use Rattle.vs_elab_statements.specs.vs_scopes.proofs.AnswerLemmas.{kept_more, kept_all, kept_fault}
 use Rattle.vs_elaborate.proofs.FillingLemmas.{runs_not_more}
 use Rattle.vs_elaborate.proofs.processes.run_declared.Goals as goal
 

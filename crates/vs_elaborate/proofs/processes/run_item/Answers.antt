@@ -1,5 +1,5 @@
 use Rattle.std.proofs.Common.{refl}
-use Rattle.vs_elab_operands.specs.Members.{runs, repeats}
+use Rattle.vs_elab_statements.specs.Members.{runs, repeats}
 use Rattle.vs_elaborate.proofs.FillingLemmas.{quiet_item, runs_still}
 use Rattle.vs_elaborate.proofs.processes.run_item.Goals as goal
 

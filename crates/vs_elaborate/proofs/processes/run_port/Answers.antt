@@ -1,6 +1,6 @@
 use Rattle.std.proofs.Common.{ap}
-use Rattle.vs_elab_operands.specs.vs_scopes.specs.passes.Parts.{read_end}
-use Rattle.vs_elab_operands.specs.Members.{setting}
+use Rattle.vs_elab_statements.specs.vs_scopes.specs.scopes_passes.Parts.{read_end}
+use Rattle.vs_elab_statements.specs.Members.{setting}
 use Rattle.vs_elaborate.proofs.FillingLemmas.{runs_still}
 use Rattle.vs_elaborate.proofs.processes.run_port.Goals as goal
 

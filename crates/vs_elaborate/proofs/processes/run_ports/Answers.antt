@@ -1,10 +1,10 @@
 use Rattle.std.proofs.Common.{arith}
 use Rattle.std.proofs.lemmas.Result.{err_from_is_err_and}
-use Rattle.vs_elab_operands.specs.vs_scopes.specs.passes.Parts.{read_port}
-use Rattle.vs_elab_operands.specs.vs_scopes.specs.declared.ports.ModulePort.{ModulePort as FoundPort}
-use Rattle.vs_elab_operands.specs.Members.{port_setting}
+use Rattle.vs_elab_statements.specs.vs_scopes.specs.scopes_passes.Parts.{read_port}
+use Rattle.vs_elab_statements.specs.vs_scopes.specs.declared.ports.ModulePort.{ModulePort as FoundPort}
+use Rattle.vs_elab_statements.specs.Members.{port_setting}
 use Rattle.vs_elaborate.specs.passes.Filling.{Runs, RunsNot}
-use Rattle.vs_elab_operands.specs.vs_scopes.proofs.AnswerLemmas.{kept_more, kept_all, kept_fault}
+use Rattle.vs_elab_statements.specs.vs_scopes.proofs.AnswerLemmas.{kept_more, kept_all, kept_fault}
 use Rattle.vs_elaborate.proofs.FillingLemmas.{runs_not_more}
 use Rattle.vs_elaborate.proofs.processes.run_ports.Goals as goal
 

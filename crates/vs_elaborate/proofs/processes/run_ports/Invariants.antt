@@ -1,11 +1,11 @@
 use Rattle.std.proofs.Common.{take}
 use Rattle.std.specs.List.{flat_map}
-use Rattle.vs_elab_operands.specs.vs_scopes.specs.passes.Parts.{read_port}
-use Rattle.vs_elab_operands.specs.Members.{port_setting}
-use Rattle.vs_elab_operands.specs.vs_scopes.specs.Printed.{Path}
-use Rattle.vs_elab_operands.specs.vs_scopes.specs.Scopes.{Scope}
-use Rattle.vs_elab_operands.specs.Surroundings.{Surroundings}
-use Rattle.vs_elab_operands.specs.vs_scopes.proofs.AnswerLemmas.{Kept}
+use Rattle.vs_elab_statements.specs.vs_scopes.specs.scopes_passes.Parts.{read_port}
+use Rattle.vs_elab_statements.specs.Members.{port_setting}
+use Rattle.vs_elab_statements.specs.vs_scopes.specs.Printed.{Path}
+use Rattle.vs_elab_statements.specs.vs_scopes.specs.Scopes.{Scope}
+use Rattle.vs_elab_statements.specs.Surroundings.{Surroundings}
+use Rattle.vs_elab_statements.specs.vs_scopes.proofs.AnswerLemmas.{Kept}
 use Rattle.vs_elaborate.specs.passes.Filling.{IsFrame, Runs}
 use Rattle.vs_elaborate.proofs.processes.run_ports.Given as goal
 

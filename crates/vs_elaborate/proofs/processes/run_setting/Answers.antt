@@ -1,7 +1,7 @@
 use Rattle.std.proofs.Common.{ap}
-use Rattle.vs_elab_operands.specs.Members.{setting}
+use Rattle.vs_elab_statements.specs.Members.{setting}
 use Rattle.vs_elaborate.specs.passes.Filling.{Runs, RunsNot}
-use Rattle.vs_elab_operands.specs.vs_scopes.proofs.AnswerLemmas.{grows_same}
+use Rattle.vs_elab_statements.specs.vs_scopes.proofs.AnswerLemmas.{grows_same}
 use Rattle.vs_elaborate.proofs.FillingLemmas.{setting_some, runs_still}
 use Rattle.vs_elaborate.proofs.processes.run_setting.Goals as goal
 

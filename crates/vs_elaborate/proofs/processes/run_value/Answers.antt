@@ -1,5 +1,5 @@
 use Rattle.std.proofs.Common.{refl}
-use Rattle.vs_elab_operands.specs.Members.{named_signal, sets}
+use Rattle.vs_elab_statements.specs.Members.{named_signal, sets}
 use Rattle.vs_elaborate.proofs.processes.run_value.Goals as goal
 
 pub returns : goal.returns

@@ -1,9 +1,9 @@
 use Rattle.std.proofs.Common.{◌≡◌, ap, subst, ◌∙◌, arith}
 use Rattle.std.proofs.lemmas.Result.{err_from_is_err_and}
-use Rattle.vs_elab_operands.specs.vs_scopes.specs.Scopes.{scopes_of}
-use Rattle.vs_elab_operands.specs.vs_elab_listed.specs.Opened.{OpensAll}
-use Rattle.vs_elab_operands.specs.vs_scopes.specs.passes.Answers.{Told}
-use Rattle.vs_elab_operands.specs.Surroundings.{surroundings_at}
+use Rattle.vs_elab_statements.specs.vs_scopes.specs.Scopes.{scopes_of}
+use Rattle.vs_elab_statements.specs.vs_elab_listed.specs.Opened.{OpensAll}
+use Rattle.vs_elab_statements.specs.vs_scopes.specs.scopes_passes.Answers.{Told}
+use Rattle.vs_elab_statements.specs.Surroundings.{surroundings_at}
 use Rattle.vs_elaborate.specs.passes.Filling.{Fills, FillsOneNot}
 use Rattle.vs_elaborate.specs.Timescales.{timescale_of, ratio_of}
 use Rattle.vs_elaborate.specs.Faults.{surroundings_of}

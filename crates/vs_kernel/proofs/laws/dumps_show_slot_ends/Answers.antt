@@ -1,7 +1,7 @@
 use Rattle.std.proofs.Common.{◌≡◌, true, false, List, ◌++◌, subst}
 use Rattle.std.specs.Prelude.{IfSome, filter, if◌then◌else◌}
 use Rattle.vs_design.specs.Traces.{Slot, AreRising}
-use Rattle.vs_run_updates.specs.vs_process.specs.Executions.{after, slots, trace, is_by, is_complete}
+use Rattle.vs_run_regions.specs.vs_process.specs.Executions.{after, slots, trace, is_by, is_complete}
 use Rattle.vs_vcd_writing.specs.Shown.{HasSize, Shows, slot_at}
 use Rattle.vs_vcd_writing.specs.Text.{vcd_header, vcd_slots, vcd_text}
 use Rattle.vs_vcd_writing.specs.Values.{shown_value}

@@ -1,14 +1,14 @@
 use Rattle.std.proofs.Common.{◌≡◌, ◌∙◌, ◌+◌, ◌-◌, ◌≤◌, ℕ, List, Option, refl, rules, sym, ap, subst, true, arith}
-use Rattle.vs_run_updates.specs.vs_process.specs.Executions.{is_complete}
-use Rattle.vs_run_updates.specs.vs_process.specs.States.{State}
-use Rattle.vs_run_updates.specs.vs_process.specs.Blocks.{inside_block}
-use Rattle.vs_run_updates.specs.vs_process.proofs.Results.{on_err}
+use Rattle.vs_run_regions.specs.vs_process.specs.Executions.{is_complete}
+use Rattle.vs_run_regions.specs.vs_process.specs.States.{State}
+use Rattle.vs_run_regions.specs.vs_process.specs.Blocks.{inside_block}
+use Rattle.vs_run_regions.specs.vs_process.proofs.Results.{on_err}
 use Rattle.vs_run_moves.specs.vs_run_steps.specs.Runs.{state_of}
 use Rattle.vs_run_moves.specs.Standing.{Standing, point_of}
-use Rattle.vs_run_moves.specs.vs_run_turns.proofs.Appending.{append_none}
-use Rattle.vs_run_moves.specs.vs_run_turns.proofs.WritingLemmas.{part_failed, first_failed, failed_as, failed_from}
-use Rattle.vs_run_moves.specs.vs_run_turns.specs.Points.{Point}
-use Rattle.vs_run_moves.specs.vs_run_turns.specs.Turns.{RunsTo, TurnedTo}
+use Rattle.vs_run_moves.specs.vs_run_steps.proofs.Appending.{append_none}
+use Rattle.vs_run_moves.specs.vs_run_steps.proofs.WritingLemmas.{part_failed, first_failed, failed_as, failed_from}
+use Rattle.vs_run_moves.specs.vs_run_steps.specs.Points.{Point}
+use Rattle.vs_run_moves.specs.vs_run_steps.specs.Turns.{RunsTo, TurnedTo}
 use Rattle.vs_kernel.proofs.RunsLemmas.{HasRun, begins, limited, incomplete, complete_past, complete_over, ended_run, header_failed, end_failed}
 use Rattle.vs_kernel.proofs.StandsLemmas.{StandsAt, all_failed, all_on}
 use Rattle.vs_kernel.proofs.run.execute.Goals as goal

@@ -1,6 +1,6 @@
 use Rattle.std.proofs.Common.{◌≡◌, ◌-◌, ◌≤◌, ◌<◌, map}
-use Rattle.vs_run_updates.specs.vs_process.specs.Blocks.{inside_block}
-use Rattle.vs_run_updates.specs.vs_process.specs.Executions.{is_combinational}
+use Rattle.vs_run_regions.specs.vs_process.specs.Blocks.{inside_block}
+use Rattle.vs_run_regions.specs.vs_process.specs.Executions.{is_combinational}
 use Rattle.vs_run_moves.specs.vs_run_steps.specs.Runs.{state_of}
 use Rattle.vs_run_moves.specs.Standing.{IsStanding}
 use Rattle.vs_kernel.proofs.RunsLemmas.{HasRun}

@@ -1,7 +1,7 @@
 use Rattle.std.proofs.Common.{ap, sym, ◌∙◌}
 use Rattle.std.proofs.lemmas.Result.{err_from_is_err_and}
 use Rattle.vs_syntax.specs.Symbols.{first}
-use Rattle.vs_parse_items.specs.vs_parse_expressions.specs.Answers.{seen}
+use Rattle.vs_parser.specs.vs_parse_expressions.specs.Answers.{seen}
 use Rattle.vs_parser.proofs.Faulty as faulty
 use Rattle.vs_parser.proofs.parser.whole.Goals as goal
 

@@ -4,8 +4,8 @@ use Rattle.vs_syntax.specs.vs_lex_tokens.specs.declared.token.Word.TheVariants a
 use Rattle.vs_syntax.specs.Grammar.{◌or◌, nothing, part, many, name, mark, word, header_parameters, header_ports, a_module, an_item}
 use Rattle.vs_syntax.specs.Reading.{stuck_first, stuck_second}
 use Rattle.vs_syntax.proofs.Gets.{gets_seq}
-use Rattle.vs_parse_items.specs.vs_parse_expressions.specs.Answers.{seen}
-use Rattle.vs_parse_items.specs.vs_parse_expressions.proofs.Exits.{fails_by}
+use Rattle.vs_parser.specs.vs_parse_expressions.specs.Answers.{seen}
+use Rattle.vs_parser.specs.vs_parse_expressions.proofs.Exits.{fails_by}
 use Rattle.vs_parser.proofs.Modules.{module_stuck, module_read}
 use Rattle.vs_parser.proofs.source.module.Goals as goal
 

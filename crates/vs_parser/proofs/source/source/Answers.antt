@@ -2,10 +2,10 @@ use Rattle.vs_syntax.specs.Reading.{stuck_part}
 use Rattle.vs_syntax.specs.Grammar.{part, a_source, a_module}
 use Rattle.vs_syntax.proofs.Gets.{gets_part, gets_stop}
 use Rattle.std.proofs.lemmas.Result.{err_from_is_err_and}
-use Rattle.vs_parse_items.specs.vs_parse_expressions.specs.Answers.{seen}
-use Rattle.vs_parse_items.specs.vs_parse_expressions.proofs.Exits.{fails_by}
-use Rattle.vs_parse_items.specs.vs_parse_expressions.proofs.Rows.{all_read}
-use Rattle.vs_parser.specs.Heads.{module_or_directive}
+use Rattle.vs_parser.specs.vs_parse_expressions.specs.Answers.{seen}
+use Rattle.vs_parser.specs.vs_parse_expressions.proofs.Exits.{fails_by}
+use Rattle.vs_parser.specs.vs_parse_expressions.proofs.Rows.{all_read}
+use Rattle.vs_parser.specs.ParserHeads.{module_or_directive}
 use Rattle.vs_parser.proofs.Sources.{source_start, directive_push, module_push, module_stuck, head_of}
 use Rattle.vs_parser.proofs.source.source.Goals as goal
 

@@ -1,7 +1,7 @@
 use Rattle.std.proofs.Common.{length}
-use Rattle.vs_parse_items.specs.vs_parse_expressions.specs.Answers.{seen}
-use Rattle.vs_parse_items.specs.vs_parse_expressions.proofs.Rows.{Along}
-use Rattle.vs_parser.specs.Heads.{module_or_directive}
+use Rattle.vs_parser.specs.vs_parse_expressions.specs.Answers.{seen}
+use Rattle.vs_parser.specs.vs_parse_expressions.proofs.Rows.{Along}
+use Rattle.vs_parser.specs.ParserHeads.{module_or_directive}
 use Rattle.vs_parser.proofs.Sources.{source_trees}
 use Rattle.vs_parser.proofs.source.source.Given as goal
 

@@ -1,4 +1,4 @@
-use Rattle.vs_propose_plan.specs.vs_propose_assigns.specs.Settling.{CanSettle}
+use Rattle.vs_propose_plan.specs.Settling.{CanSettle}
 use Rattle.vs_propose.proofs.search.tried_by_assigns.Goals as goal
 
 pub returns : goal.returns

@@ -1,10 +1,10 @@
 use Rattle.std.proofs.Common.{Some, sym, ap, ◌∙◌, List, ℕ, map, subst}
 use Rattle.std.proofs.lemmas.Option.{IfSome_then}
 use Rattle.std.proofs.lemmas.Result.{IfOk-weaker}
-use Rattle.vs_vcd_law.specs.Values.{values_at}
-use Rattle.vs_vcd_law.specs.vs_vcd_reading.specs.declared.dump.Moment.{Moment}
-use Rattle.vs_vcd_law.specs.vs_vcd_reading.specs.Layout.{IsDump}
-use Rattle.vs_vcd_law.specs.vs_vcd_reading.specs.Plain.{plain_moment}
+use Rattle.vs_vcd_reader.specs.Values.{values_at}
+use Rattle.vs_vcd_reader.specs.declared.dump.Moment.{Moment}
+use Rattle.vs_vcd_reader.specs.Layout.{IsDump}
+use Rattle.vs_vcd_reader.specs.Plain.{plain_moment}
 use Rattle.vs_race_shown.proofs.GiveLemmas.{gives}
 use Rattle.vs_race_shown.proofs.shown.shown_under.Goals as goal
 

@@ -1,6 +1,6 @@
 use Rattle.std.proofs.Common.{List, ◌∙◌, ◌+◌, ap, drop}
 use Rattle.vs_design.specs.vs_logic4.specs.declared.digit.Digit.{Digit}
-use Rattle.vs_vcd_law.specs.vs_vcd_reading.specs.Layout.{written}
+use Rattle.vs_vcd_reader.specs.Layout.{written}
 use Rattle.vs_race_shown.proofs.ValueLemmas.{change_more, changes_done}
 use Rattle.vs_race_shown.proofs.values.put_changes.Goals as goal
 

@@ -1,5 +1,5 @@
 use Rattle.std.proofs.Common.{◌≡◌, drop}
-use Rattle.vs_vcd_law.specs.vs_vcd_reading.specs.Layout.{written}
+use Rattle.vs_vcd_reader.specs.Layout.{written}
 use Rattle.vs_race_shown.proofs.values.put_changes.Given as goal
 
 abbrev pub invariant-loop-change : goal.invariant-loop-change

@@ -1,9 +1,9 @@
 use Rattle.std.proofs.Common.{List, ◌∙◌, ◌+◌, ap, drop, map}
 use Rattle.vs_design.specs.vs_logic4.specs.declared.digit.Digit.{Digit}
-use Rattle.vs_vcd_law.specs.Values.{values_after}
-use Rattle.vs_vcd_law.specs.vs_vcd_reading.specs.vs_vcd_lines.specs.declared.dump.ValueChange.{ValueChange}
-use Rattle.vs_vcd_law.specs.vs_vcd_reading.specs.Layout.{written}
-use Rattle.vs_vcd_law.specs.vs_vcd_reading.specs.Plain.{plain_moment}
+use Rattle.vs_vcd_reader.specs.Values.{values_after}
+use Rattle.vs_vcd_reader.specs.vs_vcd_lines.specs.declared.dump.ValueChange.{ValueChange}
+use Rattle.vs_vcd_reader.specs.Layout.{written}
+use Rattle.vs_vcd_reader.specs.Plain.{plain_moment}
 use Rattle.vs_race_shown.proofs.ValueLemmas.{moment_late, moment_more, moments_done}
 use Rattle.vs_race_shown.proofs.values.put_later.Goals as goal
 

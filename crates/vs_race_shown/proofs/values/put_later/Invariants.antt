@@ -1,6 +1,6 @@
 use Rattle.std.proofs.Common.{◌≡◌, drop, map}
-use Rattle.vs_vcd_law.specs.Values.{values_after}
-use Rattle.vs_vcd_law.specs.vs_vcd_reading.specs.Plain.{plain_moment}
+use Rattle.vs_vcd_reader.specs.Values.{values_after}
+use Rattle.vs_vcd_reader.specs.Plain.{plain_moment}
 use Rattle.vs_race_shown.proofs.values.put_later.Given as goal
 
 abbrev pub invariant-loop-moment : goal.invariant-loop-moment

@@ -1,8 +1,8 @@
 use Rattle.std.proofs.Common.{List, ◌∙◌, ap, map}
 use Rattle.vs_design.specs.vs_logic4.specs.declared.digit.Digit.{Digit}
-use Rattle.vs_vcd_law.specs.Values.{values_after}
-use Rattle.vs_vcd_law.specs.vs_vcd_reading.specs.Layout.{values_of}
-use Rattle.vs_vcd_law.specs.vs_vcd_reading.specs.Plain.{plain_moment}
+use Rattle.vs_vcd_reader.specs.Values.{values_after}
+use Rattle.vs_vcd_reader.specs.Layout.{values_of}
+use Rattle.vs_vcd_reader.specs.Plain.{plain_moment}
 use Rattle.vs_race_shown.proofs.ValueLemmas.{all_at}
 use Rattle.vs_race_shown.proofs.values.values_at.Goals as goal
 

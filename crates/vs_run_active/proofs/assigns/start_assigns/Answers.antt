@@ -1,7 +1,7 @@
 use Rattle.std.proofs.Common.{map, ap, ◌∙◌}
 use Rattle.std.proofs.lemmas.List.{take_all}
-use Rattle.vs_run_wakes.specs.vs_run_processes.specs.vs_process.specs.States.{start_assign}
-use Rattle.vs_run_wakes.proofs.TouchesLemmas.{begun_more}
+use Rattle.vs_run_active.specs.vs_process.specs.States.{start_assign}
+use Rattle.vs_run_active.proofs.TouchesLemmas.{begun_more}
 use Rattle.vs_run_active.proofs.assigns.start_assigns.Goals as goal
 
 pub loop-assign-init : goal.loop-assign-init

@@ -1,5 +1,5 @@
 use Rattle.std.proofs.Common.{◌≡◌, map, take}
-use Rattle.vs_run_wakes.specs.vs_run_processes.specs.vs_process.specs.States.{start_assign}
+use Rattle.vs_run_active.specs.vs_process.specs.States.{start_assign}
 use Rattle.vs_run_active.proofs.assigns.start_assigns.Given as goal
 
 abbrev pub invariant-loop-assign : goal.invariant-loop-assign

@@ -3,7 +3,7 @@ use Rattle.vs_run_active.specs.vs_process.specs.declared.moves.Move.TheVariants.
 use Rattle.vs_run_assigns.specs.declared.assigns.Evaluated.{Evaluated}
 use Rattle.vs_run_assigns.specs.Outcomes.{HasCome}
 use Rattle.vs_run_steps.specs.Runs.{state_of}
-use Rattle.vs_run_steps.specs.vs_run_turns.proofs.MadeLemmas.{made_one}
+use Rattle.vs_run_steps.proofs.MadeLemmas.{made_one}
 use Rattle.vs_run_assigns.proofs.assigns.evaluate.Goals as goal
 
 pub returns-in-Same-clause-made : goal.returns-in-Same-clause-made

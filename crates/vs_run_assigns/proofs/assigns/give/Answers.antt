@@ -1,6 +1,6 @@
 use Rattle.std.proofs.Common.{true, refl, subst}
 use Rattle.vs_design.specs.Parts.{Parts}
-use Rattle.vs_run_active.specs.vs_process.specs.vs_flatcode.specs.Spots.{IsSpotIn}
+use Rattle.vs_run_active.specs.vs_process.specs.Spots.{IsSpotIn}
 use Rattle.vs_run_active.specs.Left.{valued}
 use Rattle.vs_run_steps.specs.Runs.{state_of}
 use Rattle.std.proofs.Common.{None}

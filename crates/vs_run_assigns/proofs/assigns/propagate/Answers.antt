@@ -1,7 +1,7 @@
 use Rattle.std.proofs.Common.{refl, ◌∙◌}
 use Rattle.vs_run_active.specs.vs_process.specs.declared.moves.Move.TheVariants.{Propagate}
 use Rattle.vs_run_steps.specs.Runs.{state_of}
-use Rattle.vs_run_steps.specs.vs_run_turns.proofs.MadeLemmas.{made_one}
+use Rattle.vs_run_steps.proofs.MadeLemmas.{made_one}
 use Rattle.vs_run_assigns.proofs.assigns.propagate.Goals as goal
 
 pub returns-clause-made : goal.returns-clause-made

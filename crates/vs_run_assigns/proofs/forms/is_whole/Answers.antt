@@ -1,7 +1,7 @@
 use Rattle.std.proofs.Common.{List, ◌∙◌, ap, sym}
 use Rattle.std.specs.Prelude.{slice_get}
 use Rattle.vs_design.specs.declared.signal.Signal.{Signal}
-use Rattle.vs_run_active.specs.vs_process.specs.vs_flatcode.proofs.SpotLemmas.{found_there}
+use Rattle.vs_run_active.specs.vs_process.proofs.SpotLemmas.{found_there}
 use Rattle.vs_run_assigns.proofs.forms.is_whole.Goals as goal
 
 pub returns-then-s-width : goal.returns-then-s-width

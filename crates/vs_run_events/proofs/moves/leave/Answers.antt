@@ -1,5 +1,5 @@
 use Rattle.std.proofs.Common.{◌≡◌, true, sym, subst}
-use Rattle.vs_run_updates.specs.vs_process.specs.Executions.{apply, is_enabled}
+use Rattle.vs_run_regions.specs.vs_process.specs.Executions.{apply, is_enabled}
 use Rattle.vs_run_events.specs.declared.state.Region.{Region}
 use Rattle.vs_run_events.specs.Running.{region_move}
 use Rattle.vs_run_steps.specs.Runs.{state_of}

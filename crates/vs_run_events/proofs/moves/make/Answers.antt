@@ -1,9 +1,9 @@
 use Rattle.std.proofs.Common.{List, true, refl, sym, subst}
 use Rattle.vs_design.specs.declared.signal.Signal.{Signal}
-use Rattle.vs_run_updates.specs.vs_process.specs.vs_flatcode.specs.Spots.{IsSpotIn}
+use Rattle.vs_run_regions.specs.vs_process.specs.Spots.{IsSpotIn}
 use Rattle.vs_run_steps.specs.Runs.{state_of}
-use Rattle.vs_run_updates.specs.declared.update.Update.{Update}
-use Rattle.vs_run_updates.specs.Updates.{IsIn}
+use Rattle.vs_run_regions.specs.declared.update.Update.{Update}
+use Rattle.vs_run_regions.specs.Updates.{IsIn}
 use Rattle.vs_run_events.specs.Making.{WritesUpdate}
 use Rattle.vs_run_events.proofs.moves.make.Goals as goal
 

@@ -1,7 +1,7 @@
 use Rattle.std.proofs.Common.{ap, sym, subst}
 use Rattle.vs_run_steps.specs.Runs.{IsRunOf, plan_of, state_of}
 use Rattle.vs_run_steps.proofs.RunsLemmas.{plan_in}
-use Rattle.vs_run_updates.specs.Regions.{Waiting}
+use Rattle.vs_run_regions.specs.Regions.{Waiting}
 use Rattle.vs_run_events.proofs.RunLemmas.{either_run}
 use Rattle.vs_run_events.proofs.UpdateLemmas.{first_made, next_keeps, next_made, next_none, some_active}
 use Rattle.vs_run_events.proofs.moves.make_next.Goals as goal

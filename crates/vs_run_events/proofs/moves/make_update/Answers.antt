@@ -1,9 +1,9 @@
 use Rattle.std.proofs.Common.{◌∙◌, sym}
 use Rattle.std.proofs.lemmas.Bool.{false≢true}
-use Rattle.vs_run_updates.specs.vs_process.specs.declared.moves.Move.TheVariants.{Make}
+use Rattle.vs_run_regions.specs.vs_process.specs.declared.moves.Move.TheVariants.{Make}
 use Rattle.vs_run_steps.specs.Runs.{plan_of, state_of}
 use Rattle.vs_run_steps.proofs.RunsLemmas.{plan_in}
-use Rattle.vs_run_updates.specs.Regions.{place_of_number}
+use Rattle.vs_run_regions.specs.Regions.{place_of_number}
 use Rattle.vs_run_events.proofs.RunLemmas.{run_after}
 use Rattle.vs_run_events.proofs.UpdateLemmas.{taken_keeps, taken_made}
 use Rattle.vs_run_events.proofs.moves.make_update.Goals as goal

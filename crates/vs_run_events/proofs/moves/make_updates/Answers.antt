@@ -1,11 +1,11 @@
 use Rattle.std.proofs.Common.{refl, sym, ◌∙◌, subst, arith}
 use Rattle.std.proofs.lemmas.Bool.{true≢false}
-use Rattle.vs_run_updates.specs.vs_process.specs.States.{State}
+use Rattle.vs_run_regions.specs.vs_process.specs.States.{State}
 use Rattle.vs_run_steps.specs.Runs.{state_of}
-use Rattle.vs_run_steps.specs.vs_run_turns.specs.Turns.{AreMade}
-use Rattle.vs_run_steps.specs.vs_run_turns.proofs.MadeLemmas.{made_then}
-use Rattle.vs_run_wakes.proofs.MarkingLemmas.{changes_more, changes_none}
-use Rattle.vs_run_listed.specs.declared.event.Event.TheVariants as e
+use Rattle.vs_run_steps.specs.Turns.{AreMade}
+use Rattle.vs_run_steps.proofs.MadeLemmas.{made_then}
+use Rattle.vs_run_active.proofs.MarkingLemmas.{changes_more, changes_none}
+use Rattle.vs_run_regions.specs.declared.event.Event.TheVariants as e
 use Rattle.vs_run_events.proofs.RunLemmas.{own_run, positive, run_of_own, still_active}
 use Rattle.vs_run_events.proofs.moves.make_updates.Goals as goal
 

@@ -1,7 +1,7 @@
 use Rattle.std.proofs.Common.{◌≡◌, ◌≤◌, ◌-◌}
 use Rattle.vs_run_steps.specs.Runs.{IsRunOf, marks_of, state_of}
-use Rattle.vs_run_steps.specs.vs_run_turns.specs.Turns.{AreMade}
-use Rattle.vs_run_wakes.specs.Changes.{MarkChanges}
+use Rattle.vs_run_steps.specs.Turns.{AreMade}
+use Rattle.vs_run_active.specs.Changes.{MarkChanges}
 use Rattle.vs_run_events.proofs.moves.make_updates.Given as goal
 
 abbrev pub invariant-loop-taken : goal.invariant-loop-taken

@@ -1,5 +1,5 @@
 use Rattle.std.proofs.Common.{◌≡◌, drop}
-use Rattle.vs_run_wakes.specs.vs_run_processes.specs.Standings.{roused_in}
+use Rattle.vs_run_active.specs.Standings.{roused_in}
 use Rattle.vs_run_events.specs.Leaving.{changed_each}
 use Rattle.vs_run_events.proofs.moves.rouse_each.Given as goal
 

@@ -1,19 +1,19 @@
 use Rattle.std.proofs.Common.{◌≡◌, ℕ, Bool, List, refl, sym, subst, arith}
-use Rattle.vs_run_updates.specs.vs_process.specs.declared.moves.Move.TheVariants.{Evaluate, Propagate}
-use Rattle.vs_run_updates.specs.vs_process.specs.Executions.{move_lines}
-use Rattle.vs_run_updates.specs.vs_process.proofs.Results.{on_err}
+use Rattle.vs_run_regions.specs.vs_process.specs.declared.moves.Move.TheVariants.{Evaluate, Propagate}
+use Rattle.vs_run_regions.specs.vs_process.specs.Executions.{move_lines}
+use Rattle.vs_run_regions.specs.vs_process.proofs.Results.{on_err}
 use Rattle.vs_vcd_writing.specs.Sinks.{AppendsPart}
 use Rattle.vs_run_steps.specs.Runs.{state_of}
 use Rattle.vs_run_steps.proofs.RunsLemmas.{plan_in, plan_out}
-use Rattle.vs_run_steps.specs.vs_run_turns.specs.Prints.{lines_text}
-use Rattle.vs_run_steps.specs.vs_run_turns.specs.Taken.{TakenPart}
-use Rattle.vs_run_steps.specs.vs_run_turns.specs.Turns.{EventTurnedPart}
-use Rattle.vs_run_steps.specs.vs_run_turns.proofs.EventLemmas.{event_stuck}
-use Rattle.vs_run_steps.specs.vs_run_turns.proofs.MadeLemmas.{event_made, made_one}
-use Rattle.vs_run_steps.specs.vs_run_turns.proofs.TakenLemmas.{event_part, event_taken}
+use Rattle.vs_run_steps.specs.Prints.{lines_text}
+use Rattle.vs_run_steps.specs.Taken.{TakenPart}
+use Rattle.vs_run_steps.specs.Turns.{EventTurnedPart}
+use Rattle.vs_run_steps.proofs.EventLemmas.{event_stuck}
+use Rattle.vs_run_steps.proofs.MadeLemmas.{event_made, made_one}
+use Rattle.vs_run_steps.proofs.TakenLemmas.{event_part, event_taken}
 use Rattle.vs_run_events.specs.Running.{IsActive, IsMade, IsSingle, move_of}
-use Rattle.vs_run_listed.specs.declared.event.Event.{Event}
-use Rattle.vs_run_listed.specs.declared.event.Event.TheVariants as e
+use Rattle.vs_run_regions.specs.declared.event.Event.{Event}
+use Rattle.vs_run_regions.specs.declared.event.Event.TheVariants as e
 use Rattle.vs_run_events.proofs.RunLemmas.{one_taken, own_run, prints_part, run_of_own, silent_made, step_part, step_printed}
 use Rattle.vs_run_events.proofs.moves.run_event.Goals as goal
 

@@ -1,6 +1,6 @@
 use Rattle.std.proofs.Common.{◌∙◌, Option, sym, ap}
-use Rattle.vs_run_updates.specs.vs_process.specs.vs_flatcode.specs.Places.{Place, is_going}
-use Rattle.vs_run_updates.specs.vs_process.specs.Executions.{if_some}
+use Rattle.vs_run_regions.specs.vs_process.specs.Places.{Place, is_going}
+use Rattle.vs_run_regions.specs.vs_process.specs.Executions.{if_some}
 use Rattle.vs_run_steps.specs.Runs.{counters_at, counters_of}
 use Rattle.vs_run_steps.proofs.RunsLemmas.{place_past, place_there}
 use Rattle.vs_run_events.proofs.state.is_going.Goals as goal

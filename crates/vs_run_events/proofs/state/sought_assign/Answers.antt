@@ -1,6 +1,6 @@
 use Rattle.std.proofs.Common.{◌≡◌, ℕ, false, slice_get, arith}
-use Rattle.vs_run_updates.specs.vs_process.specs.Executions.{if_some}
-use Rattle.vs_run_wakes.specs.Touches.{is_left}
+use Rattle.vs_run_regions.specs.vs_process.specs.Executions.{if_some}
+use Rattle.vs_run_active.specs.Touches.{is_left}
 use Rattle.vs_run_events.proofs.ActiveLemmas.{below_more, none_any}
 use Rattle.vs_run_events.proofs.state.sought_assign.Goals as goal
 

@@ -1,7 +1,7 @@
 use Rattle.std.proofs.Common.{◌≡◌, ◌∙◌, ℕ, false, refl, sym, arith}
-use Rattle.vs_run_updates.specs.vs_process.specs.vs_flatcode.specs.Places.{is_going}
-use Rattle.vs_run_updates.specs.vs_process.specs.declared.moves.Move.TheVariants.{Step}
-use Rattle.vs_run_updates.specs.vs_process.specs.Executions.{is_enabled}
+use Rattle.vs_run_regions.specs.vs_process.specs.Places.{is_going}
+use Rattle.vs_run_regions.specs.vs_process.specs.declared.moves.Move.TheVariants.{Step}
+use Rattle.vs_run_regions.specs.vs_process.specs.Executions.{is_enabled}
 use Rattle.vs_run_steps.specs.Runs.{counters_of, state_of}
 use Rattle.vs_run_steps.proofs.RunsLemmas.{places_long}
 use Rattle.vs_run_events.proofs.ActiveLemmas.{below_more, none_any}

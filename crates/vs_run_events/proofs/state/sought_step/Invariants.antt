@@ -1,6 +1,6 @@
 use Rattle.std.proofs.Common.{◌≡◌, ◌<◌, ℕ, false}
-use Rattle.vs_run_updates.specs.vs_process.specs.declared.moves.Move.TheVariants.{Step}
-use Rattle.vs_run_updates.specs.vs_process.specs.Executions.{is_enabled}
+use Rattle.vs_run_regions.specs.vs_process.specs.declared.moves.Move.TheVariants.{Step}
+use Rattle.vs_run_regions.specs.vs_process.specs.Executions.{is_enabled}
 use Rattle.vs_run_steps.specs.Runs.{state_of}
 use Rattle.vs_run_events.proofs.state.sought_step.Given as goal
 

@@ -2,18 +2,18 @@ use Rattle.std.proofs.Common.{◌≡◌, ℕ, List, map, refl, rules, subst}
 use Rattle.std.specs.Io.KnownBytes.{Appends}
 use Rattle.vs_design.specs.Parts.{Parts}
 use Rattle.vs_design.specs.Traces.{Slot}
-use Rattle.vs_run_processes.specs.vs_process.specs.declared.moves.Move.TheVariants.{EndSlot}
-use Rattle.vs_run_processes.specs.vs_process.specs.Executions.{ended_slot, strobe_line, strobe_lines}
-use Rattle.vs_run_processes.specs.vs_process.specs.States.{Called, State}
-use Rattle.vs_run_processes.specs.vs_process.proofs.Results.{on_err}
+use Rattle.vs_run_active.specs.vs_process.specs.declared.moves.Move.TheVariants.{EndSlot}
+use Rattle.vs_run_active.specs.vs_process.specs.Executions.{ended_slot, strobe_line, strobe_lines}
+use Rattle.vs_run_active.specs.vs_process.specs.States.{Called, State}
+use Rattle.vs_run_active.specs.vs_process.proofs.Results.{on_err}
 use Rattle.vs_vcd_writing.specs.Progress.{is_write_fault}
 use Rattle.vs_vcd_writing.specs.Sinks.{AppendsPart, failed_after}
 use Rattle.vs_run_steps.specs.Runs.{state_of}
-use Rattle.vs_run_steps.specs.vs_run_turns.specs.Prints.{lines_text}
-use Rattle.vs_run_steps.specs.vs_run_turns.specs.Recording.{HasNoted}
-use Rattle.vs_run_steps.specs.vs_run_turns.specs.Slots.{AppendsSlotsPart}
-use Rattle.vs_run_steps.specs.vs_run_turns.proofs.Appending.{append_none}
-use Rattle.vs_run_steps.specs.vs_run_turns.proofs.WritingLemmas.{first_failed, second_failed, slots_whole}
+use Rattle.vs_run_steps.specs.Prints.{lines_text}
+use Rattle.vs_run_steps.specs.Recording.{HasNoted}
+use Rattle.vs_run_steps.specs.Slots.{AppendsSlotsPart}
+use Rattle.vs_run_steps.proofs.Appending.{append_none}
+use Rattle.vs_run_steps.proofs.WritingLemmas.{first_failed, second_failed, slots_whole}
 use Rattle.vs_run_moves.proofs.slot.note.Goals as goal
 
 pub returns-in_err-record_slot-clause-lines_part : goal.returns-in_err-record_slot-clause-lines_part

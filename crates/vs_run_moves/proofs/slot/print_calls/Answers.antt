@@ -3,14 +3,14 @@ use Rattle.std.proofs.lemmas.List.{take_more}
 use Rattle.std.specs.Io.KnownBytes.{Appends}
 use Rattle.vs_design.specs.Stores.{Store}
 use Rattle.vs_design.specs.Traces.{Line}
-use Rattle.vs_run_processes.specs.vs_process.specs.Executions.{strobe_line}
-use Rattle.vs_run_processes.specs.vs_process.specs.States.{Called}
-use Rattle.vs_flatcode.specs.vs_strobe.specs.Lines.{Format, full_line}
+use Rattle.vs_run_active.specs.vs_process.specs.Executions.{strobe_line}
+use Rattle.vs_run_active.specs.vs_process.specs.States.{Called}
+use Rattle.vs_process.specs.vs_strobe.specs.Lines.{Format, full_line}
 use Rattle.vs_vcd_writing.specs.Sinks.{AppendsPart}
-use Rattle.vs_run_steps.specs.vs_run_turns.specs.Prints.{lines_text}
-use Rattle.vs_run_steps.specs.vs_run_turns.proofs.PrintsLemmas.{calls_more, calls_front}
-use Rattle.vs_run_processes.specs.vs_process.proofs.Results.{on_err}
-use Rattle.vs_run_steps.specs.vs_run_turns.proofs.Appending.{append_none, append_more, part_all, part_front, part_more}
+use Rattle.vs_run_steps.specs.Prints.{lines_text}
+use Rattle.vs_run_steps.proofs.PrintsLemmas.{calls_more, calls_front}
+use Rattle.vs_run_active.specs.vs_process.proofs.Results.{on_err}
+use Rattle.vs_run_steps.proofs.Appending.{append_none, append_more, part_all, part_front, part_more}
 use Rattle.vs_run_moves.proofs.slot.print_calls.Goals as goal
 
 pub loop-call-init : goal.loop-call-init

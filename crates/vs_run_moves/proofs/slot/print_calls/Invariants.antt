@@ -1,7 +1,7 @@
 use Rattle.std.proofs.Common.{◌≡◌, map, take}
 use Rattle.std.specs.Io.KnownBytes.{Appends}
-use Rattle.vs_run_processes.specs.vs_process.specs.Executions.{strobe_line}
-use Rattle.vs_run_steps.specs.vs_run_turns.specs.Prints.{lines_text}
+use Rattle.vs_run_active.specs.vs_process.specs.Executions.{strobe_line}
+use Rattle.vs_run_steps.specs.Prints.{lines_text}
 use Rattle.vs_run_moves.proofs.slot.print_calls.Given as goal
 
 abbrev pub invariant-loop-call : goal.invariant-loop-call

@@ -1,6 +1,6 @@
 use Rattle.std.proofs.Common.{◌∙◌, ◌++◌, sym}
-use Rattle.vs_run_processes.specs.vs_process.specs.declared.moves.Move.TheVariants.{EndSlot}
-use Rattle.vs_run_processes.specs.vs_process.specs.Executions.{ended_slot}
+use Rattle.vs_run_active.specs.vs_process.specs.declared.moves.Move.TheVariants.{EndSlot}
+use Rattle.vs_run_active.specs.vs_process.specs.Executions.{ended_slot}
 use Rattle.vs_run_steps.specs.Runs.{state_of}
 use Rattle.vs_run_moves.proofs.MarkingLemmas.{unnoted, unnoted_bytes}
 use Rattle.vs_run_moves.proofs.slot.record_slot.Goals as goal

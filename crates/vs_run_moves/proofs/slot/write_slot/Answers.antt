@@ -1,9 +1,9 @@
 use Rattle.std.proofs.Common.{◌++◌, ◌∷◌, [], refl, sym, arith}
-use Rattle.vs_run_processes.specs.vs_process.specs.declared.moves.Move.TheVariants.{EndSlot}
-use Rattle.vs_run_processes.specs.vs_process.proofs.Results.{on_err}
+use Rattle.vs_run_active.specs.vs_process.specs.declared.moves.Move.TheVariants.{EndSlot}
+use Rattle.vs_run_active.specs.vs_process.proofs.Results.{on_err}
 use Rattle.vs_vcd_writing.specs.Progress.{vcd_slot}
 use Rattle.vs_run_steps.specs.Runs.{marks_of, state_of}
-use Rattle.vs_run_steps.specs.vs_run_turns.proofs.WritingLemmas.{ended_here, slot_failed}
+use Rattle.vs_run_steps.proofs.WritingLemmas.{ended_here, slot_failed}
 use Rattle.vs_run_moves.proofs.MarkingLemmas.{kept_slot, noted_clear, room_on}
 use Rattle.vs_run_events.proofs.RunLemmas.{marks_run}
 use Rattle.vs_run_moves.proofs.slot.write_slot.Goals as goal

@@ -1,7 +1,7 @@
 use Rattle.std.proofs.Common.{◌≡◌, ℕ, List, take}
-use Rattle.vs_elab_connections.specs.vs_widths.specs.Names.{meaning_of}
-use Rattle.vs_scopes.specs.passes.Parts.{read_end}
-use Rattle.vs_scopes.specs.passes.Declared.{first_of, said_by}
+use Rattle.vs_scopes.specs.vs_widths.specs.Names.{meaning_of}
+use Rattle.vs_scopes.specs.scopes_passes.Parts.{read_end}
+use Rattle.vs_scopes.specs.scopes_passes.Declared.{first_of, said_by}
 use Rattle.vs_scopes.proofs.declared.add_forms.Given as goal
 
 abbrev pub invariant-loop-name : goal.invariant-loop-name

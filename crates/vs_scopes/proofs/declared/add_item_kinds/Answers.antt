@@ -4,11 +4,11 @@ use Rattle.vs_syntax.specs.declared.tree.Declarator.{Declarator}
 use Rattle.vs_syntax.specs.declared.tree.Form.{Form}
 use Rattle.vs_design.specs.declared.signal.SignalKind.{SignalKind}
 use Rattle.vs_design.specs.declared.signal.SignalKind.TheVariants as k
-use Rattle.vs_elab_connections.specs.vs_widths.specs.Names.{meaning_of}
+use Rattle.vs_scopes.specs.vs_widths.specs.Names.{meaning_of}
 use Rattle.vs_scopes.specs.Ports.{kind_among}
 use Rattle.vs_scopes.specs.declared.declared.KindSaid.{KindSaid}
-use Rattle.vs_scopes.specs.passes.Parts.{read_end}
-use Rattle.vs_scopes.specs.passes.Declared.{first_of, form_of, read_said}
+use Rattle.vs_scopes.specs.scopes_passes.Parts.{read_end}
+use Rattle.vs_scopes.specs.scopes_passes.Declared.{first_of, form_of, read_said}
 use Rattle.vs_scopes.proofs.declared.add_item_kinds.Goals as goal
 
 -- a declaration that is read

@@ -1,6 +1,6 @@
 use Rattle.std.proofs.Common.{ap, arith}
-use Rattle.vs_scopes.specs.passes.Parts.{read_end}
-use Rattle.vs_scopes.specs.passes.Declared.{form_of}
+use Rattle.vs_scopes.specs.scopes_passes.Parts.{read_end}
+use Rattle.vs_scopes.specs.scopes_passes.Declared.{form_of}
 use Rattle.vs_scopes.proofs.DeclaredLemmas.{kinds_step}
 use Rattle.vs_scopes.proofs.declared.add_kinds.Goals as goal
 

@@ -1,8 +1,8 @@
 use Rattle.std.proofs.Common.{ap, sym, ◌∙◌, arith}
-use Rattle.vs_elab_connections.specs.vs_elab_pieces.specs.Reads.{read_piece}
-use Rattle.vs_elab_connections.specs.vs_widths.specs.Names.{meaning_of}
+use Rattle.vs_scopes.specs.vs_elab_pieces.specs.Reads.{read_piece}
+use Rattle.vs_scopes.specs.vs_widths.specs.Names.{meaning_of}
 use Rattle.vs_scopes.specs.Ports.{kind_in}
-use Rattle.vs_scopes.specs.passes.Declared.{first_of, read_said}
+use Rattle.vs_scopes.specs.scopes_passes.Declared.{first_of, read_said}
 use Rattle.vs_scopes.proofs.DeclaredLemmas.{kind_said_step, no_kinds}
 use Rattle.vs_scopes.proofs.declared.kinds_said.Goals as goal
 

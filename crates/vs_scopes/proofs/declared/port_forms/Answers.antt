@@ -1,9 +1,9 @@
 use Rattle.std.proofs.Common.{ap, sym, ◌∙◌, arith}
-use Rattle.vs_elab_connections.specs.vs_elab_pieces.specs.Reads.{read_piece}
-use Rattle.vs_elab_connections.specs.vs_widths.specs.Names.{meaning_of}
+use Rattle.vs_scopes.specs.vs_elab_pieces.specs.Reads.{read_piece}
+use Rattle.vs_scopes.specs.vs_widths.specs.Names.{meaning_of}
 use Rattle.vs_scopes.specs.Ports.{said_in}
-use Rattle.vs_scopes.specs.passes.Parts.{read_end}
-use Rattle.vs_scopes.specs.passes.Declared.{first_of}
+use Rattle.vs_scopes.specs.scopes_passes.Parts.{read_end}
+use Rattle.vs_scopes.specs.scopes_passes.Declared.{first_of}
 use Rattle.vs_scopes.proofs.DeclaredLemmas.{port_said_step, no_ports}
 use Rattle.vs_scopes.proofs.declared.port_forms.Goals as goal
 

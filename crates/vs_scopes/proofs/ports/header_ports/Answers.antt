@@ -1,7 +1,7 @@
 use Rattle.std.proofs.Common.{◌∙◌, ap₂, arith}
 use Rattle.vs_scopes.specs.Ports.{port_as}
-use Rattle.vs_scopes.specs.passes.Parts.{read_end, read_port}
-use Rattle.vs_elab_connections.proofs.PassLemmas.{moved}
+use Rattle.vs_scopes.specs.scopes_passes.Parts.{read_end, read_port}
+use Rattle.vs_scopes.proofs.PassLemmas.{moved}
 use Rattle.vs_scopes.proofs.PortLemmas.{port_at}
 use Rattle.vs_scopes.proofs.ports.header_ports.Goals as goal
 

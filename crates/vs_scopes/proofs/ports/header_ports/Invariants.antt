@@ -1,6 +1,6 @@
 use Rattle.std.proofs.Common.{◌≡◌, ◌++◌, None, map, drop}
 use Rattle.vs_scopes.specs.Ports.{ports_from}
-use Rattle.vs_scopes.specs.passes.Parts.{read_end, read_port}
+use Rattle.vs_scopes.specs.scopes_passes.Parts.{read_end, read_port}
 use Rattle.vs_scopes.proofs.ports.header_ports.Given as goal
 
 abbrev pub invariant-loop-port : goal.invariant-loop-port

@@ -1,7 +1,7 @@
 use Rattle.std.proofs.Common.{◌≡◌, ◌++◌, map, drop}
-use Rattle.vs_elab_connections.specs.vs_elab_pieces.specs.Reads.{read_piece}
+use Rattle.vs_scopes.specs.vs_elab_pieces.specs.Reads.{read_piece}
 use Rattle.vs_scopes.specs.Ports.{port_by_items}
-use Rattle.vs_scopes.specs.passes.Parts.{read_port}
+use Rattle.vs_scopes.specs.scopes_passes.Parts.{read_port}
 use Rattle.vs_scopes.proofs.ports.ports_by_name.Given as goal
 
 abbrev pub invariant-loop-port : goal.invariant-loop-port

@@ -1,6 +1,6 @@
 use Rattle.std.proofs.Common.{◌<◌, length}
 use Rattle.std.proofs.lemmas.List.{length-map}
-use Rattle.vs_scopes.specs.passes.Names.{read_path}
+use Rattle.vs_scopes.specs.scopes_passes.Names.{read_path}
 use Rattle.vs_scopes.proofs.PrintedLemmas.{member_text}
 use Rattle.vs_scopes.proofs.printed.print_member.Goals as goal
 

@@ -1,6 +1,6 @@
 use Rattle.std.proofs.Common.{ap, sym, ◌∙◌, ◌++◌, arith}
 use Rattle.vs_scopes.specs.Printed.{printed, printed_part}
-use Rattle.vs_scopes.specs.passes.Names.{read_title, read_path}
+use Rattle.vs_scopes.specs.scopes_passes.Names.{read_title, read_path}
 use Rattle.vs_scopes.proofs.PrintedLemmas.{path_more, path_all, path_first}
 use Rattle.vs_scopes.proofs.printed.print_path.Goals as goal
 

@@ -2,7 +2,7 @@ use Rattle.std.proofs.Common.{ap, arith}
 use Rattle.std.specs.List.{flat_map}
 use Rattle.std.proofs.lemmas.List.{drop_more, drop_all}
 use Rattle.vs_scopes.specs.Printed.{escaped_byte}
-use Rattle.vs_elab_connections.proofs.PassLemmas.{moved_by, ended}
+use Rattle.vs_scopes.proofs.PassLemmas.{moved_by, ended}
 use Rattle.vs_scopes.proofs.printed.push_escaped.Goals as goal
 
 pub loop-c-preserved : goal.loop-c-preserved

@@ -1,6 +1,6 @@
 use Rattle.std.proofs.Common.{Some}
 use Rattle.std.proofs.lemmas.Result.{err_from_is_err_and}
-use Rattle.vs_elab_connections.specs.vs_widths.specs.Names.{meaning_of}
+use Rattle.vs_scopes.specs.vs_widths.specs.Names.{meaning_of}
 use Rattle.vs_scopes.specs.Ranges.{bounds_fault, range_fault}
 use Rattle.vs_scopes.proofs.SizeLemmas.{width_refused}
 use Rattle.std.proofs.lemmas.Bool.{or_left as left_true}

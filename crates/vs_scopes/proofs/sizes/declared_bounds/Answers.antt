@@ -1,6 +1,6 @@
 use Rattle.std.proofs.Common.{rules}
 use Rattle.std.proofs.lemmas.Result.{err_from_is_err_and}
-use Rattle.vs_elab_connections.specs.vs_widths.specs.Names.{meaning_of}
+use Rattle.vs_scopes.specs.vs_widths.specs.Names.{meaning_of}
 use Rattle.vs_scopes.specs.declared.faults.Reason.TheVariants.{Width}
 use Rattle.vs_scopes.specs.Ranges.{bound_fault, bounds_fault}
 use Rattle.vs_scopes.proofs.SizeLemmas.{no_faults, width_refused}

@@ -1,9 +1,9 @@
 use Rattle.std.proofs.Common.{subst, Option}
 use Rattle.vs_syntax.specs.declared.tree.Range.{Range}
-use Rattle.vs_elab_connections.specs.vs_widths.specs.Names.{meaning_of}
+use Rattle.vs_scopes.specs.vs_widths.specs.Names.{meaning_of}
 use Rattle.vs_scopes.specs.Ranges.{sized_as}
-use Rattle.vs_scopes.specs.passes.Answers.{Elaborates}
-use Rattle.vs_scopes.specs.passes.Sizes.{width_faults, IsSize}
+use Rattle.vs_scopes.specs.scopes_passes.Answers.{Elaborates}
+use Rattle.vs_scopes.specs.scopes_passes.Sizes.{width_faults, IsSize}
 use Rattle.vs_scopes.proofs.sizes.declared_size.Goals as goal
 
 pub returns : goal.returns

@@ -1,6 +1,6 @@
 use Rattle.std.proofs.Common.{refl, ap}
-use Rattle.vs_elab_connections.specs.vs_widths.specs.Names.{meaning_of}
-use Rattle.vs_scopes.specs.passes.Parts.{read_end}
+use Rattle.vs_scopes.specs.vs_widths.specs.Names.{meaning_of}
+use Rattle.vs_scopes.specs.scopes_passes.Parts.{read_end}
 use Rattle.vs_scopes.proofs.SizeLemmas.{size_ranged, size_plain}
 use Rattle.vs_scopes.proofs.sizes.sized.Goals as goal
 

@@ -1,5 +1,5 @@
-use Rattle.vs_run_updates.specs.vs_process.proofs.Results.{on_err}
-use Rattle.vs_kernel.specs.vs_run_turns.proofs.Appending.{append_none}
+use Rattle.vs_run_regions.specs.vs_process.proofs.Results.{on_err}
+use Rattle.vs_kernel.specs.vs_run_steps.proofs.Appending.{append_none}
 use Rattle.vs_kernel.proofs.RunsLemmas.{header_failed}
 use Rattle.vs_simulate.proofs.simulation.run_under.Goals as goal
 

@@ -1,4 +1,4 @@
-use Rattle.vs_run_updates.specs.vs_process.specs.declared.moves.Grain.TheVariants.{Statement}
+use Rattle.vs_run_regions.specs.vs_process.specs.declared.moves.Grain.TheVariants.{Statement}
 use Rattle.vs_simulate.proofs.simulation.simulate.Goals as goal
 
 pub returns-clause-honest : goal.returns-clause-honest

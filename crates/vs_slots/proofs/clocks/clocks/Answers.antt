@@ -4,7 +4,7 @@ use Rattle.std.specs.declared.vec.Vec.{Vec}
 use Rattle.std.specs.declared.alloc.Global.{Global}
 use Rattle.std.proofs.lemmas.List.{length-append}
 use Rattle.vs_design.specs.Parts.{Parts}
-use Rattle.vs_slots_uses.specs.vs_rules.specs.Paths.{Writes}
+use Rattle.vs_maps.specs.vs_rules.specs.Paths.{Writes}
 use Rattle.vs_slots_constants.specs.declared.clocks.Clock.{Clock}
 use Rattle.vs_slots.specs.Kept.{AreWriterRows, IsClockOf}
 use Rattle.vs_slots.proofs.KeptLemmas.{read_more, row_is}

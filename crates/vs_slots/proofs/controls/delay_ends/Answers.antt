@@ -2,7 +2,7 @@ use Rattle.std.proofs.Common.{ℕ, ◌<◌, ◌↔◌, sym, subst}
 use Rattle.std.specs.List.{Contains}
 use Rattle.std.proofs.lemmas.Result.{IfOk-weaker}
 use Rattle.vs_design.specs.Tables.{rows}
-use Rattle.vs_cert_facts.specs.vs_slots_paths.specs.Reaches.{places, pause_at, IsPlace}
+use Rattle.vs_claims.specs.vs_maps.specs.Reaches.{places, pause_at, IsPlace}
 use Rattle.vs_slots.specs.Lists.{row}
 use Rattle.vs_slots.specs.Controls.{list_by}
 use Rattle.vs_slots.specs.Runs.{DelayEndsBy}

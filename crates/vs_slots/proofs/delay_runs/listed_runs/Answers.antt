@@ -1,7 +1,7 @@
 use Rattle.std.proofs.Common.{ℕ, ◌↔◌, List, ◌∙◌, subst}
 use Rattle.std.specs.List.{Contains}
 use Rattle.vs_design.specs.Tables.{rows}
-use Rattle.vs_cert_facts.specs.vs_slots_paths.specs.Reaches.{IsPlace, pause_at}
+use Rattle.vs_claims.specs.vs_maps.specs.Reaches.{IsPlace, pause_at}
 use Rattle.vs_slots.specs.Lists.{row}
 use Rattle.vs_slots.specs.Runs.{DelayEndsBy}
 use Rattle.vs_slots.proofs.ListLemmas.{list_for}

@@ -4,10 +4,10 @@ use Rattle.std.proofs.lemmas.Result.{IfOk-weaker}
 use Rattle.vs_design.specs.declared.design.Process.{Process}
 use Rattle.vs_design.specs.Parts.{Parts}
 use Rattle.vs_design.specs.Tables.{rows}
-use Rattle.vs_slots_uses.specs.vs_rules.specs.Certificates.{residues_from}
-use Rattle.vs_slots_uses.specs.vs_rules.specs.Claims.{IsDelay}
-use Rattle.vs_slots_uses.specs.vs_rules.specs.Controls.{controls_in, list_of}
-use Rattle.vs_cert_facts.specs.vs_slots_paths.specs.Reaches.{Chart}
+use Rattle.vs_maps.specs.vs_rules.specs.Certificates.{residues_from}
+use Rattle.vs_maps.specs.vs_rules.specs.Claims.{IsDelay}
+use Rattle.vs_maps.specs.vs_rules.specs.Controls.{controls_in, list_of}
+use Rattle.vs_claims.specs.vs_maps.specs.Reaches.{Chart}
 use Rattle.vs_slots.specs.Kept.{RunsWhere}
 use Rattle.vs_slots.specs.Runs.{AreListedRuns}
 use Rattle.vs_slots.proofs.KeptLemmas.{listed_are}

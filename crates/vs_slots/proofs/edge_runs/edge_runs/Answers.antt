@@ -1,7 +1,7 @@
 use Rattle.std.proofs.Common.{◌≡◌, ℕ, ◌+◌, Some, List, [], ◌∷◌, ◌++◌, length, slice_get, sym, ◌∙◌, ap, subst, arith}
 use Rattle.std.proofs.lemmas.List.{length-append}
 use Rattle.vs_design.specs.Parts.{Parts}
-use Rattle.vs_slots_uses.specs.vs_rules.specs.Claims.{IsEdge}
+use Rattle.vs_maps.specs.vs_rules.specs.Claims.{IsEdge}
 use Rattle.vs_slots.specs.declared.runs.Runs.{Runs}
 use Rattle.vs_slots.specs.Kept.{RunsWhere}
 use Rattle.vs_slots.proofs.KeptLemmas.{each_more}

@@ -1,5 +1,5 @@
 use Rattle.std.proofs.Common.{◌≡◌, ℕ, Some, length, slice_get}
-use Rattle.vs_slots_uses.specs.vs_rules.specs.Claims.{IsEdge}
+use Rattle.vs_maps.specs.vs_rules.specs.Claims.{IsEdge}
 use Rattle.vs_slots.specs.declared.runs.Runs.{Runs}
 use Rattle.vs_slots.specs.Kept.{RunsWhere}
 use Rattle.vs_slots.proofs.edge_runs.edge_runs.Given as goal

@@ -1,6 +1,6 @@
 use Rattle.std.proofs.Common.{ℕ, ◌<◌, sym, subst}
-use Rattle.vs_cert_facts.specs.vs_slots_paths.specs.Ranges.{pause_terms}
-use Rattle.vs_cert_facts.specs.vs_slots_paths.specs.Reaches.{pause_at}
+use Rattle.vs_claims.specs.vs_maps.specs.Ranges.{pause_terms}
+use Rattle.vs_claims.specs.vs_maps.specs.Reaches.{pause_at}
 use Rattle.vs_slots.proofs.KeptLemmas.{terms_in}
 use Rattle.vs_slots.proofs.edge_runs.fired_runs.Goals as goal
 

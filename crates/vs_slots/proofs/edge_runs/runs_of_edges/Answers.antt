@@ -2,8 +2,8 @@ use Rattle.std.proofs.Common.{◌∙◌, subst}
 use Rattle.std.proofs.lemmas.Option.{same_Some}
 use Rattle.std.proofs.lemmas.Result.{IfOk-weaker}
 use Rattle.vs_design.specs.Tables.{rows}
-use Rattle.vs_slots_uses.specs.vs_rules.specs.Claims.{IsEdge}
-use Rattle.vs_cert_facts.specs.vs_slots_paths.specs.Reaches.{Chart}
+use Rattle.vs_maps.specs.vs_rules.specs.Claims.{IsEdge}
+use Rattle.vs_claims.specs.vs_maps.specs.Reaches.{Chart}
 use Rattle.vs_slots.specs.Kept.{RunsWhere}
 use Rattle.vs_slots.specs.Runs.{AreFiredRuns}
 use Rattle.vs_slots.proofs.KeptLemmas.{fired_are}

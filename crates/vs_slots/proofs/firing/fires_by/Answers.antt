@@ -2,7 +2,7 @@ use Rattle.std.proofs.Common.{◌≡◌, ℕ, ◌<◌, ◌↔◌, List, Some, le
 use Rattle.std.specs.List.{Contains}
 use Rattle.std.proofs.lemmas.Option.{same_Some}
 use Rattle.std.proofs.lemmas.Result.{IfOk-weaker}
-use Rattle.vs_cert_facts.specs.vs_slots_paths.specs.Reaches.{Chart}
+use Rattle.vs_claims.specs.vs_maps.specs.Reaches.{Chart}
 use Rattle.vs_slots.specs.Kept.{IsFiringBy, IsPlaceFiring}
 use Rattle.vs_slots.proofs.KeptLemmas.{each_element}
 use Rattle.vs_slots.proofs.WrittenLemmas.{stands}

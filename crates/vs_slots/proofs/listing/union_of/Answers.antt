@@ -1,6 +1,6 @@
 use Rattle.std.proofs.Common.{ℕ, ◌<◌, List, ◌↔◌, sym, subst}
 use Rattle.std.specs.List.{Contains}
-use Rattle.vs_slots_residues.specs.vs_reach.proofs.Sets.{more, up_to}
+use Rattle.vs_graph.proofs.Sets.{more, up_to}
 use Rattle.vs_slots.proofs.Unions.{same_either, same_as}
 use Rattle.vs_slots.proofs.listing.union_of.Goals as goal
 

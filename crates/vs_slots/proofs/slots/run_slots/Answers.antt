@@ -2,7 +2,7 @@ use Rattle.std.proofs.Common.{ℕ, ◌↔◌, inl, inr, refl}
 use Rattle.std.specs.List.{Contains}
 use Rattle.std.proofs.lemmas.Bool.{false≢true}
 use Rattle.std.proofs.lemmas.Result.{IfOk-weaker}
-use Rattle.vs_slots_uses.specs.vs_rules.specs.Claims.{IsDelay, IsEdge}
+use Rattle.vs_maps.specs.vs_rules.specs.Claims.{IsDelay, IsEdge}
 use Rattle.vs_slots.specs.Kept.{IsKeptRun, IsRunIn}
 use Rattle.vs_slots.proofs.slots.run_slots.Goals as goal
 

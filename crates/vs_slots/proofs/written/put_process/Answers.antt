@@ -1,8 +1,8 @@
 use Rattle.std.proofs.Common.{◌∙◌, subst, length, ◌<◌}
 use Rattle.std.proofs.lemmas.Option.{none-some, same_Some}
 use Rattle.std.proofs.lemmas.Result.{on_ok_weaker}
-use Rattle.vs_cert_facts.specs.vs_slots_paths.specs.Reaches.{Chart, places}
-use Rattle.vs_slots_uses.specs.Written.{IsWrittenAt, StandsIn}
+use Rattle.vs_claims.specs.vs_maps.specs.Reaches.{Chart, places}
+use Rattle.vs_maps.specs.Written.{IsWrittenAt, StandsIn}
 use Rattle.vs_slots.proofs.written.put_process.Goals as goal
 
 pub returns-in-None-clause-there : goal.returns-in-None-clause-there

@@ -1,6 +1,6 @@
 use Rattle.std.proofs.Common.{ℕ, List, refl, sym, ◌∙◌, ap, subst}
 use Rattle.std.specs.List.{Contains}
-use Rattle.vs_cert_facts.specs.vs_slots_paths.specs.Reaches.{pause_view}
+use Rattle.vs_claims.specs.vs_maps.specs.Reaches.{pause_view}
 use Rattle.vs_cert_blocks.proofs.Gathered.{put_wakes}
 use Rattle.vs_cert_blocks.proofs.walks.WakesFamily.put.Goals as goal
 

@@ -1,7 +1,7 @@
 use Rattle.std.proofs.Common.{ℕ, ◌<◌, ◌-◌}
-use Rattle.vs_reach_local.specs.Clear.{AreClear}
-use Rattle.vs_cert_facts.specs.vs_slots_paths.specs.Reaches.{places}
-use Rattle.vs_slots_ranges.specs.Places.{bit}
+use Rattle.vs_graph.specs.Clear.{AreClear}
+use Rattle.vs_claims.specs.vs_maps.specs.Reaches.{places}
+use Rattle.vs_drivers.specs.Places.{bit}
 use Rattle.vs_cert_blocks.specs.Walks.{IsWrittenFirst}
 use Rattle.vs_cert_blocks.proofs.walks.Walks.signal_is_written_first.Given as goal
 

@@ -1,9 +1,9 @@
 use Rattle.std.proofs.Common.{◌↔◌, IsTrue, slice_index_or, arith}
 use Rattle.std.proofs.lemmas.Option.{slice_get-get_or}
 use Rattle.std.proofs.lemmas.Result.{IfOk-weaker}
-use Rattle.vs_cert_names.specs.declared.subjects.Subject.TheVariants.{Signal}
-use Rattle.vs_cert_names.specs.Subjects.{subject_view}
-use Rattle.vs_cert_starts.specs.vs_rules.specs.Verdict.{Keeps}
+use Rattle.vs_claims.specs.declared.subjects.Subject.TheVariants.{Signal}
+use Rattle.vs_claims.specs.Subjects.{subject_view}
+use Rattle.vs_rules_of_starts.specs.vs_rules.specs.Verdict.{Keeps}
 use Rattle.vs_cert_check.specs.Verdicts.{rule_of, KeepsAt}
 use Rattle.vs_cert_check.proofs.Judged.{kept_at, subject_at}
 use Rattle.vs_cert_check.proofs.SubjectLemmas.{subject_of}

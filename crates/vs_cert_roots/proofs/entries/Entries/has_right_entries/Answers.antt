@@ -1,7 +1,7 @@
 use Rattle.std.proofs.Common.{◌<◌, ◌≤◌, ℕ, length, refl, sym, ◌∙◌, subst, arith}
 use Rattle.std.proofs.lemmas.Bool.{eqb-true}
 use Rattle.vs_design.specs.vs_logic4.proofs.Basics.{same_self}
-use Rattle.vs_cert_ranks.specs.vs_cert_facts.specs.Facts.{Case}
+use Rattle.vs_rules_of_signals.specs.vs_claims.specs.Facts.{Case}
 use Rattle.vs_cert_roots.specs.Entries.{KeepsEntries}
 use Rattle.vs_cert_roots.proofs.EntryLemmas.{past_entries, right_edge, right_none}
 use Rattle.vs_cert_roots.proofs.entries.Entries.has_right_entries.Goals as goal

@@ -1,8 +1,8 @@
 use Rattle.std.proofs.Common.{◌<◌, ℕ, List, length, sym, ◌∙◌, subst}
 use Rattle.std.specs.List.{Contains}
 use Rattle.vs_design.specs.declared.statement.EventTerm.{EventTerm}
-use Rattle.vs_slots_copies.proofs.ListLemmas.{row_at}
-use Rattle.vs_cert_ranks.specs.vs_cert_facts.specs.Facts.{Case}
+use Rattle.vs_drivers.proofs.ListLemmas.{row_at}
+use Rattle.vs_rules_of_signals.specs.vs_claims.specs.Facts.{Case}
 use Rattle.vs_cert_roots.specs.Entries.{KeepsEntries, NamesTerm, WakesAt}
 use Rattle.vs_cert_roots.proofs.FirstRows.{row_exact}
 use Rattle.vs_cert_roots.proofs.TermLemmas.{calm_is, term_within}

@@ -1,8 +1,8 @@
 use Rattle.std.proofs.Common.{◌≡◌, ◌<◌, ℕ, length, sym, ap, ◌∙◌, subst, arith}
 use Rattle.std.specs.List.{list_any}
-use Rattle.vs_slots_copies.proofs.ListLemmas.{row_at}
+use Rattle.vs_drivers.proofs.ListLemmas.{row_at}
 use Rattle.vs_rules.specs.Rules.{IsEdgeSignal}
-use Rattle.vs_cert_ranks.specs.vs_cert_facts.specs.Facts.{Case}
+use Rattle.vs_rules_of_signals.specs.vs_claims.specs.Facts.{Case}
 use Rattle.vs_cert_roots.specs.Entries.{AreTerms, KeepsEntries, NamesTerm, is_edge_of}
 use Rattle.vs_cert_roots.proofs.FirstRows.{row_exact, row_told}
 use Rattle.vs_cert_roots.proofs.TermLemmas.{edge_signal_is, named_signal, signal_named, term_within}

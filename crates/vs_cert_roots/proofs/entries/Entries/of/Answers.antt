@@ -4,8 +4,8 @@ use Rattle.vs_design.specs.Parts.{Parts}
 use Rattle.vs_design.specs.declared.statement.EventTerm.{EventTerm}
 use Rattle.vs_rules.specs.Certificates.{edge_claim}
 use Rattle.vs_rules.specs.Claims.{Claims}
-use Rattle.vs_slots_copies.specs.vs_slots_paths.specs.Indexes.{AreRows}
-use Rattle.vs_cert_ranks.specs.vs_cert_facts.specs.Facts.{Case}
+use Rattle.vs_drivers.specs.vs_maps.specs.Indexes.{AreRows}
+use Rattle.vs_rules_of_signals.specs.vs_claims.specs.Facts.{Case}
 use Rattle.vs_cert_roots.specs.Entries.{KeepsEntries, NamesEntry, NamesTerm}
 use Rattle.vs_cert_roots.proofs.entries.Entries.of.Goals as goal
 

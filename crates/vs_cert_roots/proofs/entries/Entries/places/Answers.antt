@@ -1,6 +1,6 @@
 use Rattle.std.proofs.Common.{◌<◌, ◌≤◌, ℕ, length, [], refl, sym, ◌∙◌, subst, arith}
-use Rattle.vs_slots_copies.proofs.ListLemmas.{row_at}
-use Rattle.vs_cert_ranks.specs.vs_cert_facts.specs.Facts.{Case}
+use Rattle.vs_drivers.proofs.ListLemmas.{row_at}
+use Rattle.vs_rules_of_signals.specs.vs_claims.specs.Facts.{Case}
 use Rattle.vs_cert_roots.specs.Entries.{KeepsEntries}
 use Rattle.vs_cert_roots.proofs.EntryLemmas.{row_is, past_row}
 use Rattle.vs_cert_roots.proofs.entries.Entries.places.Goals as goal

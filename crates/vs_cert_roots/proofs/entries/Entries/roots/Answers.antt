@@ -4,7 +4,7 @@ use Rattle.std.specs.declared.vec.Vec.{Vec}
 use Rattle.std.specs.declared.alloc.Global.{Global}
 use Rattle.std.proofs.lemmas.Result.{IfOk-weaker}
 use Rattle.vs_rules.specs.Claims.{IsRootOf}
-use Rattle.vs_cert_ranks.specs.vs_cert_facts.specs.Facts.{Case, IsRootAt}
+use Rattle.vs_rules_of_signals.specs.vs_claims.specs.Facts.{Case, IsRootAt}
 use Rattle.vs_cert_roots.specs.Entries.{NamesEntry}
 use Rattle.vs_cert_roots.proofs.EntryLemmas.{roots_are}
 use Rattle.vs_cert_roots.proofs.entries.Entries.roots.Goals as goal

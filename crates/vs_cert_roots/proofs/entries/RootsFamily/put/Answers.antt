@@ -1,7 +1,7 @@
 use Rattle.std.proofs.Common.{◌<◌, length, get_or}
 use Rattle.std.specs.List.{Contains}
 use Rattle.std.proofs.lemmas.Result.{on_ok_weaker}
-use Rattle.vs_cert_ranks.specs.vs_cert_facts.specs.Facts.{IsRootAt}
+use Rattle.vs_rules_of_signals.specs.vs_claims.specs.Facts.{IsRootAt}
 use Rattle.vs_cert_roots.proofs.ListLemmas.{with_bound}
 use Rattle.vs_cert_roots.proofs.entries.RootsFamily.put.Goals as goal
 

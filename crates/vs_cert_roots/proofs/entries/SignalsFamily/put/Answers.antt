@@ -1,7 +1,7 @@
 use Rattle.std.proofs.Common.{◌≡◌, ◌<◌, ◌↔◌, ℕ, List, length, Some, refl, subst, arith}
 use Rattle.vs_rules.specs.Certificates.{edge_claim}
 use Rattle.vs_rules.specs.Claims.{IsSignalNamed}
-use Rattle.vs_slots_copies.proofs.CopyLemmas.{at_here}
+use Rattle.vs_drivers.proofs.CopyLemmas.{at_here}
 use Rattle.vs_cert_roots.proofs.EntryLemmas.{entry_here, put_one_named}
 use Rattle.vs_cert_roots.proofs.entries.SignalsFamily.put.Goals as goal
 

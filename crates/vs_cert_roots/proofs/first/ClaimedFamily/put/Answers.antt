@@ -1,5 +1,5 @@
 use Rattle.std.proofs.Common.{◌≡◌, ◌↔◌, ℕ, Option, Some, subst}
-use Rattle.vs_cert_ranks.specs.vs_cert_facts.specs.Facts.{IsRootAt}
+use Rattle.vs_rules_of_signals.specs.vs_claims.specs.Facts.{IsRootAt}
 use Rattle.vs_cert_roots.proofs.FirstRows.{no_claimed, one_claimed}
 use Rattle.vs_cert_roots.proofs.first.ClaimedFamily.put.Goals as goal
 

@@ -1,5 +1,5 @@
 use Rattle.std.proofs.Common.{◌≡◌, ◌↔◌, ◌<◌, ℕ, Option, Some, None, IsTrue, length, refl, subst, ◌∙◌}
-use Rattle.vs_cert_ranks.specs.vs_cert_facts.specs.Facts.{Case, IsRootAt}
+use Rattle.vs_rules_of_signals.specs.vs_claims.specs.Facts.{Case, IsRootAt}
 use Rattle.vs_cert_roots.specs.First.{WakesSignal}
 use Rattle.vs_cert_roots.proofs.FirstRows.{no_entry_calm, other_root_calm, entry_calm, entry_within}
 use Rattle.vs_cert_roots.proofs.first.FirstWrites.is_calm.Goals as goal

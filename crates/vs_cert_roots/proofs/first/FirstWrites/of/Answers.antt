@@ -1,7 +1,7 @@
 use Rattle.std.proofs.Common.{◌≡◌, ℕ, length, ap, ◌∙◌, subst}
 use Rattle.vs_design.specs.Parts.{Parts}
-use Rattle.vs_slots_copies.specs.vs_slots_paths.specs.Indexes.{AreRows}
-use Rattle.vs_cert_ranks.specs.vs_cert_facts.specs.Facts.{Case}
+use Rattle.vs_drivers.specs.vs_maps.specs.Indexes.{AreRows}
+use Rattle.vs_rules_of_signals.specs.vs_claims.specs.Facts.{Case}
 use Rattle.vs_cert_roots.specs.First.{HasSite, KeepsFirst, NamesRoot}
 use Rattle.vs_cert_roots.proofs.first.FirstWrites.of.Goals as goal
 

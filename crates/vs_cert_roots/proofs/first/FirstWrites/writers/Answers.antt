@@ -1,6 +1,6 @@
 use Rattle.std.proofs.Common.{◌<◌, ℕ, length, sym, ◌∙◌, subst}
-use Rattle.vs_slots_copies.proofs.ListLemmas.{row_at}
-use Rattle.vs_cert_ranks.specs.vs_cert_facts.specs.Facts.{Case}
+use Rattle.vs_drivers.proofs.ListLemmas.{row_at}
+use Rattle.vs_rules_of_signals.specs.vs_claims.specs.Facts.{Case}
 use Rattle.vs_cert_roots.specs.First.{HasSite, KeepsFirst}
 use Rattle.vs_cert_roots.proofs.FirstRows.{row_exact, site_within}
 use Rattle.vs_cert_roots.proofs.first.FirstWrites.writers.Goals as goal

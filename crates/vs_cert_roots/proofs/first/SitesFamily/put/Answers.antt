@@ -1,7 +1,7 @@
 use Rattle.std.proofs.Common.{◌<◌, rules}
 use Rattle.std.specs.List.{Contains}
 use Rattle.std.proofs.lemmas.Result.{on_ok_weaker}
-use Rattle.vs_slots_copies.specs.vs_slots_paths.specs.Reaches.{places}
+use Rattle.vs_drivers.specs.vs_maps.specs.Reaches.{places}
 use Rattle.vs_cert_roots.specs.First.{SiteAt}
 use Rattle.vs_cert_roots.proofs.ListLemmas.{with_bound}
 use Rattle.vs_cert_roots.proofs.first.SitesFamily.put.Goals as goal

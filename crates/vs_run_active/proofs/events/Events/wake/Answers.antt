@@ -1,9 +1,9 @@
 use Rattle.std.proofs.Common.{List, OnOk, ap, subst, ◌∙◌, arith}
-use Rattle.vs_run_wakes.specs.vs_edges.specs.declared.masks.WordChange.{WordChange}
+use Rattle.vs_run_active.specs.vs_edges.specs.declared.masks.WordChange.{WordChange}
 use Rattle.std.proofs.lemmas.Result.{on_ok_weaker}
-use Rattle.vs_run_wakes.specs.vs_run_processes.specs.declared.process.Process.{Process}
-use Rattle.vs_run_tables.specs.declared.watchers.Watcher.{Watcher}
-use Rattle.vs_run_tables.specs.Groups.{meaning, spelled}
+use Rattle.vs_run_active.specs.declared.process.Process.{Process}
+use Rattle.vs_run_active.specs.declared.watchers.Watcher.{Watcher}
+use Rattle.vs_run_active.specs.Groups.{meaning, spelled}
 use Rattle.vs_run_active.specs.Wakes.{AreWalked, Wakes, has_one, woken_watched}
 use Rattle.vs_run_active.proofs.WakesLemmas.{rises_walked, unwatched, wakes_row}
 use Rattle.vs_run_active.proofs.events.Events.wake.Goals as goal

@@ -1,6 +1,6 @@
 use Rattle.std.proofs.Common.{sym, ◌∙◌, subst}
 use Rattle.std.proofs.lemmas.Option.{same_Some}
-use Rattle.vs_run_tables.specs.declared.rows.Row.{Row}
+use Rattle.vs_run_active.specs.declared.rows.Row.{Row}
 use Rattle.vs_run_active.specs.Wakes.{AreWalked}
 use Rattle.vs_run_active.proofs.events.Events.wake_controls.Goals as goal
 

@@ -1,6 +1,6 @@
 use Rattle.std.proofs.Common.{List, ap, ◌∙◌, arith}
 use Rattle.vs_design.specs.vs_logic4.specs.declared.edge.Edge.TheVariants.{Negedge}
-use Rattle.vs_run_tables.specs.declared.watchers.Watcher.{Watcher}
+use Rattle.vs_run_active.specs.declared.watchers.Watcher.{Watcher}
 use Rattle.vs_run_active.specs.Wakes.{walked_by}
 use Rattle.vs_run_active.proofs.EdgesExist.{edge_number, edge_number-fits, falls-are}
 use Rattle.vs_run_active.proofs.WakesLemmas.{none_between}

@@ -1,8 +1,8 @@
 use Rattle.std.proofs.Common.{ℕ, ◌-◌, List, get_or, map, refl, sym, ◌∙◌, ap}
 use Rattle.std.proofs.lemmas.Result.{on_ok_weaker}
-use Rattle.vs_run_tables.specs.Groups.{group_members, meaning, no_group, numbered_as}
+use Rattle.vs_run_active.specs.Groups.{group_members, meaning, no_group, numbered_as}
 use Rattle.vs_run_active.specs.Wakes.{has_one, woken_all, woken_watched}
-use Rattle.vs_run_tables.proofs.GroupsLemmas.{meant_group}
+use Rattle.vs_run_active.proofs.GroupsLemmas.{meant_group}
 use Rattle.vs_run_active.proofs.WakesLemmas.{all_spelled, none_spelled}
 use Rattle.vs_run_active.proofs.events.Events.wake_reader.Goals as goal
 

@@ -1,7 +1,7 @@
 use Rattle.std.proofs.Common.{List, sym, ap, ◌∙◌}
 use Rattle.std.proofs.lemmas.List.{drop_all}
-use Rattle.vs_run_tables.specs.declared.watchers.Watcher.{Watcher}
-use Rattle.vs_run_tables.specs.Groups.{meaning, spelled}
+use Rattle.vs_run_active.specs.declared.watchers.Watcher.{Watcher}
+use Rattle.vs_run_active.specs.Groups.{meaning, spelled}
 use Rattle.vs_run_active.specs.Wakes.{has_one, woken_watched}
 use Rattle.vs_run_active.proofs.WakesLemmas.{spelled_more}
 use Rattle.vs_run_active.proofs.events.Events.wake_readers.Goals as goal

@@ -1,5 +1,5 @@
 use Rattle.std.proofs.Common.{◌≡◌, drop}
-use Rattle.vs_run_tables.specs.Groups.{meaning, spelled}
+use Rattle.vs_run_active.specs.Groups.{meaning, spelled}
 use Rattle.vs_run_active.specs.Wakes.{has_one, woken_watched}
 use Rattle.vs_run_active.proofs.events.Events.wake_readers.Given as goal
 

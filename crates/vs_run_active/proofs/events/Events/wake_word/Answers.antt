@@ -1,9 +1,9 @@
 use Rattle.std.proofs.Common.{List, subst, ◌∙◌, arith}
 use Rattle.std.proofs.lemmas.Result.{on_ok_weaker}
-use Rattle.vs_run_wakes.specs.vs_run_processes.specs.declared.process.Process.{Process}
-use Rattle.vs_run_tables.specs.Groups.{meaning}
+use Rattle.vs_run_active.specs.declared.process.Process.{Process}
+use Rattle.vs_run_active.specs.Groups.{meaning}
 use Rattle.vs_run_active.specs.Wakes.{AreWalked}
-use Rattle.vs_run_tables.specs.Watchers.{between}
+use Rattle.vs_run_active.specs.Watchers.{between}
 use Rattle.vs_run_active.proofs.WakesLemmas.{wakes_row}
 use Rattle.vs_run_active.proofs.SeeingLemmas.{same_wake}
 use Rattle.vs_run_active.proofs.events.Events.wake_word.Goals as goal

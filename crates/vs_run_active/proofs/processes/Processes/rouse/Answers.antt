@@ -1,5 +1,5 @@
 use Rattle.std.proofs.Common.{◌∙◌}
-use Rattle.vs_run_wakes.specs.vs_run_processes.specs.Standings.{roused_in}
+use Rattle.vs_run_active.specs.Standings.{roused_in}
 use Rattle.vs_run_active.proofs.LeftLemmas.{changed_none, changed_put}
 use Rattle.vs_run_active.proofs.processes.Processes.rouse.Goals as goal
 

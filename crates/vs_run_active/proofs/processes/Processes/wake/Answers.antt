@@ -1,5 +1,5 @@
 use Rattle.std.proofs.Common.{◌∙◌, Bool, if◌then◌else◌, sym, ap}
-use Rattle.vs_run_wakes.specs.vs_run_processes.specs.Standings.{gone_on, triggered_at}
+use Rattle.vs_run_active.specs.Standings.{gone_on, triggered_at}
 use Rattle.vs_run_active.proofs.LeftLemmas.{changed_none, changed_put, changed_stays}
 use Rattle.vs_run_active.proofs.processes.Processes.wake.Goals as goal
 

@@ -1,5 +1,5 @@
-use Rattle.vs_run_processes.specs.vs_process.proofs.Results.{on_err}
-use Rattle.vs_run_steps.specs.vs_run_turns.proofs.TurnsLemmas.{turned_part}
+use Rattle.vs_run_active.specs.vs_process.proofs.Results.{on_err}
+use Rattle.vs_run_steps.proofs.TurnsLemmas.{turned_part}
 use Rattle.vs_run_moves.proofs.run.Run.end_region.Goals as goal
 
 pub returns-in_err-list_woken-clause-err : goal.returns-in_err-list_woken-clause-err

@@ -1,18 +1,18 @@
 use Rattle.std.proofs.Common.{◌≡◌, ◌∙◌, None, List, true, sym, ap, subst}
 use Rattle.vs_design.specs.Parts.{Parts}
 use Rattle.vs_design.specs.Traces.{Slot}
-use Rattle.vs_run_processes.specs.vs_process.specs.declared.moves.Move.TheVariants.{EndSlot}
-use Rattle.vs_run_processes.specs.vs_process.specs.Executions.{apply, ended_slot, is_enabled}
-use Rattle.vs_run_processes.specs.vs_process.proofs.Results.{on_err}
-use Rattle.vs_run_processes.specs.vs_process.specs.States.{State}
+use Rattle.vs_run_active.specs.vs_process.specs.declared.moves.Move.TheVariants.{EndSlot}
+use Rattle.vs_run_active.specs.vs_process.specs.Executions.{apply, ended_slot, is_enabled}
+use Rattle.vs_run_active.specs.vs_process.proofs.Results.{on_err}
+use Rattle.vs_run_active.specs.vs_process.specs.States.{State}
 use Rattle.vs_run_steps.specs.Runs.{running_of, state_of}
 use Rattle.vs_run_moves.specs.Standing.{IsStanding, Standing, point_of}
-use Rattle.vs_run_steps.specs.vs_run_turns.specs.Points.{point}
-use Rattle.vs_run_steps.specs.vs_run_turns.specs.Recording.{HasNoted}
-use Rattle.vs_run_steps.specs.vs_run_turns.specs.Slots.{AppendsSlotsPart}
-use Rattle.vs_run_steps.specs.vs_run_turns.specs.Turns.{Turned, TurnedPart}
-use Rattle.vs_run_steps.specs.vs_run_turns.proofs.Appending.{part_all}
-use Rattle.vs_run_steps.specs.vs_run_turns.proofs.WritingLemmas.{slots_whole}
+use Rattle.vs_run_steps.specs.Points.{point}
+use Rattle.vs_run_steps.specs.Recording.{HasNoted}
+use Rattle.vs_run_steps.specs.Slots.{AppendsSlotsPart}
+use Rattle.vs_run_steps.specs.Turns.{Turned, TurnedPart}
+use Rattle.vs_run_steps.proofs.Appending.{part_all}
+use Rattle.vs_run_steps.proofs.WritingLemmas.{slots_whole}
 use Rattle.vs_run_moves.proofs.MarkingLemmas.{kept_on}
 use Rattle.vs_run_moves.proofs.RegionLemmas.{ended_part, ended_turned}
 use Rattle.vs_run_events.proofs.RunLemmas.{marks_still, own_run, run_of_own}

@@ -1,15 +1,15 @@
 use Rattle.std.proofs.Common.{◌≡◌, None, true, sym, ap, subst}
-use Rattle.vs_run_processes.specs.vs_process.specs.declared.moves.Move.TheVariants.{Rouse, Activate}
-use Rattle.vs_run_processes.specs.vs_process.specs.Executions.{is_enabled}
-use Rattle.vs_run_processes.specs.vs_process.proofs.Results.{on_err}
-use Rattle.vs_run_processes.specs.vs_process.specs.States.{State}
+use Rattle.vs_run_active.specs.vs_process.specs.declared.moves.Move.TheVariants.{Rouse, Activate}
+use Rattle.vs_run_active.specs.vs_process.specs.Executions.{is_enabled}
+use Rattle.vs_run_active.specs.vs_process.proofs.Results.{on_err}
+use Rattle.vs_run_active.specs.vs_process.specs.States.{State}
 use Rattle.vs_run_events.specs.declared.state.Region.{Region}
 use Rattle.vs_run_events.specs.Running.{region_move}
 use Rattle.vs_run_steps.specs.Runs.{running_of, state_of}
 use Rattle.vs_run_moves.specs.Standing.{IsStanding, Standing, point_of}
-use Rattle.vs_run_steps.specs.vs_run_turns.specs.Points.{point}
-use Rattle.vs_run_steps.specs.vs_run_turns.specs.Turns.{Turned, TurnedPart}
-use Rattle.vs_run_steps.specs.vs_run_turns.proofs.TurnsLemmas.{turned_part}
+use Rattle.vs_run_steps.specs.Points.{point}
+use Rattle.vs_run_steps.specs.Turns.{Turned, TurnedPart}
+use Rattle.vs_run_steps.proofs.TurnsLemmas.{turned_part}
 use Rattle.vs_run_moves.proofs.RegionLemmas.{activate_turned, rouse_turned}
 use Rattle.vs_run_events.proofs.RunLemmas.{marks_still, own_run, run_of_own}
 use Rattle.vs_run_moves.proofs.StandingLemmas.{standing_on}

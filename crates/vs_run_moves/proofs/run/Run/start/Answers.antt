@@ -1,10 +1,10 @@
 use Rattle.std.proofs.Common.{◌≡◌, List, [], ℕ, length, refl, sym, ◌∙◌, ap, subst, arith}
-use Rattle.vs_run_processes.specs.vs_process.proofs.Results.{on_err}
+use Rattle.vs_run_active.specs.vs_process.proofs.Results.{on_err}
 use Rattle.vs_design.specs.Parts.{Parts}
 use Rattle.vs_run_moves.specs.Standing.{IsKept}
 use Rattle.vs_run_steps.specs.Runs.{IsRunOf, marks_of, running_of, state_of}
-use Rattle.vs_run_steps.specs.vs_run_turns.specs.Recording.{HasRoom}
-use Rattle.vs_run_steps.specs.vs_run_turns.proofs.Appending.{part_all}
+use Rattle.vs_run_steps.specs.Recording.{HasRoom}
+use Rattle.vs_run_steps.proofs.Appending.{part_all}
 use Rattle.vs_run_moves.proofs.MarkingLemmas.{kept_noted, noted_first}
 use Rattle.vs_run_moves.proofs.run.Run.start.Goals as goal
 

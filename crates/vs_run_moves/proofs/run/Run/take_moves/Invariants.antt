@@ -1,6 +1,6 @@
 use Rattle.std.proofs.Common.{◌≡◌, ◌<◌}
 use Rattle.vs_run_moves.specs.Standing.{IsStanding, point_of}
-use Rattle.vs_run_steps.specs.vs_run_turns.specs.Turns.{Turning}
+use Rattle.vs_run_steps.specs.Turns.{Turning}
 use Rattle.vs_run_moves.proofs.run.Run.take_moves.Given as goal
 
 abbrev pub invariant-loop-event : goal.invariant-loop-event

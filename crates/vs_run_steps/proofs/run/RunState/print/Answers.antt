@@ -1,6 +1,6 @@
 use Rattle.std.specs.Prelude.{OnErr}
 use Rattle.std.proofs.Common.{sym, subst}
-use Rattle.vs_flatcode.specs.declared.script.Action.{Action}
+use Rattle.vs_process.specs.declared.script.Action.{Action}
 use Rattle.vs_vcd_writing.specs.Sinks.{AppendsPart}
 use Rattle.vs_run_steps.specs.Stepping.{action_text}
 use Rattle.vs_run_steps.proofs.run.RunState.print.Goals as goal

@@ -1,6 +1,6 @@
 use Rattle.std.proofs.Common.{ℕ, List, ◌∙◌, ap}
 use Rattle.vs_design.specs.Stores.{Store}
-use Rattle.vs_flatcode.specs.Choices.{repeat_lands}
+use Rattle.vs_process.specs.Choices.{repeat_lands}
 use Rattle.vs_run_steps.specs.Runs.{counters_at}
 use Rattle.vs_run_steps.proofs.RunsLemmas.{counter_read, counter_set}
 use Rattle.vs_run_steps.proofs.run.RunState.repeat.Goals as goal

@@ -1,16 +1,16 @@
 use Rattle.std.proofs.Common.{◌≡◌, ℕ, Option, List, [], refl, sym, ◌∙◌, ap, subst}
 use Rattle.std.proofs.lemmas.Bool.{false≢true}
-use Rattle.vs_flatcode.specs.Places.{Place, is_going}
-use Rattle.vs_flatcode.specs.Scripts.{todo_on}
-use Rattle.vs_run_processes.specs.vs_process.specs.Executions.{if_some}
-use Rattle.vs_run_processes.specs.vs_process.specs.States.{State}
-use Rattle.vs_run_processes.specs.vs_process.proofs.Results.{on_err}
-use Rattle.vs_run_processes.specs.Standings.{place_by}
-use Rattle.vs_run_processes.specs.Taken.{placed}
-use Rattle.vs_run_processes.proofs.TakenLemmas.{set_there}
+use Rattle.vs_process.specs.Places.{Place, is_going}
+use Rattle.vs_process.specs.Scripts.{todo_on}
+use Rattle.vs_run_active.specs.vs_process.specs.Executions.{if_some}
+use Rattle.vs_run_active.specs.vs_process.specs.States.{State}
+use Rattle.vs_run_active.specs.vs_process.proofs.Results.{on_err}
+use Rattle.vs_run_active.specs.Standings.{place_by}
+use Rattle.vs_run_active.specs.Taken.{placed}
+use Rattle.vs_run_active.proofs.TakenLemmas.{set_there}
 use Rattle.std.proofs.Common.{slice_get}
-use Rattle.vs_run_turns.specs.Turns.{IsReached}
-use Rattle.vs_run_turns.proofs.TakenLemmas.{taken_reached}
+use Rattle.vs_run_steps.specs.Turns.{IsReached}
+use Rattle.vs_run_steps.proofs.TakenLemmas.{taken_reached}
 use Rattle.vs_run_steps.specs.Runs.{counters_at, counters_of, state_of}
 use Rattle.vs_run_steps.specs.Stepping.{IsStand}
 use Rattle.vs_run_steps.proofs.RunsLemmas.{place_past, place_there}

@@ -1,12 +1,12 @@
 use Rattle.std.proofs.Common.{◌≡◌, ℕ, ◌<◌, suc, List, refl, sym, ◌∙◌, ap, subst, add-one, arith}
 use Rattle.std.proofs.lemmas.Option.{slice_get_past}
-use Rattle.vs_flatcode.specs.declared.gait.Gait.{Gait}
-use Rattle.vs_flatcode.specs.Places.{active_at}
-use Rattle.vs_flatcode.specs.Scripts.{todo_on}
-use Rattle.vs_flatcode.proofs.SpotLemmas.{found_there}
-use Rattle.vs_run_processes.specs.vs_process.proofs.Results.{on_err}
-use Rattle.vs_run_processes.specs.Standings.{place_by}
-use Rattle.vs_run_processes.specs.Taken.{placed}
+use Rattle.vs_process.specs.declared.gait.Gait.{Gait}
+use Rattle.vs_process.specs.Places.{active_at}
+use Rattle.vs_process.specs.Scripts.{todo_on}
+use Rattle.vs_process.proofs.SpotLemmas.{found_there}
+use Rattle.vs_run_active.specs.vs_process.proofs.Results.{on_err}
+use Rattle.vs_run_active.specs.Standings.{place_by}
+use Rattle.vs_run_active.specs.Taken.{placed}
 use Rattle.vs_run_steps.specs.declared.step.Went.{Went}
 use Rattle.vs_run_steps.specs.Runs.{counters_at, state_of}
 use Rattle.vs_run_steps.specs.Stepping.{Acts, HaveTaken, IsStepping}

@@ -1,5 +1,5 @@
 use Rattle.std.proofs.Common.{ℕ, List, ◌∙◌, ap}
-use Rattle.vs_flatcode.specs.Choices.{turns_lands}
+use Rattle.vs_process.specs.Choices.{turns_lands}
 use Rattle.vs_run_steps.specs.Runs.{counters_at}
 use Rattle.vs_run_steps.proofs.RunsLemmas.{counter_read, counter_set}
 use Rattle.vs_run_steps.proofs.run.RunState.turn.Goals as goal

@@ -1,6 +1,6 @@
 use Rattle.std.proofs.Common.{◌∙◌, ap}
 use Rattle.vs_design.specs.Writes.{Write}
-use Rattle.vs_run_processes.specs.vs_process.specs.States.{written}
+use Rattle.vs_run_active.specs.vs_process.specs.States.{written}
 use Rattle.vs_run_steps.specs.Runs.{state_of}
 use Rattle.vs_run_steps.proofs.RunsLemmas.{wrote, wrote_state}
 use Rattle.vs_run_steps.proofs.run.RunState.write_listed.Goals as goal

@@ -1,5 +1,5 @@
 use Rattle.vs_design.specs.vs_logic4.specs.Planes.{digits_of_planes}
-use Rattle.vs_flatcode.specs.Spots.{spot_write}
+use Rattle.vs_process.specs.Spots.{spot_write}
 use Rattle.vs_run_steps.proofs.RunsLemmas.{wrote, wrote_state}
 use Rattle.vs_run_steps.proofs.run.RunState.write_planes.Goals as goal
 

@@ -1,9 +1,9 @@
 use Rattle.std.proofs.Common.{ℕ, ◌↔◌, sym, subst}
 use Rattle.std.specs.List.{Contains}
 use Rattle.std.specs.Result.{IfOk}
-use Rattle.vs_cert_facts.specs.vs_slots_paths.specs.declared.pauses.Pause.{Pause}
-use Rattle.vs_cert_facts.specs.vs_slots_paths.specs.Ranges.{pause_terms}
-use Rattle.vs_cert_facts.specs.vs_slots_paths.specs.Reaches.{pause_view}
+use Rattle.vs_claims.specs.vs_maps.specs.declared.pauses.Pause.{Pause}
+use Rattle.vs_claims.specs.vs_maps.specs.Ranges.{pause_terms}
+use Rattle.vs_claims.specs.vs_maps.specs.Reaches.{pause_view}
 use Rattle.vs_slots.specs.Kept.{AreTermsIn}
 use Rattle.vs_slots.proofs.edge_runs.EdgeEnds.of.Goals as goal
 

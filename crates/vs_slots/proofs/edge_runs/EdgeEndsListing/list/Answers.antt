@@ -1,9 +1,9 @@
 use Rattle.std.proofs.Common.{ℕ, ◌<◌, ◌↔◌, refl, sym, subst, arith}
 use Rattle.std.specs.List.{Contains}
 use Rattle.std.proofs.lemmas.Result.{IfOk-weaker}
-use Rattle.vs_flatcode.specs.Ways as ways
-use Rattle.vs_cert_facts.specs.vs_slots_paths.specs.Ranges.{pause_terms}
-use Rattle.vs_cert_facts.specs.vs_slots_paths.specs.Reaches.{IsPlace, pause_at, pause_view, places}
+use Rattle.vs_process.specs.Ways as ways
+use Rattle.vs_claims.specs.vs_maps.specs.Ranges.{pause_terms}
+use Rattle.vs_claims.specs.vs_maps.specs.Reaches.{IsPlace, pause_at, pause_view, places}
 use Rattle.vs_slots.specs.Kept.{AreTermsIn}
 use Rattle.vs_slots.proofs.edge_runs.EdgeEndsListing.list.Goals as goal
 

@@ -1,7 +1,7 @@
 use Rattle.std.proofs.Common.{ℕ, ◌<◌, ◌↔◌, List, refl, sym, subst, arith}
 use Rattle.std.specs.List.{Contains}
 use Rattle.std.proofs.lemmas.Result.{IfOk-weaker}
-use Rattle.vs_cert_facts.specs.vs_slots_paths.specs.Reaches.{IsPlace, places}
+use Rattle.vs_claims.specs.vs_maps.specs.Reaches.{IsPlace, places}
 use Rattle.vs_slots.specs.Firing.{InPhaseOf}
 use Rattle.vs_slots.specs.Kept.{IsPlaceFiring}
 use Rattle.vs_slots.proofs.firing.PlaceFiring.at.Goals as goal

@@ -4,7 +4,7 @@ use Rattle.vs_design.specs.declared.statement.EventTerm.{EventTerm}
 use Rattle.vs_slots.specs.Kept.{IsTermIn}
 use Rattle.vs_slots.proofs.KeptLemmas.{at_element, each_element}
 use Rattle.vs_slots.proofs.Unions.{same_either}
-use Rattle.vs_slots_residues.specs.vs_reach.proofs.Sets.{more, up_to}
+use Rattle.vs_graph.proofs.Sets.{more, up_to}
 use Rattle.vs_slots.proofs.roots.Firing.of_terms.Goals as goal
 
 pub loop-i-preserved : goal.loop-i-preserved

@@ -1,7 +1,7 @@
 use Rattle.std.proofs.Common.{ℕ, ◌↔◌, Option, None, get_or, refl, sym, subst}
 use Rattle.std.specs.List.{Contains}
 use Rattle.std.proofs.lemmas.Result.{IfOk-weaker}
-use Rattle.vs_slots_uses.specs.vs_rules.specs.Claims.{IsRoot}
+use Rattle.vs_maps.specs.vs_rules.specs.Claims.{IsRoot}
 use Rattle.vs_slots_constants.specs.declared.clocks.Clock.{Clock}
 use Rattle.vs_slots.specs.Kept.{IsFiringOf}
 use Rattle.vs_slots.proofs.roots.RootFiringListing.list.Goals as goal

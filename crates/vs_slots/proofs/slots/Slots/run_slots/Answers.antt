@@ -1,7 +1,7 @@
 use Rattle.std.proofs.Common.{ℕ, ◌↔◌, List, subst}
 use Rattle.std.specs.List.{Contains}
 use Rattle.std.proofs.lemmas.Result.{IfOk-weaker}
-use Rattle.vs_cert_facts.specs.Facts.{Case}
+use Rattle.vs_claims.specs.Facts.{Case}
 use Rattle.vs_slots.specs.declared.runs.Runs.{Runs}
 use Rattle.vs_slots.specs.Kept.{IsKeptRun}
 use Rattle.vs_slots.specs.Places.{RunsOf}

@@ -3,8 +3,8 @@ use Rattle.std.specs.List.{Contains}
 use Rattle.std.specs.declared.vec.Vec.{Vec}
 use Rattle.std.specs.declared.alloc.Global.{Global}
 use Rattle.vs_design.specs.Tables.{rows}
-use Rattle.vs_slots_uses.specs.vs_rules.specs.Slots.{HasWriteSlot}
-use Rattle.vs_cert_facts.specs.Facts.{Case}
+use Rattle.vs_maps.specs.vs_rules.specs.Slots.{HasWriteSlot}
+use Rattle.vs_claims.specs.Facts.{Case}
 use Rattle.vs_slots.specs.Lists.{row}
 use Rattle.vs_slots.proofs.KeptLemmas.{write_slots_are}
 use Rattle.vs_slots.proofs.slots.Slots.write_slots.Goals as goal

@@ -1,3 +1,0 @@
-pub mod Residues
-pub mod Closed
-pub mod Places

@@ -1,3 +1,0 @@
-pub mod EdgeLemmas
-pub mod ReadingLemmas
-pub mod PairLemmas

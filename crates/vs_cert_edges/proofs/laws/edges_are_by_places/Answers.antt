@@ -1,5 +1,0 @@
-use Rattle.vs_cert_edges.proofs.EdgeLemmas.{edges_are_by_places}
-use Rattle.vs_cert_edges.proofs.laws.edges_are_by_places.Goals as goal
-
-pub returns : goal.returns
-returns c = edges_are_by_places

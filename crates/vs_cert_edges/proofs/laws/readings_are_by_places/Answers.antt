@@ -1,5 +1,0 @@
-use Rattle.vs_cert_edges.proofs.ReadingLemmas.{readings_are_by_places}
-use Rattle.vs_cert_edges.proofs.laws.readings_are_by_places.Goals as goal
-
-pub returns : goal.returns
-returns c = readings_are_by_places

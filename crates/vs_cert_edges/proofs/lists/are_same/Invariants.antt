@@ -1,7 +1,0 @@
-use Rattle.std.proofs.Common.{◌≡◌, ℕ}
-use Rattle.std.specs.List.{Contains}
-use Rattle.vs_cert_edges.proofs.PairLemmas.{Before}
-use Rattle.vs_cert_edges.proofs.lists.are_same.Given as goal
-
-abbrev pub invariant-loop-x : goal.invariant-loop-x
-invariant-loop-x l = Before (λ (x : ℕ). (y : ℕ) → Contains l.b y → x ≡ y) l.a l.x-index

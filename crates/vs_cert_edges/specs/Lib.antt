@@ -1,2 +1,0 @@
-pub mod EdgePlaces
-pub mod ReadingPlaces

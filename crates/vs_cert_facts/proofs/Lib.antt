@@ -1,3 +1,0 @@
-pub mod FactLemmas
-pub mod RootLemmas
-pub mod MapLemmas

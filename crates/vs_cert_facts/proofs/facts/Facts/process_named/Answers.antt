@@ -1,5 +1,0 @@
-use Rattle.vs_cert_facts.proofs.FactLemmas.{process_named_is}
-use Rattle.vs_cert_facts.proofs.facts.Facts.process_named.Goals as goal
-
-pub returns : goal.returns
-returns c = process_named_is c.self.invariant c.args.self.now c.self.view_is c.args.name.now c.find.result c.find.ensures

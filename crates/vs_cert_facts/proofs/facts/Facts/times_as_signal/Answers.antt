@@ -1,7 +1,0 @@
-use Rattle.std.proofs.Common.{◌∙◌, ap}
-use Rattle.vs_cert_index.specs.vs_rules.specs.Claims.{times_in}
-use Rattle.vs_cert_facts.proofs.FactLemmas.{signal_names_are}
-use Rattle.vs_cert_facts.proofs.facts.Facts.times_as_signal.Goals as goal
-
-pub returns : goal.returns
-returns c = c.times.ensures ∙ ap (times_in c.args.name.now) (signal_names_are c.self.invariant c.args.self.now c.self.view_is)

@@ -1,7 +1,0 @@
-use Rattle.std.proofs.Common.{◌≡◌, take}
-use Rattle.vs_cert_facts.specs.passes.Kept.{edge_signals}
-use Rattle.vs_cert_index.specs.Places.{texts}
-use Rattle.vs_cert_facts.proofs.names.edge_signals.Given as goal
-
-abbrev pub invariant-loop-e : goal.invariant-loop-e
-invariant-loop-e l = texts l.names.items ≡ edge_signals (take l.e-index l.edges)

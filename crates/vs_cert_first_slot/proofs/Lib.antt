@@ -1,3 +1,0 @@
-mod HungLemmas
-mod PlaceLemmas
-mod SlotLemmas

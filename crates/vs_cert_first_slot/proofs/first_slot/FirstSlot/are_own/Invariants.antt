@@ -1,5 +1,0 @@
-use Rattle.vs_cert_first_slot.proofs.PlaceLemmas.{OwnSoFar}
-use Rattle.vs_cert_first_slot.proofs.first_slot.FirstSlot.are_own.Given as goal
-
-abbrev pub invariant-loop-range : goal.invariant-loop-range
-invariant-loop-range l = OwnSoFar l.self.design l.i l.ranges l.range-index

@@ -1,2 +1,0 @@
-pub mod FirstSlot
-pub use Rattle.vs_slots_cones

@@ -1,3 +1,0 @@
-pub mod Places
-pub mod passes
-pub use Rattle.vs_rules

@@ -1,3 +1,0 @@
-pub mod Subjects
-pub mod Ordered
-pub use Rattle.vs_cert_facts.specs.vs_certificate

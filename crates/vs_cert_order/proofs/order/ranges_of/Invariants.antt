@@ -1,6 +1,0 @@
-use Rattle.std.proofs.Common.{◌≡◌, ◌++◌, map, drop}
-use Rattle.vs_slots_cones.specs.declared.writers.Written.{Written}
-use Rattle.vs_cert_order.proofs.order.ranges_of.Given as goal
-
-abbrev pub invariant-loop-written : goal.invariant-loop-written
-invariant-loop-written l = l.ranges.items ++ map (λ (w : Written). w.range) (drop l.written-index l.row) ≡ map (λ (w : Written). w.range) l.row

@@ -1,6 +1,0 @@
-use Rattle.std.proofs.Common.{ℕ, ◌<◌}
-use Rattle.vs_cert_ranks.specs.Ranks.{ApartAt}
-use Rattle.vs_cert_ranks.proofs.ranks.Ranks.are_apart.Given as goal
-
-abbrev pub invariant-loop-k : goal.invariant-loop-k
-invariant-loop-k l = (i : ℕ) → i < l.k → ApartAt l.tables l.self l.places i

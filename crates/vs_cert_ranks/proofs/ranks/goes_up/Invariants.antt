@@ -1,6 +1,0 @@
-use Rattle.std.proofs.Common.{ℕ, ◌<◌, get_or}
-use Rattle.vs_cert_ranks.specs.Ranks.{IsBelow}
-use Rattle.vs_cert_ranks.proofs.ranks.goes_up.Given as goal
-
-abbrev pub invariant-loop-next : goal.invariant-loop-next
-invariant-loop-next l = (k : ℕ) → k < l.next-index → IsBelow l.ranks l.place (get_or l.next-items k 0)

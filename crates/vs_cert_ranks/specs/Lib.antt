@@ -1,3 +1,0 @@
-pub mod Places
-pub mod Ranks
-pub use Rattle.vs_cert_facts

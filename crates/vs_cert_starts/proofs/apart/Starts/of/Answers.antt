@@ -1,4 +1,0 @@
-use Rattle.vs_cert_starts.proofs.apart.Starts.of.Goals as goal
-
-pub invariant_of-result : goal.invariant_of-result
-invariant_of-result c = c.in_ok-apart.ensures.0

@@ -1,5 +1,0 @@
-use Rattle.vs_cert_starts.proofs.OrderLemmas.{grown_self}
-use Rattle.vs_cert_starts.proofs.order.grow.Goals as goal
-
-pub loop-table-init : goal.loop-table-init
-loop-table-init c = grown_self c.args.none c.args.table.now.items

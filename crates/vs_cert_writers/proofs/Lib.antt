@@ -1,3 +1,0 @@
-pub mod Here
-pub mod Parts
-pub mod Private

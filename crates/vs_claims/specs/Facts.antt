@@ -1,0 +1,56 @@
+-- A design, what a certificate claims of it, and the maps of the texts of its processes.
+use Rattle.std.specs.Prelude.{ℕ, ◌≡◌, Option, Some, None, List, length, map, slice_get, Vec}
+use Rattle.std.specs.Borrow.{Bor}
+use Rattle.std.specs.declared.alloc.Global.{Global}
+use Rattle.vs_certificate.specs.declared.members.Certificate.{Certificate}
+use Rattle.vs_certificate.specs.declared.members.ClaimedKind.{ClaimedKind}
+use Rattle.vs_design.specs.declared.design.Process.{Process}
+use Rattle.vs_design.specs.declared.statement.Statement.{Statement}
+use Rattle.vs_design.specs.Parts.{Parts}
+use Rattle.vs_process.specs.Stops.{IsText}
+use Rattle.vs_claims.specs.vs_rules.specs.Certificates.{claims_of, kind_from, residues_from}
+use Rattle.vs_claims.specs.vs_rules.specs.Claims.{Claims, EdgeClaim, Kind, IsDelay, HasLists, IsSignalNamed}
+use Rattle.vs_maps.specs.Reaches.{Chart}
+
+-- a design, what a certificate claims of it, and the maps of the texts of its processes
+pub record Case : Type 0 where
+  pub design : Parts
+  pub claims : Claims
+  pub charts : List Chart
+
+-- there is a chart for each process, and each is a map of its process's text
+pub record AreCharts (d : Parts) (charts : List Chart) : Type 0 where
+  pub as_many : length charts ≡ length d.processes
+  pub each : (i : ℕ) (q : Process) (t : Chart) → slice_get d.processes i ≡ Some q → slice_get charts i ≡ Some t → IsText q.body t.stops t.start
+
+-- the case of a design and a certificate
+abbrev pub case_of : Parts → Certificate → List Chart → Case
+case_of d c charts = record { design = d; claims = claims_of c; charts = charts }
+
+-- the texts of processes
+abbrev pub bodies : List Process → List Statement
+bodies processes = map (λ (p : Process). p.body) processes
+
+-- ---- what is told
+
+-- what is told by reference
+abbrev pub seen : {A : Type 0} → Option (Bor A) → Option A
+seen None = None
+seen (Some x) = Some x.now
+
+-- the kind of a process that is told
+abbrev pub kind_seen : Option (Bor ClaimedKind) → Option Kind
+kind_seen None = None
+kind_seen (Some k) = Some (kind_from k.now)
+
+-- the lists of residues of a process of kind delay, where it is one
+abbrev pub AreListsOf : Parts → Claims → ℕ → Option (Bor (List (Vec ℕ Global))) → Type 0
+AreListsOf d c i None = IsDelay d c i → ⊥
+AreListsOf d c i (Some lists) = HasLists d c i (map residues_from lists.now)
+
+-- the entry of this place names two signals by their numbers: the root, and the signal that copies it
+pub record IsRootAt (d : Parts) (edges : List EdgeClaim) (place root v : ℕ) : Type 0 where
+  pub entry : EdgeClaim
+  pub is : slice_get edges place ≡ Some entry
+  pub signal : IsSignalNamed d v entry.signal
+  pub root_is : IsSignalNamed d root entry.root

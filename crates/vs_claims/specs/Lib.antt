@@ -1,0 +1,10 @@
+pub mod Places
+pub mod passes
+pub use Rattle.vs_rules
+pub mod Facts
+pub mod facts_passes
+pub use Rattle.vs_process
+pub use Rattle.vs_maps
+pub use Rattle.vs_certificate
+pub mod Subjects
+pub mod Ordered

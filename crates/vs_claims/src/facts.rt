@@ -1,0 +1,507 @@
+//! What a certificate claims of a design, by the numbers of its signals and processes.
+ghost use Rattle.std.specs.Prelude.{ℕ, ◌≡◌, ◌↔◌, ◌⊎◌, ◌==◌, true, Some, IfOk, OnOk, IsTrue, not, is_some, length, option_map, slice_get};
+ghost use Rattle.std.specs.List.{Contains};
+ghost use Rattle.vs_design.specs.WellFormed.{WellFormed};
+ghost use Rattle.vs_claims.specs.vs_rules.specs.Certificates.{claims_of, mode_from, grain_from, name_unless_empty};
+ghost use Rattle.vs_claims.specs.vs_rules.specs.Claims.{claim_of, mode_in, writer_in, second_in, kind_of, names_process, assign_name, process_name};
+ghost use Rattle.vs_claims.specs.vs_rules.specs.Claims.{place_of, times_in, signal_names, process_names, edge_signals, edge_names};
+ghost use Rattle.vs_claims.specs.vs_rules.specs.Claims.{IsSignalNamed, IsProcessNamed, IsAssignNamed, IsWriter, IsSecond, IsBlock, IsEdge, IsDelay, IsSequential, IsRootOf, IsRoot};
+ghost use Rattle.vs_claims.specs.vs_rules.specs.Limits.{IsCertificate};
+ghost use Rattle.vs_claims.specs.declared.facts.EntriesOf.TheVariants.{One};
+ghost use Rattle.vs_claims.specs.Facts.{AreCharts, AreListsOf, IsRootAt, case_of, seen, kind_seen};
+ghost use Rattle.vs_claims.specs.facts_passes.Kept.{AreEntriesOf, entry_seen};
+
+use crate::names::Names;
+use crate::words::{displays, grain, is_block, is_edge, lists_in, number};
+use std::alloc::{AllocError, Global};
+use std::marker::Model;
+use vs_certificate::{Certificate, ClaimedKind, SignalEntry, SignalMode};
+use vs_design::Design;
+use vs_maps::Tables;
+use vs_process::Grain;
+
+// The entries of a signal among those of edge terms.
+#[derive(Clone, Copy)]
+enum EntriesOf {
+    // There is none.
+    None,
+    // There is that of this place at most.
+    One(usize),
+    // There may be several.
+    Several,
+}
+
+/// A design, its certificate, and the tables of its processes. A contract sees the design, what the certificate claims of it, and the maps of
+/// the texts of the processes.
+#[derive(Drop)]
+pub struct Facts<'a> {
+    design: &'a Design,
+    certificate: &'a Certificate,
+    tables: &'a [Tables<'a>],
+    names: Names<'a>,
+}
+
+impl<'a> Model for Facts<'a> {
+    ghost use Rattle.std.specs.Coded.{codes};
+    ghost use Rattle.vs_design.specs.contracts.expression.Typed as expression;
+    ghost use Rattle.vs_design.specs.contracts.statement.Statement as statement;
+    ghost use Rattle.vs_claims.specs.Facts.{Case, case_of};
+    ghost use Rattle.vs_claims.specs.facts_passes.Kept.{AreFacts};
+
+    ghost Value = { Case };
+
+    ghost coded = { Prim.hlevel (codes, statement.the_row.coded, expression.the_row.coded) };
+
+    ghost view = { λ f. case_of f.design.now f.certificate.now f.tables.now };
+
+    ghost invariant = { λ f. AreFacts f.design.now f.certificate.now f.tables.now f.names };
+}
+
+impl<'a> Facts<'a> {
+    /// The facts of a design and its certificate, with the tables of the design's processes in their order.
+    pub fn new(
+        alloc: Global,
+        design: &'a Design,
+        certificate: &'a Certificate,
+        tables: &'a [Tables<'a>],
+    ) -> Result<Facts<'a>, AllocError>
+        requires maps { AreCharts design.now tables.now }
+        requires certificate { IsCertificate (claims_of certificate.now) }
+        ensures { IfOk result (λ f. f ≡ case_of design.entry.now certificate.entry.now tables.entry.now) }
+    {
+        design.is_well_formed();
+        let names = Names::of(alloc, design, certificate)?;
+        Ok(Facts {
+            design,
+            certificate,
+            tables,
+            names,
+        })
+    }
+
+    /// The design.
+    pub fn design(&self) -> &'a Design
+        ensures { result.now ≡ self.now.design }
+    {
+        self.design
+    }
+
+    /// The design is well formed: there is nothing to do.
+    pub fn is_well_formed(&self)
+        ensures { WellFormed self.now.design }
+    {
+        let _ = &self.names;
+    }
+
+    /// The certificate keeps its limits: there is nothing to do.
+    pub fn is_certificate(&self)
+        ensures { IsCertificate self.now.claims }
+    {
+        let _ = &self.names;
+    }
+
+    /// The maps are those of the texts of the processes: there is nothing to do.
+    pub fn maps(&self)
+        ensures { AreCharts self.now.design self.now.charts }
+    {
+        let _ = &self.names;
+    }
+
+    /// The tables of a process.
+    pub fn tables(&self, i: usize) -> Option<&'a Tables<'a>>
+        ensures { seen result ≡ slice_get self.now.charts i }
+    {
+        let tables = self.tables;
+        if i >= tables.len() {
+            return None;
+        }
+        Some(&tables[i])
+    }
+
+    /// The number of the signal of this name, where there is one.
+    pub fn signal_named(&self, name: &[u8]) -> Option<usize>
+        ensures { (v : ℕ) → (IsSignalNamed self.now.design v name.now ↔ result ≡ Some v) }
+    {
+        self.names.design.signals.find(name)
+    }
+
+    /// The number of the process of this name, where there is one.
+    pub fn process_named(&self, name: &[u8]) -> Option<usize>
+        ensures { (i : ℕ) → (IsProcessNamed self.now.design i name.now ↔ result ≡ Some i) }
+    {
+        self.names.design.processes.find(name)
+    }
+
+    /// The number of the continuous assignment of this name, where there is one.
+    pub fn assign_named(&self, name: &[u8]) -> Option<usize>
+        ensures { (j : ℕ) → (IsAssignNamed self.now.design j name.now ↔ result ≡ Some j) }
+    {
+        self.names.design.assigns.find(name)
+    }
+
+    // The entry of a signal: of several, the first.
+    fn entry(&self, v: usize) -> Option<&'a SignalEntry>
+        ensures { entry_seen result ≡ claim_of self.now.design self.now.claims v }
+    {
+        let signals = self.design.signals();
+        if v >= signals.len() {
+            return None;
+        }
+        let certificate = self.certificate;
+        match self.names.claims.signals.find(&signals[v].path) {
+            None => None,
+            Some(i) => Some(&certificate.signals[i]),
+        }
+    }
+
+    /// The mode that is claimed of a signal.
+    pub fn mode(&self, v: usize) -> Option<SignalMode>
+        ensures { option_map mode_from result ≡ mode_in (claim_of self.now.design self.now.claims v) }
+    {
+        match self.entry(v) {
+            None => None,
+            Some(e) => Some(e.mode),
+        }
+    }
+
+    // The number of the process of this name; the empty text names none.
+    fn named(&self, name: &str) -> Option<usize>
+        ensures { (i : ℕ) →
+            (names_process (name_unless_empty name.now) (slice_get self.now.design.processes i) ≡ true ↔ result ≡ Some i) }
+    {
+        if name.is_empty() {
+            return None;
+        }
+        self.process_named(name.as_bytes())
+    }
+
+    /// The process that is claimed to be a signal's writer.
+    pub fn writer(&self, v: usize) -> Option<usize>
+        ensures { (i : ℕ) → (IsWriter self.now.design self.now.claims v i ↔ result ≡ Some i) }
+    {
+        match self.entry(v) {
+            None => None,
+            Some(e) => self.named(e.writer.as_str()),
+        }
+    }
+
+    /// The process that is claimed to write a signal at the start alone.
+    pub fn second(&self, v: usize) -> Option<usize>
+        ensures { (i : ℕ) → (IsSecond self.now.design self.now.claims v i ↔ result ≡ Some i) }
+    {
+        match self.entry(v) {
+            None => None,
+            Some(e) => self.named(e.second.as_str()),
+        }
+    }
+
+    /// Whether the entry of a signal names a writer, be it a process or not.
+    pub fn names_writer(&self, v: usize) -> bool
+        ensures { result ≡ is_some (writer_in (claim_of self.now.design self.now.claims v)) }
+    {
+        match self.entry(v) {
+            None => false,
+            Some(e) => !e.writer.is_empty(),
+        }
+    }
+
+    /// Whether the entry of a signal names a second, be it a process or not.
+    pub fn names_second(&self, v: usize) -> bool
+        ensures { result ≡ is_some (second_in (claim_of self.now.design self.now.claims v)) }
+    {
+        match self.entry(v) {
+            None => false,
+            Some(e) => !e.second.is_empty(),
+        }
+    }
+
+    /// The kind that is claimed of a process: of several entries, that of the first.
+    pub fn kind(&self, i: usize) -> Option<&'a ClaimedKind>
+        ensures { kind_seen result ≡ kind_of self.now.design self.now.claims i }
+    {
+        let processes = self.design.processes();
+        if i >= processes.len() {
+            return None;
+        }
+        let certificate = self.certificate;
+        match self.names.claims.processes.find(&processes[i].name) {
+            None => None,
+            Some(k) => Some(&certificate.processes[k].kind),
+        }
+    }
+
+    /// Whether a process is claimed to be a combinational block.
+    pub fn is_block(&self, i: usize) -> bool
+        ensures { IsTrue result ↔ IsBlock self.now.design self.now.claims i }
+    {
+        is_block(self.kind(i))
+    }
+
+    /// Whether a process is claimed to wait for edges alone.
+    pub fn is_edge(&self, i: usize) -> bool
+        ensures { IsTrue result ↔ IsEdge self.now.design self.now.claims i }
+    {
+        is_edge(self.kind(i))
+    }
+
+    /// Whether a process is claimed to wait for times alone.
+    pub fn is_delay(&self, i: usize) -> bool
+        ensures { IsTrue result ↔ IsDelay self.now.design self.now.claims i }
+    {
+        lists_in(self.kind(i)).is_some()
+    }
+
+    /// Whether a process is claimed to wait for edges alone, or for times alone.
+    pub fn is_sequential(&self, i: usize) -> bool
+        ensures { IsTrue result ↔ IsSequential self.now.design self.now.claims i }
+    {
+        if self.is_edge(i) {
+            return true;
+        }
+        self.is_delay(i)
+    }
+
+    /// The lists of residues of a process of kind delay.
+    pub fn lists(&self, i: usize) -> Option<&'a [Vec<u64>]>
+        ensures { AreListsOf self.now.design self.now.claims i result }
+    {
+        lists_in(self.kind(i))
+    }
+
+    /// How many entries of edge terms the certificate has.
+    pub fn edges(&self) -> usize
+        ensures { result ≡ length self.now.claims.edges }
+    {
+        self.certificate.edges.len()
+    }
+
+    /// The root and the signal of an entry, by their numbers, where both are signals of the design.
+    pub fn edge(&self, place: usize) -> Option<(usize, usize)>
+        ensures { (root v : ℕ) → (IsRootAt self.now.design self.now.claims.edges place root v ↔ result ≡ Some (root, v)) }
+    {
+        let certificate = self.certificate;
+        if place >= certificate.edges.len() {
+            return None;
+        }
+        let e = &certificate.edges[place];
+        let Some(root) = self.names.design.signals.find(e.root.as_bytes()) else {
+            return None;
+        };
+        let Some(v) = self.names.design.signals.find(e.signal.as_bytes()) else {
+            return None;
+        };
+        Some((root, v))
+    }
+
+    // Puts the root of an entry, where the entry is of this signal.
+    fn put_root(&self, place: usize, v: usize, out: &mut Vec<usize>) -> Result<(), AllocError>
+        ensures { OnOk result ((r : ℕ) → (Contains out.new.items r ↔
+            (Contains out.old.items r ⊎ IsRootAt self.now.design self.now.claims.edges place r v))) }
+    {
+        if let Some((root, of)) = self.edge(place) {
+            if of == v {
+                out.push(root)?;
+            }
+        }
+        Ok(())
+    }
+
+    // The entries of a signal.
+    fn entries_of(&self, v: usize) -> EntriesOf
+        ensures { AreEntriesOf self.now.design self.now.claims.edges v result }
+    {
+        let signals = self.design.signals();
+        if v >= signals.len() {
+            return EntriesOf::None;
+        }
+        let name = &signals[v].path;
+        match self.names.edges.signals.find(name) {
+            None => EntriesOf::None,
+            Some(place) => {
+                if self.names.edges.signals.times(name) == 1 {
+                    EntriesOf::One(place)
+                } else {
+                    EntriesOf::Several
+                }
+            }
+        }
+    }
+
+    // The variables that a signal is claimed to copy, in whatever entry. It takes as long as there are entries.
+    fn all_roots(&self, alloc: Global, v: usize) -> Result<Vec<usize>, AllocError>
+        ensures { IfOk result (λ roots. (r : ℕ) → (Contains roots.items r ↔ IsRootOf self.now.design self.now.claims r v)) }
+    {
+        let mut roots = Vec::new(alloc);
+        for place in 0..self.edges() {
+            self.put_root(place, v, &mut roots)?;
+        }
+        Ok(roots)
+    }
+
+    // The root of the one entry of a signal.
+    fn one_root(&self, alloc: Global, place: usize, v: usize) -> Result<Vec<usize>, AllocError>
+        requires { AreEntriesOf self.now.design self.now.claims.edges v (One place) }
+        ensures { IfOk result (λ roots. (r : ℕ) → (Contains roots.items r ↔ IsRootOf self.now.design self.now.claims r v)) }
+    {
+        let mut roots = Vec::new(alloc);
+        self.put_root(place, v, &mut roots)?;
+        Ok(roots)
+    }
+
+    /// The variables that a signal is claimed to copy. Where it has several entries, which breaks the rule K6, it takes as long as there are
+    /// entries.
+    pub fn roots(&self, alloc: Global, v: usize) -> Result<Vec<usize>, AllocError>
+        ensures { IfOk result (λ roots. (r : ℕ) → (Contains roots.items r ↔ IsRootOf self.now.design self.now.claims r v)) }
+    {
+        match self.entries_of(v) {
+            EntriesOf::None => Ok(Vec::new(alloc)),
+            EntriesOf::One(place) => self.one_root(alloc, place, v),
+            EntriesOf::Several => self.all_roots(alloc, v),
+        }
+    }
+
+    // Whether the entry of a place has this root.
+    fn has_root(&self, place: usize, root: usize) -> bool
+        ensures { IsTrue result ↔ ((v : ℕ) × IsRootAt self.now.design self.now.claims.edges place root v) }
+    {
+        match self.edge(place) {
+            None => false,
+            Some((of, _)) => of == root,
+        }
+    }
+
+    // Whether a signal is the root of some entry. It takes as long as there are entries.
+    fn is_any_root(&self, v: usize) -> bool
+        ensures { IsTrue result ↔ IsRoot self.now.design self.now.claims v }
+    {
+        for place in 0..self.edges() {
+            if self.has_root(place, v) {
+                return true;
+            }
+        }
+        false
+    }
+
+    /// Whether a signal is the root of an entry. Where the first entry with that root names no signal of the design, which breaks the rule K1, it
+    /// takes as long as there are entries.
+    pub fn is_root(&self, v: usize) -> bool
+        ensures { IsTrue result ↔ IsRoot self.now.design self.now.claims v }
+    {
+        let signals = self.design.signals();
+        if v >= signals.len() {
+            return false;
+        }
+        let Some(place) = self.names.edges.roots.find(&signals[v].path) else {
+            return false;
+        };
+        if self.has_root(place, v) {
+            return true;
+        }
+        self.is_any_root(v)
+    }
+
+    /// The place of a name in the order; of one that isn't there, how many there are.
+    pub fn place_in_order(&self, name: &[u8]) -> usize
+        ensures { result ≡ place_of name.now self.now.claims.order }
+    {
+        match self.names.claims.order.find(name) {
+            None => self.certificate.order.len(),
+            Some(place) => place,
+        }
+    }
+
+    /// The place of a continuous assignment in the order.
+    pub fn assign_place(&self, j: usize) -> Option<usize>
+        ensures { result ≡ option_map (λ n. place_of n self.now.claims.order) (assign_name (slice_get self.now.design.assigns j)) }
+    {
+        let assigns = self.design.assigns();
+        if j >= assigns.len() {
+            return None;
+        }
+        Some(self.place_in_order(&assigns[j].name))
+    }
+
+    /// The place of a process in the order.
+    pub fn process_place(&self, i: usize) -> Option<usize>
+        ensures { result ≡ option_map (λ n. place_of n self.now.claims.order) (process_name (slice_get self.now.design.processes i)) }
+    {
+        let processes = self.design.processes();
+        if i >= processes.len() {
+            return None;
+        }
+        Some(self.place_in_order(&processes[i].name))
+    }
+
+    /// How often a name stands among the entries of signals.
+    pub fn times_as_signal(&self, name: &[u8]) -> usize
+        ensures { result ≡ times_in name.now (signal_names self.now.claims) }
+    {
+        self.names.claims.signals.times(name)
+    }
+
+    /// How often a name stands in the order.
+    pub fn times_in_order(&self, name: &[u8]) -> usize
+        ensures { result ≡ times_in name.now self.now.claims.order }
+    {
+        self.names.claims.order.times(name)
+    }
+
+    /// How often a name stands among the entries of processes.
+    pub fn times_as_process(&self, name: &[u8]) -> usize
+        ensures { result ≡ times_in name.now (process_names self.now.claims) }
+    {
+        self.names.claims.processes.times(name)
+    }
+
+    /// How often a name stands among the signals of edge terms.
+    pub fn times_as_edge_signal(&self, name: &[u8]) -> usize
+        ensures { result ≡ times_in name.now (edge_signals self.now.claims) }
+    {
+        self.names.edges.signals.times(name)
+    }
+
+    /// Whether an entry of an edge term has a name, as its root or as its signal.
+    pub fn is_in_edges(&self, name: &[u8]) -> bool
+        ensures { result ≡ not (times_in name.now (edge_names self.now.claims) == 0) }
+    {
+        if self.names.edges.roots.times(name) > 0 {
+            return true;
+        }
+        self.names.edges.signals.times(name) > 0
+    }
+
+    /// The certificate.
+    pub fn certificate(&self) -> &'a Certificate
+        ensures { claims_of result.now ≡ self.now.claims }
+    {
+        self.certificate
+    }
+
+    /// Whether arguments of `$display` count.
+    pub fn displays(&self) -> bool
+        ensures { result ≡ self.now.claims.displays }
+    {
+        displays(self.certificate.version)
+    }
+
+    /// Its version.
+    pub fn version(&self) -> u64
+        ensures { result ≡ self.now.claims.version }
+    {
+        number(self.certificate.version)
+    }
+
+    /// What residues are counted by, in ticks.
+    pub fn modulus(&self) -> u64
+        ensures { result ≡ self.now.claims.modulus }
+    {
+        self.certificate.modulus
+    }
+
+    /// How finely processes may be interleaved.
+    pub fn grain(&self) -> Grain
+        ensures { result ≡ self.now.claims.grain }
+    {
+        grain(self.certificate.grain)
+    }
+}

@@ -1,0 +1,26 @@
+//! Names in order, which are found by halves: where each stands first, and how often.
+//! A design and its certificate by numbers, with the maps of the texts of its processes.
+//! The rule K1 of certificates, on names; and the subjects of all rules in their order.
+#![tactic(auto)]
+
+mod facts;
+mod index;
+mod listed;
+mod maps;
+mod named;
+mod names;
+mod rule;
+mod subjects;
+mod words;
+
+pub use facts::Facts;
+pub use index::Index;
+pub use listed::all_names;
+pub use maps::{codes, tables, texts};
+pub use rule::{
+    keeps_assign_name, keeps_listed_name, keeps_names, keeps_process_name, keeps_signal_name,
+};
+pub use subjects::{Subject, all_subjects, name_of};
+pub use vs_certificate;
+pub use vs_maps;
+pub use vs_process;

@@ -1,0 +1,252 @@
+-- Which net copies which signal.
+use Rattle.std.proofs.Common.{◌≡◌, ℕ, zero, suc, ◌+◌, ◌<◌, ◌≤◌, ◌⊎◌, ◌↔◌, ◌++◌, inl, inr, Bool, true, false, Option, Some, None, List, [], ◌∷◌, length, map, get_or, slice_get, IsTrue, refl, sym, ◌∙◌, ap, subst, arith}
+use Rattle.std.specs.List.{Contains}
+use Rattle.std.proofs.lemmas.List.{get_or_past, length_push}
+use Rattle.vs_design.specs.declared.signal.SignalKind.{SignalKind}
+use Rattle.vs_design.specs.declared.signal.SignalKind.TheVariants.{Reg, Integer}
+use Rattle.vs_design.specs.Kinds.{is_variable}
+use Rattle.std.proofs.lemmas.Option.{same_Some, slice_get_within, slice_get_past, slice_get-get_or}
+use Rattle.vs_design.specs.declared.design.Assign.{Assign}
+use Rattle.vs_design.specs.declared.expression.Typed.{Typed, Typed-F}
+use Rattle.vs_design.specs.declared.expression.Typed.TheViews.{out-Typed}
+use Rattle.vs_design.specs.declared.expression.Typed.TheOpen as t
+use Rattle.vs_design.specs.declared.range.BitRange.{BitRange}
+use Rattle.vs_design.specs.declared.signal.Signal.{Signal}
+use Rattle.vs_design.specs.declared.statement.Target.{Target}
+use Rattle.vs_design.specs.Parts.{Parts}
+use Rattle.vs_design.specs.Uses.{aim_range, slice_range, writes}
+use Rattle.vs_maps.specs.vs_graph.specs.Reached.{Reached, AreReached, begins, goes_on}
+use Rattle.vs_slots_constants.specs.vs_rules.specs.Claims.{HasKind}
+use Rattle.vs_slots_constants.specs.vs_rules.specs.Constants.{IsWhole, IsWholeSelect, IsWholeLayer, IsWholeTarget}
+use Rattle.vs_slots_constants.specs.vs_rules.specs.Rules.{IsCopy, IsOneBit, CopiesRoot}
+use Rattle.vs_slots_constants.specs.vs_rules.specs.Rules as r
+use Rattle.vs_slots_constants.specs.vs_rules.specs.Blocks.{CopiesWhole, itself, copy}
+use Rattle.vs_slots_constants.specs.Wholes.{is_plain}
+use Rattle.vs_slots_constants.proofs.WholeLemmas.{plain_of, plain_by}
+use Rattle.vs_maps.specs.Ranges.{HasSignal}
+use Rattle.vs_maps.proofs.RangeLemmas.{lists_signal, first_in, in_either}
+use Rattle.vs_drivers.specs.Copies.{IsOnly, NamesTarget, AreDrivers, AreSources, IsCopied, HaveSameWidth, known, ends_of, source_in}
+
+-- ---- whole signals
+
+select_within : (d : Parts) (u width : ℕ) (x : Typed-F Typed) → IsWholeSelect d u width x → u < length d.signals
+select_within d u width (t.Slice s) h = slice_get_within d.signals u h.0.signal h.0.is
+select_within d u width _ h = absurd h
+
+layer_within : (d : Parts) (u : ℕ) (x : Typed-F Typed) → IsWholeLayer d u x → u < length d.signals
+layer_within d u (t.Signal o) h = slice_get_within d.signals u h.signal h.is
+layer_within d u (t.Slice s) h = slice_get_within d.signals u h.signal h.is
+layer_within d u (t.Resized size x) h = select_within d u size.width (out-Typed x.value) h
+layer_within d u _ h = absurd h
+
+pub whole_names : (d : Parts) (v : ℕ) (target : Target) → IsWholeTarget d v target → HasSignal (writes target) v
+whole_names d v target h =
+    (slice_range h.slice, subst (λ (l : List BitRange). Contains l (slice_range h.slice)) (sym (ap (map aim_range) h.only)) (first_in (slice_range h.slice) []), h.whole.of)
+
+-- ---- the one assignment that drives a net
+
+pub record Parted (d : Parts) (v u : ℕ) (drivers : List ℕ) : Type 0 where
+  pub driver : ℕ
+  pub only : IsOnly (λ y. Contains drivers y) driver
+  pub copied : IsCopied d driver v u
+  pub same : HaveSameWidth d v u
+
+pub parted : (d : Parts) (v u : ℕ) (drivers : List ℕ) → AreDrivers d v drivers → IsCopy d v u → Parted d v u drivers
+parted d v u drivers are c = record {
+  driver = c.number;
+  only = (
+    (are c.number).1 (slice_get_within d.assigns c.number c.assign c.is, (c.assign, c.is, whole_names d v c.assign.target c.whole)),
+    λ y h. let n = ((are y).0 h).1 in c.alone y n.0 n.1 ((lists_signal d (writes n.0.target) v).0 n.2),
+  );
+  copied = (c.assign, c.is, c.whole, c.copies);
+  same = c.same;
+}
+
+pub joined_copy : (d : Parts) (v u j : ℕ) (drivers : List ℕ) → AreDrivers d v drivers → HasKind false d v → IsOnly (λ y. Contains drivers y) j → IsCopied d j v u → HaveSameWidth d v u → IsCopy d v u
+joined_copy d v u j drivers are net only h same = record {
+  is_net = net;
+  number = j;
+  assign = h.0;
+  is = h.1;
+  whole = h.2;
+  copies = h.3;
+  same = same;
+  alone = λ k a at lists. only.1 k ((are k).1 (slice_get_within d.assigns k a at, (a, at, (lists_signal d (writes a.target) v).1 lists)));
+}
+
+pub copied_is : (d : Parts) (j v : ℕ) (a : Assign) → slice_get d.assigns j ≡ Some a → (u : ℕ) → (IsCopied d j v u ↔ (IsWholeTarget d v a.target × IsWhole d u a.source))
+copied_is d j v a is u = (
+  λ h. subst (λ (b : Assign). IsWholeTarget d v b.target × IsWhole d u b.source) (same_Some h.0 a (sym h.1 ∙ is)) (h.2, h.3),
+  λ h. (a, is, h.0, h.1),
+)
+
+-- ---- for all signals
+
+pub source_at : (xs : List (Option ℕ)) (v : ℕ) (x : Option ℕ) → v < length xs → x ≡ get_or xs v x → source_in xs v ≡ x
+source_at xs v x h e = ap known (slice_get-get_or xs v x h) ∙ sym e
+
+pub source_past : (xs : List (Option ℕ)) (v : ℕ) → length xs ≤ v → source_in xs v ≡ None
+source_past xs v h = ap known (slice_get_past xs v h)
+
+pub copy_within : (d : Parts) (v u : ℕ) → IsCopy d v u → (v < length d.signals) × (u < length d.signals)
+copy_within d v u c = (slice_get_within d.signals v c.is_net.0 c.is_net.1, layer_within d u (out-Typed c.assign.source) c.copies)
+
+pub record SoFar (d : Parts) (n : ℕ) (sources : List (Option ℕ)) : Type 0 where
+  pub long : length sources ≡ n
+  pub exact : (v u : ℕ) → v < n → (IsCopy d v u ↔ source_in sources v ≡ Some u)
+
+pub all_sources : (d : Parts) (n : ℕ) (sources : List (Option ℕ)) → length d.signals ≤ n → SoFar d n sources → AreSources d sources
+all_sources d n sources h so v u = (
+  λ c. (so.exact v u (omega (arith, (copy_within d v u c).0, h))).0 c,
+  λ e. (so.exact v u (below e)).1 e,
+) where
+  below : source_in sources v ≡ Some u → v < n
+  below e = by (cases v n) where
+    cases : (a b : ℕ) → (a < b) ⊎ (b ≤ a)
+    cases a b = grind arith
+
+    by : (v < n) ⊎ (n ≤ v) → v < n
+    by (inl l) = l
+    by (inr l) = let f : None ≡ Some u = sym (source_past sources v (omega (arith, so.long, l))) ∙ e in cc
+
+pub source_more : (xs : List (Option ℕ)) (x : Option ℕ) (v : ℕ) → v < length xs → source_in (xs ++ x ∷ []) v ≡ source_in xs v
+source_more [] x v h = absurd (omega (arith, h))
+source_more (y ∷ ys) x zero h = refl
+source_more (y ∷ ys) x (suc v) h = source_more ys x v (omega (arith, h))
+
+pub source_last : (xs : List (Option ℕ)) (x : Option ℕ) → source_in (xs ++ x ∷ []) (length xs) ≡ x
+source_last [] x = refl
+source_last (y ∷ ys) x = source_last ys x
+
+pub one_more : (d : Parts) (n : ℕ) (old new : List (Option ℕ)) (x : Option ℕ) → SoFar d n old → new ≡ old ++ x ∷ [] → ((u : ℕ) → (IsCopy d n u ↔ x ≡ Some u)) → SoFar d (n + 1) new
+one_more d n old new x so e here = record {
+  long = ap length e ∙ length_push old x ∙ ap (λ (m : ℕ). m + 1) so.long;
+  exact = λ v u h. by v u (cases v h);
+} where
+  cases : (v : ℕ) → v < n + 1 → (v < n) ⊎ (v ≡ n)
+  cases v h = grind (arith, h)
+
+  by : (v u : ℕ) → (v < n) ⊎ (v ≡ n) → (IsCopy d v u ↔ source_in new v ≡ Some u)
+  by v u (inl l) =
+      let f : source_in new v ≡ source_in old v = ap (λ l. source_in l v) e ∙ source_more old x v (omega (arith, so.long, l)) in
+      (λ c. f ∙ (so.exact v u l).0 c, λ g. (so.exact v u l).1 (sym f ∙ g))
+  by v u (inr i) =
+      let f : source_in new v ≡ x = ap (λ l. source_in l v) e ∙ ap (source_in (old ++ x ∷ [])) (i ∙ sym so.long) ∙ source_last old x in
+      subst (λ (w : ℕ). (IsCopy d w u ↔ source_in new v ≡ Some u)) (sym i) (λ c. f ∙ (here u).0 c, λ g. (here u).1 (sym f ∙ g))
+
+-- ---- chains
+
+-- a signal that copies one which copies another copies that one
+far : (d : Parts) (a b v : ℕ) → CopiesWhole d a v → IsCopy d a b → CopiesWhole d b v
+far d a b _ itself c = copy a b c itself
+far d a b _ (copy v u first rest) c = copy v u first (far d a b u rest c)
+
+in_single : (u a : ℕ) → Contains (u ∷ []) a → u ≡ a
+in_single u a h = by (in_either u [] a h) where
+  by : (u ≡ a) ⊎ Contains [] a → u ≡ a
+  by (inl e) = e
+  by (inr c) = absurd (omega (arith, c.1))
+
+ends_in : (o : Option ℕ) (b : ℕ) → Contains (ends_of o) b → o ≡ Some b
+ends_in None b h = absurd (omega (arith, h.1))
+ends_in (Some u) b h = ap Some (in_single u b h)
+
+ends_has : (o : Option ℕ) (b : ℕ) → o ≡ Some b → Contains (ends_of o) b
+ends_has o b e = subst (λ (x : Option ℕ). Contains (ends_of x) b) (sym e) (first_in b [])
+
+near : (nexts : ℕ → List ℕ) (v u g : ℕ) → Contains (nexts v) u → Reached nexts (u ∷ []) g → Reached nexts (v ∷ []) g
+near nexts v u _ c (begins a h) = subst (Reached nexts (v ∷ [])) (in_single u a h) (goes_on v u (begins v (first_in v [])) c)
+near nexts v u _ c (goes_on a b h e) = goes_on a b (near nexts v u a c h) e
+
+abbrev pub nexts_of : List (Option ℕ) → ℕ → List ℕ
+nexts_of sources a = ends_of (source_in sources a)
+
+chain_there : (d : Parts) (sources : List (Option ℕ)) → AreSources d sources → (v g : ℕ) → Reached (nexts_of sources) (v ∷ []) g → CopiesWhole d g v
+chain_there d sources are v _ (begins a h) = subst (λ (n : ℕ). CopiesWhole d n v) (in_single v a h) itself
+chain_there d sources are v _ (goes_on a b h c) = far d a b v (chain_there d sources are v a h) ((are a b).1 (ends_in (source_in sources a) b c))
+
+chain_back : (d : Parts) (sources : List (Option ℕ)) → AreSources d sources → (g v : ℕ) → CopiesWhole d g v → Reached (nexts_of sources) (v ∷ []) g
+chain_back d sources are g _ itself = begins g (first_in g [])
+chain_back d sources are g _ (copy v u c rest) = near (nexts_of sources) v u g (ends_has (source_in sources v) u ((are v u).0 c)) (chain_back d sources are g u rest)
+
+pub chain_is : (d : Parts) (sources : List (Option ℕ)) → AreSources d sources → (v g : ℕ) → (Reached (nexts_of sources) (v ∷ []) g ↔ CopiesWhole d g v)
+chain_is d sources are v g = (chain_there d sources are v g, chain_back d sources are g v)
+
+pub chain_within : (d : Parts) (sources : List (Option ℕ)) → AreSources d sources → (a b : ℕ) → Contains (ends_of (source_in sources a)) b → b < length d.signals
+chain_within d sources are a b h = (copy_within d a b ((are a b).1 (ends_in (source_in sources a) b h))).1
+
+pub reached_within : (nexts : ℕ → List ℕ) (n v g : ℕ) → ((a b : ℕ) → Contains (nexts a) b → b < n) → v < n → Reached nexts (v ∷ []) g → g < n
+reached_within nexts n v _ inside h (begins a c) = subst (λ (x : ℕ). x < n) (in_single v a c) h
+reached_within nexts n v _ inside h (goes_on a b r c) = inside a b c
+
+pub marked_is : (nexts : ℕ → List ℕ) (n v g : ℕ) (marks : List Bool) → ((a b : ℕ) → Contains (nexts a) b → b < n) → v < n → length marks ≡ n → AreReached nexts (v ∷ []) n marks →
+    (IsTrue (get_or marks g false) ↔ Reached nexts (v ∷ []) g)
+marked_is nexts n v g marks inside first long are = by (cases g n) where
+  cases : (a b : ℕ) → (a < b) ⊎ (b ≤ a)
+  cases a b = grind arith
+
+  by : (g < n) ⊎ (n ≤ g) → (IsTrue (get_or marks g false) ↔ Reached nexts (v ∷ []) g)
+  by (inl l) = are g l
+  by (inr l) = (
+    λ t. let e : false ≡ true = sym (get_or_past marks g false (omega (arith, long, l))) ∙ t in cc,
+    λ h. absurd (omega (arith, l, reached_within nexts n v g inside first h)),
+  )
+
+pub at_index : {A : Type 0} (xs ys : List A) (j : ℕ) (x : A) → xs ≡ ys → j < length ys → x ≡ get_or xs j x → slice_get ys j ≡ Some x
+at_index xs ys j x e h is = ap (λ zs. slice_get zs j) (sym e) ∙ slice_get-get_or xs j x (subst (λ (zs : List _). j < length zs) (sym e) h) ∙ ap Some (sym is)
+
+pub past_itself : (d : Parts) (v g : ℕ) → length d.signals ≤ v → CopiesWhole d g v → g ≡ v
+past_itself d _ g h itself = refl
+past_itself d _ g h (copy v u c rest) = absurd (omega (arith, h, (copy_within d v u c).0))
+
+-- ---- of one bit
+
+copied_bit : (d : Parts) (v u : ℕ) → IsCopy d v u → IsOneBit d u → IsOneBit d v
+copied_bit d v u c one =
+    let s = c.whole.whole.signal in
+    (s, c.whole.whole.is, c.same s one.0 c.whole.whole.is one.1 ∙ one.2, c.whole.whole.count, c.whole.whole.no_array)
+
+pub whole_root : (d : Parts) (root v : ℕ) → IsOneBit d root → CopiesWhole d root v → CopiesRoot d root v × IsOneBit d v
+whole_root d root _ one itself = (r.itself one, one)
+whole_root d root _ one (copy v u c rest) = let h = whole_root d root u one rest in let bit = copied_bit d v u c h.1 in (r.copy v u bit c h.0, bit)
+
+pub root_whole : (d : Parts) (root v : ℕ) → CopiesRoot d root v → IsOneBit d root × CopiesWhole d root v
+root_whole d root _ (r.itself one) = (one, itself)
+root_whole d root _ (r.copy v u one c rest) = let h = root_whole d root u rest in (h.0, copy v u c h.1)
+
+pub one_bit : (d : Parts) (v : ℕ) → (is_plain (slice_get d.signals v) 1 ≡ true ↔ IsOneBit d v)
+one_bit d v = (
+  λ h. let p = plain_of (slice_get d.signals v) 1 h in (p.signal, p.is, p.width_is, p.count, p.no_array),
+  λ h. plain_by (slice_get d.signals v) 1 (record { signal = h.0; is = h.1; no_array = h.4; count = h.3; width_is = h.2 }),
+)
+
+-- ---- what is named
+
+pub variable_kind : (k : SignalKind) → (k ≡ Reg) ⊎ (k ≡ Integer) → is_variable k ≡ true
+variable_kind k (inl e) = ap is_variable e
+variable_kind k (inr e) = ap is_variable e
+
+pub at_here : {A : Type 0} (xs ys : List A) (j : ℕ) (x : A) → xs ≡ ys → j < length xs → x ≡ get_or xs j x → slice_get ys j ≡ Some x
+at_here xs ys j x e h is = ap (λ zs. slice_get zs j) (sym e) ∙ slice_get-get_or xs j x h ∙ ap Some (sym is)
+
+named_is : (d : Parts) (i : ℕ) (a : Assign) → slice_get d.assigns i ≡ Some a → (rs : List BitRange) → rs ≡ writes a.target → (v : ℕ) → (HasSignal rs v ↔ NamesTarget d i v)
+named_is d i a at rs e v = (
+  λ h. (a, at, subst (λ (l : List BitRange). HasSignal l v) e h),
+  λ h. subst (λ (l : List BitRange). HasSignal l v) (sym (e ∙ ap (λ (b : Assign). writes b.target) (same_Some a h.0 (sym at ∙ h.1)))) h.2,
+)
+
+either_is : (A B C : Type 0) → (B ↔ C) → (A ⊎ B ↔ (A ⊎ C))
+either_is A B C f = (there, back) where
+  there : A ⊎ B → A ⊎ C
+  there (inl a) = inl a
+  there (inr b) = inr (f.0 b)
+
+  back : A ⊎ C → A ⊎ B
+  back (inl a) = inl a
+  back (inr c) = inr (f.1 c)
+
+pub put_targets : (d : Parts) (i : ℕ) (a : Assign) → slice_get d.assigns i ≡ Some a → (old new : List ℕ) (rs : List BitRange) → rs ≡ writes a.target →
+    ((v : ℕ) → (Contains new v ↔ (Contains old v ⊎ HasSignal rs v))) → (v : ℕ) → (Contains new v ↔ (Contains old v ⊎ NamesTarget d i v))
+put_targets d i a at old new rs e h v =
+    let f = either_is (Contains old v) (HasSignal rs v) (NamesTarget d i v) (named_is d i a at rs e v) in
+    (λ c. f.0 ((h v).0 c), λ c. (h v).1 (f.1 c))

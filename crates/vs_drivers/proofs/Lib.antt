@@ -1,0 +1,16 @@
+pub mod Words
+pub mod Listed
+pub mod Bits
+pub mod ListLemmas
+pub mod CopyLemmas
+pub mod ConeLemmas
+mod DriverLemmas
+pub mod Lists
+pub mod NameLemmas
+pub mod Numbers
+mod Rows
+mod Tables
+pub mod WalkLemmas
+mod WireLemmas
+mod DistinctLemmas
+pub mod SignalLemmas

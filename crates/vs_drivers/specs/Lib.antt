@@ -1,0 +1,14 @@
+pub mod Places
+pub mod Ranges
+pub use Rattle.vs_rules
+pub mod Copies
+pub use Rattle.vs_slots_constants
+pub use Rattle.vs_maps
+pub mod Meets
+pub mod Wires
+pub mod Walks
+pub mod Names
+pub mod Assigned
+pub use Rattle.vs_threads
+pub mod Same
+pub mod Signals

@@ -1,8 +1,0 @@
-use Rattle.std.proofs.Common.{◌≡◌, ◌++◌, map, drop}
-use Rattle.vs_elab_pieces.specs.Reads.{read_piece}
-use Rattle.vs_elab_connections.specs.Overrides.{parameters_among}
-use Rattle.vs_elab_connections.specs.passes.Ends.{read_parameter}
-use Rattle.vs_elab_connections.proofs.parameters.push_among.Given as goal
-
-abbrev pub invariant-loop-piece : goal.invariant-loop-piece
-invariant-loop-piece l = map read_parameter l.list.items ++ parameters_among (map read_piece (drop l.piece-index l.pieces)) ≡ map read_parameter l.fn.list.items ++ parameters_among (map read_piece l.pieces)

@@ -1,5 +1,0 @@
-pub mod Connections
-pub mod Overrides
-pub mod passes
-pub use Rattle.vs_elab_pieces
-pub use Rattle.vs_widths

@@ -1,0 +1,12 @@
+pub mod EarlyLemmas
+pub mod ValueLemmas
+pub mod FindingLemmas
+pub mod BlameLemmas
+pub mod FoundLemmas
+pub mod SearchLemmas
+pub mod CountLemmas
+pub mod FaultLemmas
+pub mod TurnsLemmas
+pub mod BranchesLemmas
+pub mod NumberingLemmas
+pub mod OpeningLemmas

@@ -1,0 +1,14 @@
+use Rattle.std.proofs.Common.{ℕ, List, map, arith}
+use Rattle.std.specs.List.{flat_map}
+use Rattle.vs_scopes.specs.vs_width_selects.specs.declared.bindings.Binding.TheVariants.{Genvar}
+use Rattle.vs_elab_pieces.specs.declared.scope.ScopePiece.{ScopePiece as FoundPiece}
+use Rattle.vs_elab_pieces.specs.Reads.{read_piece}
+use Rattle.vs_scopes.specs.Declarations.{genvars_in, bound_to}
+use Rattle.vs_scopes.proofs.DeclaredLemmas.{adds_step}
+use Rattle.vs_elab_constants.proofs.EarlyLemmas.{maps_read}
+use Rattle.vs_elab_constants.proofs.early.add_all_genvars.Goals as goal
+
+pub loop-piece-preserved : goal.loop-piece-preserved
+loop-piece-preserved c =
+    adds_step c.args.names.now c.loop-piece.names c.add_genvars.new.names c.args.pieces.now c.loop-piece.piece-index c.piece-item.result (λ (xs : List FoundPiece). bound_to Genvar (flat_map genvars_in (map read_piece xs))) (bound_to Genvar (genvars_in (read_piece c.piece-item.result))) (omega arith) c.piece-item.is
+    (maps_read read_piece genvars_in (λ (n : List ℕ). (n, Genvar)) c.piece-item.result) c.loop-piece.invariant c.in_ok-add_genvars.ensures

@@ -1,0 +1,12 @@
+use Rattle.std.proofs.Common.{◌≡◌, length, map}
+use Rattle.vs_scopes.specs.vs_width_selects.specs.Environment.{Environment}
+use Rattle.vs_widths.specs.Names.{meaning_of, nested_names}
+use Rattle.vs_scopes.specs.scopes_passes.Parts.{read_given}
+use Rattle.vs_elab_constants.specs.passes.Finding.{AreFound}
+use Rattle.vs_elab_constants.proofs.finding.find_each.Given as goal
+
+abbrev pub invariant-loop-number : goal.invariant-loop-number
+invariant-loop-number l = record {
+  all : length l.values.items ≡ length l.list;
+  found : (env : Environment) → AreFound (meaning_of l.around) env (nested_names l.outer) (map read_given l.list) l.fn.values.items l.fn.known → AreFound (meaning_of l.around) env (nested_names l.outer) (map read_given l.list) l.values.items l.known;
+}

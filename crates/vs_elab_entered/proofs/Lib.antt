@@ -1,4 +1,0 @@
-pub mod ListLemmas
-pub mod SeatLemmas
-pub mod EnterLemmas
-pub mod EnteringLemmas

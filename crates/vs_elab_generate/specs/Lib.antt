@@ -1,3 +1,0 @@
-pub mod Reads
-pub mod passes
-pub use Rattle.vs_widths

@@ -1,0 +1,3 @@
+-- What the functions of this crate tell one another: nothing that is promised rests on these.
+pub mod Opens
+pub mod InHand

@@ -1,2 +1,0 @@
-pub mod NetLemmas
-pub mod LateLemmas

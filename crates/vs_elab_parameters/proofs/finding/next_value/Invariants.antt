@@ -1,8 +1,0 @@
-use Rattle.std.proofs.Common.{map, ◌++◌}
-use Rattle.vs_widths.specs.Names.{meaning_of, nested_names}
-use Rattle.vs_scopes.specs.passes.Parts.{read_given}
-use Rattle.vs_elab_parameters.proofs.SearchLemmas.{IsSearched}
-use Rattle.vs_elab_parameters.proofs.finding.next_value.Given as goal
-
-abbrev pub invariant-loop-number : goal.invariant-loop-number
-invariant-loop-number l = IsSearched (meaning_of (l.known ++ nested_names l.outer)) (map read_given l.list) l.values l.fault l.number

@@ -1,5 +1,0 @@
-use Rattle.vs_elab_parameters.proofs.SearchLemmas.{Numbers}
-use Rattle.vs_elab_parameters.proofs.finding.numbered.Given as goal
-
-abbrev pub invariant-loop-number : goal.invariant-loop-number
-invariant-loop-number l = Numbers l.list l.number l.numbers

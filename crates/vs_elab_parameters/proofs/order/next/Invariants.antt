@@ -1,5 +1,0 @@
-use Rattle.std.proofs.Common.{length}
-use Rattle.vs_elab_parameters.proofs.order.next.Given as goal
-
-abbrev pub decreases-loop-task : goal.decreases-loop-task
-decreases-loop-task l = length l.walk.tasks.items

@@ -1,5 +1,0 @@
-use Rattle.vs_elab_path_laws.proofs.PathsPrinted.{printed_same}
-use Rattle.vs_elab_path_laws.proofs.laws.printed_paths_differ.Goals as goal
-
-pub returns : goal.returns
-returns c = printed_same

@@ -1,5 +1,0 @@
-use Rattle.vs_elab_path_laws.proofs.PathsNumbered.{scopes_are_numbered}
-use Rattle.vs_elab_path_laws.proofs.laws.scopes_are_numbered.Goals as goal
-
-pub returns : goal.returns
-returns c = scopes_are_numbered

@@ -1,2 +1,0 @@
-pub mod Laws
-pub use Rattle.vs_elab_pieces

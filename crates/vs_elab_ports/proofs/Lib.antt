@@ -1,3 +1,0 @@
-pub mod CountingLemmas
-pub mod StrayLemmas
-pub mod UnlikeLemmas

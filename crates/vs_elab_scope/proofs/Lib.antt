@@ -1,2 +1,0 @@
-pub mod OwnLemmas
-pub mod AddLemmas

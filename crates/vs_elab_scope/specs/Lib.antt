@@ -1,2 +1,0 @@
-pub mod passes
-pub use Rattle.vs_elab_entered

@@ -1,0 +1,7 @@
+use Rattle.vs_widths.specs.Names.{meaning_of}
+use Rattle.vs_elab_statements.specs.Members.{places}
+use Rattle.vs_elab_statements.proofs.AssignmentLemmas.{assigns}
+use Rattle.vs_elab_statements.proofs.assignments.assignment.Goals as goal
+
+pub returns : goal.returns
+returns c = assigns (meaning_of c.args.names.now) c.args.e.now c.args.how (places c.args.left.now) c.in_ok-target.target c.in_ok-source.source c.in_ok-target.ensures.target c.in_ok-source.ensures

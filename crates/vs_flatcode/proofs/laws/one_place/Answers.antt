@@ -1,5 +1,0 @@
-use Rattle.vs_flatcode.proofs.Numbers.{one_place}
-use Rattle.vs_flatcode.proofs.laws.one_place.Goals as goal
-
-pub returns : goal.returns
-returns c = one_place

@@ -1,5 +1,0 @@
-use Rattle.vs_flatcode.proofs.Ways.{has_ways}
-use Rattle.vs_flatcode.proofs.laws.ways_are.Goals as goal
-
-pub returns : goal.returns
-returns c = has_ways

@@ -1,5 +1,0 @@
-use Rattle.vs_flatcode.proofs.SpotLemmas.{spots_hold}
-use Rattle.vs_flatcode.proofs.spots.spots_hold.Goals as goal
-
-pub returns : goal.returns
-returns c = spots_hold

@@ -1,0 +1,7 @@
+pub mod Reached
+pub mod Owed
+pub mod Verdicts
+pub mod Clear
+pub mod Numbers
+pub mod Order
+pub mod Sorting

@@ -1,0 +1,23 @@
+//! Walks in graphs, and the first of some things that breaks a rule.
+//! Walks in graphs that take as long as what they lead to.
+//! Lists of residues and of numbers: whether one is there and where, whether two have one in common, and the union of several.
+//! An order of things of which some need others.
+#![tactic(auto)]
+
+mod families;
+mod gathered;
+mod local_walks;
+mod numbers;
+mod residues;
+mod rules;
+mod sorting;
+mod walks;
+
+pub use families::{Family, gather, has, is_apart};
+pub use gathered::Gathered;
+pub use local_walks::{clear_marks, walk};
+pub use numbers::Numbers;
+pub use residues::{Residues, are_apart};
+pub use rules::{Book, Rule, all_keep, first_broken, judge};
+pub use sorting::sorted;
+pub use walks::{Graph, reach};

@@ -1,5 +1,0 @@
-pub mod Among
-pub mod Filled
-pub mod Named
-mod Todos
-mod Writes

@@ -1,0 +1,16 @@
+pub mod Join
+pub mod Reading
+pub mod Texts
+pub mod Exact
+pub mod EachPoint
+pub mod ControlLemmas
+pub mod RangeLemmas
+pub mod IndexLemmas
+pub mod WalkLemmas
+pub mod MarkLemmas
+pub mod ReadingLemmas
+pub mod EachWalk
+pub mod SignalLemmas
+pub mod SiteLemmas
+pub mod LateLemmas
+pub mod WrittenLemmas

@@ -1,0 +1,11 @@
+pub mod Laws
+pub mod Reaches
+pub mod Inside
+pub mod Exact
+pub mod Ranges
+pub mod Walks
+pub mod Indexes
+pub use Rattle.vs_graph
+pub mod Texts
+pub mod Written
+pub use Rattle.vs_rules

@@ -1,0 +1,49 @@
+-- Walks on a map once a way of some sort has been gone.
+use Rattle.std.specs.Prelude.{ℕ, ◌≡◌, ◌<◌, ◌↔◌, Bool, true, false, List, [], ◌∷◌, slice_index_or, IsTrue}
+use Rattle.std.specs.List.{Contains}
+use Rattle.vs_process.specs.Stops.{stops_tos}
+use Rattle.vs_process.specs.Ways.{Pause, none}
+use Rattle.vs_graph.specs.Reached.{Reached}
+use Rattle.vs_maps.specs.declared.along.Along.{Along}
+use Rattle.vs_maps.specs.declared.along.Along.TheVariants.{Any, Plain, ZeroTime}
+use Rattle.vs_maps.specs.Reaches.{Chart, IsPlace, pause_at, stops_along}
+use Rattle.vs_maps.specs.Ranges.{HasSignal, now_at}
+
+-- ways that count lead to a place, once a way from a point of this sort has been gone
+pub record WalkFrom (t : Chart) (along : Along) (sort : ℕ → Type 0) (p : ℕ) : Type 0 where
+  pub from : ℕ
+  pub to : ℕ
+  pub is_place : IsPlace t from
+  pub starts : sort from
+  pub leads : Contains (stops_tos t.stops from) to
+  pub reached : Reached (stops_along along t.stops) (to ∷ []) p
+
+-- whether a pause is a control
+abbrev pub is_control : Pause → Bool
+is_control none = false
+is_control _ = true
+
+-- the statement at a place is a control
+abbrev pub HasControl : Chart → ℕ → Type 0
+HasControl t p = is_control (pause_at t p) ≡ true
+
+-- a walk leads to the place from a control, one of zero ticks too
+abbrev pub InLate : Chart → ℕ → Type 0
+InLate t p = WalkFrom t Any (HasControl t) p
+
+-- one that takes no time does from a write of the signal by `=`
+abbrev pub InHot : Chart → ℕ → ℕ → Type 0
+InHot t v p = WalkFrom t ZeroTime (λ q. HasSignal (now_at t q) v) p
+
+-- one without a further control does from the control at this place
+abbrev pub IsControlBefore : Chart → ℕ → ℕ → Type 0
+IsControlBefore t q p = WalkFrom t Plain (λ x. (x ≡ q) × HasControl t x) p
+
+-- marks say of which numbers below one something holds
+abbrev pub AreMarked : (ℕ → Type 0) → ℕ → List Bool → Type 0
+AreMarked holds n marks = (k : ℕ) → k < n → (IsTrue (slice_index_or marks k false) ↔ holds k)
+
+-- the seeds of walks of a sort: where the ways of its points lead
+abbrev pub AreSeeds : Chart → (ℕ → Type 0) → List ℕ → Type 0
+AreSeeds t sort seeds =
+    (s : ℕ) → (Contains seeds s ↔ ((p : ℕ) × IsPlace t p × sort p × Contains (stops_tos t.stops p) s))

@@ -1,0 +1,32 @@
+//! The places of the text of a process on its map, and those to which paths of the text lead.
+//! Which texts write, read and wait for a signal, and at which of their points.
+#![tactic(auto)]
+
+mod along;
+mod delays;
+mod families;
+mod indexes;
+mod laws;
+mod paths;
+mod pauses;
+mod ranges;
+mod readings;
+mod sites;
+mod tables;
+mod uses;
+mod walks;
+mod written;
+
+pub use along::Along;
+pub use delays::controls;
+pub use indexes::{empty_rows, index_of, put_all};
+pub use laws::{maps_are_exact, texts_are_exact};
+pub use pauses::Pause;
+pub use readings::text_reads;
+pub use sites::{Site, SiteRule};
+pub use tables::Tables;
+pub use uses::Uses;
+pub use vs_graph;
+pub use vs_threads;
+pub use walks::{controls_before, hot, late, marks_of, terms, walks_from};
+pub use written::put_writes;

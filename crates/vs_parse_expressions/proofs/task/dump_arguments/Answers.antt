@@ -1,0 +1,14 @@
+use Rattle.std.proofs.Common.{refl}
+use Rattle.vs_syntax.specs.vs_lex_tokens.specs.declared.token.Mark.TheVariants as m
+use Rattle.vs_syntax.specs.Symbols.{the_mark}
+use Rattle.vs_syntax.specs.Views.{dump_tree}
+use Rattle.vs_parse_expressions.specs.Tasks.{dumped}
+use Rattle.vs_parse_expressions.proofs.Forms.{absent}
+use Rattle.vs_parse_expressions.proofs.Parts.{marked_answers}
+use Rattle.vs_parse_expressions.proofs.task.dump_arguments.Goals as goal
+
+pub returns-in_default : goal.returns-in_default
+returns-in_default c = absent (the_mark m.Open) dumped c.args.depth _ c.in_default.ensures
+
+pub returns : goal.returns
+returns c = marked_answers dump_tree m.Open dumped c.args.depth _ _ _ refl c.in-Some.ensures c.dump_list.ensures

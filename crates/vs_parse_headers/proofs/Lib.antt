@@ -1,4 +1,0 @@
-pub mod Declarations
-pub mod Headers
-pub mod InstanceLemmas
-pub mod PortLemmas

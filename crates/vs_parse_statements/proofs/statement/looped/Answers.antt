@@ -1,8 +1,0 @@
-use Rattle.vs_parse_lists.proofs.Trees.{tree_While, tree_Repeat}
-use Rattle.vs_parse_statements.proofs.statement.looped.Goals as goal
-
-pub returns-then-counted : goal.returns-then-counted
-returns-then-counted c = rw c.if-counted.true (tree_Repeat _ _)
-
-pub returns-else-counted : goal.returns-else-counted
-returns-else-counted c = rw c.if-counted.false (tree_While _ _)

@@ -1,5 +1,0 @@
-use Rattle.vs_process.proofs.Blocks.{blocks_exclude}
-use Rattle.vs_process.proofs.laws.blocks_exclude.Goals as goal
-
-pub returns : goal.returns
-returns c = blocks_exclude

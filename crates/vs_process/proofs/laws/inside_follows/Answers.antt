@@ -1,5 +1,0 @@
-use Rattle.vs_process.proofs.Blocks.{inside_follows}
-use Rattle.vs_process.proofs.laws.inside_follows.Goals as goal
-
-pub returns : goal.returns
-returns c = inside_follows

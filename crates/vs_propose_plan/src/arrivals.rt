@@ -1,0 +1,172 @@
+//! How a text comes to each place of its map.
+
+use std::alloc::{AllocError, Global};
+use vs_design::Statement;
+use vs_process::{Stop, TextMap};
+
+/// How many ways to come to one place are told apart.
+const MAX_ARRIVALS: usize = 1_024;
+
+/// How a text comes to a place of its map.
+#[derive(Clone, Copy, PartialEq, Eq)]
+pub(crate) enum Arrival {
+    /// From its start, through no control.
+    Start,
+    /// In the first slot, through delays of zero ticks.
+    FirstSlot,
+    /// At a time above 0, in ticks, that has this residue.
+    Residue(u64),
+    /// After an event control.
+    Woken,
+}
+
+/// For each place of a map, the end first, how its text comes there.
+#[derive(Drop)]
+pub(crate) struct Arrivals {
+    rows: Vec<Vec<Arrival>>,
+}
+
+impl Arrivals {
+    /// Those of a text that comes nowhere.
+    pub(crate) fn none(alloc: Global) -> Arrivals {
+        Arrivals {
+            rows: Vec::new(alloc),
+        }
+    }
+
+    /// How the text comes to a place.
+    pub(crate) fn at(&self, place: usize) -> &[Arrival] {
+        match self.rows.get(place) {
+            None => &[],
+            Some(row) => row,
+        }
+    }
+}
+
+// The residue of so many ticks.
+fn residue(ticks: u64, modulus: u64) -> u64 {
+    if modulus == 0 { 0 } else { ticks % modulus }
+}
+
+/// How a text that comes to a delay control comes out of it.
+pub(crate) fn delayed(arrival: Arrival, ticks: u64, modulus: u64) -> Arrival {
+    match arrival {
+        Arrival::Start | Arrival::FirstSlot => {
+            if ticks == 0 {
+                Arrival::FirstSlot
+            } else {
+                Arrival::Residue(residue(ticks, modulus))
+            }
+        }
+        Arrival::Residue(r) => Arrival::Residue(residue(r.saturating_add(ticks), modulus)),
+        Arrival::Woken => Arrival::Woken,
+    }
+}
+
+// How a text that comes to a statement goes on from there.
+fn behind(statement: Option<&Statement>, arrival: Arrival, modulus: u64) -> Arrival {
+    match statement {
+        None => arrival,
+        Some(s) => match s {
+            Statement::Delay(_, ticks, _) => delayed(arrival, ticks.count, modulus),
+            Statement::Event(_, _, _) => Arrival::Woken,
+            _ => arrival,
+        },
+    }
+}
+
+/// The stop at a place, where there is one: place 0 is the end, and the others are numbered from 1 on.
+pub(crate) fn stop_at<'a>(stops: &'a [Stop<'a>], place: usize) -> Option<&'a Stop<'a>> {
+    if place == 0 {
+        return None;
+    }
+    stops.get(place - 1)
+}
+
+// A walk through a map that isn't done.
+#[derive(Drop)]
+struct Walk {
+    rows: Vec<Vec<Arrival>>,
+    todo: Vec<(usize, Arrival)>,
+    is_full: bool,
+}
+
+// Puts a way to come at a row's end, where it isn't there. The answer is whether it is new; none where there are too many.
+fn put(row: &mut Vec<Arrival>, arrival: Arrival) -> Result<Option<bool>, AllocError> {
+    if row.contains(&arrival) {
+        return Ok(Some(false));
+    }
+    if row.len() >= MAX_ARRIVALS {
+        return Ok(None);
+    }
+    row.push(arrival)?;
+    Ok(Some(true))
+}
+
+impl Walk {
+    // A walk that has come nowhere.
+    fn new(alloc: Global, places: usize) -> Result<Walk, AllocError> {
+        let mut rows = Vec::new(alloc);
+        for _ in 0..places {
+            rows.push(Vec::new(alloc))?;
+        }
+        Ok(Walk {
+            rows,
+            todo: Vec::new(alloc),
+            is_full: false,
+        })
+    }
+
+    // Comes to a place.
+    fn come(&mut self, place: usize, arrival: Arrival) -> Result<(), AllocError> {
+        let is_new = match self.rows.get_mut(place) {
+            None => Some(false),
+            Some(row) => put(row, arrival)?,
+        };
+        match is_new {
+            None => self.is_full = true,
+            Some(true) => self.todo.push((place, arrival))?,
+            Some(false) => {}
+        }
+        Ok(())
+    }
+
+    // Goes on from a place.
+    fn go(
+        &mut self,
+        map: &TextMap,
+        place: usize,
+        arrival: Arrival,
+        modulus: u64,
+    ) -> Result<(), AllocError> {
+        let Some(stop) = stop_at(&map.stops, place) else {
+            return Ok(());
+        };
+        let next = behind(stop.statement, arrival, modulus);
+        for to in &stop.tos {
+            self.come(*to, next)?;
+        }
+        Ok(())
+    }
+}
+
+/// How a text comes to each place of its map, with residues by a modulus; none where there are too many ways. It takes as long as the map has places
+/// and ways, times how many residues there are.
+pub(crate) fn all_arrivals(
+    alloc: Global,
+    map: &TextMap,
+    modulus: u64,
+) -> Result<Option<Arrivals>, AllocError> {
+    let mut walk = Walk::new(alloc, map.stops.len().saturating_add(1))?;
+    walk.come(map.start, Arrival::Start)?;
+    for _ in 0..u64::MAX {
+        let Some((place, arrival)) = walk.todo.pop() else {
+            break;
+        };
+        walk.go(map, place, arrival, modulus)?;
+        if walk.is_full {
+            return Ok(None);
+        }
+    }
+    Ok(Some(Arrivals { rows: walk.rows }))
+}

@@ -1,2 +1,0 @@
-pub mod Clear
-pub use Rattle.vs_reach

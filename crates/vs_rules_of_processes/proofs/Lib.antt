@@ -1,0 +1,14 @@
+mod ListLemmas
+mod ForwardLemmas
+mod ClassLemmas
+pub mod EdgeLemmas
+pub mod ReadingLemmas
+pub mod PairLemmas
+mod HungLemmas
+mod PlaceLemmas
+mod SlotLemmas
+pub mod ByNumber
+pub mod ResidueLemmas
+pub mod Shifts
+pub mod Kept
+pub mod Here

@@ -1,0 +1,10 @@
+pub mod Forward
+pub mod Classes
+pub use Rattle.vs_slots
+pub use Rattle.vs_drivers
+pub mod EdgePlaces
+pub mod ReadingPlaces
+pub mod FirstSlot
+pub mod Residues
+pub mod Closed
+pub mod Places

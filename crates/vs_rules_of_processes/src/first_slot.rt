@@ -1,0 +1,268 @@
+//! What processes do in the first slot.
+ghost use Rattle.std.specs.Prelude.{ℕ, ◌≡◌, ◌↔◌, false, slice_index_or, IfOk, IsTrue};
+ghost use Rattle.std.specs.List.{Contains};
+ghost use Rattle.vs_design.specs.Kinds.{is_variable};
+ghost use Rattle.vs_maps.specs.vs_rules.specs.Claims.{IsSequential};
+ghost use Rattle.vs_maps.specs.vs_rules.specs.Rules.{K10_Process};
+ghost use Rattle.vs_drivers.specs.Wires.{IsWiringOf};
+ghost use Rattle.vs_drivers.specs.vs_maps.specs.Ranges.{now_at};
+ghost use Rattle.vs_drivers.specs.vs_maps.specs.Reaches.{InSlot0, InPrologue};
+ghost use Rattle.vs_rules_of_processes.specs.FirstSlot.{IsOwn, AreOwn, NoneHangs, ReadsOwn, KeepsFirst};
+
+use crate::hung::hung;
+use std::alloc::{AllocError, Global};
+use std::marker::Model;
+use vs_claims::Facts;
+use vs_design::{BitRange, SignalKind};
+use vs_drivers::Cones;
+use vs_drivers::vs_maps::Tables;
+use vs_graph::{Rule, all_keep};
+use vs_maps::Uses;
+
+/// What the rule K10 asks of processes. A contract sees the facts.
+#[derive(Drop)]
+pub struct FirstSlot<'a> {
+    facts: &'a Facts<'a>,
+    uses: &'a Uses<'a>,
+    // For each signal whether blocks hang on it.
+    hung: Vec<bool>,
+}
+
+impl<'a> Model for FirstSlot<'a> {
+    ghost use Rattle.std.specs.Coded.{codes};
+    ghost use Rattle.vs_design.specs.contracts.expression.Typed as expression;
+    ghost use Rattle.vs_design.specs.contracts.statement.Statement as statement;
+    ghost use Rattle.vs_claims.specs.Facts.{Case};
+    ghost use Rattle.vs_rules_of_processes.specs.FirstSlot.{AreFirst};
+
+    ghost Value = { Case };
+
+    ghost coded = { Prim.hlevel (codes, statement.the_row.coded, expression.the_row.coded) };
+
+    ghost view = { λ s. s.facts.now };
+
+    ghost invariant = { λ s. AreFirst s.facts.now s.uses.now s.hung.items };
+}
+
+// Whether a signal is declared as a variable.
+fn is_variable(kind: SignalKind) -> bool
+    ensures { result ≡ is_variable kind }
+{
+    match kind {
+        SignalKind::Wire => false,
+        SignalKind::Reg | SignalKind::Integer => true,
+    }
+}
+
+// Whether a row has a number, and no other one.
+fn is_sole(row: &[usize], i: usize) -> bool
+    ensures { IsTrue result ↔ (Contains row.now i × ((j : ℕ) → Contains row.now j → j ≡ i)) }
+{
+    if row.is_empty() {
+        return false;
+    }
+    for j in row {
+        if *j != i {
+            return false;
+        }
+    }
+    true
+}
+
+// Whether the mark of a number is set.
+fn is_set(marks: &[bool], u: usize) -> bool
+    ensures { result ≡ slice_index_or marks.now u false }
+{
+    if u < marks.len() { marks[u] } else { false }
+}
+
+impl<'a> FirstSlot<'a> {
+    /// What the rule asks, by the facts, the uses of the same design's signals, and the cones of its ranges.
+    pub fn new(
+        alloc: Global,
+        facts: &'a Facts<'a>,
+        uses: &'a Uses<'a>,
+        cones: &Cones,
+    ) -> Result<FirstSlot<'a>, AllocError>
+        requires same { uses.now.design ≡ facts.now.design }
+        requires wiring { IsWiringOf facts.now.design facts.now.claims cones.now }
+        ensures { IfOk result (λ s. s ≡ facts.entry.now) }
+    {
+        let hung = hung(alloc, facts, cones)?;
+        Ok(FirstSlot { facts, uses, hung })
+    }
+
+    // Whether a signal is a variable that a process writes, and no other one.
+    fn is_own(&self, i: usize, v: usize) -> bool
+        ensures { IsTrue result ↔ IsOwn self.now.design i v }
+    {
+        let signals = self.facts.design().signals();
+        match signals.get(v) {
+            None => false,
+            Some(s) => {
+                if !is_variable(s.kind) {
+                    return false;
+                }
+                is_sole(self.uses.writers(v), i)
+            }
+        }
+    }
+
+    // Whether all ranges are of such variables.
+    fn are_own(&self, i: usize, ranges: &[BitRange]) -> bool
+        ensures { IsTrue result ↔ AreOwn self.now.design i ranges.now }
+    {
+        for range in ranges {
+            if !self.is_own(i, range.signal) {
+                return false;
+            }
+        }
+        true
+    }
+
+    // Whether no range is of a signal that blocks hang on.
+    fn none_hangs(&self, ranges: &[BitRange]) -> bool
+        ensures { IsTrue result ↔ NoneHangs self.now.design self.now.claims ranges.now }
+    {
+        for range in ranges {
+            if is_set(&self.hung, range.signal) {
+                return false;
+            }
+        }
+        true
+    }
+
+    // Whether what a process reads at a place is its own, and where the certificate says so what it shows.
+    fn reads_own(
+        &self,
+        alloc: Global,
+        tables: &Tables,
+        i: usize,
+        place: usize,
+    ) -> Result<bool, AllocError>
+        ensures { IfOk result (λ b. (IsTrue b ↔ ReadsOwn self.now.design self.now.claims i tables.now place)) }
+    {
+        let reads = tables.reads_at(alloc, place)?;
+        if !self.are_own(i, &reads) {
+            return Ok(false);
+        }
+        if !self.facts.displays() {
+            return Ok(true);
+        }
+        let shows = tables.shows_at(alloc, place)?;
+        Ok(self.are_own(i, &shows))
+    }
+
+    // Whether no `=` at a place writes a signal that blocks hang on.
+    fn is_untouched(&self, alloc: Global, tables: &Tables, place: usize) -> Result<bool, AllocError>
+        ensures { IfOk result (λ b. (IsTrue b ↔ NoneHangs self.now.design self.now.claims (now_at tables.now place))) }
+    {
+        let ranges = tables.now_at(alloc, place)?;
+        Ok(self.none_hangs(&ranges))
+    }
+
+    // Whether what a process of kind edge or delay reads in the first slot is its own.
+    fn keeps_reads<'b>(
+        &'b self,
+        alloc: Global,
+        tables: &'b Tables<'b>,
+        i: usize,
+    ) -> Result<bool, AllocError>
+        ensures { IfOk result (λ b. (IsTrue b ↔ (IsSequential self.entry.now.design self.entry.now.claims i →
+            (p : ℕ) → InSlot0 tables.entry.now p → ReadsOwn self.entry.now.design self.entry.now.claims i tables.entry.now p))) }
+    {
+        if !self.facts.is_sequential(i) {
+            return Ok(true);
+        }
+        let readings = Readings {
+            slot: self,
+            tables,
+            process: i,
+        };
+        let all = all_keep(alloc, &readings, tables.places())?;
+        Ok(all)
+    }
+
+    // Whether no `=` of a process before any delay writes a signal that blocks hang on.
+    fn keeps_writes<'b>(&'b self, alloc: Global, tables: &'b Tables<'b>) -> Result<bool, AllocError>
+        ensures { IfOk result (λ b. (IsTrue b ↔ ((p : ℕ) → InPrologue tables.entry.now p →
+            NoneHangs self.entry.now.design self.entry.now.claims (now_at tables.entry.now p)))) }
+    {
+        let writings = Writings { slot: self, tables };
+        let all = all_keep(alloc, &writings, tables.places())?;
+        Ok(all)
+    }
+
+    // Whether the places of the map of a process keep the rule.
+    fn keeps_places<'b>(
+        &'b self,
+        alloc: Global,
+        tables: &'b Tables<'b>,
+        i: usize,
+    ) -> Result<bool, AllocError>
+        ensures { IfOk result (λ b. (IsTrue b ↔ KeepsFirst self.entry.now.design self.entry.now.claims i tables.entry.now)) }
+    {
+        let reads = self.keeps_reads(alloc, tables, i)?;
+        if !reads {
+            return Ok(false);
+        }
+        let keeps = self.keeps_writes(alloc, tables)?;
+        Ok(keeps)
+    }
+
+    /// Whether a process keeps the rule K10: what one of kind edge or delay reads at a point of the first slot is a variable that it alone writes;
+    /// and no `=` before its first delay writes what is in the cone of what a block needs. It takes as long as its text is, and for each read as
+    /// often as texts write what is read.
+    pub fn keeps_first_slot(&self, alloc: Global, i: usize) -> Result<bool, AllocError>
+        ensures exact { IfOk result (λ b. (IsTrue b ↔ K10_Process self.now.design self.now.claims i)) }
+    {
+        self.facts.maps();
+        match self.facts.tables(i) {
+            None => Ok(true),
+            Some(tables) => self.keeps_places(alloc, tables, i),
+        }
+    }
+}
+
+// The places where a process reads in the first slot.
+#[derive(Drop)]
+struct Readings<'s, 'a> {
+    slot: &'s FirstSlot<'a>,
+    tables: &'s Tables<'s>,
+    process: usize,
+}
+
+impl<'s, 'a> Rule for Readings<'s, 'a> {
+    ghost keeps = { λ f p. InSlot0 f.tables.now p → ReadsOwn f.slot.now.design f.slot.now.claims f.process f.tables.now p };
+
+    fn test(&self, alloc: Global, i: usize) -> Result<bool, AllocError> {
+        if i >= self.tables.places() {
+            return Ok(true);
+        }
+        if !self.tables.is_slot0(i) {
+            return Ok(true);
+        }
+        self.slot.reads_own(alloc, self.tables, self.process, i)
+    }
+}
+
+// The places where a process writes before any delay.
+#[derive(Drop)]
+struct Writings<'s, 'a> {
+    slot: &'s FirstSlot<'a>,
+    tables: &'s Tables<'s>,
+}
+
+impl<'s, 'a> Rule for Writings<'s, 'a> {
+    ghost keeps = { λ f p. InPrologue f.tables.now p → NoneHangs f.slot.now.design f.slot.now.claims (now_at f.tables.now p) };
+
+    fn test(&self, alloc: Global, i: usize) -> Result<bool, AllocError> {
+        if i >= self.tables.places() {
+            return Ok(true);
+        }
+        if !self.tables.is_prologue(i) {
+            return Ok(true);
+        }
+        self.slot.is_untouched(alloc, self.tables, i)
+    }
+}

@@ -1,0 +1,19 @@
+use Rattle.std.proofs.Common.{ℕ, ◌↔◌, List, true, false, IsTrue, refl, subst, arith}
+use Rattle.std.specs.List.{Contains}
+use Rattle.vs_rules_of_signals.specs.Ranks.{IsBelow}
+use Rattle.vs_rules_of_signals.proofs.ListLemmas.{further, all_do, one_not}
+use Rattle.vs_rules_of_signals.proofs.ranks.goes_up.Goals as goal
+
+pub loop-next-preserved : goal.loop-next-preserved
+loop-next-preserved c =
+    further (λ (q : ℕ). IsBelow c.args.ranks.now c.args.place q) c.tos-next-items.result.now c.loop-next.next-index c.loop-next.invariant (c.if-not-is_below.ensures.0 refl)
+
+pub returns-then-not-is_below : goal.returns-then-not-is_below
+returns-then-not-is_below c =
+    subst (λ (xs : List ℕ). IsTrue false ↔ ((q : ℕ) → Contains xs q → IsBelow c.args.ranks.now c.args.place q)) c.tos-next-items.ensures.are
+    (one_not (λ (q : ℕ). IsBelow c.args.ranks.now c.args.place q) c.tos-next-items.result.now c.loop-next.next-index (omega arith) (λ p. c.if-not-is_below.ensures.1 p))
+
+pub returns : goal.returns
+returns c =
+    subst (λ (xs : List ℕ). IsTrue true ↔ ((q : ℕ) → Contains xs q → IsBelow c.args.ranks.now c.args.place q)) c.tos-next-items.ensures.are
+    (all_do (λ (q : ℕ). IsBelow c.args.ranks.now c.args.place q) c.tos-next-items.result.now c.loop-next.next-index (omega arith) c.loop-next.invariant)

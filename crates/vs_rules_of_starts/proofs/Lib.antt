@@ -1,0 +1,10 @@
+pub mod SettledLemmas
+pub mod AloneLemmas
+pub mod ControlLemmas
+pub mod OutputLemmas
+pub mod ColdLemmas
+pub mod OrderLemmas
+pub mod MissingLemmas
+pub mod BeginningLemmas
+pub mod StartedLemmas
+pub mod StartLemmas

@@ -1,0 +1,17 @@
+use Rattle.std.proofs.Common.{option_map, ap, Option}
+use Rattle.vs_claims.specs.vs_certificate.specs.declared.members.Start.{Start}
+use Rattle.vs_rules.specs.Certificates.{start_from}
+use Rattle.vs_rules.specs.Claims.{starter}
+use Rattle.vs_claims.specs.Facts.{kind_seen}
+use Rattle.vs_rules_of_starts.proofs.StartLemmas.{start_is, start_not}
+use Rattle.vs_rules_of_starts.proofs.starts.has_start.Goals as goal
+
+pub returns-in-None : goal.returns-in-None
+returns-in-None c =
+    start_not c.args.facts.now.design c.args.facts.now.claims c.args.j (kind_seen c.kind.result) (option_map start_from c.start_of.result) starter c.kind.ensures c.start_of.ensures
+    (ap (λ (o : Option Start). option_map start_from o) c.in-None.is)
+
+pub returns-in-Some : goal.returns-in-Some
+returns-in-Some c =
+    start_is c.args.facts.now.design c.args.facts.now.claims c.args.j (kind_seen c.kind.result) (option_map start_from c.start_of.result) (start_from c.in-Some.start) starter c.kind.ensures c.start_of.ensures
+    (ap (λ (o : Option Start). option_map start_from o) c.in-Some.is) c.is_starter.result c.is_starter.ensures

@@ -1,0 +1,11 @@
+pub mod Settled
+pub mod Alone
+pub mod Cold
+pub use Rattle.vs_rules.specs.vs_threads.specs.vs_process
+pub mod Order
+pub mod Missing
+pub mod Inside
+pub mod Beginnings
+pub mod Started
+pub mod Starts
+pub use Rattle.vs_rules

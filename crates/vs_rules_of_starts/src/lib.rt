@@ -1,0 +1,23 @@
+//! The store in which executions begin, with the continuous assignments settled, and combinational blocks run alone on it.
+//! The rule K11, on the starts of combinational blocks.
+#![tactic(auto)]
+
+mod alone;
+mod apart;
+mod begins;
+mod cold;
+mod missing;
+mod order;
+mod outputs;
+mod settled;
+mod started;
+mod starter;
+mod starts;
+
+pub use apart::Starts;
+pub use cold::Beginning;
+pub use order::in_order;
+pub use settled::settled_start;
+pub use starts::{keeps_start, keeps_start_by};
+pub use vs_rules;
+pub use vs_rules::vs_threads::vs_process;

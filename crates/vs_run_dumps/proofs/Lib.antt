@@ -1,3 +1,0 @@
-pub mod ClockLemmas
-pub mod EndLemmas
-pub mod WholeLemmas

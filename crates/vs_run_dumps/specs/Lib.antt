@@ -1,3 +1,0 @@
-pub mod ReadBack
-pub use Rattle.vs_kernel
-pub use Rattle.vs_vcd_law

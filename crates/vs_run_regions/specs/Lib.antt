@@ -1,0 +1,10 @@
+pub mod Items
+pub mod Active
+pub mod FilterLaws
+pub mod Updates
+pub mod Entries
+pub mod Regions
+pub mod Claims
+pub use Rattle.vs_process
+pub use Rattle.vs_time_wheel
+pub mod Policies

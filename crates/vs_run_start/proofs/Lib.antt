@@ -1,2 +1,0 @@
-mod ScriptLemmas
-mod StartLemmas

@@ -1,3 +1,0 @@
-pub mod Scripts
-pub mod Starting
-pub use Rattle.vs_run_active

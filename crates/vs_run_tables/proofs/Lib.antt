@@ -1,6 +1,0 @@
-pub mod GroupsLemmas
-mod ListsLemmas
-pub mod RowsLemmas
-pub mod TablesLemmas
-mod TermsLemmas
-mod WordsLemmas

@@ -1,6 +1,0 @@
-use Rattle.std.proofs.Common.{take}
-use Rattle.vs_run_tables.specs.Groups.{AreLike}
-use Rattle.vs_run_tables.proofs.groups.like_it.Given as goal
-
-abbrev pub invariant-loop-n : goal.invariant-loop-n
-invariant-loop-n l = AreLike l.first (take l.n l.rest)

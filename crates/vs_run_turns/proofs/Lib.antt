@@ -1,9 +1,0 @@
-pub mod Appending
-pub mod AssignLemmas
-pub mod EventLemmas
-pub mod MadeLemmas
-pub mod MoveLemmas
-pub mod PrintsLemmas
-pub mod TakenLemmas
-pub mod TurnsLemmas
-pub mod WritingLemmas

@@ -1,6 +1,0 @@
-use Rattle.std.proofs.Common.{◌∷◌, ◌++◌, [], false}
-use Rattle.vs_run_updates.specs.Updates.{bits_write}
-use Rattle.vs_run_updates.proofs.regions.Regions.push_bits.Given as goal
-
-abbrev pub ghost-next : goal.ghost-next
-ghost-next g a = a.self.now.items ++ record { by = a._by.now.0.0; due = a._by.now.0.1; active = false; what = bits_write a._by.now.1 } ∷ []

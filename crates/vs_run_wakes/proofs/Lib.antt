@@ -1,4 +1,0 @@
-pub mod ChangesLemmas
-pub mod MarkingLemmas
-pub mod TouchesLemmas
-pub mod WaitsLemmas

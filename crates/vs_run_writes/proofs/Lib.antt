@@ -1,2 +1,0 @@
-pub mod FastLemmas
-pub mod WritesLemmas

@@ -1,6 +1,0 @@
-use Rattle.std.proofs.Common.{◌≡◌, drop}
-use Rattle.vs_slots_cold.specs.Settled.{put_all}
-use Rattle.vs_slots_cold.proofs.settled.make_all.Given as goal
-
-abbrev pub invariant-loop-j : goal.invariant-loop-j
-invariant-loop-j l = put_all l.assigns (drop l.j-index l.order) l.store ≡ put_all l.assigns l.order l.fn.store

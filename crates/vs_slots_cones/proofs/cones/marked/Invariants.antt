@@ -1,5 +1,0 @@
-use Rattle.vs_slots_cones.proofs.ConeLemmas.{AreSet}
-use Rattle.vs_slots_cones.proofs.cones.marked.Given as goal
-
-abbrev pub invariant-loop-u : goal.invariant-loop-u
-invariant-loop-u l = AreSet l.marks l.u l.all.items

@@ -1,5 +1,0 @@
-use Rattle.vs_slots_cones.proofs.DriverLemmas.{AreNamed}
-use Rattle.vs_slots_cones.proofs.drivers.Drivers.cone.Given as goal
-
-abbrev pub invariant-loop-n : goal.invariant-loop-n
-invariant-loop-n l = AreNamed l.self l.ranges l.n l.marks.items

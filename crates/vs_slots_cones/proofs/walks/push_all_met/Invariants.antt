@@ -1,7 +1,0 @@
-use Rattle.std.proofs.Common.{◌≡◌, ◌++◌, drop}
-use Rattle.vs_slots_cones.specs.Walks.{all_met}
-use Rattle.vs_slots_cones.proofs.walks.push_all_met.Given as goal
-
-abbrev pub invariant-loop-range : goal.invariant-loop-range
-invariant-loop-range l =
-    l.out.items ++ all_met l.signals l.writers (drop l.range-index l.ranges) ≡ l.fn.out.items ++ all_met l.signals l.writers l.ranges

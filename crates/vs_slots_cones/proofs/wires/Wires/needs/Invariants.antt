@@ -1,5 +1,0 @@
-use Rattle.vs_slots_cones.proofs.Tables.{NeedsBelow}
-use Rattle.vs_slots_cones.proofs.wires.Wires.needs.Given as goal
-
-abbrev pub invariant-loop-n : goal.invariant-loop-n
-invariant-loop-n l = NeedsBelow l.self l.n l.table.items

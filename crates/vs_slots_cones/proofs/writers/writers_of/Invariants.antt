@@ -1,6 +1,0 @@
-use Rattle.vs_design.specs.Tables.{rows}
-use Rattle.vs_slots_cones.proofs.Tables.{HasBelow}
-use Rattle.vs_slots_cones.proofs.writers.writers_of.Given as goal
-
-abbrev pub invariant-loop-n : goal.invariant-loop-n
-invariant-loop-n l = HasBelow l.wires l.n (rows l.table.items)

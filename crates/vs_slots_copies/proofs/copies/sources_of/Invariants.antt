@@ -1,5 +1,0 @@
-use Rattle.vs_slots_copies.proofs.CopyLemmas.{SoFar}
-use Rattle.vs_slots_copies.proofs.copies.sources_of.Given as goal
-
-abbrev pub invariant-loop-v : goal.invariant-loop-v
-invariant-loop-v l = SoFar l.design l.v l.sources.items

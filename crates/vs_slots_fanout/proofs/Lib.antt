@@ -1,3 +1,0 @@
-mod ListLemmas
-mod ForwardLemmas
-mod ClassLemmas

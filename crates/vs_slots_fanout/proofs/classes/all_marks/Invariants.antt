@@ -1,6 +1,0 @@
-use Rattle.std.proofs.Common.{◌≡◌, length}
-use Rattle.vs_slots_fanout.specs.Classes.{AreClasses}
-use Rattle.vs_slots_fanout.proofs.classes.all_marks.Given as goal
-
-abbrev pub invariant-loop-class : goal.invariant-loop-class
-invariant-loop-class l = (length l.table.items ≡ l.class) × AreClasses l.slots.design l.slots.claims l.table.items

@@ -1,5 +1,0 @@
-use Rattle.std.proofs.Common.{arith}
-use Rattle.vs_slots_fanout.proofs.forward.reached.Goals as goal
-
-pub reach-requires : goal.reach-requires
-reach-requires c s h = let l = c.requires.seeds s h in omega (arith, l)

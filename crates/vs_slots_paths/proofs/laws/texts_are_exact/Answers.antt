@@ -1,5 +1,0 @@
-use Rattle.vs_slots_paths.proofs.Exact.{texts_are_exact}
-use Rattle.vs_slots_paths.proofs.laws.texts_are_exact.Goals as goal
-
-pub returns : goal.returns
-returns c = texts_are_exact

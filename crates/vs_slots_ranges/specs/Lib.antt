@@ -1,3 +1,0 @@
-pub mod Places
-pub mod Ranges
-pub use Rattle.vs_rules

@@ -1,4 +1,0 @@
-pub mod SignalLemmas
-pub mod SiteLemmas
-pub mod LateLemmas
-pub mod WrittenLemmas

@@ -1,3 +1,0 @@
-pub mod Texts
-pub mod Written
-pub use Rattle.vs_rules

@@ -1,0 +1,11 @@
+pub mod Writes
+pub mod Laws
+pub mod Bits
+pub mod Feeds
+pub mod Edges
+pub mod Copying
+pub mod Threads
+pub mod Blocks
+pub mod Reads
+pub use Rattle.vs_process.specs.vs_eval
+pub use Rattle.vs_process

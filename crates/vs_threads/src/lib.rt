@@ -1,0 +1,13 @@
+//! Which bits statements write, and that the processes of a design write no others.
+//! Threads: what a process does in a slot, and what it reads: the ground of the laws of independence.
+#![tactic(auto)]
+
+mod laws;
+mod statements;
+mod threads_laws;
+
+pub use laws::{processes_write_what_is_named, steps_write_what_is_named, writes_have_parts};
+pub use statements::statement_writes;
+pub use threads_laws::{processes_read_what_is_named, steps_read_what_is_named};
+pub use vs_process;
+pub use vs_process::vs_eval;

@@ -1,3 +1,0 @@
-pub mod Beginnings
-pub mod Parts
-pub use Rattle.vs_vcd_lines

@@ -1,0 +1,16 @@
+pub mod Plain
+pub mod Layout
+pub mod Faults
+pub mod Laws
+pub mod Walks
+pub mod Steps
+pub mod Stops
+pub mod Kinds
+pub mod Headers
+pub mod Bodies
+pub use Rattle.vs_vcd_lines
+pub mod Said
+pub mod Values
+pub mod Conditions
+pub mod OneFault
+pub use Rattle.vs_vcd_writing

@@ -1,9 +1,0 @@
-use Rattle.std.proofs.Common.{◌-◌, length}
-use Rattle.vs_vcd_reading.specs.Bodies.{AreBegun}
-use Rattle.vs_vcd_reading.proofs.first.read_values.Given as goal
-
-abbrev pub invariant-loop-rest : goal.invariant-loop-rest
-invariant-loop-rest l = AreBegun l.fn.widths l.fn.text l.changes.items l.rest
-
-abbrev pub decreases-loop-rest : goal.decreases-loop-rest
-decreases-loop-rest l = length l.widths - length l.changes.items

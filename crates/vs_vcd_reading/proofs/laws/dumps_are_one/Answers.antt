@@ -1,5 +1,0 @@
-use Rattle.vs_vcd_reading.proofs.LawLemmas.{dumps_once}
-use Rattle.vs_vcd_reading.proofs.laws.dumps_are_one.Goals as goal
-
-pub returns : goal.returns
-returns c = dumps_once

@@ -1,5 +1,0 @@
-use Rattle.vs_vcd_reading.proofs.BeginningLemmas.{top_tells}
-use Rattle.vs_vcd_reading.proofs.parts.top_goes_on.Goals as goal
-
-pub returns : goal.returns
-returns c = top_tells c.args.part.now c.begins_scope.result c.begins_scope.ensures
