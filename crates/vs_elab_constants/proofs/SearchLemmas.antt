@@ -13,7 +13,7 @@ use Rattle.vs_scopes.specs.vs_width_selects.specs.Environment.{Environment}
 use Rattle.vs_widths.specs.Names.{meaning_of, Binds}
 use Rattle.vs_scopes.specs.Parameters.{Given, own_fault, outer_fault, outer_faults, with_given}
 use Rattle.vs_scopes.specs.Declarations.{Bindings}
-use Rattle.vs_scopes.specs.scopes_passes.Parts.{FoundGiven}
+use Rattle.vs_scopes.specs.declared.parameters.Given.{Given as FoundGiven}
 use Rattle.vs_scopes.specs.declared.faults.ParameterRefusal.{ParameterRefusal}
 use Rattle.vs_scopes.specs.declared.faults.ParameterRefusal.TheVariants as r
 use Rattle.vs_scopes.specs.scopes_passes.Declared.{first_of}
