@@ -22,7 +22,7 @@ use Rattle.vs_drivers.specs.Names.{AreMaps}
 use Rattle.vs_drivers.specs.declared.writers.Written.{Written}
 use Rattle.vs_drivers.specs.Walks.{Passed, Named}
 use Rattle.vs_drivers.specs.Wires.{Wiring, OfWiring, Drives, IsFree, WritesAt, NeedsAt, driver_at, drivers}
-use Rattle.vs_drivers.proofs.Lists.{split, none_in, head_in, tail_in}
+use Rattle.vs_drivers.proofs.ListBasics.{split, none_in, head_in, tail_in}
 use Rattle.vs_drivers.proofs.Numbers.{AreMarks, of_own, drives_on, drives_back, free_is, driver_cases, block_at}
 use Rattle.vs_rules.proofs.Past.{past_points}
 use Rattle.vs_drivers.proofs.WalkLemmas.{cones_are, passes_are}

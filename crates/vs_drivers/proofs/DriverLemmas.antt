@@ -18,7 +18,7 @@ use Rattle.vs_drivers.specs.declared.writers.Written.{Written}
 use Rattle.vs_drivers.specs.Walks.{Passed, Named, AreWriters, AreNeeds, all_met, linked, AreFreed}
 use Rattle.vs_drivers.specs.Walks as w
 use Rattle.vs_drivers.specs.Wires.{Wiring, Drives, WritesAt, NeedsAt, IsFree, drivers}
-use Rattle.vs_drivers.proofs.Lists.{split, none_in, head_in}
+use Rattle.vs_drivers.proofs.ListBasics.{split, none_in, head_in}
 use Rattle.vs_drivers.proofs.Numbers.{driver_cases, block_at}
 use Rattle.vs_drivers.proofs.WalkLemmas.{passed_below, reached_are}
 

@@ -5,7 +5,7 @@ pub mod ListLemmas
 pub mod CopyLemmas
 pub mod ConeLemmas
 mod DriverLemmas
-pub mod Lists
+pub mod ListBasics
 pub mod NameLemmas
 pub mod Numbers
 mod Rows

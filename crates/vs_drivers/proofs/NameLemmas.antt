@@ -12,7 +12,7 @@ use Rattle.vs_maps.specs.Ranges.{HasTermAt}
 use Rattle.vs_maps.specs.Reaches.{Chart}
 use Rattle.vs_maps.proofs.EachWalk.{terms_exact}
 use Rattle.vs_drivers.specs.Names.{ranges_of_terms, NamesIn}
-use Rattle.vs_drivers.proofs.Lists.{split, none_in, head_in, tail_in}
+use Rattle.vs_drivers.proofs.ListBasics.{split, none_in, head_in, tail_in}
 
 range_in : (terms : List EventTerm) (t : EventTerm) → Contains terms t → Contains (ranges_of_terms terms) t.range
 range_in [] t h = absurd (none_in t h)

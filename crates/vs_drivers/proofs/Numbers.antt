@@ -10,7 +10,7 @@ use Rattle.vs_rules.specs.Claims.{Claims, IsBlock}
 use Rattle.vs_rules.specs.Drivers.{Driver, assign, block, IsDriver, DriverWrites, IsSource}
 use Rattle.vs_rules.specs.vs_threads.specs.Blocks.{outputs_for}
 use Rattle.vs_drivers.specs.Wires.{Wiring, OfWiring, driver_at, drivers, IsMarked, Drives, WritesAt, IsFree}
-use Rattle.vs_drivers.proofs.Lists.{none_in}
+use Rattle.vs_drivers.proofs.ListBasics.{none_in}
 
 chosen : (b : Bool) (n : ℕ) (x y : Driver) → ((b ≡ true) × ((if b then x else y) ≡ x)) ⊎ ((b ≡ false) × ((if b then x else y) ≡ y))
 chosen true n x y = inl (refl, refl)

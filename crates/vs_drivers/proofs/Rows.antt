@@ -12,7 +12,7 @@ use Rattle.vs_design.specs.Stores.{changed_at}
 use Rattle.vs_design.specs.Tables.{rows, empty_rows}
 use Rattle.vs_drivers.specs.declared.writers.Written.{Written}
 use Rattle.vs_drivers.specs.Walks.{noted, all_noted}
-use Rattle.vs_drivers.proofs.Lists.{split, none_in, head_in, tail_in}
+use Rattle.vs_drivers.proofs.ListBasics.{split, none_in, head_in, tail_in}
 
 -- a table with one row changed
 pub rows-changed : {A : Type 0} (f : List A → List A) (i : ℕ) (table : List (Vec A Global)) (row new : Vec A Global) → slice_get table i ≡ Some row → new.items ≡ f row.items →

@@ -9,7 +9,7 @@ use Rattle.vs_design.specs.Tables.{rows, empty_rows}
 use Rattle.vs_drivers.specs.declared.writers.Written.{Written}
 use Rattle.vs_drivers.specs.Walks.{all_noted, AreWriters, AreNeeds}
 use Rattle.vs_drivers.specs.Wires.{Wiring, WritesAt, NeedsAt, drivers}
-use Rattle.vs_drivers.proofs.Lists.{none_in}
+use Rattle.vs_drivers.proofs.ListBasics.{none_in}
 use Rattle.vs_drivers.proofs.Numbers.{writes_below}
 use Rattle.vs_drivers.proofs.Rows.{length-all_noted, all_noted_has}
 

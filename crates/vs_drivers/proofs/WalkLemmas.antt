@@ -21,7 +21,7 @@ use Rattle.vs_drivers.specs.Meets.{meet_among}
 use Rattle.vs_drivers.specs.Wires.{Wiring, Drives, driver_at, drivers, WritesAt, NeedsAt, IsFree}
 use Rattle.vs_drivers.specs.Walks.{MeetsAt, Passed, Named, AreWriters, AreNeeds, met_in, met, all_met, linked}
 use Rattle.vs_drivers.specs.Walks as w
-use Rattle.vs_drivers.proofs.Lists.{split, none_in, head_in, joined_on, joined_back}
+use Rattle.vs_drivers.proofs.ListBasics.{split, none_in, head_in, joined_on, joined_back}
 use Rattle.vs_drivers.proofs.Numbers.{AreMarks, number_of, writes_below, drives_on, drives_back, free_is}
 
 -- ---- cones are what walks lead to

@@ -6,7 +6,7 @@ use Rattle.vs_rules.specs.Drivers.{IsBlocking, InCone}
 use Rattle.vs_drivers.specs.Assigned.{IsAssigned}
 use Rattle.vs_drivers.specs.Wires.{Wiring, OfWiring, IsFree}
 use Rattle.vs_drivers.proofs.ConeLemmas.{AreChosen, blocking_of_told, alone_told}
-use Rattle.vs_drivers.proofs.Lists.{empty_list}
+use Rattle.vs_drivers.proofs.ListBasics.{empty_list}
 use Rattle.vs_drivers.proofs.WalkLemmas.{alone_named}
 use Rattle.vs_drivers.proofs.cones.Cones.blocking_of.Goals as goal
 
