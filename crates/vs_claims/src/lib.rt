@@ -1,6 +1,5 @@
-//! Names in order, which are found by halves: where each stands first, and how often.
-//! A design and its certificate by numbers, with the maps of the texts of its processes.
-//! The rule K1 of certificates, on names; and the subjects of all rules in their order.
+//! A design and its certificate by numbers, with the maps of the texts of its processes; the rule K1, on names; and the subjects of all rules in
+//! their order.
 #![tactic(auto)]
 
 mod facts;

@@ -1,7 +1,5 @@
-//! Ranges that have bits of a design in common, and ranges that cover a range.
-//! Nets that copy whole signals.
-//! Drivers, and the cones of what they drive.
-//! Sets of signals, and ranges by their signals. A look-up takes as long as the logarithm of how many there are.
+//! Drivers by numbers: what each needs and writes, the cones of what they drive, nets that copy whole signals, ranges that have bits in common or
+//! cover a range, and sets of signals, in which a look-up takes as long as the logarithm of how many there are.
 #![tactic(auto)]
 
 mod assigned;

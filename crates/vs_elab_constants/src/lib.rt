@@ -1,5 +1,5 @@
-//! The values of parameters, and what names are bound to before they are known (IEEE 1364-2005, clauses 12.2, 12.4 and 12.7).
-//! What generate constructs generate (IEEE 1364-2005, clause 12.4).
+//! The values of parameters, what names are bound to before they are known, and what generate constructs generate (IEEE 1364-2005, clauses 12.2,
+//! 12.4 and 12.7).
 #![tactic(auto)]
 
 mod branches;

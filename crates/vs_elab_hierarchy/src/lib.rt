@@ -1,9 +1,5 @@
-//! What holds of the paths and the scopes of every source (IEEE 1364-2005, clauses 12.4 and 12.5).
-//! Scopes that are entered: instances and blocks with their names, the values of their parameters and the place where they stand (IEEE
-//! 1364-2005, clause 12).
-//! One scope of a source, listed with its own members: what its names are bound to, its signals, and its first lines of the outline
-//! (IEEE 1364-2005, clause 12).
-//! The scopes of a source in design order, with what their names are bound to, their signals and their outline (IEEE 1364-2005, clause 12).
+//! The scopes of a source in design order, each entered with the values of its parameters and listed with what its names are bound to, its signals
+//! and its outline; and what holds of their paths (IEEE 1364-2005, clause 12).
 #![tactic(auto)]
 
 mod adding;

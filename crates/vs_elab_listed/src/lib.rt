@@ -1,7 +1,5 @@
-//! Ports that items declare: what is wrong with them, and which names they declare once more (IEEE 1364-2005, clause 12.3.3).
-//! The scopes of a source as they are listed: what they are, their paths, how names stand in them, and the names, signals and connections of one
-//! (IEEE 1364-2005, clause 12).
-//! The implicit nets of scopes (IEEE 1364-2005, clause 4.5).
+//! The scopes of a source as they are listed: each with its path, the names that are seen in it, its signals, its connections and its implicit nets,
+//! and what is wrong with ports that items declare (IEEE 1364-2005, clauses 4.5 and 12).
 #![tactic(auto)]
 
 mod again;

@@ -1,7 +1,5 @@
-//! The parts of statements, as parts of a design: two sides of assignments, operands, terms of event controls, expressions of `case` items, and calls of system tasks (IEEE 1364-2005, clauses 6, 9 and 17).
-//! Statements of a design by their form: those that hold no others, and those around statements that are made already (IEEE 1364-2005,
-//! clause 9).
-//! The bodies of processes, as parts of a design (IEEE 1364-2005, clause 9).
+//! Statements and the two sides of assignments as parts of a design: operands, delays, terms of event controls, `case` items, calls of system tasks,
+//! and the bodies of processes that they make (IEEE 1364-2005, clauses 6, 9 and 17).
 #![tactic(auto)]
 
 mod around;

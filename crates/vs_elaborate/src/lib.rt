@@ -1,5 +1,5 @@
-//! What scopes have in a design: their continuous assignments and processes, put together in design order (IEEE 1364-2005, clauses 6.1, 9.9 and 12.3.10), and which bits of nets are driven, marked range by range: two continuous assignments drive no bit together (clause 6.1, and profile).
-//! From a syntax tree and the name of a top module to the design that they define (IEEE 1364-2005, clause 12).
+//! From a syntax tree and the name of a top module to the design that they define: the continuous assignments and processes of its scopes in design
+//! order, where no bit of a net is driven twice (IEEE 1364-2005, clauses 6.1 and 12).
 #![tactic(auto)]
 
 mod connecting;

@@ -1,7 +1,4 @@
-//! Walks in graphs, and the first of some things that breaks a rule.
-//! Walks in graphs that take as long as what they lead to.
-//! Lists of residues and of numbers: whether one is there and where, whether two have one in common, and the union of several.
-//! An order of things of which some need others.
+//! Walks in graphs, an order of things of which some need others, lists of residues and of numbers, and the first of some things that breaks a rule.
 #![tactic(auto)]
 
 mod families;

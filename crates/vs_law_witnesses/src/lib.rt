@@ -1,5 +1,5 @@
-//! Designs that show that the law of independence says something: three that are disciplined, a race that is not independent, and one whose lines are not alike.
-//! Designs that keep the rules of a certificate, and designs that keep those of none.
+//! Designs that show that the discipline and the rules of certificates say something: designs that keep them, races that keep those of no
+//! certificate, and one whose lines are not alike.
 #![tactic(auto)]
 
 mod laws;

@@ -1,5 +1,5 @@
-//! The places of the text of a process on its map, and those to which paths of the text lead.
-//! Which texts write, read and wait for a signal, and at which of their points.
+//! The places of the text of a process on its map: what is written, read and shown at each, to which of them paths of the text lead; and which texts
+//! write, read and wait for a signal.
 #![tactic(auto)]
 
 mod along;

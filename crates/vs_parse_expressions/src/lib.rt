@@ -1,6 +1,5 @@
-//! Reading single tokens, expressions and the left sides of assignments (IEEE 1364-2005, clauses A.8.3 to A.8.6).
-//! Reading lists with commas, what declarations say of their names, names of blocks, labels, and what stands behind system tasks (IEEE
-//! 1364-2005, clauses A.2 and A.6).
+//! Reading expressions, left sides, lists with commas, what declarations say of their names, names of blocks, labels and the arguments of system
+//! tasks, from tokens (IEEE 1364-2005, clauses A.2, A.6 and A.8).
 #![tactic(auto)]
 
 mod expression;

@@ -1,7 +1,5 @@
-//! Reading statements (IEEE 1364-2005, clauses A.6.2 to A.6.8).
-//! Reading declarations, parameters, the headers of modules, and instances (IEEE 1364-2005, clauses A.1.3, A.2, A.4.1 and A.6.1).
-//! Reading the items of modules (IEEE 1364-2005, clauses A.1.4, A.4.1 and A.4.2).
-//! The parser: from tokens to the syntax tree of a source (IEEE 1364-2005, annex A).
+//! The parser: from tokens to the syntax tree of a source, by reading functions for statements, items, headers, ports, parameters and instances
+//! (IEEE 1364-2005, annex A).
 #![tactic(auto)]
 
 mod assignment;

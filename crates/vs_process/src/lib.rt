@@ -1,5 +1,5 @@
-//! What a process still has to do, its steps (IEEE 1364-2005, clauses 9 and 11), and the flat code of processes.
-//! Executions of a design (IEEE 1364-2005, clause 11): states, moves, and what is permitted.
+//! What a process still has to do, its steps, its flat code and its scripts (IEEE 1364-2005, clause 9); and executions of a design: states, moves,
+//! and what is permitted (clause 11).
 #![tactic(auto)]
 
 mod changes;

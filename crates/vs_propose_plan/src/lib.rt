@@ -1,7 +1,5 @@
-//! Certificates of designs without processes: one is found wherever there is one.
-//! What the texts of processes do, and at which times: what a certificate is proposed from. A certificate is tested once it is made, so nothing of
-//! this is promised.
-//! What is to be claimed of a design: a certificate to be tried. It is tested once it is made, so nothing of this is promised.
+//! What is to be claimed of a design, from what the texts of its processes do and when: a certificate to be tried. Of a design without processes one
+//! is found wherever there is one; of others nothing is promised, since each is tested once it is made.
 #![tactic(auto)]
 
 mod arrivals;

@@ -1,7 +1,5 @@
-//! The value change dumps of runs read back (IEEE 1364-2005, clause 18).
-//! The names of the designs that texts define are as they are printed, and their outlines are those of value change dumps (IEEE 1364-2005, clauses
-//! 3.7.1, 12 and 18).
-//! The value change dumps of runs read back (IEEE 1364-2005, clause 18).
+//! The value change dumps of runs read back: the names of the designs that texts define are as they are printed, their outlines are those of dumps,
+//! and at each time a dump gives the values at the end of the last slot (IEEE 1364-2005, clauses 3.7.1, 12 and 18).
 #![tactic(auto)]
 
 mod back_laws;

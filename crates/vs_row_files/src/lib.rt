@@ -6,9 +6,11 @@
 #![tactic(auto)]
 
 mod pieces;
+mod sources;
 mod text;
 
 pub use pieces::put_pieces;
+pub use sources::files_of;
 use std::io::{self, Write};
 use std::{env, fs};
 pub use text::Text;
@@ -142,11 +144,14 @@ fn compare_file<A: Answers>(rt: &HostRuntime, answers: &A, name: &str) -> io::Re
     rt.stdout().write_all(report.whole()?)
 }
 
-/// Compares the rows of the files that the words of the call name, and writes each row that differs, and of each file the number of its rows and of those that
-/// differ.
-pub fn compare_files<A: Answers>(rt: &HostRuntime, answers: &A) -> io::Result<()> {
+/// Compares the rows of the files of a folder that the words of the call name, and writes each row that differs, and of each file the number of its rows and
+/// of those that differ.
+pub fn compare_folder<A: Answers>(rt: &HostRuntime, folder: &str, answers: &A) -> io::Result<()> {
     for name in env::args(rt)?.skip(1) {
-        compare_file(rt, answers, &name)?;
+        let (of, _) = first_and_rest(&name, "/");
+        if of == folder {
+            compare_file(rt, answers, &name)?;
+        }
     }
     Ok(())
 }

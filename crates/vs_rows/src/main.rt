@@ -1,133 +1,23 @@
-//! Rows of the whole program: sources with the exact bytes that it writes for them, and expressions with the digits of their values.
+//! Rows of the program, of what it checks, explains and proposes, and of races. Each folder of `data` has the files of one module.
 #![tactic(auto)]
 
-mod expressions;
-mod signals;
+mod certified;
+mod check;
+mod explain;
+mod files;
+mod program;
+mod propose;
+mod race;
 
-use std::alloc::Global;
 use std::io;
-use vs_program::program;
-use vs_row_files::{Answers, Text, compare_files, put_pieces};
-
-/// Who asks the program.
-#[derive(Clone, Copy)]
-struct Calls;
-
-/// What a call of the program answers.
-#[derive(Drop)]
-struct Answer {
-    status: u8,
-    out: Vec<u8>,
-    err: Vec<u8>,
-}
-
-/// Calls the program with words on a source.
-fn run(alloc: Global, words: &[&str], source: &[u8]) -> Answer {
-    let mut out = Vec::new(alloc);
-    let mut err = Vec::new(alloc);
-    let (status, _) = program(alloc, words, source, &mut out, &mut err);
-    Answer { status, out, err }
-}
-
-/// Puts what an answer has: what the program wrote, and where it refused something or failed, a line with its status and the text of its refusal.
-fn put_answer(answer: &Answer, text: &mut Text) {
-    text.put(&answer.out);
-    if answer.status != 0 || !answer.err.is_empty() {
-        text.put(b"---- ");
-        text.put_shown(answer.status);
-        text.put(b"\n");
-        text.put(&answer.err);
-    }
-}
-
-/// Whether an answer is a refusal of the source, and nothing else was written.
-fn is_refusal(answer: &Answer) -> bool {
-    answer.status == 1 && answer.out.is_empty()
-}
-
-/// A source that runs and listings refuse alike: the text of its refusal; else both answers.
-fn refused(source: &[u8], text: &mut Text) {
-    let words = ["vsim", "run", "--top", "t", "--until", "10", "--out", "vcd"];
-    let run = run(text.alloc(), &words, source);
-    let listed = crate::run(text.alloc(), &["vsim", "elab", "--top", "t"], source);
-    if is_refusal(&run) && is_refusal(&listed) && run.err.as_slice() == listed.err.as_slice() {
-        return text.put(&run.err);
-    }
-    put_answer(&run, text);
-    put_answer(&listed, text);
-}
-
-/// Whether a source runs, or is refused with a text.
-fn is_told(alloc: Global, source: &[u8]) -> bool {
-    let words = ["vsim", "run", "--top", "t", "--until", "10"];
-    let answer = run(alloc, &words, source);
-    let has_text = answer.err.as_slice().starts_with(b"vsim: ");
-    answer.status < 2 && (answer.status == 1) == has_text
-}
-
-/// A source that is cut after each byte: how many of the cut ones run or are refused with a text.
-fn cut(source: &[u8], text: &mut Text) {
-    let mut told = 0usize;
-    for length in 0..source.len() {
-        if is_told(text.alloc(), &source[..length]) {
-            told = told.saturating_add(1);
-        }
-    }
-    text.put_shown(told);
-    text.put(b"\n");
-}
-
-/// A call on a source: what the program answers.
-fn called(words: &str, source: &[u8], text: &mut Text) {
-    let mut list = Vec::new(text.alloc());
-    for word in words.split_whitespace() {
-        if list.push(word).is_err() {
-            text.leave_out();
-        }
-    }
-    put_answer(&run(text.alloc(), &list, source), text);
-}
-
-/// The same of a source that is made of repeated pieces.
-fn called_on_pieces(words: &str, pieces: &str, text: &mut Text) {
-    let mut source = Text::new(text.alloc());
-    put_pieces(pieces, &mut source);
-    match source.whole() {
-        Ok(bytes) => called(words, bytes, text),
-        Err(_) => text.leave_out(),
-    }
-}
-
-/// A source for which a certificate is to be made at grain block: the verdict on what is made, or why it isn't.
-fn made(top: &str, source: &[u8], text: &mut Text) {
-    let certificate = run(text.alloc(), &["vsim", "certify", "--top", top], source);
-    if certificate.status != 0 {
-        return put_answer(&certificate, text);
-    }
-    let mut both = certificate.out;
-    if both.extend_from_slice(source).is_err() {
-        return text.leave_out();
-    }
-    put_answer(
-        &run(text.alloc(), &["vsim", "check", "--top", top], &both),
-        text,
-    );
-}
-
-impl Answers for Calls {
-    fn answer(&self, words: &str, question: &str, text: &mut Text) {
-        let (kind, rest) = words.split_once(' ').unwrap_or((words, ""));
-        match kind {
-            "vsim" => called(words, question.as_bytes(), text),
-            "pieces" => called_on_pieces(rest, question, text),
-            "refused" => refused(question.as_bytes(), text),
-            "cut" => cut(question.as_bytes(), text),
-            "made" => made(rest, question.as_bytes(), text),
-            _ => expressions::answer(words, question, text),
-        }
-    }
-}
+use vs_row_files::compare_folder;
 
 fn main(rt: HostRuntime) -> io::Result<()> {
-    compare_files(&rt, &Calls)
+    compare_folder(&rt, "program", &program::Calls)?;
+    compare_folder(&rt, "files", &files::Calls)?;
+    compare_folder(&rt, "certified", &certified::CertifiedRuns)?;
+    compare_folder(&rt, "explain", &explain::Explains)?;
+    compare_folder(&rt, "race", &race::Races)?;
+    compare_folder(&rt, "check", &check::Checks)?;
+    compare_folder(&rt, "propose", &propose::Proposes)
 }

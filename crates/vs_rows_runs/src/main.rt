@@ -1,7 +1,11 @@
-//! Runs that no file of rows can ask: their outcomes, several policies, other permitted orders, other queues, and sinks that fail. All write to sinks of one
-//! type, since the kernel is built anew for each.
+//! Runs and calls that no file of rows can ask: outcomes, several policies, other permitted orders, other queues, sinks, readers and writers that fail, large
+//! sources, and words. All write to one type, since the kernel and the program are built anew for each.
 #![tactic(auto)]
 
+#[cfg(test)]
+mod calling;
+#[cfg(test)]
+mod devices;
 #[cfg(test)]
 mod failures;
 #[cfg(test)]
@@ -17,7 +21,11 @@ mod running;
 #[cfg(test)]
 mod runs;
 #[cfg(test)]
+mod short;
+#[cfg(test)]
 mod sinks;
+#[cfg(test)]
+mod words;
 
 /// The tests alone do something.
 fn main() {}

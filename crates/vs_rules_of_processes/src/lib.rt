@@ -1,7 +1,5 @@
-//! The signals that hang on variables which are written at residues.
-//! The rules K7, on processes that wait for edges, and K9, on what processes read.
-//! The rule K10 of processes.
-//! The rule K8: at which residues the delay controls of a process end.
+//! The rules of certificates on one process: K7 on waits for edges, K8 on the residues at which delays end, K9 on what is read, K10 on the first
+//! slot; and the signals that hang on variables which are written at residues.
 #![tactic(auto)]
 
 mod classes;

@@ -1,6 +1,5 @@
-//! The rules K2 and K3, on the processes that write a signal.
-//! The rule K4, on the order of drivers.
-//! The places at which signals are written, and ranks of places, by which many of them are told never to be hot without a walk.
+//! The rules of certificates on who writes a signal, K2 and K3, and on the order of drivers, K4; and ranks of places, by which many are told never
+//! to be hot without a walk.
 #![tactic(auto)]
 
 mod before;

@@ -1,5 +1,5 @@
-//! The store in which executions begin, with the continuous assignments settled, and combinational blocks run alone on it.
-//! The rule K11, on the starts of combinational blocks.
+//! The rule K11 of certificates, on the starts of combinational blocks: the store in which executions begin, with the continuous assignments
+//! settled, and blocks that are run alone on it.
 #![tactic(auto)]
 
 mod alone;

@@ -1,10 +1,5 @@
-//! A process of a run, which stands in its script: what it waits for, and where it goes on (IEEE 1364-2005, clauses 9.7 and 11.3).
-//! The marks of the signals that moves change, and, as definitions and lemmas, which continuous assignments and which processes the words that a
-//! write changes wake (IEEE 1364-2005, clause 11.2).
-//! Who watches which signal: for each signal the continuous assignments that read it, and the event controls that wait for any change of it, for a
-//! rise, or for a fall, in tables that are made once, at the start of a run (IEEE 1364-2005, clauses 6.1 and 9.7.2).
-//! What is active in a run, and what the change of a word wakes: the continuous assignments and the processes by the tables of watchers, and the
-//! queue of what is next (IEEE 1364-2005, clauses 6.1, 9.7.2 and 11.3).
+//! What is active in a run and what wakes it: processes at their places in their scripts, continuous assignments, the watchers of each signal in
+//! tables that are made once, the marks of signals that moves change, and the queue of what is next (IEEE 1364-2005, clauses 6.1, 9.7.2 and 11.3).
 #![tactic(auto)]
 
 mod assign;

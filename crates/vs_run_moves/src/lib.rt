@@ -1,5 +1,5 @@
-//! The start of a run: the scripts of a design's processes, and the state in which every run of it begins (IEEE 1364-2005, clause 11).
-//! A run: what it is made of, its start, and its next moves (IEEE 1364-2005, clause 11).
+//! A run: the scripts of a design's processes, the state in which every run begins, and its next moves, in the order of its queue or as a policy
+//! chooses (IEEE 1364-2005, clause 11).
 #![tactic(auto)]
 
 mod choosing;

@@ -1,7 +1,5 @@
-//! Steps of a run, one by one and one after another: what each prints, and what is recorded of the dump (IEEE 1364-2005, clause 11).
-//! Writes in a run: the words that they change, what those wake by the tables of watchers, and the marks of their signals
-//! (IEEE 1364-2005, clause 11.2).
-//! The state of a run, and the steps of its processes (IEEE 1364-2005, clauses 9 and 11).
+//! The state of a run and the steps of its processes, one by one and one after another: their writes with what these wake, the lines that they
+//! print, and what is recorded of the dump (IEEE 1364-2005, clauses 9 and 11).
 #![tactic(auto)]
 
 mod called;

@@ -1,5 +1,5 @@
-//! Connections in order or by name, and the parameters that they override (IEEE 1364-2005, clauses 12.2 and 12.3).
-//! The scopes of a source: names and paths, sizes of declarations, parameters, connections (IEEE 1364-2005, clause 12).
+//! The scopes of a source: what they declare, with sizes, ports, parameters and what overrides them, connections, paths as they are printed, and the
+//! faults of elaboration (IEEE 1364-2005, clause 12).
 #![tactic(auto)]
 
 mod connections;

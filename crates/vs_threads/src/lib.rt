@@ -1,5 +1,5 @@
-//! Which bits statements write, and that the processes of a design write no others.
-//! Threads: what a process does in a slot, and what it reads: the ground of the laws of independence.
+//! Which bits statements write and read, and that the processes of a design write and read no others; and threads: what a process does by itself
+//! within one slot, the ground of the laws of independence.
 #![tactic(auto)]
 
 mod laws;

@@ -1,5 +1,5 @@
-//! The lines of value change dumps of the layout in `docs/vcd.md`, read one by one (IEEE 1364-2005, clause 18).
-//! Whether a text begins a line of a value change dump of the layout in `docs/vcd.md` (IEEE 1364-2005, clause 18).
+//! The lines of value change dumps of the layout in `docs/vcd.md`, read one by one, and whether a text begins such a line (IEEE 1364-2005, clause
+//! 18).
 #![tactic(auto)]
 
 mod beginnings_changes;

@@ -1,6 +1,5 @@
-//! Value change dumps of the layout in `docs/vcd.md`, read back (IEEE 1364-2005, clause 18).
-//! Laws of value change dumps: what is written of a trace reads back to its values, and a text has one fault (IEEE 1364-2005, clause 18).
-//! Value change dumps (IEEE 1364-2005, clause 18), written and read back.
+//! Value change dumps of the layout in `docs/vcd.md`, read back, and the laws that what is written of a trace reads back to its values, and that a
+//! text has one fault (IEEE 1364-2005, clause 18).
 #![tactic(auto)]
 
 mod dump;

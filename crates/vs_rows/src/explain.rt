@@ -1,0 +1,106 @@
+//! Rows of explanations: refused sources, broken rules, bytes that are no certificate and step limits, with the text that says what is wrong.
+use std::alloc::{AllocError, Global};
+use vs_certificate::from_json;
+use vs_explain::vs_simulate::list_design;
+use vs_explain::{
+    explain, explain_after, explain_certificate, explain_limit, explain_others, explain_rule,
+};
+use vs_row_files::{Answers, Text, first_and_rest};
+use vs_vcd_writing::Counted;
+
+/// Who explains.
+#[derive(Clone, Copy)]
+pub(crate) struct Explains;
+
+/// What is said of a source that is refused; nothing of one that isn't.
+fn refused(alloc: Global, top: &str, source: &str) -> Result<Vec<u8>, AllocError> {
+    let mut lines = Counted::new(Vec::new(alloc));
+    match list_design(alloc, source.as_bytes(), top.as_bytes(), &mut lines) {
+        Ok(()) => Ok(Vec::new(alloc)),
+        Err(fault) => explain(alloc, source.as_bytes(), top.as_bytes(), &fault),
+    }
+}
+
+/// What is said of a source that is refused after the line of a certificate; nothing of one that isn't.
+fn refused_after(alloc: Global, top: &str, question: &str) -> Result<Vec<u8>, AllocError> {
+    let (certificate, source) = first_and_rest(question, "\n");
+    let mut lines = Counted::new(Vec::new(alloc));
+    match list_design(alloc, source.as_bytes(), top.as_bytes(), &mut lines) {
+        Ok(()) => Ok(Vec::new(alloc)),
+        Err(fault) => explain_after(
+            alloc,
+            certificate.as_bytes(),
+            source.as_bytes(),
+            top.as_bytes(),
+            &fault,
+        ),
+    }
+}
+
+/// What is said of a certificate, on the first line, whose rule of this number is broken at a place of the source after it.
+fn broken(alloc: Global, words: &str, question: &str) -> Result<Vec<u8>, AllocError> {
+    let (certificate, source) = first_and_rest(question, "\n");
+    let (number, rest) = first_and_rest(words, " ");
+    let (top, place) = first_and_rest(rest, " ");
+    explain_rule(
+        alloc,
+        source.as_bytes(),
+        top.as_bytes(),
+        certificate.as_bytes(),
+        number.parse().ok().unwrap_or(0),
+        place.as_bytes(),
+    )
+}
+
+/// What is said of the further subjects that break rules of a certificate, on the first line, beside the one of this rule and name.
+fn others(alloc: Global, words: &str, question: &str) -> Result<Vec<u8>, AllocError> {
+    let (certificate, source) = first_and_rest(question, "\n");
+    let (number, rest) = first_and_rest(words, " ");
+    let (top, place) = first_and_rest(rest, " ");
+    explain_others(
+        alloc,
+        source.as_bytes(),
+        top.as_bytes(),
+        certificate.as_bytes(),
+        number.parse().ok().unwrap_or(0),
+        place.as_bytes(),
+    )
+}
+
+/// What is said of bytes that are no certificate; nothing of those that are one.
+fn malformed(alloc: Global, question: &str) -> Result<Vec<u8>, AllocError> {
+    match from_json(alloc, question.as_bytes()) {
+        Ok(_) => Ok(Vec::new(alloc)),
+        Err(fault) => explain_certificate(alloc, question.as_bytes(), fault),
+    }
+}
+
+/// What is said of a run that took its most steps, so many, up to a time.
+fn limited(alloc: Global, words: &str, question: &str) -> Result<Vec<u8>, AllocError> {
+    let (top, rest) = first_and_rest(words, " ");
+    let (steps, time) = first_and_rest(rest, " ");
+    explain_limit(
+        alloc,
+        question.as_bytes(),
+        top.as_bytes(),
+        false,
+        steps.parse().ok().unwrap_or(0),
+        time.parse().ok().unwrap_or(0),
+    )
+}
+
+impl Answers for Explains {
+    fn answer(&self, words: &str, question: &str, text: &mut Text) {
+        let alloc = text.alloc();
+        let (kind, rest) = first_and_rest(words, " ");
+        let explained = match kind {
+            "rule" => broken(alloc, rest, question),
+            "others" => others(alloc, rest, question),
+            "certificate" => malformed(alloc, question),
+            "limit" => limited(alloc, rest, question),
+            "after" => refused_after(alloc, rest, question),
+            _ => refused(alloc, rest, question),
+        };
+        text.put_made(explained);
+    }
+}
