@@ -34,17 +34,17 @@ fn scope_place(alloc: Global, text: &SourceText, path: &[u8]) -> Result<Option<u
 
 /// Puts where the scope of a path begins, where the page has no line and column yet; of a text without modules, where it ends.
 pub(crate) fn put_scope(page: &mut Page, text: &SourceText, path: &[u8]) {
-    if page.has_spot() {
+    if page.has_place() {
         return;
     }
     match scope_place(page.alloc(), text, path) {
         Ok(Some(place)) => {
             page.put("The scope begins at ");
-            page.put_place(text.bytes, place);
+            page.put_place(place);
         }
         Ok(None) => {
             page.put("The source ends at ");
-            page.put_place(text.bytes, text.bytes.len());
+            page.put_place(text.bytes.len());
         }
         Err(_) => page.leave_out(),
     }

@@ -7,7 +7,7 @@ use vs_explain_certificate::put_forgotten;
 use vs_explain_elaboration::explain_design;
 use vs_explain_elaboration::vs_scopes::vs_width_selects::WidthReason;
 use vs_explain_elaboration::vs_scopes::{ElabFault, Reason};
-use vs_explain_text::vs_explain_outline::{Page, SourceText};
+use vs_explain_text::vs_explain_outline::{Explanation, Page, SourceText};
 use vs_explain_text::vs_parser::ParseFault;
 use vs_explain_text::{explain_grammar, explain_tokens};
 use vs_simulate::SimFault;
@@ -73,14 +73,13 @@ fn is_of_source(fault: &SimFault) -> bool {
     }
 }
 
-/// The text that explains why a source is refused, each line with its line feed: the line and the column, the line of the source with a mark, and a sentence.
-/// It is empty where the fault is none of the source.
+/// Why a source is refused: first the place in the source, then sentences. It is empty where the fault is none of the source.
 pub fn explain(
     alloc: Global,
     source: &[u8],
     top: &[u8],
     fault: &SimFault,
-) -> Result<Vec<u8>, AllocError> {
+) -> Result<Explanation, AllocError> {
     let mut page = Page::new(alloc);
     put_fault(&mut page, source, top, fault);
     page.finish()
@@ -94,7 +93,7 @@ pub fn explain_after(
     source: &[u8],
     top: &[u8],
     fault: &SimFault,
-) -> Result<Vec<u8>, AllocError> {
+) -> Result<Explanation, AllocError> {
     let mut page = Page::new(alloc);
     if is_of_source(fault) {
         put_forgotten(&mut page, certificate);

@@ -15,6 +15,46 @@ const SHOWN: usize = 60;
 /// What is said in the end of a certificate that is to be made once more.
 const ANEW: &str = "Make the certificate anew: `vsim certify`.\n";
 
+/// Where bytes stand that are to be a certificate.
+#[derive(Clone, Copy, PartialEq, Eq)]
+pub enum Stands {
+    /// On the first line of an input, in front of the source.
+    First,
+    /// Alone.
+    Alone,
+}
+
+impl Stands {
+    /// Where a certificate is wanted.
+    fn wanted(self) -> &'static str {
+        match self {
+            Stands::First => "This is Verilog, and a certificate is wanted on the first line.\n",
+            Stands::Alone => "This is Verilog, and a certificate is wanted.\n",
+        }
+    }
+
+    /// What is to be done about Verilog that stands there.
+    fn instead(self) -> &'static str {
+        match self {
+            Stands::First => IN_FRONT,
+            Stands::Alone => MADE_BY,
+        }
+    }
+
+    /// What a certificate is.
+    fn form(self) -> &'static str {
+        match self {
+            Stands::First =>
+                "A certificate is one line of JSON, from `{` to `}`; the source comes after it.\n",
+            Stands::Alone => "A certificate is a text in JSON, from `{` to `}`.\n",
+        }
+    }
+}
+
+/// How a certificate is made.
+const MADE_BY: &str =
+    "Give a certificate of the design: `vsim certify --top t t.v >t.cert`, then `vsim check --top t t.v <t.cert`.\n";
+
 /// How a certificate is put in front of a source.
 const IN_FRONT: &str =
     "Put a certificate in front of the source: `vsim certify --top t <t.v >t.cert`, then `cat t.cert t.v | vsim check --top t`.\n";
@@ -46,18 +86,18 @@ pub fn put_forgotten(page: &mut Page, certificate: &[u8]) {
 }
 
 /// Puts a line and a column of a certificate, its line, and a mark under the place.
-fn put_at(page: &mut Page, certificate: &[u8], place: usize) {
+fn put_at(page: &mut Page, place: usize) {
     page.put("In the certificate, ");
-    page.put_place(certificate, place);
+    page.put_certificate_place(place);
 }
 
 /// Puts why a certificate is no JSON text.
-fn put_reason(page: &mut Page, certificate: &[u8], at: Break) {
+fn put_reason(page: &mut Page, certificate: &[u8], stands: Stands, at: Break) {
     if certificate.is_empty() {
         return page.put("This line is empty, and a certificate is wanted.\n");
     }
     if looks_like_source(certificate) {
-        return page.put("This is Verilog, and a certificate is wanted on the first line.\n");
+        return page.put(stands.wanted());
     }
     let is_text = certificate.get(at.place) == Some(&b'"');
     page.put(match (at.reason, is_text) {
@@ -76,9 +116,9 @@ fn put_reason(page: &mut Page, certificate: &[u8], at: Break) {
 }
 
 /// Puts where and why bytes are no JSON text.
-fn put_no_json(page: &mut Page, certificate: &[u8]) {
+fn put_no_json(page: &mut Page, certificate: &[u8], stands: Stands) {
     if certificate.len() > LENGTH_LIMIT {
-        put_at(page, certificate, LENGTH_LIMIT);
+        put_at(page, LENGTH_LIMIT);
         return page.put("The certificate has more than 16777216 bytes, the most that are read.\n");
     }
     let at = match break_of(page.alloc(), certificate) {
@@ -89,12 +129,13 @@ fn put_no_json(page: &mut Page, certificate: &[u8]) {
         },
         Err(_) => return page.leave_out(),
     };
-    put_at(page, certificate, at.place);
-    put_reason(page, certificate, at);
-    if looks_like_source(certificate) {
-        return page.put(IN_FRONT);
-    }
-    page.put("A certificate is one line of JSON, from `{` to `}`; the source comes after it.\n");
+    put_at(page, at.place);
+    put_reason(page, certificate, stands, at);
+    page.put(if looks_like_source(certificate) {
+        stands.instead()
+    } else {
+        stands.form()
+    });
 }
 
 /// Puts the members that an object lacks.
@@ -144,20 +185,20 @@ fn put_why(page: &mut Page, why: Why) {
 }
 
 /// Puts a value that is refused; where none was found, the beginning of the certificate.
-fn put_flaw(page: &mut Page, certificate: &[u8], flaw: Option<Flaw>) {
+fn put_flaw(page: &mut Page, flaw: Option<Flaw>) {
     match flaw {
         Some(flaw) => {
-            put_at(page, certificate, flaw.place);
+            put_at(page, flaw.place);
             put_why(page, flaw.why);
         }
-        None => put_at(page, certificate, 0),
+        None => put_at(page, 0),
     }
     page.put(ANEW);
 }
 
 /// Puts where a certificate has its version.
-fn put_version(page: &mut Page, certificate: &[u8], whole: Whole) {
-    put_at(page, certificate, whole.version.unwrap_or(0));
+fn put_version(page: &mut Page, whole: Whole) {
+    put_at(page, whole.version.unwrap_or(0));
     page.put("This version is neither 1 nor 2. ");
     page.put(ANEW);
 }
@@ -165,27 +206,27 @@ fn put_version(page: &mut Page, certificate: &[u8], whole: Whole) {
 /// Puts where a certificate that is a JSON text is refused.
 fn put_refused(page: &mut Page, certificate: &[u8], fault: CertFault) {
     let Ok(text) = str::from_utf8(certificate) else {
-        return put_at(page, certificate, 0);
+        return put_at(page, 0);
     };
     let Ok(whole) = walk_over(page.alloc(), text, None) else {
         return page.leave_out();
     };
     if fault == CertFault::Version {
-        return put_version(page, certificate, whole);
+        return put_version(page, whole);
     }
     if fault == CertFault::Shape {
-        return put_flaw(page, certificate, whole.flaw);
+        return put_flaw(page, whole.flaw);
     }
     match walk_over(page.alloc(), text, Some(whole.modulus.unwrap_or(0))) {
-        Ok(limits) => put_flaw(page, certificate, limits.flaw),
+        Ok(limits) => put_flaw(page, limits.flaw),
         Err(_) => page.leave_out(),
     }
 }
 
 /// Says where and why bytes are no certificate.
-pub fn explain_malformed(page: &mut Page, certificate: &[u8], fault: CertFault) {
+pub fn explain_malformed(page: &mut Page, certificate: &[u8], stands: Stands, fault: CertFault) {
     match fault {
-        CertFault::NotJson => put_no_json(page, certificate),
+        CertFault::NotJson => put_no_json(page, certificate, stands),
         CertFault::Memory => {}
         _ => put_refused(page, certificate, fault),
     }

@@ -47,7 +47,7 @@ pub fn put_name_in(page: &mut Page, certificate: &[u8], name: &[u8]) {
     if let Some(place) = place_of(page, certificate, name) {
         page.put_name(name);
         page.put(" in the certificate, at ");
-        page.put_place(certificate, place);
+        page.put_certificate_place(place);
     }
 }
 
@@ -56,7 +56,7 @@ pub fn put_named_in(page: &mut Page, certificate: &[u8], name: &[u8]) {
     page.put_name(name);
     if let Some(place) = place_of(page, certificate, name) {
         page.put(" (");
-        page.put_spot(certificate, place);
+        page.put_certificate_spot(place);
         page.put(" of the certificate)");
     }
 }

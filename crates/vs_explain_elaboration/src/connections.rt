@@ -144,7 +144,7 @@ fn put_missing<'s>(page: &mut Page, text: &SourceText<'s>, token: usize, names: 
             page.leave_out();
         }
     }
-    page.put_place(text.bytes, text.place_at(token));
+    page.put_place(text.place_at(token));
     page.put("There is no ");
     page.put_name(name);
     page.put(" in its module.");
@@ -178,8 +178,8 @@ fn put_wrong_name<'s>(
             return Ok(true);
         };
         if let Some(earlier) = *place {
-            page.put_place(text.bytes, text.place_at(earlier));
-            page.put_place(text.bytes, text.place_at(*token));
+            page.put_place(text.place_at(earlier));
+            page.put_place(text.place_at(*token));
             page.put_name(text.name_at(*token));
             page.put(" is given at both places. Leave one out.\n");
             return Ok(true);
@@ -221,7 +221,7 @@ fn put_given(page: &mut Page, text: &SourceText, instance: &Landmark, open: usiz
         return page.leave_out();
     };
     if !wrong {
-        page.put_place(text.bytes, text.place_at(instance.token));
+        page.put_place(text.place_at(instance.token));
         put_unfit(page, given.ordered, names.len(), ports);
     }
     page.put(if ports {

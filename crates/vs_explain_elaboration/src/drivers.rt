@@ -58,7 +58,7 @@ pub(crate) fn driven_twice(page: &mut Page, text: &SourceText, path: &[u8]) {
     };
     for (index, token) in tokens.iter().enumerate() {
         if index < TOLD {
-            page.put_place(text.bytes, text.place_at(*token));
+            page.put_place(text.place_at(*token));
         }
     }
     let through_port = tokens.len() < 2 && put_instance(page, text, scope_of(path));

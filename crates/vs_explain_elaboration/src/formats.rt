@@ -142,7 +142,7 @@ pub(crate) fn bad_format(page: &mut Page, text: &SourceText, why: FormatReason, 
         let asked = asked_by(&bytes);
         let given = arguments_at(&text.tokens, landmark.token);
         if has_fault(asked, given, why) {
-            page.put_place(text.bytes, token.place);
+            page.put_place(token.place);
             return put_fault(page, asked, given, why);
         }
     }

@@ -35,7 +35,7 @@ fn put_wide_range(page: &mut Page, text: &SourceText, marked: &[bool]) -> bool {
         if landmark.kind == LandmarkKind::Constant && is_marked(marked, landmark.region) {
             if let Some(bits) = literal_range(text, landmark.token) {
                 if bits > WIDTH_LIMIT {
-                    page.put_place(text.bytes, text.place_at(landmark.token));
+                    page.put_place(text.place_at(landmark.token));
                     page.put("This range has ");
                     page.put_shown(bits);
                     page.put(" bits, and a signal has at most 64. Cut it into parts.\n");
@@ -50,7 +50,7 @@ fn put_wide_range(page: &mut Page, text: &SourceText, marked: &[bool]) -> bool {
 fn too_wide(page: &mut Page, text: &SourceText, path: &[u8], piece: Option<Piece>) {
     if let Some(piece) = piece {
         let (token, words) = wide_part(text, &piece);
-        page.put_place(text.bytes, text.place_at(token));
+        page.put_place(text.place_at(token));
         page.put(words);
         page.put(" has more than 64 bits. Cut it into parts, in signals of their own.\n");
         return;
@@ -60,7 +60,7 @@ fn too_wide(page: &mut Page, text: &SourceText, path: &[u8], piece: Option<Piece
         return;
     }
     if let Some(token) = open_range(text, &marked) {
-        page.put_place(text.bytes, text.place_at(token));
+        page.put_place(text.place_at(token));
         page.put(
             "This range, or another range or a parameter of its scope, has more than 64 bits, the most of a value. Cut it into parts.\n",
         );
@@ -123,7 +123,7 @@ fn put_wrong_use(page: &mut Page, text: &SourceText, region: usize, piece: Optio
             let name = text.name_at(used.token);
             if let Some(declared) = visible.declaration(text, name) {
                 if let Some(words) = wrong_use(text, used, &declared) {
-                    page.put_place(text.bytes, text.place_at(used.token));
+                    page.put_place(text.place_at(used.token));
                     page.put_name(name);
                     put_declared(page, text, &declared);
                     page.put(words);
@@ -138,14 +138,14 @@ fn put_wrong_use(page: &mut Page, text: &SourceText, region: usize, piece: Optio
 /// Puts where a name is declared.
 fn put_declared(page: &mut Page, text: &SourceText, declared: &Landmark) {
     page.put(", declared at ");
-    page.put_spot(text.bytes, text.place_at(declared.token));
+    page.put_spot(text.place_at(declared.token));
     page.put(",");
 }
 
 fn wrong_kind(page: &mut Page, text: &SourceText, path: &[u8], piece: Option<Piece>) {
     if let Some(piece) = piece {
         if !put_wrong_use(page, text, piece.region, Some(piece)) {
-            page.put_place(text.bytes, text.place_at(piece.first));
+            page.put_place(text.place_at(piece.first));
             page.put(
                 "Here a name is of the wrong kind: a net that a process assigns to, a variable that `assign` drives, an array without an index, or a select of what has no range.\n",
             );
@@ -187,7 +187,7 @@ fn put_signal(page: &mut Page, text: &SourceText, region: usize, piece: Option<P
             if let Some(declared) = visible.declaration(text, name) {
                 let is_signal = is_net(declared.kind) || is_variable(declared.kind);
                 if is_signal && is_misplaced(text, used) {
-                    page.put_place(text.bytes, text.place_at(used.token));
+                    page.put_place(text.place_at(used.token));
                     page.put_name(name);
                     put_declared(page, text, &declared);
                     page.put(
@@ -205,7 +205,7 @@ fn not_constant(page: &mut Page, text: &SourceText, path: &[u8], piece: Option<P
     if let Some(piece) = piece {
         if !put_signal(page, text, piece.region, Some(piece)) {
             let (token, words) = constant_part(text, &piece);
-            page.put_place(text.bytes, text.place_at(token));
+            page.put_place(text.place_at(token));
             page.put(words);
         }
         return;
@@ -217,7 +217,7 @@ fn not_constant(page: &mut Page, text: &SourceText, path: &[u8], piece: Option<P
         }
     }
     if let Some(token) = open_range(text, &marked) {
-        page.put_place(text.bytes, text.place_at(token));
+        page.put_place(text.place_at(token));
         page.put(
             "The bounds of this range, or another constant of its scope, aren't constant, have an x or z digit, or are out of bounds.\n",
         );

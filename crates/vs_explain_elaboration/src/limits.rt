@@ -64,7 +64,7 @@ fn put_array(page: &mut Page, text: &SourceText, marked: &[bool]) -> bool {
         if declared && is_marked(marked, landmark.region) {
             if let Some(words) = literal_range(text, landmark.token.saturating_add(1)) {
                 if words > WORDS_LIMIT {
-                    page.put_place(text.bytes, text.place_at(landmark.token));
+                    page.put_place(text.place_at(landmark.token));
                     page.put("This array has ");
                     page.put_shown(words);
                     page.put(" words, and an array has at most 65,536.\n");
@@ -123,7 +123,7 @@ fn first_loop(text: &SourceText, marked: &[bool]) -> Option<Landmark> {
 pub(crate) fn endless(page: &mut Page, text: &SourceText, path: &[u8]) {
     let marked = regions_of(page, text, path);
     if let Some(landmark) = first_loop(text, &marked) {
-        page.put_place(text.bytes, text.place_at(landmark.token));
+        page.put_place(text.place_at(landmark.token));
         page.put(
             "This generate loop, or another one of the same scope, goes on after 65,536 iterations. Let its condition become false: its step has to change the genvar towards it.\n",
         );
@@ -139,7 +139,7 @@ pub(crate) fn unnamed(page: &mut Page, text: &SourceText, path: &[u8]) {
             None => false,
         };
         if inside && region.kind == RegionKind::Generated && region.name.is_none() {
-            page.put_place(text.bytes, text.place_at(region.first));
+            page.put_place(text.place_at(region.first));
             page.put(
                 "This block has no name, and each name `genblk` with its number and zeros before it is taken. Write `begin : name`.\n",
             );
@@ -164,8 +164,8 @@ pub(crate) fn timescales(page: &mut Page, text: &SourceText) {
             None => false,
         };
         if differs {
-            page.put_place(text.bytes, text.place_at(other));
-            page.put_place(text.bytes, token.place);
+            page.put_place(text.place_at(other));
+            page.put_place(token.place);
             page.put("These time scales differ. Use one for all files.\n");
             return;
         }

@@ -34,7 +34,7 @@ pub(crate) fn instance_of(page: &mut Page, text: &SourceText, path: &[u8]) -> Op
 pub(crate) fn put_instance(page: &mut Page, text: &SourceText, path: &[u8]) -> bool {
     match instance_of(page, text, path) {
         Some(instance) => {
-            page.put_place(text.bytes, text.place_at(instance.token));
+            page.put_place(text.place_at(instance.token));
             true
         }
         None => false,
@@ -47,7 +47,7 @@ pub(crate) fn put_region(page: &mut Page, text: &SourceText, path: &[u8]) -> boo
     for (number, mark) in marked.iter().enumerate() {
         if *mark {
             if let Some(region) = text.region(number) {
-                page.put_place(text.bytes, text.place_at(region.first));
+                page.put_place(text.place_at(region.first));
                 return true;
             }
         }
@@ -116,7 +116,7 @@ fn put_meant(page: &mut Page, text: &SourceText, name: Option<&[u8]>) -> &'stati
         Some(region) => text.place_at(region.name.unwrap_or(region.first)),
         None => text.bytes.len(),
     };
-    page.put_place(text.bytes, place);
+    page.put_place(place);
     match (meant.is_some(), first.is_some()) {
         (true, _) => " The mark shows it.",
         (false, true) => " The mark shows the first one.",
@@ -138,7 +138,7 @@ pub(crate) fn no_module(page: &mut Page, text: &SourceText, path: &[u8]) {
     let nearest = nearest_module(page, text, name);
     let shown = match instance {
         Some(instance) => {
-            page.put_place(text.bytes, text.place_at(instance.of));
+            page.put_place(text.place_at(instance.of));
             ""
         }
         None => put_meant(page, text, nearest.found()),
@@ -157,7 +157,7 @@ pub(crate) fn inside_itself(page: &mut Page, text: &SourceText, path: &[u8]) {
     let Some(instance) = instance_of(page, text, path) else {
         return;
     };
-    page.put_place(text.bytes, text.place_at(instance.token));
+    page.put_place(text.place_at(instance.token));
     let name = text.name_at(instance.of);
     page.put("This is an instance of ");
     page.put_name(name);
@@ -167,7 +167,7 @@ pub(crate) fn inside_itself(page: &mut Page, text: &SourceText, path: &[u8]) {
         .and_then(|number| text.region(number))
     {
         page.put(", which begins at ");
-        page.put_spot(text.bytes, text.place_at(region.first));
+        page.put_spot(text.place_at(region.first));
     }
     page.put(", so there would be no end of them.\n");
 }
@@ -196,7 +196,7 @@ fn put_unseen(page: &mut Page, text: &SourceText, token: usize, visible: &Visibl
             page.leave_out();
         }
     }
-    page.put_place(text.bytes, text.place_at(token));
+    page.put_place(text.place_at(token));
     page.put_name(name);
     page.put(" isn't declared here, nor in a scope around.");
     put_nearest(page, &nearest);

@@ -56,10 +56,10 @@ fn put_two(page: &mut Page, text: &SourceText, tokens: &[usize], words: &str) {
     };
     for token in tokens {
         if *token != *last {
-            page.put_place(text.bytes, text.place_at(*token));
+            page.put_place(text.place_at(*token));
         }
     }
-    page.put_place(text.bytes, text.place_at(*last));
+    page.put_place(text.place_at(*last));
     page.put_name(text.name_at(*last));
     page.put(words);
 }
@@ -115,8 +115,8 @@ fn declared_in_scope(page: &mut Page, text: &SourceText, path: &[u8]) -> bool {
         return false;
     };
     if let (Some(token), true) = (early_use(text, name, *first), tokens.len() == 1) {
-        page.put_place(text.bytes, text.place_at(token));
-        page.put_place(text.bytes, text.place_at(*first));
+        page.put_place(text.place_at(token));
+        page.put_place(text.place_at(*first));
         page.put_name(name);
         page.put(
             " is used at the first place, where an undeclared name is a net, and declared at the second. Declare it before.\n",
@@ -161,8 +161,8 @@ pub(crate) fn declared_twice(page: &mut Page, text: &SourceText, path: &[u8]) {
     }
     let marked = regions_of(page, text, path);
     if let Some((first, second)) = two_defaults(text, &marked) {
-        page.put_place(text.bytes, text.place_at(first));
-        page.put_place(text.bytes, text.place_at(second));
+        page.put_place(text.place_at(first));
+        page.put_place(text.place_at(second));
         page.put("Both are `default` of one `case`. Leave one out.\n");
     } else if put_region(page, text, scope_of(path)) {
         page.put("In the scope that begins here ");

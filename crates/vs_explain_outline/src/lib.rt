@@ -1,6 +1,7 @@
 //! Where the parts of a source stand: lines and columns, the names that it declares and uses, its processes and its assignments.
 #![tactic(auto)]
 
+mod explanation;
 mod frames;
 mod outline;
 mod page;
@@ -9,6 +10,9 @@ mod places;
 mod scan;
 mod source;
 
+pub use explanation::{
+    Explanation, PlaceForm, Placed, PlacedIn, push_marked, push_place, push_shown,
+};
 pub use outline::{
     DeclaredKind, Landmark, LandmarkKind, Outline, Piece, PieceKind, Region, RegionKind, UseRole,
 };

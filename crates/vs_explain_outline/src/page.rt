@@ -1,48 +1,28 @@
-//! The text of an explanation.
+//! An explanation that is put together.
 
-use crate::places::{Spot, spot_of};
+use crate::explanation::{Explanation, PlaceForm, Placed, PlacedIn, shown_byte};
 use std::alloc::{AllocError, Global};
 use std::fmt::Display;
 use std::io::Write;
 
-/// How many bytes of a line are shown before the mark, and how many from it on.
-const SHOWN_BEFORE: usize = 60;
-
-const SHOWN_AFTER: usize = 60;
-
-/// The text of an explanation, put together piece by piece. In the end it says whether each piece found room.
+/// An explanation, put together piece by piece. In the end it says whether each piece found room.
 #[derive(Drop)]
 pub struct Page {
     alloc: Global,
-    bytes: Vec<u8>,
+    words: Vec<u8>,
+    places: Vec<Placed>,
     /// Whether a piece found no room.
     is_short: bool,
-    /// Whether a line and a column stand in it.
-    has_spot: bool,
-}
-
-/// What is shown for a byte: a tab and a visible letter as it is, any other one as `?`.
-fn shown_byte(byte: u8) -> u8 {
-    if byte == b'\t' || byte == b' ' || byte.is_ascii_graphic() {
-        byte
-    } else {
-        b'?'
-    }
-}
-
-/// What stands under a byte that comes before the mark.
-fn blank_under(byte: u8) -> u8 {
-    if byte == b'\t' { b'\t' } else { b' ' }
 }
 
 impl Page {
-    /// No bytes.
+    /// No words.
     pub fn new(alloc: Global) -> Page {
         Page {
             alloc,
-            bytes: Vec::new(alloc),
+            words: Vec::new(alloc),
+            places: Vec::new(alloc),
             is_short: false,
-            has_spot: false,
         }
     }
 
@@ -51,9 +31,9 @@ impl Page {
         self.alloc
     }
 
-    /// Whether a line and a column were put.
-    pub fn has_spot(&self) -> bool {
-        self.has_spot
+    /// Whether a place was put.
+    pub fn has_place(&self) -> bool {
+        !self.places.is_empty()
     }
 
     /// Says that a piece found no room.
@@ -62,21 +42,21 @@ impl Page {
     }
 
     fn put_byte(&mut self, byte: u8) {
-        if self.bytes.push(byte).is_err() {
+        if self.words.push(byte).is_err() {
             self.is_short = true;
         }
     }
 
     /// Puts words.
     pub fn put(&mut self, words: &str) {
-        if self.bytes.extend_from_slice(words.as_bytes()).is_err() {
+        if self.words.extend_from_slice(words.as_bytes()).is_err() {
             self.is_short = true;
         }
     }
 
     /// Puts what is shown of a value.
     pub fn put_shown<T: Display + Drop>(&mut self, value: T) {
-        if write!(self.bytes, "{value}").is_err() {
+        if write!(self.words, "{value}").is_err() {
             self.is_short = true;
         }
     }
@@ -95,51 +75,54 @@ impl Page {
         self.put("`");
     }
 
-    /// Puts a line and a column, as `line 3, column 7`.
-    pub fn put_spot(&mut self, source: &[u8], place: usize) {
-        let spot = spot_of(source, place);
-        self.has_spot = true;
-        self.put("line ");
-        self.put_shown(spot.line);
-        self.put(", column ");
-        self.put_shown(spot.column);
-    }
-
-    /// Puts a line and a column, the line of the source, and a mark under the place.
-    pub fn put_place(&mut self, source: &[u8], place: usize) {
-        let spot = spot_of(source, place);
-        self.put_spot(source, place);
-        self.put(":\n");
-        self.put_marked(source, spot);
-    }
-
-    /// Puts the line of a spot, and a mark under its column.
-    fn put_marked(&mut self, source: &[u8], spot: Spot) {
-        let mark = spot.start.saturating_add(spot.column).saturating_sub(1);
-        let from = mark.saturating_sub(SHOWN_BEFORE).max(spot.start);
-        let to = mark.saturating_add(SHOWN_AFTER).min(spot.end);
-        let before = source.get(from..mark).unwrap_or(&[]);
-        self.put("  ");
-        self.put_bytes(before);
-        self.put_bytes(source.get(mark..to).unwrap_or(&[]));
-        self.put("\n  ");
-        for byte in before {
-            self.put_byte(blank_under(*byte));
+    fn put_placed(&mut self, text: PlacedIn, form: PlaceForm, place: usize) {
+        let placed = Placed {
+            before: self.words.len(),
+            place,
+            text,
+            form,
+        };
+        if self.places.push(placed).is_err() {
+            self.is_short = true;
         }
-        self.put("^\n");
+    }
+
+    /// Puts the line of a place of the source, as `line 3`.
+    pub fn put_line(&mut self, place: usize) {
+        self.put_placed(PlacedIn::Source, PlaceForm::Line, place);
+    }
+
+    /// Puts the line and the column of a place of the source, as `line 3, column 7`.
+    pub fn put_spot(&mut self, place: usize) {
+        self.put_placed(PlacedIn::Source, PlaceForm::Spot, place);
+    }
+
+    /// Puts the line and the column of a place of the source, its line, and a mark under the place.
+    pub fn put_place(&mut self, place: usize) {
+        self.put_placed(PlacedIn::Source, PlaceForm::Marked, place);
+    }
+
+    /// Puts the line and the column of a place of the certificate.
+    pub fn put_certificate_spot(&mut self, place: usize) {
+        self.put_placed(PlacedIn::Certificate, PlaceForm::Spot, place);
+    }
+
+    /// Puts the line and the column of a place of the certificate, its line, and a mark under the place.
+    pub fn put_certificate_place(&mut self, place: usize) {
+        self.put_placed(PlacedIn::Certificate, PlaceForm::Marked, place);
     }
 
     /// All of it, where each piece found room.
-    pub fn finish(self) -> Result<Vec<u8>, AllocError> {
+    pub fn finish(self) -> Result<Explanation, AllocError> {
         let Page {
             alloc: _,
-            bytes,
+            words,
+            places,
             is_short,
-            has_spot: _,
         } = self;
         if is_short {
             return Err(AllocError);
         }
-        Ok(bytes)
+        Ok(Explanation { words, places })
     }
 }

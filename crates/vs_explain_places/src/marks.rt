@@ -22,7 +22,7 @@ pub fn put_statement(page: &mut Page, text: &SourceText, process: &Process, numb
     if let Some(token) = token_of(page, text, process, number) {
         page.put_name(&process.name);
         page.put(" at ");
-        page.put_place(text.bytes, text.place_at(token));
+        page.put_place(text.place_at(token));
     }
 }
 

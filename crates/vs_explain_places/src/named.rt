@@ -45,7 +45,7 @@ pub fn put_named(page: &mut Page, text: &SourceText, name: &[u8]) {
     page.put_name(name);
     if let Some(place) = place_of(page, text, name) {
         page.put(" (");
-        page.put_spot(text.bytes, place);
+        page.put_spot(place);
         page.put(")");
     }
 }
@@ -56,7 +56,7 @@ pub fn put_marked(page: &mut Page, text: &SourceText, name: &[u8]) -> bool {
     if let Some(place) = place {
         page.put_name(name);
         page.put(" at ");
-        page.put_place(text.bytes, place);
+        page.put_place(place);
     }
     place.is_some()
 }

@@ -3,7 +3,7 @@
 use std::alloc::{AllocError, Global};
 use vs_design::vs_logic4::Edge;
 use vs_explain_facts::{Facts, TextKind, driven_by, set_mark};
-use vs_explain_writers::vs_explain_spots::Site;
+use vs_explain_loops::vs_explain_writers::vs_explain_spots::Site;
 
 /// The first control of a process.
 pub(crate) fn control_in(facts: &Facts, process: usize) -> Option<Site> {

@@ -6,10 +6,10 @@ use std::alloc::{AllocError, Global};
 use vs_design::{CallKind, Statement};
 use vs_explain_facts::vs_certificate::ClaimedGrain;
 use vs_explain_facts::{Question, TextFacts, TextKind, set_mark};
+use vs_explain_loops::vs_explain_writers::vs_explain_spots::{Site, mark_site};
+use vs_explain_loops::vs_explain_writers::{Story, name_of, put_anew, put_story, put_subject};
 use vs_explain_places::put_marked;
 use vs_explain_places::vs_explain_outline::Page;
-use vs_explain_writers::vs_explain_spots::{Site, mark_site};
-use vs_explain_writers::{Story, name_of, put_anew, put_story, put_subject};
 
 /// How many statements are looked at in all, over the outputs of a block.
 const LOOKED_AT: usize = 4_000_000;

@@ -2,15 +2,16 @@
 
 use crate::blocks::put_block;
 use crate::first_slot::put_first_slot;
-use crate::loops::put_loops;
 use crate::named::put_names;
 use crate::starts::put_start;
 use vs_design::Design;
+use vs_explain_edges::{put_edges, put_waits};
 use vs_explain_facts::vs_certificate::Certificate;
 use vs_explain_facts::{Facts, Question};
+use vs_explain_loops::put_loops;
+use vs_explain_loops::vs_explain_writers::{put_ways, put_writers};
 use vs_explain_places::vs_explain_outline::{Page, SourceText};
-use vs_explain_races::{put_delays, put_edges, put_reads, put_waits};
-use vs_explain_writers::{put_ways, put_writers};
+use vs_explain_races::{put_delays, put_reads};
 
 /// Says which rule of certificates a design breaks, where, why, and what mends it.
 pub fn explain_broken(

@@ -5,13 +5,13 @@ use std::alloc::{AllocError, Global};
 use vs_design::Statement;
 use vs_design::vs_logic4::Edge;
 use vs_explain_facts::{Facts, Part, Point, Question, TextKind};
-use vs_explain_places::vs_explain_outline::Page;
-use vs_explain_places::{is_declaration, put_marked};
-use vs_explain_writers::vs_explain_spots::Site;
-use vs_explain_writers::{
+use vs_explain_loops::vs_explain_writers::vs_explain_spots::Site;
+use vs_explain_loops::vs_explain_writers::{
     Story, Wanted, bit_given, is_turned, name_of, put_anew, put_maybe, put_story, put_subject,
     write_of,
 };
+use vs_explain_places::vs_explain_outline::Page;
+use vs_explain_places::{is_declaration, put_marked};
 
 /// A fault of the first slot: two places, a signal, and what is said of them.
 #[derive(Clone, Copy)]

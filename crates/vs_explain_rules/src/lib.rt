@@ -5,9 +5,7 @@ mod awaiting;
 mod blocks;
 mod broken;
 mod coverage;
-mod cycles;
 mod first_slot;
-mod loops;
 mod named;
 mod starts;
 

@@ -2,8 +2,8 @@
 
 use vs_explain_facts::vs_certificate::Certificate;
 use vs_explain_facts::{Question, times_named};
+use vs_explain_loops::vs_explain_writers::put_subject;
 use vs_explain_places::vs_explain_outline::{Page, first_part};
-use vs_explain_writers::put_subject;
 
 /// The first name of a certificate, where it has one.
 fn first_name<'c>(certificate: &'c Certificate) -> &'c [u8] {

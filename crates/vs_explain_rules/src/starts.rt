@@ -4,10 +4,12 @@ use crate::awaiting::{control_in, push_new};
 use std::alloc::{AllocError, Global};
 use vs_design::{Statement, Typed};
 use vs_explain_facts::{Facts, Part, Question, TextFacts, TextKind, set_mark};
+use vs_explain_loops::vs_explain_writers::vs_explain_spots::{Site, mark_site, unsized_of};
+use vs_explain_loops::vs_explain_writers::{
+    Story, name_of, put_anew, put_maybe, put_story, put_subject,
+};
 use vs_explain_places::put_marked;
 use vs_explain_places::vs_explain_outline::{Page, ordinal_of};
-use vs_explain_writers::vs_explain_spots::{Site, mark_site, unsized_of};
-use vs_explain_writers::{Story, name_of, put_anew, put_maybe, put_story, put_subject};
 
 /// What is marked beside the block.
 #[derive(Clone, Copy)]

@@ -42,7 +42,7 @@ pub fn put_site(page: &mut Page, question: Question, site: Site) {
     put_code(page, question.text, process, site.number);
     if let Some(token) = token_at(page, question, site) {
         page.put(" (");
-        page.put_spot(question.text.bytes, question.text.place_at(token));
+        page.put_spot(question.text.place_at(token));
         page.put(")");
     }
 }
@@ -131,7 +131,7 @@ pub fn mark_term(page: &mut Page, question: Question, process: usize, index: usi
 fn put_token(page: &mut Page, question: Question, name: &[u8], token: usize) {
     page.put_name(name);
     page.put(" at ");
-    page.put_place(question.text.bytes, question.text.place_at(token));
+    page.put_place(question.text.place_at(token));
 }
 
 /// The number of the first term of a process that waits for a signal.

@@ -5,7 +5,7 @@ use crate::left_out::instead_of;
 use crate::open::last_open;
 use crate::possible::put_possible;
 use crate::refused::Refused;
-use vs_explain_outline::{Page, SourceText, spot_of};
+use vs_explain_outline::{Page, SourceText};
 use vs_parser::ParseFault;
 use vs_syntax::vs_lexer::{Kind, Token, Word};
 
@@ -15,7 +15,7 @@ pub fn explain_grammar(page: &mut Page, text: &SourceText, fault: &ParseFault) {
         ParseFault::Unexpected(place) => unexpected(page, text, *place),
         ParseFault::LeftOut { place, text: bytes } => left_out(page, text, *place, bytes),
         ParseFault::TooDeep(place) => {
-            page.put_place(text.bytes, *place);
+            page.put_place(*place);
             page.put(
                 "Here the source nests more than 256 deep. Name parts of it: a net for a part of an expression.\n",
             );
@@ -68,18 +68,19 @@ fn put_before(page: &mut Page, text: &SourceText, count: usize) {
         return;
     };
     let end = before.place.saturating_add(before.bytes.len());
-    if count > 0 && spot_of(text.bytes, end).line < spot_of(text.bytes, token.place).line {
+    let gap = text.bytes.get(end..token.place).unwrap_or(&[]);
+    if count > 0 && gap.contains(&b'\n') {
         page.put("Before it stands ");
         page.put_name(before.bytes);
         page.put(", whose end is at ");
-        page.put_spot(text.bytes, end);
+        page.put_spot(end);
         page.put(": what is missing may be missing there.\n");
     }
 }
 
 fn unexpected(page: &mut Page, text: &SourceText, place: usize) {
     let count = tokens_before(&text.tokens, place);
-    page.put_place(text.bytes, place);
+    page.put_place(place);
     if let Some(token) = text.tokens.get(count) {
         page.put_name(token.bytes);
         page.put(" can't stand here.\n");
@@ -97,7 +98,7 @@ fn unexpected(page: &mut Page, text: &SourceText, place: usize) {
 }
 
 fn left_out(page: &mut Page, text: &SourceText, place: usize, bytes: &[u8]) {
-    page.put_place(text.bytes, place);
+    page.put_place(place);
     page.put_name(bytes);
     page.put(" isn't in this subset of Verilog here.");
     let instead = instead_of(bytes);
@@ -109,13 +110,13 @@ fn left_out(page: &mut Page, text: &SourceText, place: usize, bytes: &[u8]) {
 }
 
 fn unfinished(page: &mut Page, text: &SourceText, place: usize) {
-    page.put_place(text.bytes, place);
+    page.put_place(place);
     page.put("The source ends here, too early.\n");
     match last_open(page.alloc(), &text.tokens) {
         Ok(Some(index)) => {
             page.put_name(text.name_at(index));
             page.put(" of ");
-            page.put_spot(text.bytes, text.place_at(index));
+            page.put_spot(text.place_at(index));
             page.put(" is still open.\n");
         }
         Ok(None) => {}

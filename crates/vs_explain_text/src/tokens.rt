@@ -39,7 +39,7 @@ const BYTE_ORDER_MARK: &[u8] = b"\xef\xbb\xbf";
 
 /// Says what is wrong with a source at a place, why its tokens are refused.
 pub fn explain_tokens(page: &mut Page, source: &[u8], why: Refusal, place: usize) {
-    page.put_place(source, place);
+    page.put_place(place);
     let rest = source.get(place..).unwrap_or(&[]);
     match why {
         Refusal::BadByte => bad_byte(page, rest),

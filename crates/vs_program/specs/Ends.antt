@@ -1,6 +1,6 @@
 -- How the program ends: its exit status (profile).
 use Rattle.std.specs.Borrow.{Bor}
-use Rattle.std.specs.Prelude.{ℕ, ◌≡◌, ◌≤◌, ◌⊎◌, true, false, Option, None, List, [], ◌∷◌, length}
+use Rattle.std.specs.Prelude.{ℕ, ◌≡◌, ◌≤◌, ◌⊎◌, true, false, Option, None, Some, List, [], ◌∷◌, ◌++◌, codes, length}
 use Rattle.std.specs.Io.KnownBytes.{Appends, Keeps, append_known}
 use Rattle.clap.specs.declared.error.kind.ErrorKind.{ErrorKind}
 use Rattle.vs_program_words.specs.vs_certificate.specs.declared.members.ClaimedGrain.{ClaimedGrain}
@@ -10,44 +10,61 @@ use Rattle.vs_certified.specs.vs_vcd_writing.specs.Sinks.{AppendsPart}
 use Rattle.vs_certified.specs.vs_kernel.specs.declared.outcome.Outcome.{Outcome}
 use Rattle.vs_certified.specs.vs_cert_check.specs.declared.verdict.Verdict.{Verdict}
 use Rattle.vs_race.specs.vs_propose.specs.declared.proposal.Proposal.{Proposal}
+use Rattle.vs_race.specs.vs_propose.specs.declared.proposal.Proposal.TheVariants.{NotMade}
 use Rattle.vs_race.specs.vs_propose.specs.Proposals.{IsProposal}
-use Rattle.vs_explain.specs.vs_simulate.specs.Honesty.{Defines, IsRun, HasBegunRun, SimulationFails}
-use Rattle.vs_explain.specs.vs_simulate.specs.Listing.{IsListed, HasBegunListing}
+use Rattle.vs_certified.specs.vs_simulate.specs.Honesty.{Defines, IsRun, HasBegunRun, SimulationFails}
+use Rattle.vs_certified.specs.vs_simulate.specs.Listing.{IsListed, HasBegunListing}
 use Rattle.vs_certified.specs.Certified.{IsCertifiedRun, HasBegunCertifiedRun, CertifyingFails, is_before_run}
 use Rattle.vs_certified.specs.Judged.{IsJudged}
 use Rattle.vs_certified.specs.declared.fault.CertifiedFault.{CertifiedFault}
 use Rattle.vs_certified.specs.declared.fault.CertifiedFault.TheVariants.{Simulation, Certificate, Rejected}
-use Rattle.vs_explain.specs.vs_simulate.specs.declared.fault.SimFault.TheVariants as sim
+use Rattle.vs_certified.specs.vs_simulate.specs.declared.fault.SimFault.TheVariants as sim
 use Rattle.vs_certified.specs.vs_kernel.specs.declared.outcome.RunFault.TheVariants as run
 use Rattle.vs_preprocess.specs.Limits.{text_limit}
 use Rattle.vs_program_words.specs.declared.words.Call as asked
 use Rattle.vs_program_words.specs.declared.words.Request.{Request}
 use Rattle.vs_program_words.specs.declared.words.Subcommand.{Subcommand}
 use Rattle.vs_program_words.specs.declared.words.Subcommand.TheVariants.{Run, RunCertified, Check, Certify, Race, Elab, Preprocess}
-use Rattle.vs_program_words.specs.declared.words.WordsFault.TheVariants.{Choices, OrderOfCertified}
+use Rattle.vs_program_words.specs.declared.words.Outputs.{Outputs}
+use Rattle.vs_program_words.specs.declared.words.WordsFault.TheVariants.{OrderOfCertified, TwoDumps}
+use Rattle.vs_targets.specs.Targets.{Fails, IsMeant}
+use Rattle.vs_targets.specs.declared.target.TargetFault.{TargetFault}
 use Rattle.vs_program_words.specs.declared.words.OutputText.{OutputText}
 use Rattle.vs_program_words.specs.declared.words.OutputText.TheVariants.{Lines, Dump}
+use Rattle.vs_program.specs.declared.command.Writers.{Writers}
+use Rattle.vs_program.specs.declared.doing.Texts.{Texts}
+use Rattle.vs_program.specs.declared.doing.Texts.TheVariants.{Both, One}
 use Rattle.vs_program.specs.declared.doing.Done.{Done}
 use Rattle.vs_program.specs.declared.doing.Done.TheVariants.{Ran, Judged, Proposed, Raced, Listed, Preprocessed}
-use Rattle.vs_program_words.specs.Asks.{HaveFault, WordsAsk, WordsAskInVain}
+use Rattle.vs_program_words.specs.Asks.{HaveFault, LooseFails, WordsAsk, WordsAskInVain}
 use Rattle.vs_program.specs.Inputs.{AreKept, AreOfFiles, IsKept}
 use Rattle.vs_program.specs.Races.{HasBegunRace, WroteRace, race_status}
-use Rattle.vs_program.specs.Statuses.{outcome_status, proposal_status, refusal_status, verdict_status, words_status}
+use Rattle.vs_program.specs.Statuses.{outcome_status, proposal_status, refusal_status, target_status, verdict_status, words_status}
 use Rattle.vs_program.specs.Texts.{IsTooLong, ReadsBack, proposal_line, verdict_line}
 
 -- ---- what a call wrote
 
--- what a run wrote to the writer of the text that was asked for: the value change dump, or the lines; nothing keeps the bytes of the other one
-abbrev pub Wrote : OutputText → List ℕ → Request → Outcome → Option (List ℕ) → Option (List ℕ) → Type 0
-Wrote Dump bytes q outcome old new = IsRun bytes q.top.now q.until.count q.steps.count outcome old new None None
-Wrote Lines bytes q outcome old new = IsRun bytes q.top.now q.until.count q.steps.count outcome None None old new
+-- the texts of a run that are written: the one that is asked for, or both where the dump goes to a file
+abbrev pub texts_of : OutputText → Option (Bor (List ℕ)) → Texts
+texts_of text None = One text
+texts_of text (Some file) = Both
+
+-- what a run wrote to the writer of the text that was asked for: the value change dump, or the lines, where nothing keeps the bytes of the other
+-- one; or the lines, and the dump of the same run to the file of the dump
+abbrev pub Wrote : Texts → List ℕ → Request → Outcome → Option (List ℕ) → Option (List ℕ) → Option (List ℕ) → Option (List ℕ) → Type 0
+Wrote (One Dump) bytes q outcome old new dump_old dump_new = IsRun bytes q.top.now q.until.count q.steps.count outcome old new None None
+Wrote (One Lines) bytes q outcome old new dump_old dump_new = IsRun bytes q.top.now q.until.count q.steps.count outcome None None old new
+Wrote Both bytes q outcome old new dump_old dump_new = IsRun bytes q.top.now q.until.count q.steps.count outcome dump_old dump_new old new
 
 -- the same of a run of a design whose certificate is accepted, with the text of the certificate
-abbrev pub WroteCertified : OutputText → List ℕ → List ℕ → Request → Outcome → Option (List ℕ) → Option (List ℕ) → Type 0
-WroteCertified Dump bytes certificate q outcome old new =
+abbrev pub WroteCertified : Texts → List ℕ → List ℕ → Request → Outcome
+    → Option (List ℕ) → Option (List ℕ) → Option (List ℕ) → Option (List ℕ) → Type 0
+WroteCertified (One Dump) bytes certificate q outcome old new dump_old dump_new =
     IsCertifiedRun bytes q.top.now certificate q.until.count q.steps.count outcome old new None None
-WroteCertified Lines bytes certificate q outcome old new =
+WroteCertified (One Lines) bytes certificate q outcome old new dump_old dump_new =
     IsCertifiedRun bytes q.top.now certificate q.until.count q.steps.count outcome None None old new
+WroteCertified Both bytes certificate q outcome old new dump_old dump_new =
+    IsCertifiedRun bytes q.top.now certificate q.until.count q.steps.count outcome dump_old dump_new old new
 
 -- the line of the verdict on a certificate was written
 pub record WroteVerdict (bytes top certificate : List ℕ) (v : Verdict) (old new : Option (List ℕ)) : Type 0 where
@@ -66,16 +83,19 @@ pub record WroteProposal (bytes top : List ℕ) (grain : ClaimedGrain) (p : Prop
   pub reads_back : ReadsBack p
   pub written : Appends old new (proposal_line p)
 
--- what a call wrote to the writer, with the bytes of the source and those of the certificate
-abbrev pub HasWritten : List ℕ → List ℕ → Subcommand → Done → Option (List ℕ) → Option (List ℕ) → Type 0
-HasWritten bytes certificate (Run q) (Ran outcome) old new = Wrote q.text bytes q outcome old new
-HasWritten bytes certificate (RunCertified q) (Ran outcome) old new = WroteCertified q.text bytes certificate q outcome old new
-HasWritten bytes certificate (Check top) (Judged v) old new = WroteVerdict bytes top.now certificate v old new
-HasWritten bytes certificate (Certify top grain) (Proposed p) old new = WroteProposal bytes top.now grain p old new
-HasWritten bytes certificate (Race q) (Raced race) old new = WroteRace bytes q.top.now race old new
-HasWritten bytes certificate (Elab top) Listed old new = IsListed bytes top.now old new
-HasWritten bytes certificate Preprocess Preprocessed old new = Appends old new bytes
-HasWritten bytes certificate call _ old new = ⊥
+-- what a call wrote to the writer, and to the file of its dump, with the bytes of the source and those of the certificate
+abbrev pub HasWritten : List ℕ → List ℕ → Outputs → Subcommand → Done
+    → Option (List ℕ) → Option (List ℕ) → Option (List ℕ) → Option (List ℕ) → Type 0
+HasWritten bytes certificate o (Run q) (Ran outcome) old new dump_old dump_new =
+    Wrote (texts_of q.text o.dump) bytes q outcome old new dump_old dump_new
+HasWritten bytes certificate o (RunCertified q) (Ran outcome) old new dump_old dump_new =
+    WroteCertified (texts_of q.text o.dump) bytes certificate q outcome old new dump_old dump_new
+HasWritten bytes certificate o (Check top) (Judged v) old new dump_old dump_new = WroteVerdict bytes top.now certificate v old new
+HasWritten bytes certificate o (Certify top grain) (Proposed p) old new dump_old dump_new = WroteProposal bytes top.now grain p old new
+HasWritten bytes certificate o (Race q) (Raced race) old new dump_old dump_new = WroteRace bytes q.top.now race old new
+HasWritten bytes certificate o (Elab top) Listed old new dump_old dump_new = IsListed bytes top.now old new
+HasWritten bytes certificate o Preprocess Preprocessed old new dump_old dump_new = Appends old new bytes
+HasWritten bytes certificate o call _ old new dump_old dump_new = ⊥
 
 -- the status of what was done
 abbrev pub done_status : Done → ℕ
@@ -88,17 +108,21 @@ done_status Preprocessed = 0
 
 -- ---- what a call wrote that failed
 
--- what a run wrote that failed: a beginning of the text that was asked for
-abbrev pub HasBegunText : OutputText → List ℕ → Request → Option (List ℕ) → Option (List ℕ) → Type 0
-HasBegunText Dump bytes q old new = HasBegunRun bytes q.top.now q.until.count q.steps.count old new None None
-HasBegunText Lines bytes q old new = HasBegunRun bytes q.top.now q.until.count q.steps.count None None old new
+-- what a run wrote that failed: a beginning of the text that was asked for, or of both
+abbrev pub HasBegunText : Texts → List ℕ → Request → Option (List ℕ) → Option (List ℕ) → Option (List ℕ) → Option (List ℕ) → Type 0
+HasBegunText (One Dump) bytes q old new dump_old dump_new = HasBegunRun bytes q.top.now q.until.count q.steps.count old new None None
+HasBegunText (One Lines) bytes q old new dump_old dump_new = HasBegunRun bytes q.top.now q.until.count q.steps.count None None old new
+HasBegunText Both bytes q old new dump_old dump_new = HasBegunRun bytes q.top.now q.until.count q.steps.count dump_old dump_new old new
 
 -- the same of a run of a design whose certificate is accepted
-abbrev pub HasBegunCertifiedText : OutputText → List ℕ → List ℕ → Request → Option (List ℕ) → Option (List ℕ) → Type 0
-HasBegunCertifiedText Dump bytes certificate q old new =
+abbrev pub HasBegunCertifiedText : Texts → List ℕ → List ℕ → Request
+    → Option (List ℕ) → Option (List ℕ) → Option (List ℕ) → Option (List ℕ) → Type 0
+HasBegunCertifiedText (One Dump) bytes certificate q old new dump_old dump_new =
     HasBegunCertifiedRun bytes q.top.now certificate q.until.count q.steps.count old new None None
-HasBegunCertifiedText Lines bytes certificate q old new =
+HasBegunCertifiedText (One Lines) bytes certificate q old new dump_old dump_new =
     HasBegunCertifiedRun bytes q.top.now certificate q.until.count q.steps.count None None old new
+HasBegunCertifiedText Both bytes certificate q old new dump_old dump_new =
+    HasBegunCertifiedRun bytes q.top.now certificate q.until.count q.steps.count dump_old dump_new old new
 
 -- a beginning of the line of the verdict on a certificate
 pub record HasBegunVerdict (bytes top certificate : List ℕ) (old new : Option (List ℕ)) : Type 0 where
@@ -112,15 +136,18 @@ pub record HasBegunProposal (bytes top : List ℕ) (grain : ClaimedGrain) (old n
   pub proposed : IsProposed bytes top grain proposal
   pub begun : AppendsPart old new (proposal_line proposal)
 
--- what a call wrote that failed: a beginning of its text
-abbrev pub HasBegunWriting : List ℕ → List ℕ → Subcommand → Option (List ℕ) → Option (List ℕ) → Type 0
-HasBegunWriting bytes certificate (Run q) old new = HasBegunText q.text bytes q old new
-HasBegunWriting bytes certificate (RunCertified q) old new = HasBegunCertifiedText q.text bytes certificate q old new
-HasBegunWriting bytes certificate (Check top) old new = HasBegunVerdict bytes top.now certificate old new
-HasBegunWriting bytes certificate (Certify top grain) old new = HasBegunProposal bytes top.now grain old new
-HasBegunWriting bytes certificate (Race q) old new = HasBegunRace bytes q.top.now old new
-HasBegunWriting bytes certificate (Elab top) old new = HasBegunListing bytes top.now old new
-HasBegunWriting bytes certificate Preprocess old new = AppendsPart old new bytes
+-- what a call wrote that failed: a beginning of its text, and of its dump in a file
+abbrev pub HasBegunWriting : List ℕ → List ℕ → Outputs → Subcommand
+    → Option (List ℕ) → Option (List ℕ) → Option (List ℕ) → Option (List ℕ) → Type 0
+HasBegunWriting bytes certificate o (Run q) old new dump_old dump_new =
+    HasBegunText (texts_of q.text o.dump) bytes q old new dump_old dump_new
+HasBegunWriting bytes certificate o (RunCertified q) old new dump_old dump_new =
+    HasBegunCertifiedText (texts_of q.text o.dump) bytes certificate q old new dump_old dump_new
+HasBegunWriting bytes certificate o (Check top) old new dump_old dump_new = HasBegunVerdict bytes top.now certificate old new
+HasBegunWriting bytes certificate o (Certify top grain) old new dump_old dump_new = HasBegunProposal bytes top.now grain old new
+HasBegunWriting bytes certificate o (Race q) old new dump_old dump_new = HasBegunRace bytes q.top.now old new
+HasBegunWriting bytes certificate o (Elab top) old new dump_old dump_new = HasBegunListing bytes top.now old new
+HasBegunWriting bytes certificate o Preprocess old new dump_old dump_new = AppendsPart old new bytes
 
 -- ---- why a call failed
 
@@ -151,8 +178,8 @@ abbrev pub WritingFails : CertifiedFault → Type 0
 WritingFails (Simulation (sim.Run run.Write)) = Unit {0}
 WritingFails _ = ⊥
 
--- what a fault says of a call: the source is refused, or then the certificate where the call takes or makes one, or then the design where it is to run;
--- and a text of files that is only to be written fails where a write fails
+-- what a fault says of a call: the source is refused, or then the certificate where the call takes or makes one, or then the design where it is
+-- to run; and a text of files that is only to be written fails where a write fails
 abbrev pub CallFails : List ℕ → List ℕ → Subcommand → CertifiedFault → Type 0
 CallFails bytes certificate (Run q) fault = SourceFails bytes q.top.now fault
 CallFails bytes certificate (RunCertified q) fault = CertifyingFails bytes q.top.now certificate fault
@@ -162,14 +189,70 @@ CallFails bytes certificate (Race q) fault = SourceFails bytes q.top.now fault
 CallFails bytes certificate (Elab top) fault = SourceFails bytes top.now fault
 CallFails bytes certificate Preprocess fault = WritingFails fault
 
--- what a call that gave a fault leaves at the writer: where it is refused, all is as it was; else a beginning of its text, but for bytes at its end
-pub record HasLeft (bytes certificate : List ℕ) (call : Subcommand) (fault : CertifiedFault) (old new : Option (List ℕ)) : Type 0 where
-  pub refused : is_before_run fault ≡ true → Keeps old new
-  pub begun : is_before_run fault ≡ false → (lost : List ℕ) × HasBegunWriting bytes certificate call old (append_known new lost)
+-- what may be left out at the end of a dump that is written: its last line, where that is the greatest moment, which stands for none (profile)
+abbrev pub IsOpen : Subcommand → List ℕ → Type 0
+IsOpen (Run q) cut = (cut ≡ []) ⊎ ((q.until.count ≡ 4611686018427387903) × (cut ≡ codes "#4611686018427387903" ++ 10 ∷ []))
+IsOpen (RunCertified q) cut = (cut ≡ []) ⊎ ((q.until.count ≡ 4611686018427387903) × (cut ≡ codes "#4611686018427387903" ++ 10 ∷ []))
+IsOpen call cut = cut ≡ []
 
--- the writer holds a text that was gathered, and the status is that of what was done; or a write failed, and it lacks bytes at the end
-abbrev pub IsFinished : Option (List ℕ) → Option (List ℕ) → ℕ → ℕ → Type 0
-IsFinished text new done status = (Keeps text new × (status ≡ done)) ⊎ ((lost : List ℕ) × Keeps text (append_known new lost) × (status ≡ 3))
+-- the writer and the file of the dump hold texts that were gathered, but for what may be left out, and the status is that of what was done; or a
+-- write failed, and they lack bytes at the end
+abbrev pub IsFinished : Subcommand → Option (List ℕ) → Option (List ℕ) → Option (List ℕ) → Option (List ℕ) → ℕ → ℕ → Type 0
+IsFinished call text new dump dump_new done status =
+    ((cut dump_cut : List ℕ) × Keeps text (append_known new cut) × Keeps dump (append_known dump_new dump_cut)
+    × IsOpen call cut × IsOpen call dump_cut × (status ≡ done))
+    ⊎ ((lost dump_lost : List ℕ) × Keeps text (append_known new lost) × Keeps dump (append_known dump_new dump_lost) × (status ≡ 3))
+
+-- ---- what the writers hold
+
+-- what the writers of a call hold: standard output, the file of its text, and that of its dump
+pub record Held : Type 0 where
+  pub out : Option (List ℕ)
+  pub text : Option (List ℕ)
+  pub dump : Option (List ℕ)
+
+-- what writers hold
+abbrev pub held_of : {O F : Type 0} → (O → Option (List ℕ)) → (F → Option (List ℕ)) → Writers O F → Held
+held_of contents bytes w = record { out = contents w.out; text = bytes w.text; dump = bytes w.dump }
+
+-- they keep all that they held
+pub record KeepsAll (old new : Held) : Type 0 where
+  pub out : Keeps old.out new.out
+  pub text : Keeps old.text new.text
+  pub dump : Keeps old.dump new.dump
+
+-- what is held by the writer that a text goes to, and by the other one: a file where one is named, else standard output
+abbrev pub shown : Option (Bor (List ℕ)) → Held → Option (List ℕ)
+shown None h = h.out
+shown (Some file) h = h.text
+
+abbrev pub unshown : Option (Bor (List ℕ)) → Held → Option (List ℕ)
+unshown None h = h.text
+unshown (Some file) h = h.out
+
+-- a text goes to standard output, or to the file that is named for it, and the other one stays as it was
+abbrev pub OnShown : Option (Bor (List ℕ)) → (Option (List ℕ) → Option (List ℕ) → Option (List ℕ) → Option (List ℕ) → Type 0)
+    → Held → Held → Type 0
+OnShown file ends old new =
+    ends (shown file old) (shown file new) old.dump new.dump × Keeps (unshown file old) (unshown file new)
+
+-- the file that the text of what was done goes to, where it goes to one: the line that tells of no certificate goes to none (profile)
+abbrev pub file_of : Outputs → Done → Option (Bor (List ℕ))
+file_of o (Proposed (NotMade refusal)) = None
+file_of o done = o.text
+
+-- a text may be begun whose end isn't known to be there: a certificate that goes to a file is made before any of it is written
+abbrev pub CanBegin : Outputs → Subcommand → Type 0
+CanBegin o (Certify top grain) = o.text ≡ None
+CanBegin o call = Unit {0}
+
+-- what a call that gave a fault leaves at its writers: where it is refused, all is as it was; else a beginning of its texts, but for bytes at
+-- their ends
+pub record HasLeft (bytes certificate : List ℕ) (o : Outputs) (call : Subcommand) (fault : CertifiedFault) (old new : Held) : Type 0 where
+  pub refused : is_before_run fault ≡ true → KeepsAll old new
+  pub begun : is_before_run fault ≡ false → CanBegin o call × ((lost dump_lost : List ℕ) × OnShown o.text
+      (λ a b dump_a dump_b. HasBegunWriting bytes certificate o call a (append_known b lost) dump_a (append_known dump_b dump_lost))
+      old new)
 
 -- ---- how a call ends
 
@@ -183,45 +266,65 @@ IsKeptFor (Race q) input certificate bytes = IsKept input bytes
 IsKeptFor (Elab top) input certificate bytes = IsKept input bytes
 IsKeptFor Preprocess input certificate bytes = IsKept input bytes
 
--- how a call that was asked for ends, with what is true of the bytes of its certificate and of its source, and with what the writer holds before and
+-- the same of a call whose certificate may be in a file: then all of the input is the source
+abbrev pub IsKeptBeside : Option (Bor (List ℕ)) → Subcommand → Option (List ℕ) → List ℕ → List ℕ → Type 0
+IsKeptBeside None call input certificate bytes = IsKeptFor call input certificate bytes
+IsKeptBeside (Some file) call input certificate bytes = IsKept input bytes
+
+-- how a call that was asked for ends, with what is true of the bytes of its certificate and of its source, and with what its writers hold before and
 -- after it: by what it did, by its fault, or with 3 where a device or memory failed
-pub data EndsWith (kept : List ℕ → List ℕ → Type 0) (call : Subcommand) (old new : Option (List ℕ)) (status : ℕ) : Type 0 where
-  by_doing : (certificate bytes : List ℕ) (done : Done) → kept certificate bytes → HasWritten bytes certificate call done old new →
-      status ≡ done_status done → EndsWith kept call old new status
+pub data EndsWith (kept : List ℕ → List ℕ → Type 0) (o : Outputs) (call : Subcommand) (old new : Held) (status : ℕ) : Type 0 where
+  by_doing : (certificate bytes : List ℕ) (done : Done) (cut dump_cut : List ℕ) → kept certificate bytes →
+      OnShown (file_of o done)
+      (λ a b dump_a dump_b. HasWritten bytes certificate o call done a (append_known b cut) dump_a (append_known dump_b dump_cut))
+      old new → IsOpen call cut → IsOpen call dump_cut → status ≡ done_status done → EndsWith kept o call old new status
   by_fault : (certificate bytes : List ℕ) (fault : CertifiedFault) → kept certificate bytes → CallFails bytes certificate call fault →
-      HasLeft bytes certificate call fault old new → (status ≡ refusal_status fault) ⊎ (status ≡ 3) → EndsWith kept call old new status
-  by_write : (certificate bytes : List ℕ) (done : Done) (lost : List ℕ) → kept certificate bytes →
-      HasWritten bytes certificate call done old (append_known new lost) → status ≡ 3 → EndsWith kept call old new status
-  by_device : Keeps old new → status ≡ 3 → EndsWith kept call old new status
+      HasLeft bytes certificate o call fault old new → (status ≡ refusal_status fault) ⊎ (status ≡ 3) →
+      EndsWith kept o call old new status
+  by_write : (certificate bytes : List ℕ) (done : Done) (lost dump_lost : List ℕ) → kept certificate bytes →
+      OnShown (file_of o done)
+      (λ a b dump_a dump_b. HasWritten bytes certificate o call done a (append_known b lost) dump_a (append_known dump_b dump_lost))
+      old new → status ≡ 3 → EndsWith kept o call old new status
+  by_device : KeepsAll old new → status ≡ 3 → EndsWith kept o call old new status
 
 -- how a call ends with the bytes kept of the input
-abbrev pub EndsCall : Option (List ℕ) → Subcommand → Option (List ℕ) → Option (List ℕ) → ℕ → Type 0
-EndsCall input call old new status = EndsWith (IsKeptFor call input) call old new status
+abbrev pub EndsCall : Option (List ℕ) → asked.Call → Held → Held → ℕ → Type 0
+EndsCall input call old new status =
+    EndsWith (IsKeptBeside call.certificate call.subcommand input) call.outputs call.subcommand old new status
 
--- how a call ends whose source is the text of files: with their text, or where they are refused, or where a device or memory failed
-pub data EndsFiles (input : Option (List ℕ)) (call : Subcommand) (old new : Option (List ℕ)) (status : ℕ) : Type 0 where
-  by_text : (text : List ℕ) → length text ≤ text_limit → EndsWith (AreOfFiles call input text) call old new status →
-      EndsFiles input call old new status
-  by_refusal : Keeps old new → status ≡ 1 → EndsFiles input call old new status
-  by_reading : Keeps old new → status ≡ 3 → EndsFiles input call old new status
+-- how a call ends whose source is the text of files: with their text, and what the call means by it; or where they are refused, or it doesn't
+-- give what the call leaves to it, or where a device or memory failed
+pub data EndsFiles (input : Option (List ℕ)) (call : asked.Call) (old new : Held) (status : ℕ) : Type 0 where
+  by_text : (text : List ℕ) → length text ≤ text_limit → (s : Subcommand) → IsMeant text call s →
+      EndsWith (AreOfFiles s call.certificate input text) call.outputs s old new status → EndsFiles input call old new status
+  by_target : (text : List ℕ) → length text ≤ text_limit → (f : TargetFault) → Fails text call f → KeepsAll old new →
+      status ≡ target_status f → EndsFiles input call old new status
+  by_refusal : KeepsAll old new → status ≡ 1 → EndsFiles input call old new status
+  by_reading : KeepsAll old new → status ≡ 3 → EndsFiles input call old new status
 
--- how a call ends that names these files, or none
-abbrev pub EndsAsked : List (Bor (List ℕ)) → Option (List ℕ) → Subcommand → Option (List ℕ) → Option (List ℕ) → ℕ → Type 0
-EndsAsked [] input call old new status = EndsCall input call old new status
-EndsAsked (file ∷ files) input call old new status = EndsFiles input call old new status
+-- how a call ends that names files, or none
+abbrev pub EndsBy : List (Bor (List ℕ)) → Option (List ℕ) → asked.Call → Held → Held → ℕ → Type 0
+EndsBy [] input call old new status = EndsCall input call old new status
+EndsBy (file ∷ files) input call old new status = EndsFiles input call old new status
 
--- how the program ends where the words ask for nothing: by the fault that they have, a call for help or for the version among them, or since they ask for
--- a certified run in an order of its own or for choices that are none, or with 3 where memory or, at help and the version, a device failed; these two alone
--- are written to the writer
+-- how a call ends, with what its writers hold before and after it
+abbrev pub EndsAsked : Option (List ℕ) → asked.Call → Held → Held → ℕ → Type 0
+EndsAsked input call old new status = EndsBy call.sources.files.items input call old new status
+
+-- how the program ends where the words ask for nothing: by the fault that they have, a call for help or for the version among them, or since they
+-- ask for a certified run in an order of its own, for two dumps, or for nothing at all, or with 3 where memory or, at help and the version, a
+-- device failed; these two alone are written to the writer
 pub data EndsWords (words : List (List ℕ)) (old new : Option (List ℕ)) (status : ℕ) : Type 0 where
-  by_kind : (k : ErrorKind) → HaveFault words k → (words_status k ≡ 0) ⊎ Keeps old new → status ≡ words_status k → EndsWords words old new status
+  by_kind : (k : ErrorKind) → HaveFault words k → (words_status k ≡ 0) ⊎ Keeps old new → status ≡ words_status k →
+      EndsWords words old new status
   by_order : WordsAskInVain words OrderOfCertified → Keeps old new → status ≡ 64 → EndsWords words old new status
-  by_choices : WordsAskInVain words Choices → Keeps old new → status ≡ 64 → EndsWords words old new status
+  by_dumps : WordsAskInVain words TwoDumps → Keeps old new → status ≡ 64 → EndsWords words old new status
+  by_words : LooseFails words → Keeps old new → status ≡ 64 → EndsWords words old new status
   by_memory : Keeps old new → status ≡ 3 → EndsWords words old new status
   by_help : (k : ErrorKind) → HaveFault words k → words_status k ≡ 0 → status ≡ 3 → EndsWords words old new status
 
--- how the program ends, with these words, this input, and what the writer holds before and after it
-pub data Ends (words : List (List ℕ)) (input old new : Option (List ℕ)) (status : ℕ) : Type 0 where
-  without_call : EndsWords words old new status → Ends words input old new status
-  with_call : (call : asked.Call) → WordsAsk words call → EndsAsked call.sources.files.items input call.subcommand old new status →
+-- how the program ends, with these words, this input, and what the writers hold before and after it
+pub data Ends (words : List (List ℕ)) (input : Option (List ℕ)) (old new : Held) (status : ℕ) : Type 0 where
+  without_call : EndsWords words old.out new.out status → Keeps old.text new.text → Keeps old.dump new.dump →
       Ends words input old new status
+  with_call : (call : asked.Call) → WordsAsk words call → EndsAsked input call old new status → Ends words input old new status

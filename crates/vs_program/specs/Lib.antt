@@ -1,6 +1,5 @@
 pub use Rattle.vs_program_words.specs.Asks
 pub use Rattle.vs_program_words.specs.Options
-pub mod Buffers
 pub mod Ends
 pub mod Inputs
 pub mod Races

@@ -6,9 +6,11 @@ use Rattle.vs_design.specs.vs_logic4.specs.declared.digit.Digit.{Digit}
 use Rattle.vs_design.specs.vs_logic4.specs.Tables.{letter}
 use Rattle.vs_elaborate.specs.vs_scopes.specs.Texts.{shown_byte}
 use Rattle.vs_certified.specs.vs_vcd_writing.specs.Sinks.{AppendsPart}
+use Rattle.vs_race.specs.Dumps.{AreDumps}
 use Rattle.vs_race.specs.Races.{IsAnswer}
 use Rattle.vs_race.specs.declared.answer.Race.{Race}
-use Rattle.vs_race.specs.declared.answer.Race.TheVariants.{Certified, Found, NotFound}
+use Rattle.vs_race.specs.declared.answer.Race.TheVariants.{Certified, Found, FoundLine, NotFound}
+use Rattle.vs_race.specs.vs_race_shown.specs.declared.witness.LineWitness.{LineWitness}
 use Rattle.vs_race.specs.vs_race_shown.specs.declared.witness.Witness.{Witness}
 
 -- the text of a value: its digits, the highest first
@@ -20,10 +22,17 @@ abbrev pub witness_line : Witness → List ℕ
 witness_line w =
     flat_map shown_byte w.path.items ++ codes " at " ++ decimal w.time ++ codes ": " ++ value_text w.first ++ codes " or " ++ value_text w.other ++ 10 ∷ []
 
+-- the line of a race in what `$strobe` prints: the row, the moment, and how often it is printed to it
+abbrev pub row_line : LineWitness → List ℕ
+row_line w =
+    codes "line `" ++ w.row.items ++ codes "` to " ++ decimal w.time ++ codes ": " ++ decimal w.first ++ codes " or " ++ decimal w.other ++ codes " times"
+    ++ 10 ∷ []
+
 -- the first line of what is told
 abbrev pub race_line : Race → List ℕ
 race_line (Certified c) = codes "certified: no order of events makes a difference" ++ 10 ∷ []
 race_line (Found w refused) = witness_line w
+race_line (FoundLine w refused) = row_line w
 race_line (NotFound missed refused) = codes "none found" ++ 10 ∷ []
 
 -- a text begins with the first line of what is told
@@ -37,6 +46,13 @@ pub record WroteRace (bytes top : List ℕ) (race : Race) (old new : Option (Lis
   pub told : IsTold race text
   pub written : Appends old new text
 
+-- the dumps of the two runs of a race that was found were written to its moment; else nothing was
+abbrev pub WroteDumps : List ℕ → List ℕ → Race → ℕ → Option (List ℕ) → Option (List ℕ) → Option (List ℕ) → Option (List ℕ) → Type 0
+WroteDumps bytes top (Found w refused) steps first first' other other' = AreDumps bytes top w.time steps first first' other other'
+WroteDumps bytes top (FoundLine w refused) steps first first' other other' = AreDumps bytes top w.time steps first first' other other'
+WroteDumps bytes top (Certified c) steps first first' other other' = (first' ≡ first) × (other' ≡ other)
+WroteDumps bytes top (NotFound missed refused) steps first first' other other' = (first' ≡ first) × (other' ≡ other)
+
 -- a beginning of it
 pub record HasBegunRace (bytes top : List ℕ) (old new : Option (List ℕ)) : Type 0 where
   pub race : Race
@@ -49,4 +65,5 @@ pub record HasBegunRace (bytes top : List ℕ) (old new : Option (List ℕ)) : T
 abbrev pub race_status : Race → ℕ
 race_status (Certified c) = 0
 race_status (Found w refused) = 1
+race_status (FoundLine w refused) = 1
 race_status (NotFound missed refused) = 2

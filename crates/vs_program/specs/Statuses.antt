@@ -12,14 +12,16 @@ use Rattle.vs_elaborate.specs.vs_scopes.specs.declared.faults.ElabFault.{ElabFau
 use Rattle.vs_elaborate.specs.vs_scopes.specs.declared.faults.ElabFault.TheVariants as elab
 use Rattle.vs_certified.specs.vs_kernel.specs.declared.outcome.Outcome.{Outcome}
 use Rattle.vs_certified.specs.vs_kernel.specs.declared.outcome.Outcome.TheVariants as o
-use Rattle.vs_explain.specs.vs_simulate.specs.declared.fault.SimFault.{SimFault}
-use Rattle.vs_explain.specs.vs_simulate.specs.declared.fault.SimFault.TheVariants.{Lex, Parse, Elab, Run, Memory}
+use Rattle.vs_certified.specs.vs_simulate.specs.declared.fault.SimFault.{SimFault}
+use Rattle.vs_certified.specs.vs_simulate.specs.declared.fault.SimFault.TheVariants.{Lex, Parse, Elab, Run, Memory}
 use Rattle.vs_program_words.specs.vs_certificate.specs.declared.fault.CertFault.{CertFault}
 use Rattle.vs_program_words.specs.vs_certificate.specs.declared.fault.CertFault.TheVariants as certificate
 use Rattle.vs_certified.specs.declared.fault.CertifiedFault.{CertifiedFault}
 use Rattle.vs_certified.specs.declared.fault.CertifiedFault.TheVariants.{Simulation, Certificate, Rejected}
 use Rattle.vs_certified.specs.vs_cert_check.specs.declared.verdict.Verdict.{Verdict}
 use Rattle.vs_certified.specs.vs_cert_check.specs.declared.verdict.Verdict.TheVariants.{Yes, No}
+use Rattle.vs_targets.specs.declared.target.TargetFault.{TargetFault}
+use Rattle.vs_targets.specs.declared.target.TargetFault.TheVariants as target
 use Rattle.vs_race.specs.vs_propose.specs.declared.proposal.Proposal.{Proposal}
 use Rattle.vs_race.specs.vs_propose.specs.declared.proposal.Proposal.TheVariants.{Made, NotMade}
 
@@ -87,3 +89,8 @@ verdict_status (No number place) = 1
 abbrev pub proposal_status : Proposal → ℕ
 proposal_status (Made certificate) = 0
 proposal_status (NotMade refusal) = 1
+
+-- the status where a source doesn't give what a call leaves to it
+abbrev pub target_status : TargetFault → ℕ
+target_status target.Memory = 3
+target_status _ = 64

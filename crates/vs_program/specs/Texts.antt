@@ -15,8 +15,8 @@ use Rattle.vs_syntax.specs.vs_lexer.specs.Faults as lexer
 use Rattle.vs_parser.specs.Faults as parser
 use Rattle.vs_elaborate.specs.vs_scopes.specs.Texts as elaborate
 use Rattle.vs_certified.specs.vs_kernel.specs.declared.outcome.RunFault.TheVariants as run
-use Rattle.vs_explain.specs.vs_simulate.specs.declared.fault.SimFault.{SimFault}
-use Rattle.vs_explain.specs.vs_simulate.specs.declared.fault.SimFault.TheVariants.{Lex, Parse, Elab, Run, Memory}
+use Rattle.vs_certified.specs.vs_simulate.specs.declared.fault.SimFault.{SimFault}
+use Rattle.vs_certified.specs.vs_simulate.specs.declared.fault.SimFault.TheVariants.{Lex, Parse, Elab, Run, Memory}
 
 -- the text of a fault: its number and its place, or what failed
 abbrev pub fault_text : SimFault → List ℕ

@@ -2,26 +2,32 @@
 ghost use Rattle.std.specs.Prelude.{◌≡◌, IfOk, IfErr, OnOk, true, false};
 ghost use Rattle.std.specs.Io.KnownBytes.{Appends};
 ghost use Rattle.vs_certified.specs.Certified.{CertifyingFails, is_before_run};
-ghost use Rattle.vs_explain.specs.vs_simulate.specs.Honesty.{SimulationFails, is_refusal};
-ghost use Rattle.vs_explain.specs.vs_simulate.specs.declared.fault.SimFault.TheVariants.{Run};
+ghost use Rattle.vs_certified.specs.vs_simulate.specs.Honesty.{SimulationFails, is_refusal};
+ghost use Rattle.vs_certified.specs.vs_simulate.specs.declared.fault.SimFault.TheVariants.{Run};
 ghost use Rattle.vs_certified.specs.vs_kernel.specs.declared.outcome.RunFault.TheVariants.{Write};
 ghost use Rattle.vs_certified.specs.vs_vcd_writing.specs.Sinks.{AppendsPart};
-ghost use Rattle.vs_program.specs.Ends.{CallFails, CheckingFails, MakingFails, HasWritten, Wrote, WroteCertified, WroteProposal, WroteVerdict};
+ghost use Rattle.vs_program.specs.Ends.{CallFails, CheckingFails, MakingFails, texts_of};
+ghost use Rattle.vs_program.specs.Ends.{HasWritten, Wrote, WroteCertified, WroteProposal, WroteVerdict};
 ghost use Rattle.vs_program.specs.Ends.{HasBegunCertifiedText, HasBegunProposal, HasBegunText, HasBegunVerdict, HasBegunWriting};
+ghost use Rattle.vs_program.specs.Races.{HasBegunRace, WroteRace};
 
-use crate::choosing::read_choices;
-use crate::racing::tell_race;
-use crate::texts::{is_too_long, proposal_line, verdict_line};
+use crate::certifying::proposed;
+use crate::choosing::listed_choices;
+use crate::input::Kept;
+use crate::racing::{tell_race, tell_race_pair};
+use crate::texts::verdict_line;
+use crate::writing::Dumps;
 use std::alloc::Global;
 use vs_certified::vs_cert_check::Verdict;
 use vs_certified::vs_kernel::{Outcome, RunFault};
+use vs_certified::vs_simulate::{Policy, SimFault, list_design, simulate};
 use vs_certified::vs_vcd_writing::{Sink, WriteFault, write_all};
 use vs_certified::{CertifiedFault, certified, judge};
-use vs_explain::vs_simulate::{Policy, SimFault, design_of, list_design, simulate};
-use vs_program_words::vs_certificate::{CertFault, ClaimedGrain, written_reads_back};
-use vs_program_words::{Order, OutputText, Request, Subcommand};
-use vs_race::Race;
-use vs_race::vs_propose::{Proposal, propose};
+use vs_preprocess::Places;
+use vs_program_words::vs_certificate::ClaimedGrain;
+use vs_program_words::{Call, Choice, Hunt, Order, OutputText, Outputs, Request, Subcommand};
+use vs_race::vs_propose::Proposal;
+use vs_race::{Race, Watch};
 use vs_run_steps::Dropped;
 
 /// What a call did.
@@ -41,38 +47,59 @@ pub enum Done {
     Preprocessed,
 }
 
-// The policy of an order, or of choices where there are some.
+// The policy of an order, which may list choices.
 fn policy_of<'v>(order: Order, choices: &'v [usize]) -> Policy<'v> {
-    if !choices.is_empty() {
-        return Policy::Listed(choices);
-    }
     match order {
         Order::Fifo => Policy::Fifo,
         Order::Lifo => Policy::Lifo,
+        Order::Listed => Policy::Listed(choices),
     }
 }
 
-// Runs a source; the text that was asked for goes to the sink.
-fn run_source<'s, S: Sink>(
+/// Which texts of a run are written, and where.
+#[derive(Clone, Copy)]
+pub(crate) enum Texts {
+    /// The lines alone, or the dump alone.
+    One(OutputText),
+    /// The lines, and the dump beside them.
+    Both,
+}
+
+/// The texts that a call asks for.
+pub(crate) fn texts_of(request: Request, outputs: &Outputs) -> Texts
+    ensures { result ≡ texts_of request.entry.text outputs.now.dump }
+{
+    match outputs.dump {
+        Some(_) => Texts::Both,
+        None => Texts::One(request.text),
+    }
+}
+
+// Runs a source; the text that was asked for goes to the sink, and where both are asked for the dump to the other one.
+fn run_source<'s, S: Sink, V: Sink>(
     alloc: Global,
     request: Request,
+    texts: Texts,
+    choices: &[Choice],
     source: &'s [u8],
     shown: &mut S,
+    dump: &mut V,
 ) -> Result<Outcome, SimFault<'s>>
-    ensures ok { IfOk result (λ outcome. Wrote request.entry.text source.entry.now request.entry
-        outcome (S.bytes shown.old) (S.bytes shown.new)) }
+    ensures ok { IfOk result (λ outcome. Wrote texts source.entry.now request.entry
+        outcome (S.bytes shown.old) (S.bytes shown.new) (V.bytes dump.old) (V.bytes dump.new)) }
     ensures err { IfErr result (λ fault. SimulationFails source.entry.now request.entry.top.now fault) }
-    ensures refused { IfErr result (λ fault. is_refusal fault ≡ true → shown.new ≡ shown.old) }
+    ensures refused { IfErr result (λ fault. is_refusal fault ≡ true → (shown.new ≡ shown.old) × (dump.new ≡ dump.old)) }
     ensures begun { IfErr result (λ fault. is_refusal fault ≡ false →
-        HasBegunText request.entry.text source.entry.now request.entry (S.bytes shown.old) (S.bytes shown.new)) }
+        HasBegunText texts source.entry.now request.entry (S.bytes shown.old) (S.bytes shown.new) (V.bytes dump.old) (V.bytes dump.new)) }
 {
     let mut dropped = Dropped;
     let top = request.top.as_bytes();
     let (until, steps) = (request.until.count, request.steps.count);
-    let choices = read_choices(alloc, request.choices, steps)?;
+    let choices = listed_choices(alloc, choices, steps)?;
     let policy = policy_of(request.order, &choices);
-    match request.text {
-        OutputText::Dump => simulate(
+    match texts {
+        Texts::Both => simulate(alloc, source, top, until, steps, &policy, dump, shown),
+        Texts::One(OutputText::Dump) => simulate(
             alloc,
             source,
             top,
@@ -82,7 +109,7 @@ fn run_source<'s, S: Sink>(
             shown,
             &mut dropped,
         ),
-        OutputText::Lines => simulate(
+        Texts::One(OutputText::Lines) => simulate(
             alloc,
             source,
             top,
@@ -95,20 +122,23 @@ fn run_source<'s, S: Sink>(
     }
 }
 
-// Runs a design whose certificate is accepted; the text that was asked for goes to the sink.
-fn run_certified<'s, S: Sink>(
+// Runs a design whose certificate is accepted; the text that was asked for goes to the sink, and where both are asked for the dump to the other one.
+fn run_certified<'s, S: Sink, V: Sink>(
     alloc: Global,
     request: Request,
+    texts: Texts,
     source: &'s [u8],
     certificate: &[u8],
     shown: &mut S,
+    dump: &mut V,
 ) -> Result<Outcome, CertifiedFault<'s>>
-    ensures ok { IfOk result (λ outcome. WroteCertified request.entry.text source.entry.now certificate.now request.entry
-        outcome (S.bytes shown.old) (S.bytes shown.new)) }
+    ensures ok { IfOk result (λ outcome. WroteCertified texts source.entry.now certificate.now request.entry
+        outcome (S.bytes shown.old) (S.bytes shown.new) (V.bytes dump.old) (V.bytes dump.new)) }
     ensures err { IfErr result (λ fault. CertifyingFails source.entry.now request.entry.top.now certificate.now fault) }
-    ensures refused { IfErr result (λ fault. is_before_run fault ≡ true → shown.new ≡ shown.old) }
+    ensures refused { IfErr result (λ fault. is_before_run fault ≡ true → (shown.new ≡ shown.old) × (dump.new ≡ dump.old)) }
     ensures begun { IfErr result (λ fault. is_before_run fault ≡ false →
-        HasBegunCertifiedText request.entry.text source.entry.now certificate.now request.entry (S.bytes shown.old) (S.bytes shown.new)) }
+        HasBegunCertifiedText texts source.entry.now certificate.now request.entry
+        (S.bytes shown.old) (S.bytes shown.new) (V.bytes dump.old) (V.bytes dump.new)) }
 {
     let mut dropped = Dropped;
     let Request {
@@ -116,11 +146,20 @@ fn run_certified<'s, S: Sink>(
         until,
         steps,
         order: _,
-        choices: _,
-        text,
+        text: _,
     } = request;
-    match text {
-        OutputText::Dump => certified(
+    match texts {
+        Texts::Both => certified(
+            alloc,
+            source,
+            top.as_bytes(),
+            certificate,
+            until.count,
+            steps.count,
+            dump,
+            shown,
+        ),
+        Texts::One(OutputText::Dump) => certified(
             alloc,
             source,
             top.as_bytes(),
@@ -130,7 +169,7 @@ fn run_certified<'s, S: Sink>(
             shown,
             &mut dropped,
         ),
-        OutputText::Lines => certified(
+        Texts::One(OutputText::Lines) => certified(
             alloc,
             source,
             top.as_bytes(),
@@ -174,8 +213,7 @@ fn tell_verdict<'s, S: Sink>(
     Ok(verdict)
 }
 
-// Proposes a certificate; its line, or that of why there is none, goes to the sink. One whose text is longer than one that is read is refused.
-#[tactic(auto, using(crate::proofs::Proposing::reads_back))]
+// Proposes a certificate; its line, or that of why there is none, goes to the sink.
 fn tell_proposal<'s, S: Sink>(
     alloc: Global,
     top: &str,
@@ -189,39 +227,89 @@ fn tell_proposal<'s, S: Sink>(
     ensures begun { IfErr result (λ fault. is_before_run fault ≡ false →
         HasBegunProposal source.entry.now top.now grain (S.bytes shown.old) (S.bytes shown.new)) }
 {
-    written_reads_back();
-    let design = design_of(alloc, source, top.as_bytes())?;
-    let proposal = propose(alloc, &design, grain)?;
-    let line = proposal_line(alloc, &proposal)?;
-    if is_too_long(&proposal, &line) {
-        return Err(CertifiedFault::Certificate(CertFault::NotJson));
-    }
-    show(shown, &line)?;
-    Ok(proposal)
+    let found = proposed(alloc, top, grain, source)?;
+    show(shown, &found.line)?;
+    Ok(found.proposal)
 }
 
-/// Does what a call asks for; its text goes to the sink.
-pub(crate) fn do_call<'s, S: Sink>(
+// Looks for a race; what is told of it goes to the sink, and the two dumps, where they are asked for, to theirs.
+fn seek_race<'s, S: Sink, V: Sink, W: Watch>(
     alloc: Global,
-    call: Subcommand,
-    source: &'s [u8],
-    certificate: &[u8],
+    call: &Call,
+    hunt: Hunt,
+    kept: &'s Kept,
     shown: &mut S,
+    dumps: &mut Dumps<V>,
+    watch: &mut W,
+) -> Result<Race, SimFault<'s>>
+    ensures ok { IfOk result (λ r. WroteRace kept.entry.now.source.items hunt.entry.top.now r (S.bytes shown.old) (S.bytes shown.new)) }
+    ensures err { IfErr result (λ fault. SimulationFails kept.entry.now.source.items hunt.entry.top.now fault) }
+    ensures refused { IfErr result (λ fault. is_refusal fault ≡ true → (shown.new ≡ shown.old) × (dumps.new ≡ dumps.old)) }
+    ensures begun { IfErr result (λ fault. is_refusal fault ≡ false →
+        HasBegunRace kept.entry.now.source.items hunt.entry.top.now (S.bytes shown.old) (S.bytes shown.new)) }
+{
+    let source = kept.source.as_slice();
+    let places = kept.places.as_ref();
+    match call.outputs.pair {
+        None => tell_race(alloc, hunt, source, call, places, shown, watch),
+        Some(_) => tell_race_pair(
+            alloc,
+            hunt,
+            source,
+            call,
+            places,
+            shown,
+            &mut dumps.first,
+            &mut dumps.other,
+            watch,
+        ),
+    }
+}
+
+/// Does what a call asks for; its text goes to the sink, and dumps that go to files to theirs.
+pub(crate) fn do_call<'s, S: Sink, V: Sink, W: Watch>(
+    alloc: Global,
+    call: &Call,
+    kept: &'s Kept,
+    shown: &mut S,
+    dumps: &mut Dumps<V>,
+    watch: &mut W,
 ) -> Result<Done, CertifiedFault<'s>>
     ensures ok { IfOk result (λ done.
-        HasWritten source.entry.now certificate.now call.entry done (S.bytes shown.old) (S.bytes shown.new)) }
-    ensures err { IfErr result (λ fault. CallFails source.entry.now certificate.now call.entry fault) }
-    ensures refused { IfErr result (λ fault. is_before_run fault ≡ true → shown.new ≡ shown.old) }
+        HasWritten kept.entry.now.source.items kept.entry.now.certificate.items call.now.outputs call.now.subcommand done
+        (S.bytes shown.old) (S.bytes shown.new) (V.bytes dumps.old.first) (V.bytes dumps.new.first)) }
+    ensures err { IfErr result (λ fault. CallFails kept.entry.now.source.items kept.entry.now.certificate.items call.now.subcommand fault) }
+    ensures refused { IfErr result (λ fault. is_before_run fault ≡ true → (shown.new ≡ shown.old) × (dumps.new ≡ dumps.old)) }
     ensures begun { IfErr result (λ fault. is_before_run fault ≡ false →
-        HasBegunWriting source.entry.now certificate.now call.entry (S.bytes shown.old) (S.bytes shown.new)) }
+        HasBegunWriting kept.entry.now.source.items kept.entry.now.certificate.items call.now.outputs call.now.subcommand
+        (S.bytes shown.old) (S.bytes shown.new) (V.bytes dumps.old.first) (V.bytes dumps.new.first)) }
 {
-    match call {
+    let (source, certificate) = (kept.source.as_slice(), kept.certificate.as_slice());
+    match call.subcommand {
         Subcommand::Run(request) => {
-            let outcome = run_source(alloc, request, source, shown)?;
+            let texts = texts_of(request, &call.outputs);
+            let outcome = run_source(
+                alloc,
+                request,
+                texts,
+                &call.choices,
+                source,
+                shown,
+                &mut dumps.first,
+            )?;
             Ok(Done::Ran(outcome))
         }
         Subcommand::RunCertified(request) => {
-            let outcome = run_certified(alloc, request, source, certificate, shown)?;
+            let texts = texts_of(request, &call.outputs);
+            let outcome = run_certified(
+                alloc,
+                request,
+                texts,
+                source,
+                certificate,
+                shown,
+                &mut dumps.first,
+            )?;
             Ok(Done::Ran(outcome))
         }
         Subcommand::Check(top) => {
@@ -233,7 +321,7 @@ pub(crate) fn do_call<'s, S: Sink>(
             Ok(Done::Proposed(proposal))
         }
         Subcommand::Race(hunt) => {
-            let race = tell_race(alloc, hunt, source, shown)?;
+            let race = seek_race(alloc, call, hunt, kept, shown, dumps, watch)?;
             Ok(Done::Raced(race))
         }
         Subcommand::Elab(top) => {

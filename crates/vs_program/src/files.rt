@@ -7,7 +7,7 @@ use crate::input::{CERTIFICATE_LIMIT, InputFault, Kept, read_first};
 use std::alloc::{AllocError, Global};
 use std::io::Read;
 use vs_preprocess::{
-    Call as FilesCall, Library, Places, Preprocessed, Refusal, STANDARD_INPUT, WORK_LIMIT,
+    Call as FilesCall, Failure, Library, Places, Preprocessed, Refusal, STANDARD_INPUT, WORK_LIMIT,
     WithInput, preprocess,
 };
 use vs_program_words::{Call, Sources, Subcommand};
@@ -52,18 +52,38 @@ fn read_own<R: Read + Drop>(
     Ok(Some(bytes))
 }
 
-// The certificate of a call that takes one, which is all of standard input; of another call the bytes of standard input, where it is one of the files.
-fn read_input<R: Read + Drop>(
+/// The certificate in the file of a name: its first bytes, where there are more than a certificate may have.
+pub(crate) fn read_certificate<L: Library>(
     alloc: Global,
+    library: &mut L,
+    name: &str,
+) -> Result<Vec<u8>, InputFault> {
+    match library.read(alloc, name.as_bytes(), CERTIFICATE_LIMIT as usize) {
+        Ok(Some(bytes)) => Ok(bytes),
+        Err(Failure::Memory) => Err(InputFault::Memory),
+        _ => Err(InputFault::Certificate),
+    }
+}
+
+// The certificate of a call that takes one, which is all of standard input where it isn't in a file; of another call the bytes of standard input,
+// where it is one of the files.
+fn read_input<L: Library, R: Read + Drop>(
+    alloc: Global,
+    library: &mut L,
     call: &Call,
     input: R,
 ) -> Result<(Vec<u8>, Option<Vec<u8>>), InputFault>
-    ensures { IfOk result (λ x. IsCertificateFor call.now.subcommand (R.remaining input) x.0.items) }
+    ensures { IfOk result (λ x. IsCertificateFor call.now.subcommand call.now.certificate (R.remaining input) x.0.items) }
 {
-    match call.subcommand {
-        Subcommand::RunCertified(_) | Subcommand::Check(_) => {
+    match (call.subcommand, call.certificate) {
+        (Subcommand::RunCertified(_) | Subcommand::Check(_), None) => {
             let certificate = read_first(alloc, input, CERTIFICATE_LIMIT)?;
             Ok((certificate, None))
+        }
+        (_, Some(name)) => {
+            let certificate = read_certificate(alloc, library, name)?;
+            let own = read_own(alloc, &call.sources, input)?;
+            Ok((certificate, own))
         }
         _ => {
             let own = read_own(alloc, &call.sources, input)?;
@@ -79,9 +99,9 @@ pub(crate) fn read_files<L: Library, R: Read + Drop>(
     call: &Call,
     input: R,
 ) -> Result<FilesRead, InputFault>
-    ensures { IfOk result (HasText call.now.subcommand (R.remaining input)) }
+    ensures { IfOk result (HasText call.now (R.remaining input)) }
 {
-    let (certificate, own) = read_input(alloc, call, input)?;
+    let (certificate, own) = read_input(alloc, library, call, input)?;
     let files = names_of(alloc, &call.sources.files)?;
     let defines = names_of(alloc, &call.sources.defines)?;
     let folders = names_of(alloc, &call.sources.folders)?;

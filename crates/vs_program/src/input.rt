@@ -21,6 +21,8 @@ pub(crate) enum InputFault {
     Memory,
     /// The device failed.
     Read,
+    /// The file of the certificate isn't there, or can't be read.
+    Certificate,
 }
 
 impl From<io::Error> for InputFault {
@@ -97,6 +99,25 @@ impl Kept {
         }
     }
 
+    /// The same source, with a certificate beside it.
+    pub(crate) fn with_certificate(self, certificate: Vec<u8>) -> Self
+        ensures certificate { result.certificate ≡ certificate }
+        ensures source { result.source ≡ self.source }
+    {
+        let Kept {
+            certificate: _,
+            source,
+            places,
+            line_ended,
+        } = self;
+        Kept {
+            certificate,
+            source,
+            places,
+            line_ended,
+        }
+    }
+
     // One more byte was read.
     fn take_byte(&mut self, byte: u8) -> Result<(), AllocError>
         ensures { (seen : List ℕ) → HasKept seen self.old → OnOk result (HasKept (seen ++ byte ∷ []) self.new) }
@@ -141,8 +162,8 @@ pub(crate) fn read_source<R: Read + Drop>(alloc: Global, input: R) -> Result<Kep
     })
 }
 
-/// Reads an input to its end, and answers the first 16,777,217 bytes of its first line, and the first 8,388,609 bytes of what follows it: a certificate
-/// or a source that has more is refused by its length alone.
+/// Reads an input to its end, and answers the first 16,777,217 bytes of its first line, and the first 8,388,609 bytes of what follows it: a
+/// certificate or a source that has more is refused by its length alone.
 pub(crate) fn read_both<R: Read + Drop>(alloc: Global, input: R) -> Result<Kept, InputFault>
     ensures kept { IfOk result (λ kept. AreKept (R.remaining input) kept.certificate.items kept.source.items) }
 {

@@ -1,19 +1,31 @@
 //! The search for a race, and what is told of it.
 ghost use Rattle.std.specs.Prelude.{◌≡◌, ◌++◌, ◌<◌, ◌^◌, IfOk, IfErr, OnOk, false, true};
 ghost use Rattle.vs_design.specs.vs_logic4.specs.Tables.{letter};
-ghost use Rattle.vs_explain.specs.vs_simulate.specs.Honesty.{SimulationFails, is_refusal};
-ghost use Rattle.vs_program.specs.Races.{HasBegunRace, IsTold, WroteRace, race_line, race_status, value_text, witness_line};
+ghost use Rattle.vs_certified.specs.vs_simulate.specs.Honesty.{SimulationFails, is_refusal};
+ghost use Rattle.vs_program.specs.Races.{HasBegunRace, IsTold, WroteDumps, WroteRace, race_line, race_status, row_line, value_text, witness_line};
 
 use crate::doing::show;
 use crate::texts::{DONE, LIMITED, REFUSED, proposal_line};
 use std::alloc::{AllocError, Global};
+use vs_certified::vs_simulate::SimFault;
 use vs_certified::vs_vcd_writing::Sink;
 use vs_design::vs_logic4::{Digit, Vec4};
 use vs_elaborate::vs_scopes::push_bytes;
-use vs_explain::vs_simulate::SimFault;
-use vs_explain::{Asked, explain_pair};
-use vs_program_words::Hunt;
-use vs_race::{Missed, Race, Search, Span, Witness, choices_of, race};
+use vs_messages::vs_explain::{Asked, explain_pair};
+use vs_messages::{explained, push_sources};
+use vs_preprocess::Places;
+use vs_program_words::{Call, Hunt, Sources};
+use vs_race::vs_propose::Proposal;
+use vs_race::{LineWitness, Missed, Race, Search, Span, Watch, Witness, race, write_dumps};
+
+/// How many orders are tried where a race is sought for a design without a certificate.
+const TRIES: u64 = 100;
+
+/// The most steps of each of these runs.
+const STEPS: u64 = 100_000;
+
+/// The last moment of a run, in ticks.
+const LAST: u64 = (1 << 62) - 1;
 
 // The character of a digit.
 fn character(digit: Digit) -> u8
@@ -56,6 +68,26 @@ fn witness_line(alloc: Global, witness: &Witness) -> Result<Vec<u8>, AllocError>
     Ok(line)
 }
 
+// The line of a race in what `$strobe` prints.
+fn row_line(alloc: Global, witness: &LineWitness) -> Result<Vec<u8>, AllocError>
+    ensures { IfOk result (λ line. line.items ≡ row_line witness.now) }
+{
+    let time = witness.time.to_string(alloc)?;
+    let first = witness.first.to_string(alloc)?;
+    let other = witness.other.to_string(alloc)?;
+    let mut line = Vec::new(alloc);
+    line.extend_from_slice(b"line `")?;
+    line.extend_from_slice(&witness.row)?;
+    line.extend_from_slice(b"` to ")?;
+    line.extend_from_slice(time.as_bytes())?;
+    line.extend_from_slice(b": ")?;
+    line.extend_from_slice(first.as_bytes())?;
+    line.extend_from_slice(b" or ")?;
+    line.extend_from_slice(other.as_bytes())?;
+    line.extend_from_slice(b" times\n")?;
+    Ok(line)
+}
+
 // The first line of what is told.
 fn race_line(alloc: Global, race: &Race) -> Result<Vec<u8>, AllocError>
     ensures { IfOk result (λ line. line.items ≡ race_line race.now) }
@@ -66,6 +98,7 @@ fn race_line(alloc: Global, race: &Race) -> Result<Vec<u8>, AllocError>
             b"certified: no order of events makes a difference\n",
         ),
         Race::Found(witness, _) => witness_line(alloc, witness),
+        Race::FoundLine(witness, _) => row_line(alloc, witness),
         Race::NotFound(_, _) => Vec::from_slice(alloc, b"none found\n"),
     }
 }
@@ -83,34 +116,64 @@ fn push_choices(alloc: Global, text: &mut Vec<u8>, choices: &[Span]) -> Result<(
     Ok(())
 }
 
-// Puts a value and the words of the run that shows it, without the choices of its order.
+// Puts the words of the run that shows a race, without the choices of its order.
 fn push_run(
     alloc: Global,
     text: &mut Vec<u8>,
-    value: Vec4,
+    sources: &Sources,
     top: &str,
     time: u64,
 ) -> Result<(), AllocError> {
-    let words = format!(in alloc; ": vsim run --top {top} --until {time} --out vcd")?;
-    text.extend_from_slice(b"  ")?;
-    push_value(text, value)?;
+    let words = format!(in alloc; ": vsim run --top {top}")?;
+    text.extend_from_slice(words.as_bytes())?;
+    push_sources(text, &sources.files, &sources.defines, &sources.folders)?;
+    let words = format!(in alloc; " --until {time}")?;
     text.extend_from_slice(words.as_bytes())
 }
 
-// Puts the two runs that show a race.
+// Puts the choices of the order of a run behind its words.
+fn push_order(alloc: Global, text: &mut Vec<u8>, choices: &[Span]) -> Result<(), AllocError> {
+    text.extend_from_slice(b" --policy list:")?;
+    push_choices(alloc, text, choices)?;
+    text.push(b'\n')?;
+    Ok(())
+}
+
+// Puts the two runs that show a race in a signal.
 fn push_runs(
     alloc: Global,
     text: &mut Vec<u8>,
+    sources: &Sources,
     top: &str,
     witness: &Witness,
 ) -> Result<(), AllocError> {
-    push_run(alloc, text, witness.first, top, witness.time)?;
-    text.push(b'\n')?;
-    push_run(alloc, text, witness.other, top, witness.time)?;
-    text.extend_from_slice(b" --choices ")?;
-    push_choices(alloc, text, &witness.choices)?;
-    text.push(b'\n')?;
-    Ok(())
+    text.extend_from_slice(b"  ")?;
+    push_value(text, witness.first)?;
+    push_run(alloc, text, sources, top, witness.time)?;
+    text.extend_from_slice(b" --out vcd\n  ")?;
+    push_value(text, witness.other)?;
+    push_run(alloc, text, sources, top, witness.time)?;
+    text.extend_from_slice(b" --out vcd")?;
+    push_order(alloc, text, &witness.choices)
+}
+
+// Puts the two runs that show a race in what `$strobe` prints.
+fn push_line_runs(
+    alloc: Global,
+    text: &mut Vec<u8>,
+    sources: &Sources,
+    top: &str,
+    witness: &LineWitness,
+) -> Result<(), AllocError> {
+    let first = witness.first;
+    let other = witness.other;
+    let count = format!(in alloc; "  {first}")?;
+    text.extend_from_slice(count.as_bytes())?;
+    push_run(alloc, text, sources, top, witness.time)?;
+    let count = format!(in alloc; "\n  {other}")?;
+    text.extend_from_slice(count.as_bytes())?;
+    push_run(alloc, text, sources, top, witness.time)?;
+    push_order(alloc, text, &witness.choices)
 }
 
 // Puts the two lines on the events whose order makes the difference, where they are found.
@@ -118,20 +181,21 @@ fn push_pair(
     alloc: Global,
     text: &mut Vec<u8>,
     source: &[u8],
+    places: Option<&Places>,
     top: &str,
     witness: &Witness,
     steps: u64,
 ) -> Result<(), AllocError> {
-    let choices = choices_of(alloc, &witness.choices, steps)?;
     let asked = Asked {
         time: witness.time,
         signal: witness.signal,
         first: witness.first,
         other: witness.other,
-        choices: &choices,
+        choices: &witness.choices,
         steps,
     };
-    let lines = explain_pair(alloc, source, top.as_bytes(), &asked)?;
+    let explanation = explain_pair(alloc, source, top.as_bytes(), &asked)?;
+    let lines = explained(alloc, &explanation, source, places)?;
     text.extend_from_slice(&lines)
 }
 
@@ -155,27 +219,63 @@ fn push_missed(
     Ok(())
 }
 
+// Puts why no certificate was made.
+fn push_refused(alloc: Global, text: &mut Vec<u8>, refused: &Proposal) -> Result<(), AllocError> {
+    text.extend_from_slice(b"  certificate: ")?;
+    text.extend_from_slice(&proposal_line(alloc, refused)?)
+}
+
+// Puts what is told of a race that was found behind its first line, but for why no certificate was made.
+fn push_found(
+    alloc: Global,
+    text: &mut Vec<u8>,
+    source: &[u8],
+    call: &Call,
+    places: Option<&Places>,
+    race: &Race,
+    top: &str,
+    steps: u64,
+) -> Result<(), AllocError> {
+    let sources = &call.sources;
+    match race {
+        Race::Found(witness, _) => {
+            push_pair(alloc, text, source, places, top, witness, steps)?;
+            push_runs(alloc, text, sources, top, witness)
+        }
+        Race::FoundLine(witness, _) => push_line_runs(alloc, text, sources, top, witness),
+        Race::Certified(_) | Race::NotFound(_, _) => Ok(()),
+    }
+}
+
 // What is told behind the first line.
 fn more_text(
     alloc: Global,
     source: &[u8],
+    call: &Call,
+    places: Option<&Places>,
     race: &Race,
     top: &str,
     search: &Search,
 ) -> Result<Vec<u8>, AllocError> {
     let mut text = Vec::new(alloc);
+    push_found(
+        alloc,
+        &mut text,
+        source,
+        call,
+        places,
+        race,
+        top,
+        search.steps,
+    )?;
     match race {
         Race::Certified(_) => {}
-        Race::Found(witness, refused) => {
-            push_pair(alloc, &mut text, source, top, witness, search.steps)?;
-            push_runs(alloc, &mut text, top, witness)?;
-            text.extend_from_slice(b"  certificate: ")?;
-            text.extend_from_slice(&proposal_line(alloc, refused)?)?;
+        Race::Found(_, refused) | Race::FoundLine(_, refused) => {
+            push_refused(alloc, &mut text, refused)?;
         }
         Race::NotFound(missed, refused) => {
             push_missed(alloc, &mut text, *missed, search)?;
-            text.extend_from_slice(b"  certificate: ")?;
-            text.extend_from_slice(&proposal_line(alloc, refused)?)?;
+            push_refused(alloc, &mut text, refused)?;
         }
     }
     Ok(text)
@@ -185,6 +285,8 @@ fn more_text(
 fn race_text(
     alloc: Global,
     source: &[u8],
+    call: &Call,
+    places: Option<&Places>,
     race: &Race,
     top: &str,
     search: &Search,
@@ -192,7 +294,7 @@ fn race_text(
     ensures { IfOk result (λ text. IsTold race.now text.items) }
 {
     let mut text = race_line(alloc, race)?;
-    let more = more_text(alloc, source, race, top, search)?;
+    let more = more_text(alloc, source, call, places, race, top, search)?;
     text.extend_from_slice(&more)?;
     Ok(text)
 }
@@ -212,11 +314,14 @@ fn search_of(hunt: Hunt) -> Search
 }
 
 /// Looks for a race; what is told of it goes to the sink.
-pub(crate) fn tell_race<'s, S: Sink>(
+pub(crate) fn tell_race<'s, S: Sink, W: Watch>(
     alloc: Global,
     hunt: Hunt,
     source: &'s [u8],
+    call: &Call,
+    places: Option<&Places>,
     shown: &mut S,
+    watch: &mut W,
 ) -> Result<Race, SimFault<'s>>
     ensures ok { IfOk result (λ r. WroteRace source.entry.now hunt.entry.top.now r (S.bytes shown.old) (S.bytes shown.new)) }
     ensures err { IfErr result (λ fault. SimulationFails source.entry.now hunt.entry.top.now fault) }
@@ -225,10 +330,108 @@ pub(crate) fn tell_race<'s, S: Sink>(
         HasBegunRace source.entry.now hunt.entry.top.now (S.bytes shown.old) (S.bytes shown.new)) }
 {
     let search = search_of(hunt);
-    let found = race(alloc, source, hunt.top.as_bytes(), &search)?;
-    let text = race_text(alloc, source, &found, hunt.top, &search)?;
+    let found = race(alloc, source, hunt.top.as_bytes(), &search, watch)?;
+    let text = race_text(alloc, source, call, places, &found, hunt.top, &search)?;
     show(shown, &text)?;
     Ok(found)
+}
+
+// Writes the dumps of the two runs of a race, where one was found.
+fn write_pair<'s, V: Sink>(
+    alloc: Global,
+    source: &'s [u8],
+    top: &[u8],
+    race: &Race,
+    steps: u64,
+    first: &mut V,
+    other: &mut V,
+) -> Result<(), SimFault<'s>>
+    requires steps { steps < 2 ^ 62 }
+    ensures dumps { OnOk result (WroteDumps source.entry.now top.now race.now steps
+        (V.bytes first.old) (V.bytes first.new) (V.bytes other.old) (V.bytes other.new)) }
+    ensures fault { IfErr result (λ fault. SimulationFails source.entry.now top.now fault) }
+    ensures refused { IfErr result (λ fault. is_refusal fault ≡ true → (first.new ≡ first.old) × (other.new ≡ other.old)) }
+{
+    match race {
+        Race::Found(w, _) => {
+            write_dumps(alloc, source, top, &w.choices, w.time, steps, first, other)
+        }
+        Race::FoundLine(w, _) => {
+            write_dumps(alloc, source, top, &w.choices, w.time, steps, first, other)
+        }
+        Race::Certified(_) | Race::NotFound(_, _) => Ok(()),
+    }
+}
+
+/// The same; the dumps of the two runs of a race that was found go to two sinks.
+pub(crate) fn tell_race_pair<'s, S: Sink, V: Sink, W: Watch>(
+    alloc: Global,
+    hunt: Hunt,
+    source: &'s [u8],
+    call: &Call,
+    places: Option<&Places>,
+    shown: &mut S,
+    first: &mut V,
+    other: &mut V,
+    watch: &mut W,
+) -> Result<Race, SimFault<'s>>
+    ensures ok { IfOk result (λ r. WroteRace source.entry.now hunt.entry.top.now r (S.bytes shown.old) (S.bytes shown.new)) }
+    ensures dumps { IfOk result (λ r. WroteDumps source.entry.now hunt.entry.top.now r hunt.entry.steps.count
+        (V.bytes first.old) (V.bytes first.new) (V.bytes other.old) (V.bytes other.new)) }
+    ensures err { IfErr result (λ fault. SimulationFails source.entry.now hunt.entry.top.now fault) }
+    ensures refused { IfErr result (λ fault. is_refusal fault ≡ true →
+        (shown.new ≡ shown.old) × (first.new ≡ first.old) × (other.new ≡ other.old)) }
+    ensures begun { IfErr result (λ fault. is_refusal fault ≡ false →
+        HasBegunRace source.entry.now hunt.entry.top.now (S.bytes shown.old) (S.bytes shown.new)) }
+{
+    let search = search_of(hunt);
+    let top = hunt.top.as_bytes();
+    let found = race(alloc, source, top, &search, watch)?;
+    let text = race_text(alloc, source, call, places, &found, hunt.top, &search)?;
+    let steps = hunt.steps.count;
+    write_pair(alloc, source, top, &found, steps, first, other)?;
+    show(shown, &text)?;
+    Ok(found)
+}
+
+// What a design without a certificate is searched for.
+fn usual_search() -> Search
+    ensures until { result.until < 2 ^ 62 }
+    ensures steps { result.steps < 2 ^ 62 }
+{
+    Search {
+        from: 0,
+        until: LAST,
+        steps: STEPS,
+        tries: TRIES,
+        seed: 0,
+    }
+}
+
+/// What is told of a race of a design for which no certificate was made: the race, where one is found within 100 orders of at most 100,000 steps.
+pub(crate) fn sought_race<W: Watch>(
+    alloc: Global,
+    source: &[u8],
+    call: &Call,
+    places: Option<&Places>,
+    top: &str,
+    watch: &mut W,
+) -> Result<Vec<u8>, AllocError> {
+    let search = usual_search();
+    let Ok(found) = race(alloc, source, top.as_bytes(), &search, watch) else {
+        return Err(AllocError);
+    };
+    let mut text = Vec::new(alloc);
+    if let Race::Found(_, _) | Race::FoundLine(_, _) = &found {
+        text.extend_from_slice(b"a race was found: ")?;
+        text.extend_from_slice(&race_line(alloc, &found)?)?;
+        push_found(alloc, &mut text, source, call, places, &found, top, STEPS)?;
+    } else {
+        text.extend_from_slice(
+            b"no race was found in 100 orders of at most 100000 steps; this proves nothing\n",
+        )?;
+    }
+    Ok(text)
 }
 
 /// The exit status of what a search came to.
@@ -237,7 +440,7 @@ pub(crate) fn race_status(race: &Race) -> u8
 {
     match race {
         Race::Certified(_) => DONE,
-        Race::Found(_, _) => REFUSED,
+        Race::Found(_, _) | Race::FoundLine(_, _) => REFUSED,
         Race::NotFound(_, _) => LIMITED,
     }
 }

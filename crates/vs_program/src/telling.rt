@@ -9,28 +9,33 @@ ghost use Rattle.vs_program.specs.passes.Telling.{TellsWords};
 
 use crate::doing::Done;
 use crate::input::Kept;
-use crate::placing::{place_of, tell_placed};
-use crate::racing::race_status;
+use crate::racing::{race_status, sought_race};
 use crate::texts::{
-    DONE, FAILED, LIMITED, MISUSED, REFUSED, refusal_status, refusal_text, words_status,
+    DONE, FAILED, LIMITED, MISUSED, REFUSED, refusal_status, refusal_text, rule_text, words_status,
 };
 use clap::Error;
-use std::alloc::Global;
+use std::alloc::{AllocError, Global};
 use std::io::{self, ErrorKind, Write};
 use vs_certified::CertifiedFault;
 use vs_certified::vs_cert_check::Verdict;
 use vs_certified::vs_kernel::Outcome;
 use vs_certified::vs_vcd_writing::{Counted, WriteFault, write_all};
-use vs_program_words::WordsFault;
-use vs_race::vs_propose::Proposal;
+use vs_messages::vs_explain::{Further, Offender};
+use vs_messages::{
+    Extent, Given, push_sources, tell_broken, tell_certificate, tell_files, tell_limit, tell_line,
+    tell_long_certificate, tell_rejected, tell_source, tell_unproved,
+};
+use vs_preprocess::{Places, Refusal, STANDARD_INPUT};
+use vs_program_words::vs_certificate::to_json;
+use vs_program_words::{Call, Order, Request, Sources, Subcommand, WordsFault};
+use vs_race::vs_propose::{Proposal, Refusal as Unproved};
+use vs_race::{Race, Unwatched};
 
 /// One line on standard error, and the exit status that goes with it.
 pub(crate) fn tell<E: Write>(err: &mut E, text: &[u8], status: u8) -> u8
     ensures { result ≡ status }
 {
-    let _ = err.write_all(b"vsim: ");
-    let _ = err.write_all(text);
-    let _ = err.write_all(b"\n");
+    tell_line(err, text);
     status
 }
 
@@ -60,12 +65,12 @@ pub(crate) fn tell_words<O: Write, E: Write>(
             tell(err, b"--cert runs by --policy fifo alone", MISUSED),
             out,
         ),
-        WordsFault::Choices => (
-            tell(
-                err,
-                b"--choices takes choices as 17..22=1,30..30=2",
-                MISUSED,
-            ),
+        WordsFault::TwoDumps => (
+            tell(err, b"--vcd and --out vcd both ask for the dump", MISUSED),
+            out,
+        ),
+        WordsFault::Unread => (
+            tell(err, b"the words of the call ask for nothing", MISUSED),
             out,
         ),
         WordsFault::Memory => (tell(err, b"memory", FAILED), out),
@@ -102,15 +107,246 @@ fn tell_help<O: Write, E: Write>(alloc: Global, error: &Error, out: O, err: &mut
     }
 }
 
+// How much is told of a refusal: with files what it means, unless a line is asked for.
+fn extent_of(call: &Call, has_files: bool) -> Extent {
+    if (has_files || call.explains) && !call.short {
+        Extent::Explained
+    } else {
+        Extent::Line
+    }
+}
+
+// The top that a call asks for.
+fn top_of<'a>(asked: Subcommand<'a>) -> &'a str {
+    match asked {
+        Subcommand::Run(request) => request.top,
+        Subcommand::RunCertified(request) => request.top,
+        Subcommand::Check(top) => top,
+        Subcommand::Certify(top, _) => top,
+        Subcommand::Race(hunt) => hunt.top,
+        Subcommand::Elab(top) => top,
+        Subcommand::Preprocess => "",
+    }
+}
+
+// Whether a call takes a certificate.
+fn takes_certificate(asked: Subcommand) -> bool {
+    matches!(asked, Subcommand::RunCertified(_) | Subcommand::Check(_))
+}
+
+// The words of a call that name its files.
+fn files_of(alloc: Global, sources: &Sources) -> Result<Vec<u8>, AllocError> {
+    let mut words = Vec::new(alloc);
+    push_sources(
+        &mut words,
+        &sources.files,
+        &sources.defines,
+        &sources.folders,
+    )?;
+    Ok(words)
+}
+
+// The name of the file of a call's certificate.
+fn certificate_name<'a>(certificate: Option<&'a str>) -> &'a str {
+    match certificate {
+        Some(name) => name,
+        None => STANDARD_INPUT,
+    }
+}
+
+// What a message about a call is about, with the names of its top and of its certificate's file.
+fn given_of<'g>(
+    call: &Call,
+    top: &'g str,
+    name: &'g str,
+    kept: &'g Kept,
+    files: &'g [u8],
+) -> Given<'g> {
+    let has_file = call.certificate.is_some() || kept.places.is_some();
+    Given {
+        top: top.as_bytes(),
+        source: &kept.source,
+        places: kept.places.as_ref(),
+        certificate: &kept.certificate,
+        certificate_name: name.as_bytes(),
+        is_in_front: takes_certificate(call.subcommand) && !has_file,
+        files,
+        extent: extent_of(call, kept.places.is_some()),
+    }
+}
+
+/// Tells why the files of a call are refused.
+pub(crate) fn tell_refusal<E: Write>(
+    alloc: Global,
+    call: &Call,
+    places: &Places,
+    refusal: &Refusal,
+    err: &mut E,
+) {
+    let extent = extent_of(call, true);
+    tell_files(alloc, places, refusal, &call.sources.files, extent, err);
+}
+
+// Tells what a verdict means that is a no, or that no certificate was made.
+fn tell_offender<E: Write>(
+    alloc: Global,
+    given: &Given,
+    offender: Offender,
+    further: Further,
+    err: &mut E,
+) {
+    if let Ok(line) = rule_text(alloc, offender.number, offender.place) {
+        tell_rejected(alloc, given, offender, further, &line, err);
+    }
+}
+
+// Tells what a verdict means that is a no.
+fn tell_no<'g, E: Write>(
+    alloc: Global,
+    given: &Given<'g>,
+    number: u8,
+    place: &'g [u8],
+    err: &mut E,
+) {
+    let offender = Offender {
+        certificate: given.certificate,
+        number,
+        place,
+    };
+    tell_offender(alloc, given, offender, Further::Told, err);
+}
+
+// The text of the certificate that is best and not accepted.
+fn certificate_text(alloc: Global, refusal: &Unproved) -> Result<Vec<u8>, AllocError> {
+    to_json(alloc, &refusal.certificate)
+}
+
+// Which further subjects are told where no certificate was made. One that claims nothing lacks each name, so there none is.
+fn further_of(refusal: &Unproved) -> Further {
+    if refusal.number == 1 {
+        Further::Left
+    } else {
+        Further::Told
+    }
+}
+
+// Tells what it means that no certificate was made.
+fn tell_not_made<E: Write>(alloc: Global, given: &Given, refusal: &Unproved, err: &mut E) {
+    if let Ok(certificate) = certificate_text(alloc, refusal) {
+        let offender = Offender {
+            certificate: &certificate,
+            number: refusal.number,
+            place: &refusal.place,
+        };
+        tell_offender(alloc, given, offender, further_of(refusal), err);
+    }
+}
+
+// Tells the race that is sought where no certificate was made.
+fn tell_sought<E: Write>(alloc: Global, call: &Call, kept: &Kept, err: &mut E) {
+    let places = kept.places.as_ref();
+    let top = top_of(call.subcommand);
+    if let Ok(text) = sought_race(alloc, &kept.source, call, places, top, &mut Unwatched) {
+        let _ = err.write_all(&text);
+    }
+}
+
+// Tells what it means that no certificate was made where a race was sought.
+fn explain_race<E: Write>(alloc: Global, given: &Given, race: &Race, err: &mut E) {
+    let proposal = match race {
+        Race::Certified(_) => return,
+        Race::Found(_, proposal) => proposal,
+        Race::FoundLine(_, proposal) => proposal,
+        Race::NotFound(_, proposal) => proposal,
+    };
+    let Proposal::NotMade(refusal) = proposal else {
+        return;
+    };
+    if let Ok(certificate) = certificate_text(alloc, refusal) {
+        let offender = Offender {
+            certificate: &certificate,
+            number: refusal.number,
+            place: &refusal.place,
+        };
+        tell_unproved(alloc, given, offender, further_of(refusal), err);
+    }
+}
+
+// Whether the last of the enabled items is next in a run; nothing, where it makes choices of its own.
+fn is_last_next(request: Request) -> Option<bool> {
+    match request.order {
+        Order::Fifo => Some(false),
+        Order::Lifo => Some(true),
+        Order::Listed => None,
+    }
+}
+
+// Tells what it means that a run took its most steps, the last one in the slot of this time.
+fn explain_steps<E: Write>(
+    alloc: Global,
+    given: &Given,
+    asked: Subcommand,
+    time: u64,
+    err: &mut E,
+) {
+    if let Subcommand::Run(request) | Subcommand::RunCertified(request) = asked {
+        if let Some(lifo) = is_last_next(request) {
+            tell_limit(alloc, given, lifo, request.steps.count, time, err);
+        }
+    }
+}
+
+// Tells what a no means, or that no certificate was made; where it is asked for also what the step limit means, and why no race can be left out.
+fn explain_done<'g, E: Write>(
+    alloc: Global,
+    call: &'g Call,
+    kept: &'g Kept,
+    done: &Done,
+    err: &mut E,
+) {
+    let Ok(files) = files_of(alloc, &call.sources) else {
+        return;
+    };
+    let top = top_of(call.subcommand);
+    let name = certificate_name(call.certificate);
+    let given = given_of(call, top, name, kept, &files);
+    match done {
+        Done::Judged(Verdict::No(number, place)) => tell_no(alloc, &given, *number, place, err),
+        Done::Proposed(Proposal::NotMade(refusal)) => tell_not_made(alloc, &given, refusal, err),
+        Done::Ran(Outcome::StepLimit(time)) if call.explains => {
+            explain_steps(alloc, &given, call.subcommand, *time, err);
+        }
+        Done::Raced(race) if call.explains => explain_race(alloc, &given, race, err),
+        _ => {}
+    }
+}
+
+// The same where anything is to be told, and the race that is sought where no certificate was made.
+fn tell_more<E: Write>(alloc: Global, call: &Call, kept: &Kept, done: &Done, err: &mut E) {
+    if kept.places.is_some() || call.explains || call.seeks_race {
+        explain_done(alloc, &*call, &*kept, done, err);
+    }
+    if call.seeks_race && matches!(done, Done::Proposed(Proposal::NotMade(_))) {
+        tell_sought(alloc, call, kept, err);
+    }
+}
+
 /// What is told the user of what was done, and its exit status.
-pub(crate) fn tell_done<E: Write>(done: &Done, err: &mut E) -> u8
+pub(crate) fn tell_done<E: Write>(
+    alloc: Global,
+    call: &Call,
+    kept: &Kept,
+    done: &Done,
+    err: &mut E,
+) -> u8
     ensures { result ≡ done_status done.now }
 {
+    if let Done::Ran(Outcome::StepLimit(time)) = done {
+        let _ = writeln!(err, "vsim: step limit at {time}");
+    }
+    tell_more(alloc, call, kept, done, err);
     match done {
-        Done::Ran(Outcome::StepLimit(time)) => {
-            let _ = writeln!(err, "vsim: step limit at {time}");
-            LIMITED
-        }
+        Done::Ran(Outcome::StepLimit(_)) => LIMITED,
         Done::Judged(Verdict::No(_, _)) => REFUSED,
         Done::Proposed(Proposal::NotMade(_)) => REFUSED,
         Done::Raced(race) => race_status(race),
@@ -118,27 +354,43 @@ pub(crate) fn tell_done<E: Write>(done: &Done, err: &mut E) -> u8
     }
 }
 
-/// What a fault tells the user, at its place in a file where the source is the text of files; where there is no memory for its text, that is told.
-pub(crate) fn tell_fault<E: Write>(
+// Tells of a fault whose text is this.
+fn explain_fault<E: Write>(
     alloc: Global,
-    kept: &Kept,
+    given: &Given,
+    asked: Subcommand,
+    fault: &CertifiedFault,
+    line: &[u8],
+    err: &mut E,
+) {
+    match fault {
+        CertifiedFault::Simulation(cause) => tell_source(alloc, given, cause, line, err),
+        CertifiedFault::Certificate(_) if !takes_certificate(asked) => {
+            tell_long_certificate(given, line, err);
+        }
+        CertifiedFault::Certificate(cause) => tell_certificate(alloc, given, *cause, line, err),
+        CertifiedFault::Rejected(number, place) => {
+            tell_broken(alloc, given, *number, place, line, err);
+        }
+    }
+}
+
+/// What a fault tells the user, at its place in a file where the source is the text of files; where there is no memory for its text, that is told.
+pub(crate) fn tell_fault<'g, E: Write>(
+    alloc: Global,
+    call: &'g Call,
+    kept: &'g Kept,
     fault: &CertifiedFault,
     err: &mut E,
 ) -> u8
     ensures { (result ≡ refusal_status fault.now) ⊎ (result ≡ 3) }
 {
-    if let Some(places) = &kept.places {
-        match place_of(alloc, fault) {
-            Ok(Some(placed)) => {
-                tell_placed(err, places, &placed);
-                return refusal_status(fault);
-            }
-            Ok(None) => {}
-            Err(_) => return tell(err, b"memory", FAILED),
-        }
-    }
-    match refusal_text(alloc, fault) {
-        Ok(text) => tell(err, &text, refusal_status(fault)),
-        Err(_) => tell(err, b"memory", FAILED),
-    }
+    let (Ok(line), Ok(files)) = (refusal_text(alloc, fault), files_of(alloc, &call.sources)) else {
+        return tell(err, b"memory", FAILED);
+    };
+    let top = top_of(call.subcommand);
+    let name = certificate_name(call.certificate);
+    let given = given_of(call, top, name, kept, &files);
+    explain_fault(alloc, &given, call.subcommand, fault, &line, err);
+    refusal_status(fault)
 }

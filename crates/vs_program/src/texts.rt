@@ -11,9 +11,9 @@ use std::alloc::{AllocError, Global};
 use vs_certified::CertifiedFault;
 use vs_certified::vs_cert_check::Verdict;
 use vs_certified::vs_kernel::RunFault;
+use vs_certified::vs_simulate::SimFault;
 use vs_elaborate::ElabFault;
 use vs_elaborate::vs_scopes::push_bytes;
-use vs_explain::vs_simulate::SimFault;
 use vs_parser::ParseFault;
 use vs_program_words::vs_certificate::{CertFault, to_json};
 use vs_race::vs_propose::Proposal;
@@ -49,8 +49,9 @@ pub fn fault_text(alloc: Global, fault: &SimFault) -> Result<Vec<u8>, AllocError
     }
 }
 
-// A broken rule, by its number, and the subject that breaks it, by its name. It is one line whatever the name: a control byte of it is told as `\x0a`.
-fn rule_text(alloc: Global, number: u8, place: &[u8]) -> Result<Vec<u8>, AllocError>
+/// A broken rule, by its number, and the subject that breaks it, by its name. It is one line whatever the name: a control byte of it is told as
+/// `\x0a`.
+pub(crate) fn rule_text(alloc: Global, number: u8, place: &[u8]) -> Result<Vec<u8>, AllocError>
     ensures { IfOk result (λ text. text.items ≡ rule_text number place.now) }
 {
     let mut text = format!(in alloc; "K{number} at ")?.into_bytes();
@@ -146,7 +147,8 @@ pub(crate) fn refusal_status(fault: &CertifiedFault) -> u8
     }
 }
 
-/// The exit status that an error of the words ends with: 0 for a call for help or for the version, 3 where memory ran out, 64 for a fault of the words.
+/// The exit status that an error of the words ends with: 0 for a call for help or for the version, 3 where memory ran out, 64 for a fault of the
+/// words.
 pub fn words_status(error: &Error) -> u8
     ensures { result ≡ words_status (kind_of error.now) }
 {

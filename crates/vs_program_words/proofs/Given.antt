@@ -14,16 +14,16 @@ use Rattle.clap.proofs.ValueTestLemmas.{accepts-Accepts}
 use Rattle.vs_program_words.specs.Options.{AreOptions, Words, bare_options, certify_options, check_options, elab_options, options_of, preprocess_options, race_options, run_options}
 use Rattle.vs_program_words.specs.Asks.{name_of}
 use Rattle.vs_program_words.specs.Given.{AreAllGiven, IsCount, IsFlag}
-use Rattle.vs_program_words.proofs.Rows.{IsNoHelp, RowsFit, RulesFit, default_row, leaf_fits, level_parts, required_row, row_value, subcommand_given, walk_stops}
+use Rattle.vs_program_words.proofs.Rows.{IsNoHelp, RowsFit, RulesFit, default_row, leaf_fits, level_parts, row_value, subcommand_given, walk_stops}
 
 -- an option whose value is a number
 abbrev is_number : Text → Bool
 is_number id =
-    bytes_eq id (codes "until") || (bytes_eq id (codes "steps") || (bytes_eq id (codes "tries") || (bytes_eq id (codes "seed") || bytes_eq id (codes "from"))))
+    bytes_eq id (codes "steps") || (bytes_eq id (codes "tries") || (bytes_eq id (codes "seed") || bytes_eq id (codes "from")))
 
 -- a flag
 abbrev is_flag : Text → Bool
-is_flag id = bytes_eq id (codes "cert") || bytes_eq id (codes "explain")
+is_flag id = bytes_eq id (codes "cert") || (bytes_eq id (codes "explain") || (bytes_eq id (codes "short") || bytes_eq id (codes "race")))
 
 -- a text is `true` or `false`
 abbrev is_truth : Text → Bool
@@ -69,10 +69,7 @@ module _ (s : Shape) (fits : RulesFit Passed s.rules) (words : List Text) (e : l
   row_fits : RowsFit Passed end_rows
   row_fits = (leaf_fits Passed s fits words e).0
 
-  -- an option that can't be left out, and one that has a default, has a row
-  required : (id : Text) → list_any (λ a. bytes_eq a.id id && a.required) s.rules ≡ true → has_row id end_rows ≡ true
-  required id is = required_row id end_rows s.rules is (leaf_fits Passed s fits words e).1
-
+  -- an option that has a default has a row
   defaulted : (id : Text) → list_any (λ a. bytes_eq a.id id && not (is_empty a.defaults)) s.rules ≡ true → has_row id end_rows ≡ true
   defaulted id is = default_row id (settled s.rules (walk s.rules [] nothing_held words).held).rows s.rules is
 
@@ -111,60 +108,62 @@ abbrev AllGive : List Shape → Type 0
 AllGive [] = Unit {0}
 AllGive (s ∷ rest) = Gives s × AllGive rest
 
--- an option with a word, with a number, and a flag
+-- each subcommand, by the table in which the top and the moment may be left out
 abbrev elab_built : Shape
-elab_built = built_below elab_options
+elab_built = built_below (elab_options false)
 
 elab_fits : RulesFit Passed elab_built.rules
-elab_fits = ((refl, (refl, λ v e. ((λ n. absurd cc), (λ f. absurd cc)))), ((refl, (refl, λ v e. ((λ n. absurd cc), (λ f. flag_passed v e)))), ((refl, (refl, λ v e. ((λ n. absurd cc), (λ f. absurd cc)))), ((refl, (refl, λ v e. ((λ n. absurd cc), (λ f. absurd cc)))), ((refl, (refl, λ v e. ((λ n. absurd cc), (λ f. absurd cc)))), (tt, tt))))))
+elab_fits = ((refl, (refl, λ v e. ((λ n. absurd cc), (λ f. absurd cc)))), ((refl, (refl, λ v e. ((λ n. absurd cc), (λ f. flag_passed v e)))), ((refl, (refl, λ v e. ((λ n. absurd cc), (λ f. flag_passed v e)))), ((refl, (refl, λ v e. ((λ n. absurd cc), (λ f. absurd cc)))), ((refl, (refl, λ v e. ((λ n. absurd cc), (λ f. absurd cc)))), ((refl, (refl, λ v e. ((λ n. absurd cc), (λ f. absurd cc)))), (tt, tt)))))))
 
 elab_gives : Gives elab_built
 elab_gives word words free is e = record {
-  own = word_given elab_built elab_fits words e (codes "top") (required elab_built elab_fits words e (codes "top") refl);
+  own = tt;
   explain = flag_given elab_built elab_fits words e (codes "explain") refl (defaulted elab_built elab_fits words e (codes "explain") refl);
+  short = flag_given elab_built elab_fits words e (codes "short") refl (defaulted elab_built elab_fits words e (codes "short") refl);
 }
 
 abbrev check_built : Shape
-check_built = built_below check_options
+check_built = built_below (check_options false)
 
 check_fits : RulesFit Passed check_built.rules
-check_fits = ((refl, (refl, λ v e. ((λ n. absurd cc), (λ f. absurd cc)))), ((refl, (refl, λ v e. ((λ n. absurd cc), (λ f. flag_passed v e)))), ((refl, (refl, λ v e. ((λ n. absurd cc), (λ f. absurd cc)))), ((refl, (refl, λ v e. ((λ n. absurd cc), (λ f. absurd cc)))), ((refl, (refl, λ v e. ((λ n. absurd cc), (λ f. absurd cc)))), (tt, tt))))))
+check_fits = ((refl, (refl, λ v e. ((λ n. absurd cc), (λ f. absurd cc)))), ((refl, (refl, λ v e. ((λ n. absurd cc), (λ f. absurd cc)))), ((refl, (refl, λ v e. ((λ n. absurd cc), (λ f. flag_passed v e)))), ((refl, (refl, λ v e. ((λ n. absurd cc), (λ f. flag_passed v e)))), ((refl, (refl, λ v e. ((λ n. absurd cc), (λ f. absurd cc)))), ((refl, (refl, λ v e. ((λ n. absurd cc), (λ f. absurd cc)))), ((refl, (refl, λ v e. ((λ n. absurd cc), (λ f. absurd cc)))), (tt, tt))))))))
 
 check_gives : Gives check_built
 check_gives word words free is e = record {
-  own = word_given check_built check_fits words e (codes "top") (required check_built check_fits words e (codes "top") refl);
+  own = tt;
   explain = flag_given check_built check_fits words e (codes "explain") refl (defaulted check_built check_fits words e (codes "explain") refl);
+  short = flag_given check_built check_fits words e (codes "short") refl (defaulted check_built check_fits words e (codes "short") refl);
 }
 
 abbrev preprocess_built : Shape
 preprocess_built = built_below preprocess_options
 
 preprocess_fits : RulesFit Passed preprocess_built.rules
-preprocess_fits = ((refl, (refl, λ v e. ((λ n. absurd cc), (λ f. flag_passed v e)))), ((refl, (refl, λ v e. ((λ n. absurd cc), (λ f. absurd cc)))), ((refl, (refl, λ v e. ((λ n. absurd cc), (λ f. absurd cc)))), ((refl, (refl, λ v e. ((λ n. absurd cc), (λ f. absurd cc)))), (tt, tt)))))
+preprocess_fits = ((refl, (refl, λ v e. ((λ n. absurd cc), (λ f. absurd cc)))), ((refl, (refl, λ v e. ((λ n. absurd cc), (λ f. flag_passed v e)))), ((refl, (refl, λ v e. ((λ n. absurd cc), (λ f. flag_passed v e)))), ((refl, (refl, λ v e. ((λ n. absurd cc), (λ f. absurd cc)))), ((refl, (refl, λ v e. ((λ n. absurd cc), (λ f. absurd cc)))), ((refl, (refl, λ v e. ((λ n. absurd cc), (λ f. absurd cc)))), (tt, tt)))))))
 
 preprocess_gives : Gives preprocess_built
 preprocess_gives word words free is e = record {
   own = tt;
   explain = flag_given preprocess_built preprocess_fits words e (codes "explain") refl (defaulted preprocess_built preprocess_fits words e (codes "explain") refl);
+  short = flag_given preprocess_built preprocess_fits words e (codes "short") refl (defaulted preprocess_built preprocess_fits words e (codes "short") refl);
 }
 
 abbrev race_built : Shape
-race_built = built_below race_options
+race_built = built_below (race_options false)
 
 race_fits : RulesFit Passed race_built.rules
-race_fits = ((refl, (refl, λ v e. ((λ n. absurd cc), (λ f. absurd cc)))), ((refl, (refl, λ v e. ((λ n. passed v e), (λ f. absurd cc)))), ((refl, (refl, λ v e. ((λ n. passed v e), (λ f. absurd cc)))), ((refl, (refl, λ v e. ((λ n. passed v e), (λ f. absurd cc)))), ((refl, (refl, λ v e. ((λ n. passed v e), (λ f. absurd cc)))), ((refl, (refl, λ v e. ((λ n. passed v e), (λ f. absurd cc)))), ((refl, (refl, λ v e. ((λ n. absurd cc), (λ f. flag_passed v e)))), ((refl, (refl, λ v e. ((λ n. absurd cc), (λ f. absurd cc)))), ((refl, (refl, λ v e. ((λ n. absurd cc), (λ f. absurd cc)))), ((refl, (refl, λ v e. ((λ n. absurd cc), (λ f. absurd cc)))), (tt, tt)))))))))))
+race_fits = ((refl, (refl, λ v e. ((λ n. absurd cc), (λ f. absurd cc)))), ((refl, (refl, λ v e. ((λ n. absurd cc), (λ f. absurd cc)))), ((refl, (refl, λ v e. ((λ n. passed v e), (λ f. absurd cc)))), ((refl, (refl, λ v e. ((λ n. passed v e), (λ f. absurd cc)))), ((refl, (refl, λ v e. ((λ n. passed v e), (λ f. absurd cc)))), ((refl, (refl, λ v e. ((λ n. passed v e), (λ f. absurd cc)))), ((refl, (refl, λ v e. ((λ n. absurd cc), (λ f. absurd cc)))), ((refl, (refl, λ v e. ((λ n. absurd cc), (λ f. flag_passed v e)))), ((refl, (refl, λ v e. ((λ n. absurd cc), (λ f. flag_passed v e)))), ((refl, (refl, λ v e. ((λ n. absurd cc), (λ f. absurd cc)))), ((refl, (refl, λ v e. ((λ n. absurd cc), (λ f. absurd cc)))), ((refl, (refl, λ v e. ((λ n. absurd cc), (λ f. absurd cc)))), (tt, tt)))))))))))))
 
 race_gives : Gives race_built
 race_gives word words free is e = record {
   own = record {
-    top = word_given race_built race_fits words e (codes "top") (required race_built race_fits words e (codes "top") refl);
-    until = number_given race_built race_fits words e (codes "until") refl (required race_built race_fits words e (codes "until") refl);
     steps = number_given race_built race_fits words e (codes "steps") refl (defaulted race_built race_fits words e (codes "steps") refl);
     tries = number_given race_built race_fits words e (codes "tries") refl (defaulted race_built race_fits words e (codes "tries") refl);
     seed = number_given race_built race_fits words e (codes "seed") refl (defaulted race_built race_fits words e (codes "seed") refl);
     start = number_given race_built race_fits words e (codes "from") refl (defaulted race_built race_fits words e (codes "from") refl);
   };
   explain = flag_given race_built race_fits words e (codes "explain") refl (defaulted race_built race_fits words e (codes "explain") refl);
+  short = flag_given race_built race_fits words e (codes "short") refl (defaulted race_built race_fits words e (codes "short") refl);
 }
 
 -- a name that isn't `help` isn't that of the subcommand `help`
@@ -185,44 +184,39 @@ help_gives word words free is e = absurd (no_help word free is)
 
 module _ (orders texts grains : Words) where
   abbrev run_built : Shape
-  run_built = built_below (run_options orders texts)
+  run_built = built_below (run_options false orders texts)
 
   run_fits : RulesFit Passed run_built.rules
-  run_fits = ((refl, (refl, λ v e. ((λ n. absurd cc), (λ f. absurd cc)))), ((refl, (refl, λ v e. ((λ n. passed v e), (λ f. absurd cc)))), ((refl, (refl, λ v e. ((λ n. passed v e), (λ f. absurd cc)))), ((refl, (refl, λ v e. ((λ n. absurd cc), (λ f. absurd cc)))), ((refl, (refl, λ v e. ((λ n. absurd cc), (λ f. absurd cc)))), ((refl, (refl, λ v e. ((λ n. absurd cc), (λ f. absurd cc)))), ((refl, (refl, λ v e. ((λ n. absurd cc), (λ f. flag_passed v e)))), ((refl, (refl, λ v e. ((λ n. absurd cc), (λ f. flag_passed v e)))), ((refl, (refl, λ v e. ((λ n. absurd cc), (λ f. absurd cc)))), ((refl, (refl, λ v e. ((λ n. absurd cc), (λ f. absurd cc)))), ((refl, (refl, λ v e. ((λ n. absurd cc), (λ f. absurd cc)))), (tt, tt))))))))))))
+  run_fits = ((refl, (refl, λ v e. ((λ n. absurd cc), (λ f. absurd cc)))), ((refl, (refl, λ v e. ((λ n. absurd cc), (λ f. absurd cc)))), ((refl, (refl, λ v e. ((λ n. passed v e), (λ f. absurd cc)))), ((refl, (refl, λ v e. ((λ n. absurd cc), (λ f. absurd cc)))), ((refl, (refl, λ v e. ((λ n. absurd cc), (λ f. absurd cc)))), ((refl, (refl, λ v e. ((λ n. absurd cc), (λ f. absurd cc)))), ((refl, (refl, λ v e. ((λ n. absurd cc), (λ f. flag_passed v e)))), ((refl, (refl, λ v e. ((λ n. absurd cc), (λ f. absurd cc)))), ((refl, (refl, λ v e. ((λ n. absurd cc), (λ f. flag_passed v e)))), ((refl, (refl, λ v e. ((λ n. absurd cc), (λ f. flag_passed v e)))), ((refl, (refl, λ v e. ((λ n. absurd cc), (λ f. absurd cc)))), ((refl, (refl, λ v e. ((λ n. absurd cc), (λ f. absurd cc)))), ((refl, (refl, λ v e. ((λ n. absurd cc), (λ f. absurd cc)))), (tt, tt))))))))))))))
 
   run_gives : Gives run_built
   run_gives word words free is e = record {
     own = record {
-      top = word_given run_built run_fits words e (codes "top") (required run_built run_fits words e (codes "top") refl);
-      until = number_given run_built run_fits words e (codes "until") refl (required run_built run_fits words e (codes "until") refl);
       steps = number_given run_built run_fits words e (codes "steps") refl (defaulted run_built run_fits words e (codes "steps") refl);
-      policy = word_given run_built run_fits words e (codes "policy") (defaulted run_built run_fits words e (codes "policy") refl);
-      choices = word_given run_built run_fits words e (codes "choices") (defaulted run_built run_fits words e (codes "choices") refl);
       out = word_given run_built run_fits words e (codes "out") (defaulted run_built run_fits words e (codes "out") refl);
       cert = flag_given run_built run_fits words e (codes "cert") refl (defaulted run_built run_fits words e (codes "cert") refl);
     };
     explain = flag_given run_built run_fits words e (codes "explain") refl (defaulted run_built run_fits words e (codes "explain") refl);
+    short = flag_given run_built run_fits words e (codes "short") refl (defaulted run_built run_fits words e (codes "short") refl);
   }
 
   abbrev certify_built : Shape
-  certify_built = built_below (certify_options grains)
+  certify_built = built_below (certify_options false grains)
 
   certify_fits : RulesFit Passed certify_built.rules
-  certify_fits = ((refl, (refl, λ v e. ((λ n. absurd cc), (λ f. absurd cc)))), ((refl, (refl, λ v e. ((λ n. absurd cc), (λ f. absurd cc)))), ((refl, (refl, λ v e. ((λ n. absurd cc), (λ f. flag_passed v e)))), ((refl, (refl, λ v e. ((λ n. absurd cc), (λ f. absurd cc)))), ((refl, (refl, λ v e. ((λ n. absurd cc), (λ f. absurd cc)))), ((refl, (refl, λ v e. ((λ n. absurd cc), (λ f. absurd cc)))), (tt, tt)))))))
+  certify_fits = ((refl, (refl, λ v e. ((λ n. absurd cc), (λ f. absurd cc)))), ((refl, (refl, λ v e. ((λ n. absurd cc), (λ f. absurd cc)))), ((refl, (refl, λ v e. ((λ n. absurd cc), (λ f. flag_passed v e)))), ((refl, (refl, λ v e. ((λ n. absurd cc), (λ f. absurd cc)))), ((refl, (refl, λ v e. ((λ n. absurd cc), (λ f. flag_passed v e)))), ((refl, (refl, λ v e. ((λ n. absurd cc), (λ f. flag_passed v e)))), ((refl, (refl, λ v e. ((λ n. absurd cc), (λ f. absurd cc)))), ((refl, (refl, λ v e. ((λ n. absurd cc), (λ f. absurd cc)))), ((refl, (refl, λ v e. ((λ n. absurd cc), (λ f. absurd cc)))), (tt, tt))))))))))
 
   certify_gives : Gives certify_built
   certify_gives word words free is e = record {
-    own = record {
-      top = word_given certify_built certify_fits words e (codes "top") (required certify_built certify_fits words e (codes "top") refl);
-      grain = word_given certify_built certify_fits words e (codes "grain") (defaulted certify_built certify_fits words e (codes "grain") refl);
-    };
+    own = word_given certify_built certify_fits words e (codes "grain") (defaulted certify_built certify_fits words e (codes "grain") refl);
     explain = flag_given certify_built certify_fits words e (codes "explain") refl (defaulted certify_built certify_fits words e (codes "explain") refl);
+    short = flag_given certify_built certify_fits words e (codes "short") refl (defaulted certify_built certify_fits words e (codes "short") refl);
   }
 
   -- ---- the whole table
 
   abbrev table : App
-  table = built (options_of orders texts grains)
+  table = built (options_of false orders texts grains)
 
   table_gives : AllGive table.subs
   table_gives = (run_gives, (check_gives, (certify_gives, (race_gives, (elab_gives, (preprocess_gives, (help_gives, tt)))))))
@@ -249,16 +243,16 @@ module _ (orders texts grains : Words) where
   entered_given None free some e = absurd cc
   entered_given (Some p) free some e = found_given table.subs table_gives p free some e
 
-  options_given : (words : List Text) → fault_of (options_of orders texts grains) words ≡ [] → IsGiven (subcommand_of (options_of orders texts grains) words)
+  options_given : (words : List Text) → fault_of (options_of false orders texts grains) words ≡ [] → IsGiven (subcommand_of (options_of false orders texts grains) words)
   options_given words e =
-      let rest = argument_words (options_of orders texts grains) words in
+      let rest = argument_words (options_of false orders texts grains) words in
       let end = walk table.top.rules (names_of table) nothing_held rest in
       let parts = level_parts table.top (names_of table) nothing_held rest (is_some (entered table end.stopped)) (entered_fault table end.stopped) e in
       entered_given end.stopped (walk_stops table.top (names_of table) refl (walk_from nothing_held) rest parts.0 tt)
       (subcommand_given table.top (finished table.top.rules end.held) _ refl parts.4) parts.1
 
 -- words without a fault name a subcommand whose options have their values
-pub words_given : (a : App) → AreOptions a → (words : List Text) → fault_of a words ≡ [] → (name : Text) (rows : List Row) → subcommand_of a words ≡ Some (name, rows)
+pub words_given : (a : App) → AreOptions false a → (words : List Text) → fault_of a words ≡ [] → (name : Text) (rows : List Row) → subcommand_of a words ≡ Some (name, rows)
     → AreAllGiven (name_of name) (λ option. first_of option rows) (λ option. one_of option rows)
 words_given a o words e name rows is =
     let given = options_given o.orders o.texts o.grains words (ap (λ (x : App). fault_of x words) (sym o.options) ∙ e) in

@@ -1,3 +1,5 @@
 mod Commands
 mod Given
+mod MomentLemmas
 mod Rows
+mod Tables

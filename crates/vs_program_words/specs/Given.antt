@@ -2,7 +2,7 @@
 use Rattle.std.specs.Prelude.{ℕ, ◌≡◌, ◌||◌, true, Option, Some, None, List, codes, is_some}
 use Rattle.std.specs.Str.{bytes_eq}
 use Rattle.clap.specs.Words.{IsUnsignedIn}
-use Rattle.vs_program_words.specs.Asks.{Name, Values, certify, check, elab, preprocess, race, run}
+use Rattle.vs_program_words.specs.Asks.{Name, Values, certify, race, run}
 
 -- there is a text, of a number from 0 to 2^62 - 1
 abbrev pub IsCount : Option (List ℕ) → Type 0
@@ -16,38 +16,26 @@ IsFlag (Some text) = (bytes_eq text (codes "true") || bytes_eq text (codes "fals
 
 -- the options of `vsim run` have values, those that are numbers can be read, and flags are given or not
 pub record AreGiven (words values : Values) : Type 0 where
-  pub top : is_some (words (codes "top")) ≡ true
-  pub until : IsCount (values (codes "until"))
   pub steps : IsCount (values (codes "steps"))
-  pub policy : is_some (words (codes "policy")) ≡ true
-  pub choices : is_some (words (codes "choices")) ≡ true
   pub out : is_some (words (codes "out")) ≡ true
   pub cert : IsFlag (values (codes "cert"))
 
--- those of `vsim certify`
-pub record AreGivenToCertify (words : Values) : Type 0 where
-  pub top : is_some (words (codes "top")) ≡ true
-  pub grain : is_some (words (codes "grain")) ≡ true
-
 -- those of `vsim race`
-pub record AreGivenToRace (words values : Values) : Type 0 where
-  pub top : is_some (words (codes "top")) ≡ true
-  pub until : IsCount (values (codes "until"))
+pub record AreGivenToRace (values : Values) : Type 0 where
   pub steps : IsCount (values (codes "steps"))
   pub tries : IsCount (values (codes "tries"))
   pub seed : IsCount (values (codes "seed"))
   pub start : IsCount (values (codes "from"))
 
--- the options of a subcommand that it alone has, and its top, have their values
+-- the options of a subcommand that it alone has have their values
 abbrev pub AreGivenAs : Name → Values → Values → Type 0
 AreGivenAs run words values = AreGiven words values
-AreGivenAs check words values = is_some (words (codes "top")) ≡ true
-AreGivenAs certify words values = AreGivenToCertify words
-AreGivenAs race words values = AreGivenToRace words values
-AreGivenAs elab words values = is_some (words (codes "top")) ≡ true
-AreGivenAs preprocess words values = Unit {0}
+AreGivenAs certify words values = is_some (words (codes "grain")) ≡ true
+AreGivenAs race words values = AreGivenToRace values
+AreGivenAs _ words values = Unit {0}
 
--- all options of a subcommand have their values
+-- all options of a subcommand that have a default have their values
 pub record AreAllGiven (name : Name) (words values : Values) : Type 0 where
   pub own : AreGivenAs name words values
   pub explain : IsFlag (values (codes "explain"))
+  pub short : IsFlag (values (codes "short"))

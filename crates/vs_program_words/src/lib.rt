@@ -2,10 +2,13 @@
 #![tactic(auto)]
 
 mod choices;
+mod moments;
 mod options;
 mod words;
 
+pub use choices::Choice;
+pub use moments::GREATEST;
 pub use vs_certificate;
 pub use words::{
-    Call, Hunt, Order, OutputText, Request, Sources, Subcommand, WordsFault, read_words,
+    Call, Hunt, Order, OutputText, Outputs, Request, Sources, Subcommand, WordsFault, read_words,
 };

@@ -1,23 +1,24 @@
 //! The options of the command line.
-ghost use Rattle.std.specs.Prelude.{◌≡◌, All, IfOk, IsOkAnd, false, fold, map, true};
+ghost use Rattle.std.specs.Prelude.{◌≡◌, ◌++◌, All, IfOk, IsOkAnd, false, fold, map, true};
 ghost use Rattle.clap.specs.Words.{app_of, new_app, rule_of, shape_of, with_rule, with_subcommand};
 ghost use Rattle.vs_program_words.specs.Options.{AreOptions, certify_options, check_options, choice_option, elab_options, preprocess_options};
-ghost use Rattle.vs_program_words.specs.Options.{bare_options, choices_option, explain_option, flag_option, number_option, option_of, race_options, race_rules, run_options};
+ghost use Rattle.vs_program_words.specs.Options.{bare_options, certificate_option, explain_option, file_option, flag_option, number_option, option_of};
+ghost use Rattle.vs_program_words.specs.Options.{certify_rules, check_rules, output_option, pair_option, policy_option, race_options, race_rules, run_options};
 ghost use Rattle.vs_program_words.specs.Options.{run_rules, from_option, seed_option, steps_option, top_option, tries_option, until_option};
-ghost use Rattle.vs_program_words.specs.Options.{define_option, files_option, folder_option, letter_option, some_files_option};
+ghost use Rattle.vs_program_words.specs.Options.{define_option, files_option, folder_option, letter_option, shared_rules, short_option, some_files_option};
 
 use clap::{Arg, ArgAction, Command};
 use std::alloc::{AllocError, Global};
 
 /// What `--version` prints: the version, and the line of the kit that builds the program.
-const VERSION: &str = "0.1.0\nrattle-kit-13f logic dac8208d650f15bf";
+const VERSION: &str = "0.1.0\nrattle-kit-13b logic dac8208d650f15bf";
 
 /// What stands below the list of the subcommands.
 const AFTER: &str =
     "Files are preprocessed, and are one source together. Without files the source is
-read from standard input as it is. So
+read from standard input as it is, and --top and --until are wanted. So
 
-  vsim run --top tb --until 100 -I include tb.v alu.v
+  vsim run -I include tb.v alu.v
   vsim run --top tb --until 100 <tb.v
   vsim certify --top tb <tb.v >tb.cert
   cat tb.cert tb.v | vsim run --top tb --until 100 --cert
@@ -28,9 +29,13 @@ arguments.";
 
 /// What stands below the options of `run`.
 const AFTER_RUN: &str = "--out lines writes the log: what `$display` and `$strobe` print;
---out vcd writes the value change dump of all signals that are no arrays.
+--out vcd writes the value change dump of all signals that are no arrays;
+--vcd FILE writes the dump to a file, beside the log.
+With files the top is the one module that no module instantiates, the run has
+no end but its own, and the time may have a unit: s, ms, us, ns, ps or fs.
 
-Example: vsim run --top tb --until 100 --out vcd <tb.v >tb.vcd
+Examples: vsim run --vcd tb.vcd tb.v alu.v
+          vsim run --top tb --until 100 --out vcd <tb.v >tb.vcd
 
 Exit status: 0 done, 1 refused, 2 step limit, 3 out of memory, read error or
 write error, 64 wrong arguments.";
@@ -38,16 +43,17 @@ write error, 64 wrong arguments.";
 /// What stands below the options of `check`.
 const AFTER_CHECK: &str =
     "Without files the certificate is the first line of standard input, and the
-source is what follows it; with files it is all of standard input. So
+source is what follows it; with files it is all of standard input, and with
+--certificate that file. So
 
-  vsim check --top tb tb.v <tb.cert
+  vsim check --certificate tb.cert tb.v
   cat tb.cert tb.v | vsim check --top tb
 
 Exit status: 0 yes, 1 no or refused, 3 out of memory, read error or
 write error, 64 wrong arguments.";
 
 /// What stands below the options of `certify`.
-const AFTER_CERTIFY: &str = "Example: vsim certify --top tb <tb.v >tb.cert
+const AFTER_CERTIFY: &str = "Example: vsim certify -o tb.cert tb.v
 
 Exit status: 0 done, 1 not made or refused, 3 out of memory, read error or
 write error, 64 wrong arguments.";
@@ -112,12 +118,18 @@ fn number<'a>(alloc: Global, name: &'a str, help: &'a str) -> Arg<'a>
         .value_parser(clap::value_parser!(u64).range(0..=4611686018427387903))
 }
 
-// The option with the time up to which a design runs.
-fn until<'a>(alloc: Global) -> Arg<'a>
-    ensures option { rule_of result ≡ until_option }
+// The option with the time up to which a design runs. By the strict table it is a number that can't be left out; else it is any text.
+fn until<'a>(alloc: Global, strict: bool) -> Arg<'a>
+    ensures option { rule_of result ≡ until_option strict }
     ensures local { result.global ≡ false }
 {
-    number(alloc, "until", "The time up to which it runs, in ticks").required(true)
+    const HELP: &str =
+        "The time up to which it runs, in ticks; with files also as 10us, or left out";
+    if strict {
+        number(alloc, "until", HELP).required(true)
+    } else {
+        option(alloc, "until", HELP).value_name("N")
+    }
 }
 
 // The option with the step limit.
@@ -173,14 +185,72 @@ fn choice<'a>(
         .default_value(default)
 }
 
-// The option with the name of the top module.
-fn top<'a>(alloc: Global) -> Arg<'a>
-    ensures option { rule_of result ≡ top_option }
+// The option with the name of the top module, which by the strict table can't be left out.
+fn top<'a>(alloc: Global, strict: bool) -> Arg<'a>
+    ensures option { rule_of result ≡ top_option strict }
     ensures local { result.global ≡ false }
 {
-    option(alloc, "top", "The top module")
-        .value_name("NAME")
-        .required(true)
+    option(
+        alloc,
+        "top",
+        "The top module; with files it may be left out where one module is instantiated by none",
+    )
+    .value_name("NAME")
+    .required(strict)
+}
+
+// The option with the order of events: one of two words by the strict table, else any text.
+fn policy<'a>(alloc: Global, strict: bool, orders: &'a [&'a str]) -> Arg<'a>
+    ensures option { rule_of result ≡ policy_option strict orders.entry }
+    ensures local { result.global ≡ false }
+{
+    const HELP: &str = "Which enabled event is next; also list:0,2,1 or list:17..22=1,30=2";
+    if strict {
+        choice(alloc, "policy", HELP, orders, "fifo")
+    } else {
+        option(alloc, "policy", HELP).default_value("fifo")
+    }
+}
+
+// An option with the name of a file.
+fn file<'a>(alloc: Global, name: &'a str, help: &'a str) -> Arg<'a>
+    ensures option { rule_of result ≡ file_option name.entry.now }
+    ensures local { result.global ≡ false }
+{
+    option(alloc, name, help).value_name("FILE")
+}
+
+// The option with the file of a certificate.
+fn certificate<'a>(alloc: Global) -> Arg<'a>
+    ensures option { rule_of result ≡ certificate_option }
+    ensures local { result.global ≡ false }
+{
+    file(alloc, "certificate", "The file of the certificate")
+}
+
+// The option with the file that the text goes to.
+fn output<'a>(alloc: Global) -> Arg<'a>
+    ensures option { rule_of result ≡ output_option }
+    ensures local { result.global ≡ false }
+{
+    Arg::new(alloc, "output")
+        .short('o')
+        .value_name("FILE")
+        .help("The file that the text goes to, in place of standard output")
+        .action(ArgAction::Set)
+}
+
+// The option with two files that the dumps of a race go to.
+fn pair<'a>(alloc: Global) -> Arg<'a>
+    ensures option { rule_of result ≡ pair_option }
+    ensures local { result.global ≡ false }
+{
+    file(
+        alloc,
+        "vcd-pair",
+        "The two files that the dumps of a race go to",
+    )
+    .num_args(2)
 }
 
 // The flag that asks for what a refusal means.
@@ -192,6 +262,18 @@ fn explain<'a>(alloc: Global) -> Arg<'a>
         alloc,
         "explain",
         "Also say what a refusal means, and where it stands",
+    )
+}
+
+// The flag that asks for faults of one line.
+fn short<'a>(alloc: Global) -> Arg<'a>
+    ensures option { rule_of result ≡ short_option }
+    ensures local { result.global ≡ false }
+{
+    flag(
+        alloc,
+        "short",
+        "With files, tell a fault in one line and not what it means",
     )
 }
 
@@ -254,6 +336,29 @@ fn some_files<'a>(alloc: Global) -> Arg<'a>
     files(alloc).required(true)
 }
 
+// Options, and behind them those of every subcommand, with the files of a call.
+fn with_shared<'a>(
+    alloc: Global,
+    own: Vec<Arg<'a>>,
+    files: Arg<'a>,
+) -> Result<Vec<Arg<'a>>, AllocError>
+    requires own { All (λ a. a.global ≡ false) own.items }
+    requires files { files.global ≡ false }
+    ensures rules { IfOk result (λ list. map rule_of list.items ≡ map rule_of own.entry.items ++ shared_rules (rule_of files.entry)) }
+    ensures local { IfOk result (λ list. All (λ a. a.global ≡ false) list.items) }
+{
+    let mut shared = vec![in alloc;
+        explain(alloc),
+        short(alloc),
+        define(alloc),
+        folder(alloc),
+        files,
+    ]?;
+    let mut list = own;
+    list.append(&mut shared)?;
+    Ok(list)
+}
+
 // A subcommand with these options.
 fn command_of<'a>(
     alloc: Global,
@@ -275,12 +380,8 @@ fn command_of<'a>(
 fn preprocess_command<'a>(alloc: Global) -> Result<Command<'a>, AllocError>
     ensures { IfOk result (λ c. shape_of c ≡ preprocess_options) }
 {
-    let options = vec![in alloc;
-        explain(alloc),
-        define(alloc),
-        folder(alloc),
-        some_files(alloc),
-    ]?;
+    let own = vec![in alloc; output(alloc)]?;
+    let options = with_shared(alloc, own, some_files(alloc))?;
     command_of(
         alloc,
         "preprocess",
@@ -291,16 +392,11 @@ fn preprocess_command<'a>(alloc: Global) -> Result<Command<'a>, AllocError>
 }
 
 // `elab`.
-fn elab_command<'a>(alloc: Global) -> Result<Command<'a>, AllocError>
-    ensures { IfOk result (λ c. shape_of c ≡ elab_options) }
+fn elab_command<'a>(alloc: Global, strict: bool) -> Result<Command<'a>, AllocError>
+    ensures { IfOk result (λ c. shape_of c ≡ elab_options strict) }
 {
-    let options = vec![in alloc;
-        top(alloc),
-        explain(alloc),
-        define(alloc),
-        folder(alloc),
-        files(alloc),
-    ]?;
+    let own = vec![in alloc; top(alloc, strict)]?;
+    let options = with_shared(alloc, own, files(alloc))?;
     command_of(
         alloc,
         "elab",
@@ -311,16 +407,11 @@ fn elab_command<'a>(alloc: Global) -> Result<Command<'a>, AllocError>
 }
 
 // `check`.
-fn check_command<'a>(alloc: Global) -> Result<Command<'a>, AllocError>
-    ensures { IfOk result (λ c. shape_of c ≡ check_options) }
+fn check_command<'a>(alloc: Global, strict: bool) -> Result<Command<'a>, AllocError>
+    ensures { IfOk result (λ c. shape_of c ≡ check_options strict) }
 {
-    let options = vec![in alloc;
-        top(alloc),
-        explain(alloc),
-        define(alloc),
-        folder(alloc),
-        files(alloc),
-    ]?;
+    let own = vec![in alloc; top(alloc, strict), certificate(alloc)]?;
+    let options = with_shared(alloc, own, files(alloc))?;
     command_of(
         alloc,
         "check",
@@ -331,8 +422,12 @@ fn check_command<'a>(alloc: Global) -> Result<Command<'a>, AllocError>
 }
 
 // `certify`, with the words that its option takes.
-fn certify_command<'a>(alloc: Global, grains: &'a [&'a str]) -> Result<Command<'a>, AllocError>
-    ensures { IfOk result (λ c. shape_of c ≡ certify_options grains.entry) }
+fn certify_command<'a>(
+    alloc: Global,
+    strict: bool,
+    grains: &'a [&'a str],
+) -> Result<Command<'a>, AllocError>
+    ensures { IfOk result (λ c. shape_of c ≡ certify_options strict grains.entry) }
 {
     let grain = choice(
         alloc,
@@ -341,14 +436,13 @@ fn certify_command<'a>(alloc: Global, grains: &'a [&'a str]) -> Result<Command<'
         grains,
         "block",
     );
-    let options = vec![in alloc;
-        top(alloc),
-        grain,
-        explain(alloc),
-        define(alloc),
-        folder(alloc),
-        files(alloc),
-    ]?;
+    let race = flag(
+        alloc,
+        "race",
+        "Where none is made, also look for a race, and explain it",
+    );
+    let own = vec![in alloc; top(alloc, strict), grain, race, output(alloc)]?;
+    let options = with_shared(alloc, own, files(alloc))?;
     command_of(
         alloc,
         "certify",
@@ -358,36 +452,16 @@ fn certify_command<'a>(alloc: Global, grains: &'a [&'a str]) -> Result<Command<'
     )
 }
 
-// The option with choices of items.
-fn choices<'a>(alloc: Global) -> Arg<'a>
-    ensures option { rule_of result ≡ choices_option }
-    ensures local { result.global ≡ false }
-{
-    option(
-        alloc,
-        "choices",
-        "Which choices take another item than the first, as 17..22=1,30..30=2",
-    )
-    .value_name("LIST")
-    .default_value("")
-}
-
-// The options of `run`, with the words that they take.
+// The options that `run` alone has, with the words that they take.
 fn run_list<'a>(
     alloc: Global,
+    strict: bool,
     orders: &'a [&'a str],
     texts: &'a [&'a str],
 ) -> Result<Vec<Arg<'a>>, AllocError>
-    ensures rules { IfOk result (λ list. map rule_of list.items ≡ run_rules orders.entry texts.entry) }
+    ensures rules { IfOk result (λ list. map rule_of list.items ≡ run_rules strict orders.entry texts.entry) }
     ensures local { IfOk result (λ list. All (λ a. a.global ≡ false) list.items) }
 {
-    let policy = choice(
-        alloc,
-        "policy",
-        "Which enabled event is next",
-        orders,
-        "fifo",
-    );
     let out = choice(
         alloc,
         "out",
@@ -395,23 +469,25 @@ fn run_list<'a>(
         texts,
         "lines",
     );
+    let dump = file(
+        alloc,
+        "vcd",
+        "The file that the dump goes to, beside the log on standard output",
+    );
     let cert = flag(
         alloc,
         "cert",
         "Standard input begins with a certificate: run only if it is accepted",
     );
     let list = vec![in alloc;
-        top(alloc),
-        until(alloc),
+        top(alloc, strict),
+        until(alloc, strict),
         steps(alloc),
-        policy,
-        choices(alloc),
+        policy(alloc, strict, orders),
         out,
+        dump,
         cert,
-        explain(alloc),
-        define(alloc),
-        folder(alloc),
-        files(alloc),
+        certificate(alloc),
     ]?;
     Ok(list)
 }
@@ -419,40 +495,40 @@ fn run_list<'a>(
 // `run`, with the words that its options take.
 fn run_command<'a>(
     alloc: Global,
+    strict: bool,
     orders: &'a [&'a str],
     texts: &'a [&'a str],
 ) -> Result<Command<'a>, AllocError>
-    ensures { IfOk result (λ c. shape_of c ≡ run_options orders.entry texts.entry) }
+    ensures { IfOk result (λ c. shape_of c ≡ run_options strict orders.entry texts.entry) }
 {
-    let options = run_list(alloc, orders, texts)?;
+    let own = run_list(alloc, strict, orders, texts)?;
+    let options = with_shared(alloc, own, files(alloc))?;
     command_of(alloc, "run", "Runs a design", AFTER_RUN, options)
 }
 
-// The options of `race`.
-fn race_list<'a>(alloc: Global) -> Result<Vec<Arg<'a>>, AllocError>
-    ensures rules { IfOk result (λ list. map rule_of list.items ≡ race_rules) }
+// The options that `race` alone has.
+fn race_list<'a>(alloc: Global, strict: bool) -> Result<Vec<Arg<'a>>, AllocError>
+    ensures rules { IfOk result (λ list. map rule_of list.items ≡ race_rules strict) }
     ensures local { IfOk result (λ list. All (λ a. a.global ≡ false) list.items) }
 {
     let list = vec![in alloc;
-        top(alloc),
-        until(alloc),
+        top(alloc, strict),
+        until(alloc, strict),
         steps(alloc),
         tries(alloc),
         seed(alloc),
         from(alloc),
-        explain(alloc),
-        define(alloc),
-        folder(alloc),
-        files(alloc),
+        pair(alloc),
     ]?;
     Ok(list)
 }
 
 // `race`.
-fn race_command<'a>(alloc: Global) -> Result<Command<'a>, AllocError>
-    ensures { IfOk result (λ c. shape_of c ≡ race_options) }
+fn race_command<'a>(alloc: Global, strict: bool) -> Result<Command<'a>, AllocError>
+    ensures { IfOk result (λ c. shape_of c ≡ race_options strict) }
 {
-    let options = race_list(alloc)?;
+    let own = race_list(alloc, strict)?;
+    let options = with_shared(alloc, own, files(alloc))?;
     command_of(
         alloc,
         "race",
@@ -484,18 +560,19 @@ fn bare_command<'a>(alloc: Global) -> Command<'a>
         .subcommand_required(true)
 }
 
-/// The program, with its subcommands.
-pub(crate) fn vsim_command<'a>(alloc: Global) -> Result<Command<'a>, AllocError>
-    ensures { IfOk result (λ c. AreOptions (app_of c)) }
+/// The program, with its subcommands. By the strict table, which is that of a call without files, the top and the moment can't be left out, and the
+/// moment and the order are what they are in every call; else they are any text.
+pub(crate) fn vsim_command<'a>(alloc: Global, strict: bool) -> Result<Command<'a>, AllocError>
+    ensures { IfOk result (λ c. AreOptions strict (app_of c)) }
 {
     let command = bare_command(alloc);
     let command = with_command(
         command,
-        run_command(alloc, ORDERS.as_slice(), TEXTS.as_slice()),
+        run_command(alloc, strict, ORDERS.as_slice(), TEXTS.as_slice()),
     )?;
-    let command = with_command(command, check_command(alloc))?;
-    let command = with_command(command, certify_command(alloc, GRAINS.as_slice()))?;
-    let command = with_command(command, race_command(alloc))?;
-    let command = with_command(command, elab_command(alloc))?;
+    let command = with_command(command, check_command(alloc, strict))?;
+    let command = with_command(command, certify_command(alloc, strict, GRAINS.as_slice()))?;
+    let command = with_command(command, race_command(alloc, strict))?;
+    let command = with_command(command, elab_command(alloc, strict))?;
     with_command(command, preprocess_command(alloc))
 }

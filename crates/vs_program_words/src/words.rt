@@ -1,17 +1,23 @@
 //! The words of a command line.
-ghost use Rattle.std.specs.Prelude.{◌≡◌, [], IfErr, IfOk, codes, is_some, map, option_map, true, unwrap_or};
+ghost use Rattle.std.specs.Prelude.{◌≡◌, ◌++◌, ◌&&◌, ◌||◌, not, ℕ, List, [], IfErr, IfOk, IsErrAnd, MatchOption, Some, codes, false, is_some, map, option_map, true, unwrap_or};
 ghost use Rattle.clap.specs.Words.{first_value, found_of, matched_of, one_text, raw_values};
-ghost use Rattle.vs_program_words.specs.Asks.{AskInVain, Asks, AsksAs, IsNumber, NamesFiles, WordsAsk, WordsFail, has_order};
-ghost use Rattle.vs_program_words.specs.Asks.{AsksRace, flag_named, grain_named, name_of, run};
-ghost use Rattle.vs_program_words.specs.Given.{AreGiven, AreGivenAs, AreGivenToRace, IsCount, IsFlag};
-ghost use Rattle.vs_program_words.specs.declared.words.WordsFault.TheVariants.{Memory, Refused};
+ghost use Rattle.vs_program_words.specs.Asks.{AskInVain, Asks, AsksAs, AsksFor, AsksRace, NamesFiles, NamesOutputs, WordsAsk, WordsFail, is_dump};
+ghost use Rattle.vs_program_words.specs.Asks.{CallFails, IsInVain, IsNoUntil, IsPolicy, IsPolicyIn, LooseFails, flag_named, grain_named, has_certificate};
+ghost use Rattle.vs_program_words.specs.Asks.{has_moment, has_ticks, has_top, lacks_top, name_of, run};
+ghost use Rattle.vs_program_words.specs.Choices.{is_choices};
+ghost use Rattle.vs_program_words.specs.passes.Policies.{PolicyFails};
+ghost use Rattle.vs_program_words.specs.Moments.{IsNumber, IsUntil};
+ghost use Rattle.vs_program_words.specs.Given.{AreAllGiven, AreGiven, AreGivenAs, AreGivenToRace, IsCount, IsFlag};
+ghost use Rattle.vs_program_words.specs.declared.words.WordsFault.TheVariants.{Memory, Refused, Unread};
 
-use crate::choices::is_choices;
+use crate::choices::{Choice, choices_of};
+use crate::moments::{GREATEST, Moment, moment_of};
 use crate::options::vsim_command;
+use clap::error::ErrorKind;
 use clap::{ArgMatches, Error};
 use std::alloc::{AllocError, Global};
 use vs_certificate::ClaimedGrain;
-use vs_design::Ticks;
+use vs_design::{Ticks, TimeUnit};
 
 /// Which text goes to standard output.
 #[derive(Clone, Copy, PartialEq, Eq, Debug)]
@@ -29,21 +35,21 @@ pub enum Order {
     Fifo,
     /// The last of the list is next.
     Lifo,
+    /// That which the choices of the call name is next, and the first of the list where they name none.
+    Listed,
 }
 
 /// What the words of `vsim run` ask for.
 #[derive(Clone, Copy)]
 pub struct Request<'a> {
-    /// The top module's name.
+    /// The top module's name; empty where it is left out.
     pub top: &'a str,
-    /// The time up to which the design runs.
+    /// The time up to which the design runs: in ticks, or in the unit of the call where that has one.
     pub until: Ticks,
     /// The most steps that the run may take; there are fewer of them than of ticks.
     pub steps: Ticks,
     /// Which enabled item is next.
     pub order: Order,
-    /// The choices that take another item than the first, in place of that order; empty where there are none.
-    pub choices: &'a str,
     /// The text that is asked for.
     pub text: OutputText,
 }
@@ -51,9 +57,9 @@ pub struct Request<'a> {
 /// What the words of `vsim race` ask for.
 #[derive(Clone, Copy)]
 pub struct Hunt<'a> {
-    /// The top module's name.
+    /// The top module's name; empty where it is left out.
     pub top: &'a str,
-    /// The moment up to which the design runs.
+    /// The moment up to which the design runs: in ticks, or in the unit of the call where that has one.
     pub until: Ticks,
     /// The most steps that each run may take; there are fewer of them than of ticks.
     pub steps: Ticks,
@@ -95,15 +101,40 @@ pub struct Sources<'a> {
     pub folders: Vec<&'a str>,
 }
 
-/// A call, its files, and whether it asks for what a refusal means.
+/// The files that a call writes.
+#[derive(Clone, Copy)]
+pub struct Outputs<'a> {
+    /// That of the text, in place of standard output: of a certificate, or of a source.
+    pub text: Option<&'a str>,
+    /// That of the dump of a run, whose lines go to standard output.
+    pub dump: Option<&'a str>,
+    /// Those of the two dumps of a race.
+    pub pair: Option<(&'a str, &'a str)>,
+}
+
+/// A call.
 #[derive(Drop)]
 pub struct Call<'a> {
     /// What it asks for.
     pub subcommand: Subcommand<'a>,
+    /// Whether the top is left out, and is to be found in the source.
+    pub finds_top: bool,
+    /// The unit of the time up to which a design runs, where it isn't the tick.
+    pub unit: Option<TimeUnit>,
+    /// The choices of an order that lists them.
+    pub choices: Vec<Choice>,
     /// Its files.
     pub sources: Sources<'a>,
+    /// The file of its certificate, where it isn't on standard input.
+    pub certificate: Option<&'a str>,
+    /// The files that it writes.
+    pub outputs: Outputs<'a>,
     /// Whether a refusal is explained on standard error.
     pub explains: bool,
+    /// Whether a fault with files is told in one line.
+    pub short: bool,
+    /// Whether a race is sought where no certificate is made.
+    pub seeks_race: bool,
 }
 
 /// Why the words of a call ask for nothing.
@@ -113,8 +144,10 @@ pub enum WordsFault {
     Refused(Error),
     /// They ask for a certified run in another order than the first one.
     OrderOfCertified,
-    /// The text of `--choices` has none.
-    Choices,
+    /// They ask for the dump on standard output, and in a file too.
+    TwoDumps,
+    /// The time, the order, the top or the files are none.
+    Unread,
     /// A growth of memory was refused.
     Memory,
 }
@@ -153,68 +186,153 @@ fn has_flag(matches: &ArgMatches, name: &str) -> bool
     matches.get_flag(name)
 }
 
-// What the matches of `run` ask for.
-fn request_of<'a>(matches: &ArgMatches<'a>) -> Result<Request<'a>, WordsFault>
-    requires { AreGiven (first_value (found_of matches.now)) (one_text (found_of matches.now)) }
-    ensures ok { IfOk result (Asks (first_value (found_of matches.now)) (one_text (found_of matches.now))) }
-    ensures err { IfErr result (λ fault. AskInVain fault run (first_value (found_of matches.now)) (one_text (found_of matches.now))) }
+// The moment that the matches ask for.
+fn until_of(matches: &ArgMatches) -> Result<Moment, WordsFault>
+    ensures err { IfErr result (λ fault. (fault ≡ Unread) × IsNoUntil (first_value (found_of matches.now) (codes "until"))) }
+    ensures ok { IfOk result (λ m. IsUntil (first_value (found_of matches.now) (codes "until")) m.count.count m.unit) }
 {
-    let order = match matches.get_str("policy").unwrap() {
-        "lifo" => Order::Lifo,
-        _ => Order::Fifo,
-    };
+    match matches.get_str("until") {
+        None => Ok(Moment {
+            count: Ticks { count: GREATEST },
+            unit: None,
+        }),
+        Some(text) => match moment_of(text) {
+            Some(moment) => Ok(moment),
+            None => Err(WordsFault::Unread),
+        },
+    }
+}
+
+/// The order of events that the matches ask for.
+#[derive(Drop)]
+struct Policy {
+    order: Order,
+    choices: Vec<Choice>,
+}
+
+// The choices that a word lists behind `list:`.
+fn list_of(alloc: Global, word: &str) -> Result<Option<Vec<Choice>>, AllocError>
+    ensures { IfOk result (λ o. MatchOption o ((text : List ℕ) → word.now ≡ codes "list:" ++ text → is_choices text ≡ false)
+        (λ choices. (text : List ℕ) × (word.now ≡ codes "list:" ++ text) × (is_choices text ≡ true))) }
+{
+    match word.strip_prefix("list:") {
+        Some(text) => choices_of(alloc, text),
+        None => Ok(None),
+    }
+}
+
+// An order that a word names: `fifo`, `lifo`, or choices behind `list:`.
+fn order_of(alloc: Global, word: &str) -> Result<Policy, WordsFault>
+    ensures ok { IfOk result (λ p. IsPolicy word.now p.order) }
+    ensures err { IfErr result (PolicyFails (Some word.now)) }
+{
+    match word {
+        "fifo" => Ok(Policy {
+            order: Order::Fifo,
+            choices: Vec::new(alloc),
+        }),
+        "lifo" => Ok(Policy {
+            order: Order::Lifo,
+            choices: Vec::new(alloc),
+        }),
+        _ => match list_of(alloc, word)? {
+            Some(choices) => Ok(Policy {
+                order: Order::Listed,
+                choices,
+            }),
+            None => Err(WordsFault::Unread),
+        },
+    }
+}
+
+// The order of events that the matches ask for, in a subcommand that has one.
+fn policy_of(alloc: Global, matches: &ArgMatches) -> Result<Policy, WordsFault>
+    ensures ok { IfOk result (λ p. IsPolicyIn (first_value (found_of matches.now) (codes "policy")) p.order) }
+    ensures err { IfErr result (PolicyFails (first_value (found_of matches.now) (codes "policy"))) }
+{
+    match matches.get_str("policy") {
+        None => Ok(Policy {
+            order: Order::Fifo,
+            choices: Vec::new(alloc),
+        }),
+        Some(word) => order_of(alloc, word),
+    }
+}
+
+// The top that the matches name, and nothing where they name none.
+fn top_of<'a>(matches: &ArgMatches<'a>) -> &'a str
+    ensures { result.now ≡ unwrap_or (first_value (found_of matches.now) (codes "top")) [] }
+{
+    matches.get_str("top").unwrap_or("")
+}
+
+// What the matches of `run` ask for.
+fn request_of<'a>(matches: &ArgMatches<'a>, until: Ticks, order: Order) -> Request<'a>
+    requires { AreGiven (first_value (found_of matches.now)) (one_text (found_of matches.now)) }
+    ensures { Asks (first_value (found_of matches.now)) (one_text (found_of matches.now)) until.count order result }
+{
     let text = match matches.get_str("out").unwrap() {
         "vcd" => OutputText::Dump,
         _ => OutputText::Lines,
     };
-    let choices = matches.get_str("choices").unwrap();
-    if !is_choices(choices) {
-        return Err(WordsFault::Choices);
-    }
-    Ok(Request {
-        top: matches.get_str("top").unwrap(),
-        until: number_of(matches, "until"),
+    Request {
+        top: top_of(matches),
+        until,
         steps: number_of(matches, "steps"),
         order,
-        choices,
         text,
-    })
-}
-
-// Whether a request has another order than the first one.
-fn has_order(request: &Request) -> bool
-    ensures { result ≡ has_order request.now.order request.now.choices.now }
-{
-    match request.order {
-        Order::Lifo => true,
-        Order::Fifo => !request.choices.is_empty(),
     }
 }
 
-// What the matches of `run` ask for, unless it is a certified run in another order than the first one.
-fn run_of<'a>(matches: &ArgMatches<'a>) -> Result<Subcommand<'a>, WordsFault>
-    requires { AreGiven (first_value (found_of matches.now)) (one_text (found_of matches.now)) }
-    ensures ok { IfOk result (AsksAs run (first_value (found_of matches.now)) (one_text (found_of matches.now))) }
+// Whether the matches ask for a dump in a file, beside this text on standard output that is one too.
+fn has_two_dumps(matches: &ArgMatches, text: OutputText) -> bool
+    ensures { result ≡ (is_dump text && is_some (first_value (found_of matches.now) (codes "vcd"))) }
+{
+    match text {
+        OutputText::Dump => matches.get_str("vcd").is_some(),
+        OutputText::Lines => false,
+    }
+}
+
+// Whether the matches ask for a run of a design whose certificate is accepted: by the flag, or since they name the certificate's file.
+fn has_certificate(matches: &ArgMatches) -> bool
+    requires { IsFlag (one_text (found_of matches.now) (codes "cert")) }
+    ensures { result ≡ has_certificate (first_value (found_of matches.now)) (one_text (found_of matches.now)) }
+{
+    has_flag(matches, "cert") || matches.get_str("certificate").is_some()
+}
+
+// What the matches of `run` ask for, unless it is a certified run in another order than the first one, or has two dumps.
+fn run_of<'a>(
+    matches: &ArgMatches<'a>,
+    until: Ticks,
+    order: Order,
+) -> Result<Subcommand<'a>, WordsFault>
+    requires given { AreGiven (first_value (found_of matches.now)) (one_text (found_of matches.now)) }
+    requires policy { IsPolicyIn (first_value (found_of matches.now) (codes "policy")) order }
+    ensures ok { IfOk result (AsksAs run (first_value (found_of matches.now)) (one_text (found_of matches.now)) until.count order) }
     ensures err { IfErr result (λ fault. AskInVain fault run (first_value (found_of matches.now)) (one_text (found_of matches.now))) }
 {
-    let request = request_of(matches)?;
-    if !has_flag(matches, "cert") {
+    let request = request_of(matches, until, order);
+    if has_two_dumps(matches, request.text) {
+        return Err(WordsFault::TwoDumps);
+    }
+    if !has_certificate(matches) {
         return Ok(Subcommand::Run(request));
     }
-    if has_order(&request) {
-        return Err(WordsFault::OrderOfCertified);
+    match order {
+        Order::Fifo => Ok(Subcommand::RunCertified(request)),
+        _ => Err(WordsFault::OrderOfCertified),
     }
-    Ok(Subcommand::RunCertified(request))
 }
 
 // What the matches of `race` ask for.
-fn hunt_of<'a>(matches: &ArgMatches<'a>) -> Hunt<'a>
-    requires { AreGivenToRace (first_value (found_of matches.now)) (one_text (found_of matches.now)) }
-    ensures { AsksRace (first_value (found_of matches.now)) (one_text (found_of matches.now)) result }
+fn hunt_of<'a>(matches: &ArgMatches<'a>, until: Ticks) -> Hunt<'a>
+    requires { AreGivenToRace (one_text (found_of matches.now)) }
+    ensures { AsksRace (first_value (found_of matches.now)) (one_text (found_of matches.now)) until.count result }
 {
-    let until = number_of(matches, "until");
     Hunt {
-        top: matches.get_str("top").unwrap(),
+        top: top_of(matches),
         until,
         steps: number_of(matches, "steps"),
         tries: number_of(matches, "tries"),
@@ -234,20 +352,27 @@ fn grain_of(matches: &ArgMatches) -> ClaimedGrain
     }
 }
 
-// What the matches of a subcommand ask for.
-fn subcommand_of<'a>(name: &str, matches: &ArgMatches<'a>) -> Result<Subcommand<'a>, WordsFault>
-    requires { AreGivenAs (name_of name.now) (first_value (found_of matches.now)) (one_text (found_of matches.now)) }
-    ensures ok { IfOk result (AsksAs (name_of name.now) (first_value (found_of matches.now)) (one_text (found_of matches.now))) }
+// What the matches of a subcommand ask for, with this moment and this order.
+fn subcommand_of<'a>(
+    name: &str,
+    matches: &ArgMatches<'a>,
+    until: Ticks,
+    order: Order,
+) -> Result<Subcommand<'a>, WordsFault>
+    requires given { AreGivenAs (name_of name.now) (first_value (found_of matches.now)) (one_text (found_of matches.now)) }
+    requires policy { IsPolicyIn (first_value (found_of matches.now) (codes "policy")) order }
+    ensures ok { IfOk result (
+        AsksAs (name_of name.now) (first_value (found_of matches.now)) (one_text (found_of matches.now)) until.count order) }
     ensures err { IfErr result (λ fault.
         AskInVain fault (name_of name.now) (first_value (found_of matches.now)) (one_text (found_of matches.now))) }
 {
     match name {
         "preprocess" => Ok(Subcommand::Preprocess),
-        "elab" => Ok(Subcommand::Elab(matches.get_str("top").unwrap())),
-        "check" => Ok(Subcommand::Check(matches.get_str("top").unwrap())),
-        "certify" => Ok(Subcommand::Certify(matches.get_str("top").unwrap(), grain_of(matches))),
-        "race" => Ok(Subcommand::Race(hunt_of(matches))),
-        _ => run_of(matches),
+        "elab" => Ok(Subcommand::Elab(top_of(matches))),
+        "check" => Ok(Subcommand::Check(top_of(matches))),
+        "certify" => Ok(Subcommand::Certify(top_of(matches), grain_of(matches))),
+        "race" => Ok(Subcommand::Race(hunt_of(matches, until))),
+        _ => run_of(matches, until, order),
     }
 }
 
@@ -277,20 +402,138 @@ fn sources_of<'a>(alloc: Global, matches: &ArgMatches<'a>) -> Result<Sources<'a>
     })
 }
 
+// The two values of an option.
+fn pair_of<'a>(matches: &ArgMatches<'a>, name: &str) -> Option<(&'a str, &'a str)> {
+    match matches.get_strs(name)? {
+        [first, other] => Some((*first, *other)),
+        _ => None,
+    }
+}
+
+// The files that a call writes.
+fn outputs_of<'a>(matches: &ArgMatches<'a>) -> Outputs<'a>
+    ensures { NamesOutputs (first_value (found_of matches.now)) result }
+{
+    Outputs {
+        text: matches.get_str("output"),
+        dump: matches.get_str("vcd"),
+        pair: pair_of(matches, "vcd-pair"),
+    }
+}
+
+// Whether a subcommand has a top.
+fn has_top(name: &str) -> bool
+    ensures { result ≡ has_top (name_of name.now) }
+{
+    match name {
+        "preprocess" => false,
+        _ => true,
+    }
+}
+
+// Whether a subcommand has a moment.
+fn has_moment(name: &str) -> bool
+    ensures { result ≡ has_moment (name_of name.now) }
+{
+    match name {
+        "preprocess" => false,
+        "elab" => false,
+        "check" => false,
+        "certify" => false,
+        _ => true,
+    }
+}
+
+// Whether the top is left out of the matches of a subcommand that has one.
+fn lacks_top(name: &str, matches: &ArgMatches) -> bool
+    ensures { result ≡ lacks_top (name_of name.now) (first_value (found_of matches.now)) }
+{
+    has_top(name) && matches.get_str("top").is_none()
+}
+
+// Whether the moment is there, in ticks, in the matches of a subcommand that has one.
+fn has_ticks(name: &str, matches: &ArgMatches, unit: Option<TimeUnit>) -> bool
+    ensures { result ≡ has_ticks (name_of name.now) (first_value (found_of matches.now)) unit }
+{
+    unit.is_none() && (matches.get_str("until").is_some() || !has_moment(name))
+}
+
+// Whether files are wanted, since the top or the moment in ticks isn't there.
+fn wants_files(lacks_top: bool, has_ticks: bool) -> bool
+    ensures { result ≡ (lacks_top || not has_ticks) }
+{
+    lacks_top || !has_ticks
+}
+
+// What the matches of a subcommand ask for. Without files the top and the moment can't be left out.
+fn call_of<'a>(alloc: Global, name: &str, matches: &ArgMatches<'a>) -> Result<Call<'a>, WordsFault>
+    requires { AreAllGiven (name_of name.now) (first_value (found_of matches.now)) (one_text (found_of matches.now)) }
+    ensures ok { IfOk result (AsksFor (name_of name.now) (first_value (found_of matches.now)) (one_text (found_of matches.now))
+        (λ option. option_map raw_values (matched_of (found_of matches.now) option))) }
+    ensures err { IfErr result (λ fault.
+        CallFails fault (name_of name.now) (first_value (found_of matches.now)) (one_text (found_of matches.now))
+        (λ option. option_map raw_values (matched_of (found_of matches.now) option))) }
+{
+    let moment = until_of(matches)?;
+    let Policy { order, choices } = policy_of(alloc, matches)?;
+    let sources = sources_of(alloc, matches)?;
+    let finds_top = lacks_top(name, matches);
+    let is_wanting = wants_files(finds_top, has_ticks(name, matches, moment.unit));
+    if sources.files.is_empty() && is_wanting {
+        return Err(WordsFault::Unread);
+    }
+    match subcommand_of(name, matches, moment.count, order) {
+        Ok(subcommand) => Ok(Call {
+            subcommand,
+            finds_top,
+            unit: moment.unit,
+            choices,
+            sources,
+            certificate: matches.get_str("certificate"),
+            outputs: outputs_of(matches),
+            explains: has_flag(matches, "explain"),
+            short: has_flag(matches, "short"),
+            seeks_race: matches.get_flag("race"),
+        }),
+        Err(fault) => Err(fault),
+    }
+}
+
+// What the words that ask for nothing are refused for: what `clap` says of them by the strict table.
+fn refused<'a>(alloc: Global, words: &'a [&'a str]) -> Result<Call<'a>, WordsFault>
+    requires { LooseFails (map (λ w. w.now) words.now) }
+    ensures { IsErrAnd result (λ fault. WordsFail (map (λ w. w.now) words.entry.now) fault) }
+{
+    let _matches = vsim_command(alloc, true)?.try_get_matches_from(words)?;
+    Err(WordsFault::Unread)
+}
+
+// What the words ask for by the table in which the top and the moment may be left out.
+fn read_loose<'a>(alloc: Global, words: &'a [&'a str]) -> Result<Call<'a>, WordsFault>
+    ensures ok { IfOk result (λ call. WordsAsk (map (λ w. w.now) words.entry.now) call) }
+    ensures err { IfErr result (λ fault. IsInVain (map (λ w. w.now) words.entry.now) fault) }
+{
+    let matches = vsim_command(alloc, false)?.try_get_matches_from(words)?;
+    let (name, matches) = matches.subcommand().unwrap();
+    match call_of(alloc, name, matches) {
+        Ok(call) => Ok(call),
+        Err(fault) => Err(fault),
+    }
+}
+
 /// What the words ask for, which is always something where they have no fault; they begin with the program's own name. A fault of the words, and a
-/// call for help, is `clap`'s error, whose text is to be printed.
+/// call for help, is `clap`'s error, whose text is to be printed. Without files the top and the moment can't be left out.
 pub fn read_words<'a>(alloc: Global, words: &'a [&'a str]) -> Result<Call<'a>, WordsFault>
     ensures ok { IfOk result (λ call. WordsAsk (map (λ w. w.now) words.entry.now) call) }
     ensures err { IfErr result (λ fault. WordsFail (map (λ w. w.now) words.entry.now) fault) }
 {
-    let matches = vsim_command(alloc)?.try_get_matches_from(words)?;
-    let (name, matches) = matches.subcommand().unwrap();
-    match subcommand_of(name, matches) {
-        Ok(subcommand) => Ok(Call {
-            subcommand,
-            sources: sources_of(alloc, matches)?,
-            explains: has_flag(matches, "explain"),
-        }),
+    match read_loose(alloc, words) {
+        Ok(call) => Ok(call),
+        Err(WordsFault::Refused(error)) => match error.kind() {
+            ErrorKind::OutOfMemory => Err(WordsFault::Refused(error)),
+            _ => refused(alloc, words),
+        },
+        Err(WordsFault::Unread) => refused(alloc, words),
         Err(fault) => Err(fault),
     }
 }

@@ -1,5 +1,5 @@
--- Two executions whose dumps show different values have different traces.
-use Rattle.std.proofs.Common.{◌≡◌, ℕ, List, subst}
+-- Two executions whose dumps show different values, or of which `$strobe` prints different rows, have different traces.
+use Rattle.std.proofs.Common.{◌≡◌, ◌∙◌, ℕ, List, subst, sym}
 use Rattle.vs_design.specs.vs_logic4.specs.declared.digit.Digit.{Digit}
 use Rattle.vs_design.specs.Parts.{Parts}
 use Rattle.vs_design.specs.Traces.{SameTrace}
@@ -11,9 +11,11 @@ use Rattle.vs_law_rules.specs.vs_independence.specs.Discipline.{Independent}
 use Rattle.vs_certified.specs.vs_simulate.specs.Honesty.{Defines}
 use Rattle.vs_certified.proofs.CertifiedLemmas.{legal_at}
 use Rattle.vs_certified.proofs.TraceLemmas.{text_same}
+use Rattle.vs_race_shown.specs.vs_race_lines.specs.Strobes.{SameTracesPrintRowsAsOften}
+use Rattle.vs_race_shown.specs.declared.witness.LineWitness.{LineWitness}
 use Rattle.vs_race_shown.specs.declared.witness.Witness.{Witness}
-use Rattle.vs_race_shown.specs.Witnesses.{Gives, IsWitness}
-use Rattle.vs_race.specs.Races.{IsRace}
+use Rattle.vs_race_shown.specs.Witnesses.{Gives, IsLineWitness, IsWitness}
+use Rattle.vs_race.specs.Races.{IsLineRace, IsRace}
 
 differ : (d : Parts) (time signal : ℕ) (a b : List Digit) → ShowsOne → (one : Gives d time signal a) (other : Gives d time signal b) → (a ≡ b → ⊥) →
     SameTrace (trace d one.moves time) (trace d other.moves time) → ⊥
@@ -27,6 +29,23 @@ pub race_of : (source top : List ℕ) (d : Parts) (w : Witness) → ShowsOne →
 race_of source top d w law defined is =
     let apart : SameTrace (trace d is.first.moves w.time) (trace d is.other.moves w.time) → ⊥ =
     differ d w.time w.signal w.first w.other law is.first is.other is.unequal in
+    record {
+      design = d;
+      defined = defined;
+      witness = is;
+      traces = apart;
+      dependent = λ grain independent.
+          apart
+          (independent w.time is.first.moves is.other.moves (legal_at grain d is.first.moves is.first.statement is.first.block)
+          (legal_at grain d is.other.moves is.other.statement is.other.block) is.first.complete is.other.complete);
+    }
+
+-- and so is one in what `$strobe` prints
+pub line_race_of : (source top : List ℕ) (d : Parts) (w : LineWitness) → SameTracesPrintRowsAsOften → Defines source top d → IsLineWitness d w →
+    IsLineRace source top w
+line_race_of source top d w law defined is =
+    let apart : SameTrace (trace d is.first.moves w.time) (trace d is.other.moves w.time) → ⊥ =
+    λ same. is.unequal (sym is.first.prints ∙ law d w.time is.first.moves is.other.moves same w.row.items ∙ is.other.prints) in
     record {
       design = d;
       defined = defined;

@@ -1,3 +1,4 @@
+pub mod Dumps
 pub mod Races
 pub mod passes
 pub use Rattle.vs_race_shown

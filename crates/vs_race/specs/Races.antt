@@ -10,10 +10,11 @@ use Rattle.vs_law_rules.specs.vs_independence.specs.Discipline.{Independent}
 use Rattle.vs_certified.specs.vs_simulate.specs.Honesty.{Defines}
 use Rattle.vs_propose.specs.Proposals.{IsMade}
 use Rattle.vs_propose.specs.vs_rules.specs.Certificates.{claims_of}
+use Rattle.vs_race_shown.specs.declared.witness.LineWitness.{LineWitness}
 use Rattle.vs_race_shown.specs.declared.witness.Witness.{Witness}
-use Rattle.vs_race_shown.specs.Witnesses.{IsWitness}
+use Rattle.vs_race_shown.specs.Witnesses.{IsLineWitness, IsWitness}
 use Rattle.vs_race.specs.declared.answer.Race.{Race}
-use Rattle.vs_race.specs.declared.answer.Race.TheVariants.{Certified, Found, NotFound}
+use Rattle.vs_race.specs.declared.answer.Race.TheVariants.{Certified, Found, FoundLine, NotFound}
 
 -- a race of the design that a source and a top define: two such executions, whose traces differ, so that the design depends at each grain on the order
 -- in which permitted steps are taken
@@ -21,6 +22,14 @@ pub record IsRace (source top : List ℕ) (w : Witness) : Type 0 where
   pub design : Parts
   pub defined : Defines source top design
   pub witness : IsWitness design w
+  pub traces : SameTrace (trace design witness.first.moves w.time) (trace design witness.other.moves w.time) → ⊥
+  pub dependent : (grain : Grain) → Independent grain design → ⊥
+
+-- the same of two executions of which `$strobe` prints different lines
+pub record IsLineRace (source top : List ℕ) (w : LineWitness) : Type 0 where
+  pub design : Parts
+  pub defined : Defines source top design
+  pub witness : IsLineWitness design w
   pub traces : SameTrace (trace design witness.first.moves w.time) (trace design witness.other.moves w.time) → ⊥
   pub dependent : (grain : Grain) → Independent grain design → ⊥
 
@@ -35,4 +44,5 @@ pub record IsCertified (source top : List ℕ) (c : Certificate) : Type 0 where
 abbrev pub IsAnswer : List ℕ → List ℕ → Race → Type 0
 IsAnswer source top (Certified c) = IsCertified source top c
 IsAnswer source top (Found w refused) = IsRace source top w
+IsAnswer source top (FoundLine w refused) = IsLineRace source top w
 IsAnswer source top (NotFound missed refused) = (design : Parts) × Defines source top design

@@ -1,7 +1,7 @@
 //! What a search for a race answers.
 use vs_propose::Proposal;
 use vs_propose::vs_certificate::Certificate;
-use vs_race_shown::Witness;
+use vs_race_shown::{LineWitness, Witness};
 
 /// A search that found nothing.
 #[derive(Clone, Copy)]
@@ -19,6 +19,8 @@ pub enum Race {
     Certified(Certificate),
     /// One was found; with why no certificate was made.
     Found(Witness, Proposal),
+    /// One was found in what `$strobe` prints; with why no certificate was made.
+    FoundLine(LineWitness, Proposal),
     /// None was found, which says nothing of the design; with why no certificate was made.
     NotFound(Missed, Proposal),
 }

@@ -1,5 +1,5 @@
 //! The search for a race, from source bytes.
-ghost use Rattle.std.specs.Prelude.{◌≡◌, ◌<◌, ◌^◌, IfOk, IfErr, true};
+ghost use Rattle.std.specs.Prelude.{◌≡◌, ◌<◌, ◌^◌, IfOk, IfErr, IfSome, true};
 ghost use Rattle.vs_design.specs.OneLine.{HasNamesOfOneLine};
 ghost use Rattle.vs_vcd_reader.specs.Conditions.{IsOutlined};
 ghost use Rattle.vs_certified.specs.vs_simulate.specs.Honesty.{SimulationFails, is_refusal};
@@ -13,9 +13,10 @@ use vs_design::Design;
 use vs_law_rules::rules_make_independent;
 use vs_propose::vs_certificate::ClaimedGrain;
 use vs_propose::{Proposal, propose};
-use vs_race_shown::vs_race_orders::{Search, Sought, find};
+use vs_race_shown::vs_race_lines::{prints_at_once, same_traces_print_rows_as_often};
+use vs_race_shown::vs_race_orders::{Difference, Search, Sought, Watch, find};
 use vs_race_shown::vs_read_back::outline_is_in_order;
-use vs_race_shown::{Witness, witness_of};
+use vs_race_shown::{LineWitness, Witness, line_witness_of, witness_of};
 use vs_vcd_reader::vs_vcd_writing::shows_one_value;
 
 /// What the orders of a search show.
@@ -23,35 +24,75 @@ use vs_vcd_reader::vs_vcd_writing::shows_one_value;
 enum Sighting {
     /// A witness of a race.
     Shown(Witness),
+    /// A witness of a race in what `$strobe` prints.
+    ShownLine(LineWitness),
     /// Nothing.
     Missed(Missed),
 }
 
+// What the two orders of a difference show, where they show something.
+fn sighting_of(
+    alloc: Global,
+    design: &Design,
+    difference: Difference,
+    steps: u64,
+) -> Result<Option<Sighting>, AllocError>
+    requires outlined { IsOutlined design.now }
+    requires names { HasNamesOfOneLine design.now }
+    requires time { difference.time < 2 ^ 62 }
+    requires steps { steps < 2 ^ 62 }
+    ensures { IfOk result (λ o. IfSome o (λ s. IsSighting design.now s)) }
+{
+    if !difference.lines {
+        let shown = witness_of(alloc, design, difference, steps)?;
+        if let Some(witness) = shown {
+            return Ok(Some(Sighting::Shown(witness)));
+        }
+        return Ok(None);
+    }
+    if prints_at_once(design) {
+        return Ok(None);
+    }
+    let shown = line_witness_of(alloc, design, difference, steps)?;
+    if let Some(witness) = shown {
+        return Ok(Some(Sighting::ShownLine(witness)));
+    }
+    Ok(None)
+}
+
 // What the orders of a search show first.
-fn seek(alloc: Global, design: &Design, asked: &Search) -> Result<Sighting, AllocError>
+fn seek<W: Watch>(
+    alloc: Global,
+    design: &Design,
+    asked: &Search,
+    watch: &mut W,
+) -> Result<Sighting, AllocError>
     requires outlined { IsOutlined design.now }
     requires names { HasNamesOfOneLine design.now }
     requires until { asked.now.until < 2 ^ 62 }
     requires steps { asked.now.steps < 2 ^ 62 }
     ensures { IfOk result (IsSighting design.now) }
 {
+    let mut lines = !prints_at_once(design);
     let mut missed = Missed { tries: 0, stuck: 0 };
     for _ in 0..asked.tries {
         let Sought {
             difference,
             tries,
             stuck,
-        } = find(alloc, design, asked, missed.tries)?;
+        } = find(alloc, design, asked, missed.tries, lines, watch)?;
         missed.tries = tries;
         missed.stuck = missed.stuck.saturating_add(stuck);
         let Some(difference) = difference else {
             return Ok(Sighting::Missed(missed));
         };
         if difference.time <= asked.until {
-            let shown = witness_of(alloc, design, difference, asked.steps)?;
-            if let Some(witness) = shown {
-                return Ok(Sighting::Shown(witness));
+            let by_lines = difference.lines;
+            let seen = sighting_of(alloc, design, difference, asked.steps)?;
+            if let Some(sighting) = seen {
+                return Ok(sighting);
             }
+            lines = lines && !by_lines;
         }
     }
     Ok(Sighting::Missed(missed))
@@ -63,12 +104,15 @@ fn seek(alloc: Global, design: &Design, asked: &Search) -> Result<Sighting, Allo
 /// Where `propose` makes a certificate of grain block, there is none at that grain, and nothing is run. Else the design is run in the first order, and
 /// then in the orders of the search. Where the value change dump of one isn't that of the first order, both are run again to that moment, and their
 /// dumps are read. A race is answered with a signal that they show with different values then: so the design depends on the order of its steps at both
-/// grains. Where none was found nothing is said: another order may differ. The same arguments give the same answer.
-pub fn race<'s>(
+/// grains. Where the dumps are the same, the design has no `$display`, and its lines aren't the same, whatever their order, a race is answered with a
+/// row that they have a different number of times. Where none was found nothing is said: another order may differ. The same arguments give the same
+/// answer, whoever watches.
+pub fn race<'s, W: Watch>(
     alloc: Global,
     source: &'s [u8],
     top: &[u8],
     asked: &Search,
+    watch: &mut W,
 ) -> Result<Race, SimFault<'s>>
     requires until { asked.now.until < 2 ^ 62 }
     requires steps { asked.now.steps < 2 ^ 62 }
@@ -78,6 +122,7 @@ pub fn race<'s>(
 {
     names_of_one_line();
     shows_one_value();
+    same_traces_print_rows_as_often();
     rules_make_independent();
     let design = design_of(alloc, source, top)?;
     outline_is_in_order(&design);
@@ -86,9 +131,11 @@ pub fn race<'s>(
     match proposal {
         Proposal::Made(certificate) => Ok(Race::Certified(certificate)),
         refused => {
-            let sighting = seek(alloc, &design, asked)?;
+            let sighting = seek(alloc, &design, asked, watch)?;
+            watch.ended();
             match sighting {
                 Sighting::Shown(witness) => Ok(Race::Found(witness, refused)),
+                Sighting::ShownLine(witness) => Ok(Race::FoundLine(witness, refused)),
                 Sighting::Missed(missed) => Ok(Race::NotFound(missed, refused)),
             }
         }

@@ -1,9 +1,13 @@
 //! Who chooses: by a plan, the last item, or a place that is kept for a while.
 ghost use Rattle.std.specs.Prelude.{◌<◌};
 
+use crate::plan::Planned;
 use crate::span::Span;
 use std::alloc::Global;
 use vs_run_regions::Pick;
+
+/// The most spans that are told.
+const TOLD: usize = 65536;
 
 /// Of a hundred choices so many draw a new place, from one try to the next.
 const REDRAWN: [u64; 3] = [8, 20, 40];
@@ -34,8 +38,7 @@ enum Way {
 #[derive(Drop)]
 pub(crate) struct Chooser<'p> {
     way: Way,
-    /// The spans that are left of a plan.
-    spans: &'p [Span],
+    plan: Planned<'p>,
     place: Place,
     /// What the next number is drawn from.
     state: u64,
@@ -53,7 +56,7 @@ impl<'p> Chooser<'p> {
     fn new(alloc: Global, way: Way, spans: &'p [Span], state: u64) -> Self {
         Chooser {
             way,
-            spans,
+            plan: Planned::new(spans),
             place: Place::First,
             state,
             free: true,
@@ -105,7 +108,7 @@ impl<'p> Chooser<'p> {
         self.close();
         let Chooser {
             way: _,
-            spans: _,
+            plan: _,
             place: _,
             state: _,
             free: _,
@@ -138,35 +141,23 @@ impl<'p> Chooser<'p> {
         self.place
     }
 
-    // The place of the choice that is next by the plan.
-    fn planned_place(&mut self) -> Place {
-        if let Some((span, others)) = self.spans.split_first()
-            && span.last < self.count
-        {
-            self.spans = others;
-        }
-        match self.spans.first() {
-            Some(span) if span.first <= self.count => Place::At(span.item),
-            _ => Place::First,
-        }
-    }
-
     // The place of the next choice.
     fn next_place(&mut self) -> Place {
         if !self.free {
+            self.plan.skip();
             return Place::First;
         }
         match self.way {
-            Way::Planned => self.planned_place(),
+            Way::Planned => Place::At(self.plan.next_item()),
             Way::Last => Place::Last,
             Way::Kept(percent) => self.kept_place(percent),
         }
     }
 
-    // Puts the last choices to those that were told; what finds no memory isn't told, nor what follows.
+    // Puts the last choices to those that were told; what finds no memory or room isn't told, nor what follows.
     fn close(&mut self) {
         if let Some(span) = self.open
-            && self.told.push(span).is_err()
+            && (self.told.len() >= TOLD || self.told.push(span).is_err())
         {
             self.tells = false;
         }

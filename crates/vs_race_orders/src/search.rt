@@ -1,16 +1,22 @@
 //! The search for an order under which the dump differs.
 ghost use Rattle.std.specs.Prelude.{◌≡◌, map};
+ghost use Rattle.vs_run_moves.specs.Scripts.{AreScripts};
 
 use crate::chooser::Chooser;
 use crate::comparing::Comparing;
 use crate::shrinking::{Stage, few_choices};
 use crate::span::Span;
 use crate::trial::{Bounds, Ended, Reference, reference_of, run_trial};
+use crate::watch::Watch;
 use std::alloc::{AllocError, Global};
 use vs_design::Design;
-use vs_run_moves::codes_of;
+use vs_process::Script;
+use vs_run_moves::{codes_of, scripts_of};
 use vs_run_regions::vs_process::Code;
 use vs_vcd_writing::WriterFault;
+
+/// So many steps of all runs of a search take long: some seconds.
+const LONG: u64 = 20_000_000;
 
 /// What is sought, and how far.
 #[derive(Clone, Copy)]
@@ -27,11 +33,13 @@ pub struct Search {
     pub seed: u64,
 }
 
-/// A moment to which the dumps of the first order and of another one differ.
+/// A moment to which the dumps, or the lines, of the first order and of another one differ.
 #[derive(Drop)]
 pub struct Difference {
     /// The moment, in ticks.
     pub time: u64,
+    /// Whether the lines differ, and the dumps don't.
+    pub lines: bool,
     /// The choices of the other order; at all others the first item is chosen.
     pub choices: Vec<Span>,
 }
@@ -83,79 +91,119 @@ fn time_of(reference: &Reference, left: usize, slot: u64) -> u64 {
     slot.min(time_before(&reference.text, place))
 }
 
-// The difference of a try, to a moment: the first order is run to it again, and then the choices are made few.
+// How far runs go to a moment.
+fn bounds_to(search: &Search, until: u64, lines: bool) -> Bounds {
+    Bounds {
+        from: search.from,
+        until,
+        steps: search.steps,
+        lines,
+    }
+}
+
+/// How a try differs from the first order.
+#[derive(Clone, Copy)]
+struct Seen {
+    /// The number of the try.
+    number: u64,
+    /// The moment, in ticks.
+    time: u64,
+    /// Whether its lines differ, and its dump doesn't.
+    lines: bool,
+}
+
+// The difference of a try: the first order is run to its moment again, and then the choices are made few.
 fn difference_at(
     alloc: Global,
     design: &Design,
-    codes: &[Code],
+    scripts: &[Script],
     search: &Search,
-    number: u64,
-    time: u64,
+    seen: Seen,
 ) -> Result<Option<Difference>, WriterFault>
-    requires { codes.now ≡ map (λ p. p.body) design.now.processes }
+    requires { AreScripts design.now scripts.now }
 {
-    let bounds = Bounds {
-        from: search.from,
-        until: time,
-        steps: search.steps,
-    };
-    let reference = reference_of(alloc, design, codes, bounds)?;
+    let Seen {
+        number,
+        time,
+        lines,
+    } = seen;
+    let bounds = bounds_to(search, time, lines);
+    let reference = reference_of(alloc, design, scripts, bounds)?;
     if !reference.whole {
         return Ok(None);
     }
     let stage = Stage {
         alloc,
         design,
-        codes,
+        scripts,
         reference: &reference,
         bounds,
+        lines,
     };
     let choices = few_choices(&stage, number, search.seed)?;
-    Ok(Some(Difference { time, choices }))
+    Ok(Some(Difference {
+        time,
+        lines,
+        choices,
+    }))
 }
 
-// How a try ends, and where its dump differs: the moment.
+// How a try ends, and where it differs: in its dump, else in its lines.
 fn ended_try(
     alloc: Global,
     design: &Design,
-    codes: &[Code],
+    scripts: &[Script],
     search: &Search,
     reference: &Reference,
     number: u64,
-) -> Result<(Ended, u64), WriterFault>
-    requires { codes.now ≡ map (λ p. p.body) design.now.processes }
+    lines: bool,
+) -> Result<(Ended, Option<Seen>), WriterFault>
+    requires { AreScripts design.now scripts.now }
 {
-    let bounds = Bounds {
-        from: search.from,
-        until: search.until,
-        steps: search.steps,
-    };
+    let bounds = bounds_to(search, search.until, lines);
     let mut chooser = Chooser::of_try(alloc, number, search.seed);
     let mut sink = Comparing::new(&reference.text, reference.whole);
-    let ended = run_trial(alloc, design, codes, bounds, &mut chooser, &mut sink)?;
-    let time = match ended.differs {
-        Some(slot) => time_of(reference, sink.left(), slot),
-        None => 0,
+    let ended = run_trial(
+        alloc,
+        design,
+        scripts,
+        bounds,
+        reference,
+        &mut chooser,
+        &mut sink,
+    )?;
+    let (time, lines) = match (ended.differs, ended.lines) {
+        (Some(slot), _) => (time_of(reference, sink.left(), slot), false),
+        (None, Some(slot)) => (slot, true),
+        (None, None) => return Ok((ended, None)),
     };
-    Ok((ended, time))
+    let seen = Seen {
+        number,
+        time,
+        lines,
+    };
+    Ok((ended, Some(seen)))
 }
 
-// The first difference among the tries from a number on; these are the codes of the design's processes, one each in order.
-fn find_under(
+// Whether so many runs of so many steps take long.
+fn takes_long(steps: u64, runs: u64) -> bool {
+    steps.saturating_mul(runs) >= LONG
+}
+
+// The first difference among the tries from a number on; these are the scripts of the design's processes, one each in order.
+fn find_with<W: Watch>(
     alloc: Global,
     design: &Design,
-    codes: &[Code],
+    scripts: &[Script],
     search: &Search,
     skipped: u64,
+    lines: bool,
+    watch: &mut W,
 ) -> Result<Sought, WriterFault>
-    requires { codes.now ≡ map (λ p. p.body) design.now.processes }
+    requires { AreScripts design.now scripts.now }
 {
-    let bounds = Bounds {
-        from: 0,
-        until: search.until,
-        steps: search.steps,
-    };
-    let reference = reference_of(alloc, design, codes, bounds)?;
+    let bounds = bounds_to(search, search.until, lines);
+    let reference = reference_of(alloc, design, scripts, bounds)?;
     let mut sought = Sought {
         difference: None,
         tries: skipped,
@@ -164,14 +212,18 @@ fn find_under(
     if !reference.slots {
         return Ok(sought);
     }
+    let long = takes_long(reference.taken, search.tries);
     for number in skipped..search.tries {
-        let (ended, time) = ended_try(alloc, design, codes, search, &reference, number)?;
+        if long {
+            watch.tried(number, search.tries);
+        }
+        let (ended, seen) = ended_try(alloc, design, scripts, search, &reference, number, lines)?;
         sought.tries = number.saturating_add(1);
         if !ended.slots {
             sought.stuck = sought.stuck.saturating_add(1);
         }
-        if ended.differs.is_some() {
-            let difference = difference_at(alloc, design, codes, search, number, time)?;
+        if let Some(seen) = seen {
+            let difference = difference_at(alloc, design, scripts, search, seen)?;
             if difference.is_some() {
                 sought.difference = difference;
                 return Ok(sought);
@@ -181,18 +233,37 @@ fn find_under(
     Ok(sought)
 }
 
-/// The first difference among the orders of a search that are tried from a number on: where the dump of one isn't that of the first order. First always
-/// the last item is chosen; then a place in the list is kept, the first, the last or another one, and drawn anew at 8, 20 or 40 of a hundred choices.
-/// The order that is answered differs as little from the first one as was found within some 240 runs.
-pub fn find(
+// The same, with the scripts of the processes made from their codes, one each in order.
+fn find_under<W: Watch>(
+    alloc: Global,
+    design: &Design,
+    codes: &[Code],
+    search: &Search,
+    skipped: u64,
+    lines: bool,
+    watch: &mut W,
+) -> Result<Sought, WriterFault>
+    requires { codes.now ≡ map (λ p. p.body) design.now.processes }
+{
+    let scripts = scripts_of(alloc, design, codes)?;
+    find_with(alloc, &*design, &scripts, search, skipped, lines, watch)
+}
+
+/// The first difference among the orders of a search that are tried from a number on: where the dump of one isn't that of the first order, or where
+/// lines are compared too, its lines aren't, whatever their order. First always the last item is chosen; then a place in the list is kept, the first,
+/// the last or another one, and drawn anew at 8, 20 or 40 of a hundred choices. The order that is answered differs as little from the first one as was
+/// found within some 360 runs. Where the search takes long, it is watched.
+pub fn find<W: Watch>(
     alloc: Global,
     design: &Design,
     search: &Search,
     skipped: u64,
+    lines: bool,
+    watch: &mut W,
 ) -> Result<Sought, AllocError> {
     let codes = codes_of(alloc, design.processes())?;
     // No write to a sink that keeps nothing fails.
-    let Ok(sought) = find_under(alloc, design, &codes, search, skipped) else {
+    let Ok(sought) = find_under(alloc, design, &codes, search, skipped, lines, watch) else {
         return Err(AllocError);
     };
     Ok(sought)

@@ -1,5 +1,5 @@
-//! Orders made short: which few choices of another item than the first are enough for the dump to differ.
-ghost use Rattle.std.specs.Prelude.{◌≡◌, map};
+//! Orders made short: which few choices of another item than the first are enough for the dump, or the lines, to differ.
+ghost use Rattle.vs_run_moves.specs.Scripts.{AreScripts};
 
 use crate::chooser::Chooser;
 use crate::comparing::Comparing;
@@ -7,7 +7,7 @@ use crate::span::Span;
 use crate::trial::{Bounds, Ended, Reference, run_trial};
 use std::alloc::{AllocError, Global};
 use vs_design::Design;
-use vs_run_regions::vs_process::Code;
+use vs_process::Script;
 use vs_vcd_writing::WriterFault;
 
 /// The most runs that are made to find one delay that is enough.
@@ -24,13 +24,15 @@ const ITEMS: usize = 4;
 pub(crate) struct Stage<'a> {
     pub(crate) alloc: Global,
     pub(crate) design: &'a Design,
-    /// The codes of the design's processes, one each in order.
-    pub(crate) codes: &'a [Code<'a>],
+    /// The scripts of the design's processes, one each in order.
+    pub(crate) scripts: &'a [Script<'a>],
     pub(crate) reference: &'a Reference,
     pub(crate) bounds: Bounds,
+    /// Whether the lines are to differ, and not the dump.
+    pub(crate) lines: bool,
 }
 
-/// The choices of the slot in which the dump differs: the number of the first one, and that behind the last one.
+/// The choices of the slot in which the runs differ: the number of the first one, and that behind the last one.
 #[derive(Clone, Copy)]
 struct Choices {
     first: u64,
@@ -39,14 +41,15 @@ struct Choices {
 
 // A trial under an order.
 pub(crate) fn try_under(stage: &Stage, chooser: &mut Chooser) -> Result<Ended, WriterFault>
-    requires { stage.now.codes.now ≡ map (λ p. p.body) stage.now.design.now.processes }
+    requires { AreScripts stage.now.design.now stage.now.scripts.now }
 {
     let mut sink = Comparing::new(&stage.reference.text, stage.reference.whole);
     run_trial(
         stage.alloc,
         stage.design,
-        stage.codes,
+        stage.scripts,
         stage.bounds,
+        stage.reference,
         chooser,
         &mut sink,
     )
@@ -54,7 +57,7 @@ pub(crate) fn try_under(stage: &Stage, chooser: &mut Chooser) -> Result<Ended, W
 
 // The choices in the last slot of the first order.
 fn last_choices(stage: &Stage) -> Result<Choices, WriterFault>
-    requires { stage.now.codes.now ≡ map (λ p. p.body) stage.now.design.now.processes }
+    requires { AreScripts stage.now.design.now stage.now.scripts.now }
 {
     let mut chooser = Chooser::planned(stage.alloc, &[]);
     let ended = try_under(stage, &mut chooser)?;
@@ -64,18 +67,30 @@ fn last_choices(stage: &Stage) -> Result<Choices, WriterFault>
     })
 }
 
-// Whether the dump differs under spans: then how many choices were made.
+// Whether it differs as it is to.
+fn is_difference(stage: &Stage, ended: Ended) -> bool {
+    if stage.lines {
+        ended.lines.is_some()
+    } else {
+        ended.differs.is_some()
+    }
+}
+
+// Whether it differs under spans: then how many choices were made.
 fn differs_under(stage: &Stage, spans: &[Span]) -> Result<Option<u64>, WriterFault>
-    requires { stage.now.codes.now ≡ map (λ p. p.body) stage.now.design.now.processes }
+    requires { AreScripts stage.now.design.now stage.now.scripts.now }
 {
     let mut chooser = Chooser::planned(stage.alloc, spans);
     let ended = try_under(stage, &mut chooser)?;
-    Ok(ended.differs.map(|_| chooser.count()))
+    if is_difference(stage, ended) {
+        return Ok(Some(chooser.count()));
+    }
+    Ok(None)
 }
 
 // A delay that is enough: from one choice of the slot on the second item, to the end.
 fn delay_of(stage: &Stage, choices: Choices) -> Result<Option<Span>, WriterFault>
-    requires { stage.now.codes.now ≡ map (λ p. p.body) stage.now.design.now.processes }
+    requires { AreScripts stage.now.design.now stage.now.scripts.now }
 {
     for first in choices.first..choices.end.min(choices.first.saturating_add(DELAYS)) {
         let span = Span {
@@ -106,7 +121,7 @@ fn choice_of(choices: Choices, number: u64) -> Span {
 
 // One choice that is enough.
 fn single_of(stage: &Stage, choices: Choices) -> Result<Option<Span>, WriterFault>
-    requires { stage.now.codes.now ≡ map (λ p. p.body) stage.now.design.now.processes }
+    requires { AreScripts stage.now.design.now stage.now.scripts.now }
 {
     for number in 0..OTHERS {
         let span = choice_of(choices, number);
@@ -143,7 +158,7 @@ fn without_pieces(
     size: usize,
     runs: u64,
 ) -> Result<(Vec<Span>, u64), WriterFault>
-    requires { stage.now.codes.now ≡ map (λ p. p.body) stage.now.design.now.processes }
+    requires { AreScripts stage.now.design.now stage.now.scripts.now }
 {
     let mut kept = spans;
     let mut left = runs;
@@ -165,7 +180,7 @@ fn without_pieces(
 
 // Spans of which those are left out that aren't needed, within some runs: halves first, then smaller pieces.
 fn shortened(stage: &Stage, spans: Vec<Span>) -> Result<Vec<Span>, WriterFault>
-    requires { stage.now.codes.now ≡ map (λ p. p.body) stage.now.design.now.processes }
+    requires { AreScripts stage.now.design.now stage.now.scripts.now }
 {
     let mut kept = spans;
     let mut left = OTHERS;
@@ -184,7 +199,7 @@ fn shortened(stage: &Stage, spans: Vec<Span>) -> Result<Vec<Span>, WriterFault>
 
 // The choices of a try, as it makes them again.
 fn choices_made(stage: &Stage, number: u64, seed: u64) -> Result<Vec<Span>, WriterFault>
-    requires { stage.now.codes.now ≡ map (λ p. p.body) stage.now.design.now.processes }
+    requires { AreScripts stage.now.design.now stage.now.scripts.now }
 {
     let mut chooser = Chooser::of_try(stage.alloc, number, seed);
     chooser.tell();
@@ -199,10 +214,10 @@ fn alone(alloc: Global, span: Span) -> Result<Vec<Span>, AllocError> {
     Ok(spans)
 }
 
-/// A few choices under which the dump differs, where a try's does: a delay in the last slot, one choice there, or else what is needed of those of the
-/// try.
+/// A few choices under which the dump, or the lines, differ, where those of a try do: a delay in the last slot, one choice there, or else what is needed
+/// of those of the try.
 pub(crate) fn few_choices(stage: &Stage, number: u64, seed: u64) -> Result<Vec<Span>, WriterFault>
-    requires { stage.now.codes.now ≡ map (λ p. p.body) stage.now.design.now.processes }
+    requires { AreScripts stage.now.design.now stage.now.scripts.now }
 {
     let choices = last_choices(stage)?;
     if let Some(span) = delay_of(stage, choices)? {

@@ -9,13 +9,14 @@ use crate::tracks::Tracks;
 use std::alloc::{AllocError, Global};
 use vs_design::Design;
 use vs_process::TextMap;
+use vs_race_orders::{Planned, Span};
 use vs_run_active::vs_process::Code;
 use vs_run_events::Region;
 use vs_run_events::vs_run_assigns::Forms;
 use vs_run_moves::vs_run_regions::Due;
 use vs_run_moves::vs_run_regions::vs_time_wheel::{EventQueue, Wheel};
 use vs_run_moves::{codes_of, running_of, scripts_of};
-use vs_run_regions::{Listed, Pick};
+use vs_run_regions::Pick;
 use vs_run_steps::RunState;
 use vs_vcd_writing::WriterFault;
 
@@ -172,7 +173,7 @@ fn log_under(
     design: &Design,
     maps: &[TextMap],
     codes: &[Code],
-    choices: &[usize],
+    choices: &[Span],
     stage: Stage,
 ) -> Result<Log, WriterFault>
     requires { codes.now ≡ map (λ p. p.body) design.now.processes }
@@ -184,7 +185,7 @@ fn log_under(
     let forms = Forms::of(alloc, &*design)?;
     let mut run = running_of(alloc, &*design, &scripts, queue, &[], Vec::new(alloc))?;
     let mut order = order_of(alloc, design, &mut run)?;
-    let mut policy = Listed::new(choices);
+    let mut policy = Planned::new(choices);
     let left = run_to(&mut run, &forms, &mut order, &mut policy, stage)?;
     log_slot(
         alloc,
@@ -204,7 +205,7 @@ fn log_mapped<'x>(
     alloc: Global,
     design: &Design,
     codes: &'x [Code<'x>],
-    choices: &[usize],
+    choices: &[Span],
     stage: Stage,
 ) -> Result<Log, WriterFault>
     requires { codes.now ≡ map (λ p. p.body) design.now.processes }
@@ -218,7 +219,7 @@ fn log_lent(
     alloc: Global,
     design: &Design,
     codes: &[Code],
-    choices: &[usize],
+    choices: &[Span],
     stage: Stage,
 ) -> Result<Log, WriterFault>
     requires { codes.now ≡ map (λ p. p.body) design.now.processes }
@@ -226,11 +227,11 @@ fn log_lent(
     log_mapped(alloc, design, &*codes, choices, stage)
 }
 
-/// The events of a slot of a run that makes these choices, and chooses the first event after them.
+/// The events of a slot of a run that makes these choices, and at all others chooses the first event.
 pub(crate) fn log_of(
     alloc: Global,
     design: &Design,
-    choices: &[usize],
+    choices: &[Span],
     stage: Stage,
 ) -> Result<Log, AllocError> {
     let codes = codes_of(alloc, design.processes())?;

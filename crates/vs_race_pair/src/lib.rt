@@ -14,4 +14,5 @@ mod tracks;
 mod walk;
 mod words;
 
+pub use vs_race_orders::Span;
 pub use words::{Asked, put_pair};

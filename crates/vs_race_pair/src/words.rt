@@ -7,9 +7,10 @@ use crate::walk::{Logs, Pair, Side, pair_of};
 use std::alloc::{AllocError, Global};
 use vs_design::vs_logic4::{Digit, Vec4};
 use vs_design::{Design, Process};
-use vs_explain_places::vs_explain_outline::{Page, SourceText, ordinal_of, spot_of};
+use vs_explain_places::vs_explain_outline::{Page, SourceText, ordinal_of};
 use vs_explain_places::{found, place_of, put_code, statement_tokens};
 use vs_lexer::{Kind, Mark, Word};
+use vs_race_orders::Span;
 
 /// The most bits of a word.
 const WIDEST: u32 = 64;
@@ -25,8 +26,8 @@ pub struct Asked<'c> {
     pub first: Vec4,
     /// That in the other run.
     pub other: Vec4,
-    /// The choices of the other run; after them it chooses the first event.
-    pub choices: &'c [usize],
+    /// The choices of the other run, in spans that rise; at all others it chooses the first event.
+    pub choices: &'c [Span],
     /// The most steps of a run.
     pub steps: u64,
 }
@@ -43,12 +44,6 @@ fn put_value(page: &mut Page, value: Vec4) {
             _ => "x",
         });
     }
-}
-
-// Puts a line of the source.
-fn put_line(page: &mut Page, text: &SourceText, place: usize) {
-    page.put("line ");
-    page.put_shown(spot_of(text.bytes, place).line);
 }
 
 // The token of a statement of a process, where the text has it.
@@ -139,7 +134,7 @@ fn put_step(
     page.put(" (");
     page.put_bytes(&process.name);
     page.put(", ");
-    put_line(page, text, text.place_at(token));
+    page.put_line(text.place_at(token));
     page.put(")");
 }
 
@@ -185,7 +180,7 @@ fn put_evaluation(
     }
     if let Some(place) = place {
         page.put(if named { ", " } else { "" });
-        put_line(page, text, place);
+        page.put_line(place);
     }
     page.put(")");
 }
@@ -346,7 +341,7 @@ fn tell_missed(
         page.put(" at ");
         put_head(page, text, token);
         page.put(" (");
-        put_line(page, text, text.place_at(token));
+        page.put_line(text.place_at(token));
         page.put(")");
     }
     page.put(", which so misses it\n");

@@ -68,7 +68,8 @@ whole_text : (d : Parts) (moves : List Move) (time : ℕ) → is_complete time (
 whole_text d moves time complete =
     ap (λ (b : Bool). if b then vcd_text d (trace d moves time) time else vcd_header d ++ vcd_slots d (slots d moves)) complete
 
-appended : (old new : Option (List ℕ)) (text all : List ℕ) → old ≡ Some [] → new ≡ Some text → Appends old new all → text ≡ all
+-- the bytes that were appended to none
+pub appended : (old new : Option (List ℕ)) (text all : List ℕ) → old ≡ Some [] → new ≡ Some text → Appends old new all → text ≡ all
 appended old new text all from to h =
     let begun : Appends (Some []) new all = subst (λ (o : Option (List ℕ)). Appends o new all) from h in
     subst (λ (o : Option (List ℕ)). Appends (Some []) o all) to begun

@@ -1,3 +1,4 @@
 mod GiveLemmas
+mod PrintLemmas
 mod UnequalLemmas
 mod ValueLemmas

@@ -1,2 +1,3 @@
 pub mod Witnesses
 pub mod passes
+pub use Rattle.vs_race_lines

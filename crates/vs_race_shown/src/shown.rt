@@ -1,11 +1,11 @@
 //! What the dump of a run shows at a moment.
 ghost use Rattle.std.specs.Prelude.{◌≡◌, ◌<◌, ◌^◌, IfOk, IfSome};
 ghost use Rattle.vs_design.specs.OneLine.{HasNamesOfOneLine};
-ghost use Rattle.vs_read_back.specs.BackReadBack.{is_whole};
 ghost use Rattle.vs_vcd_reader.specs.Conditions.{IsOutlined};
 ghost use Rattle.vs_race_shown.specs.Witnesses.{IsWitness};
 ghost use Rattle.vs_race_shown.specs.passes.Unequal.{Give};
 
+use crate::runs::{Unshown, is_whole, run_to};
 use crate::unequal::first_unequal;
 use crate::values::values_at;
 use crate::witness::Witness;
@@ -14,44 +14,16 @@ use vs_design::Design;
 use vs_design::vs_logic4::Vec4;
 use vs_kernel::vs_run_steps::Dropped;
 use vs_kernel::vs_vcd_writing::Counted;
-use vs_kernel::{Outcome, dumps_show_slot_ends};
-use vs_race_orders::{Difference, choices_of};
-use vs_read_back::vs_simulate::{Policy, run_design};
+use vs_kernel::{Fifo, Pick, dumps_show_slot_ends};
+use vs_race_orders::{Difference, Planned};
 use vs_read_back::{complete_runs_end_slots, run_dumps_are_read};
 use vs_vcd_reader::read;
 
-// Whether a run went to its end.
-fn is_whole(outcome: Outcome) -> bool
-    ensures { result ≡ is_whole outcome }
-{
-    match outcome {
-        Outcome::Reached => true,
-        Outcome::Quiet => true,
-        Outcome::Finished(_) => true,
-        Outcome::StepLimit(_) => false,
-    }
-}
-
-// Why a run shows no values.
-#[derive(Clone, Copy)]
-enum Unshown {
-    /// A growth of memory was refused.
-    Memory,
-    /// The steps don't suffice, or the dump has no time at or before the moment.
-    Limit,
-}
-
-impl From<AllocError> for Unshown {
-    fn from(_cause: AllocError) -> Unshown {
-        Unshown::Memory
-    }
-}
-
 // The values of all signals that are no arrays at a moment, in design order, in the dump of a run under a policy; none where the steps don't suffice.
-fn shown_under(
+fn shown_under<P: Pick + Drop>(
     alloc: Global,
     design: &Design,
-    policy: &Policy,
+    policy: P,
     time: u64,
     steps: u64,
 ) -> Result<Option<Vec<Vec4>>, AllocError>
@@ -66,7 +38,7 @@ fn shown_under(
     complete_runs_end_slots();
     let room = Vec::new(alloc);
     let mut vcd = Counted::new(room);
-    let Ok(outcome) = run_design(alloc, design, policy, time, steps, &mut vcd, &mut Dropped) else {
+    let Ok(outcome) = run_to(alloc, design, policy, time, steps, &mut vcd, &mut Dropped) else {
         return Err(AllocError);
     };
     if !is_whole(outcome) {
@@ -80,10 +52,10 @@ fn shown_under(
 }
 
 // The same, where there are some.
-fn values_under(
+fn values_under<P: Pick + Drop>(
     alloc: Global,
     design: &Design,
-    policy: &Policy,
+    policy: P,
     time: u64,
     steps: u64,
 ) -> Result<Vec<Vec4>, Unshown>
@@ -113,11 +85,13 @@ fn witness_between(
     requires steps { steps < 2 ^ 62 }
     ensures { IfOk result (λ o. IfSome o (λ w. IsWitness design.now w)) }
 {
-    let Difference { time, choices } = difference;
-    let list = choices_of(alloc, &choices, steps)?;
-    let first = values_under(alloc, design, &Policy::Fifo, time, steps)?;
-    let policy = Policy::Listed(&list);
-    let other = values_under(alloc, design, &policy, time, steps)?;
+    let Difference {
+        time,
+        lines: _,
+        choices,
+    } = difference;
+    let first = values_under(alloc, design, Fifo, time, steps)?;
+    let other = values_under(alloc, design, Planned::new(&choices), time, steps)?;
     let one = first.as_slice();
     let two = other.as_slice();
     let signals = design.signals();

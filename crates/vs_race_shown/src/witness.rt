@@ -1,4 +1,6 @@
-//! What the dumps of two orders show.
+//! What the dumps and the lines of two orders show.
+ghost use Rattle.std.specs.Prelude.{◌<◌, ◌^◌};
+
 use vs_design::vs_logic4::Vec4;
 use vs_race_orders::Span;
 
@@ -17,4 +19,22 @@ pub struct Witness {
     pub other: Vec4,
     /// The choices of the other order. At all others the first event is next.
     pub choices: Vec<Span>,
+    pub ghost early: { time < 2 ^ 62 },
+}
+
+/// Two orders under which `$strobe` prints a row a different number of times to a moment, in a design without `$display`: the first order, in which the
+/// first enabled event is always next, and another one.
+#[derive(Drop)]
+pub struct LineWitness {
+    /// The moment, in ticks. Both executions are complete to it.
+    pub time: u64,
+    /// The row, without its line feed.
+    pub row: Vec<u8>,
+    /// How often it is printed in the first order.
+    pub first: u64,
+    /// How often in the other one.
+    pub other: u64,
+    /// The choices of the other order. At all others the first event is next.
+    pub choices: Vec<Span>,
+    pub ghost early: { time < 2 ^ 62 },
 }

@@ -1,7 +1,9 @@
 //! Rows of calls of the program that name files: its status, and what it writes.
 use std::alloc::{AllocError, Global};
-use vs_program::program_on;
+use vs_program::vs_outputs::Sheet;
 use vs_program::vs_preprocess::Shelf;
+use vs_program::vs_race::Unwatched;
+use vs_program::{Writers, program_on};
 use vs_row_files::{Answers, Text, files_of};
 
 /// Who calls the program.
@@ -34,12 +36,47 @@ fn put_call(
     let mut err = Vec::new(alloc);
     let input = input_of(files);
     let mut shelf = Shelf { files };
-    let (status, _) = program_on(alloc, &list, &mut shelf, input, &mut out, &mut err);
+    let writers = Writers {
+        out: &mut out,
+        is_terminal: false,
+        text: Sheet::new(alloc),
+        dump: Sheet::new(alloc),
+        other: Sheet::new(alloc),
+    };
+    let (status, writers) = program_on(
+        alloc,
+        &list,
+        &mut shelf,
+        input,
+        writers,
+        &mut Unwatched,
+        &mut err,
+    );
+    let Writers {
+        out: _,
+        is_terminal: _,
+        text: written,
+        dump,
+        other,
+    } = writers;
     text.put_shown(status);
     text.put(b"\n");
     text.put(&out);
     text.put(&err);
+    put_sheet(&written, text);
+    put_sheet(&dump, text);
+    put_sheet(&other, text);
     Ok(())
+}
+
+/// Puts a file that was written: its name, and what it holds.
+fn put_sheet(sheet: &Sheet, text: &mut Text) {
+    if let Some(name) = &sheet.name {
+        text.put(b"--- file ");
+        text.put(name);
+        text.put(b"\n");
+        text.put(&sheet.bytes);
+    }
 }
 
 /// The files of a question, each with a name of its own.

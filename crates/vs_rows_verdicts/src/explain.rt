@@ -3,7 +3,8 @@ use std::alloc::{AllocError, Global};
 use vs_certificate::from_json;
 use vs_explain::vs_simulate::list_design;
 use vs_explain::{
-    explain, explain_after, explain_certificate, explain_limit, explain_others, explain_rule,
+    Further, Offender, Stands, explain, explain_after, explain_certificate, explain_limit,
+    explain_rule,
 };
 use vs_row_files::{Answers, Text, first_and_rest};
 use vs_vcd_writing::Counted;
@@ -17,7 +18,10 @@ fn refused(alloc: Global, top: &str, source: &str) -> Result<Vec<u8>, AllocError
     let mut lines = Counted::new(Vec::new(alloc));
     match list_design(alloc, source.as_bytes(), top.as_bytes(), &mut lines) {
         Ok(()) => Ok(Vec::new(alloc)),
-        Err(fault) => explain(alloc, source.as_bytes(), top.as_bytes(), &fault),
+        Err(fault) => {
+            let explained = explain(alloc, source.as_bytes(), top.as_bytes(), &fault)?;
+            explained.plain(alloc, source.as_bytes(), &[])
+        }
     }
 }
 
@@ -27,51 +31,57 @@ fn refused_after(alloc: Global, top: &str, question: &str) -> Result<Vec<u8>, Al
     let mut lines = Counted::new(Vec::new(alloc));
     match list_design(alloc, source.as_bytes(), top.as_bytes(), &mut lines) {
         Ok(()) => Ok(Vec::new(alloc)),
-        Err(fault) => explain_after(
-            alloc,
-            certificate.as_bytes(),
-            source.as_bytes(),
-            top.as_bytes(),
-            &fault,
-        ),
+        Err(fault) => {
+            let explained = explain_after(
+                alloc,
+                certificate.as_bytes(),
+                source.as_bytes(),
+                top.as_bytes(),
+                &fault,
+            )?;
+            explained.plain(alloc, source.as_bytes(), certificate.as_bytes())
+        }
     }
 }
 
 /// What is said of a certificate, on the first line, whose rule of this number is broken at a place of the source after it.
-fn broken(alloc: Global, words: &str, question: &str) -> Result<Vec<u8>, AllocError> {
+fn broken(
+    alloc: Global,
+    words: &str,
+    question: &str,
+    further: Further,
+) -> Result<Vec<u8>, AllocError> {
     let (certificate, source) = first_and_rest(question, "\n");
     let (number, rest) = first_and_rest(words, " ");
     let (top, place) = first_and_rest(rest, " ");
-    explain_rule(
-        alloc,
-        source.as_bytes(),
-        top.as_bytes(),
-        certificate.as_bytes(),
-        number.parse().ok().unwrap_or(0),
-        place.as_bytes(),
-    )
+    let offender = Offender {
+        certificate: certificate.as_bytes(),
+        number: number.parse().ok().unwrap_or(0),
+        place: place.as_bytes(),
+    };
+    let explained = explain_rule(alloc, source.as_bytes(), top.as_bytes(), offender, further)?;
+    explained.plain(alloc, source.as_bytes(), certificate.as_bytes())
 }
 
-/// What is said of the further subjects that break rules of a certificate, on the first line, beside the one of this rule and name.
+/// What is said of the further subjects that break rules of a certificate, on the first line, behind what is said of the one of this rule and name.
 fn others(alloc: Global, words: &str, question: &str) -> Result<Vec<u8>, AllocError> {
-    let (certificate, source) = first_and_rest(question, "\n");
-    let (number, rest) = first_and_rest(words, " ");
-    let (top, place) = first_and_rest(rest, " ");
-    explain_others(
-        alloc,
-        source.as_bytes(),
-        top.as_bytes(),
-        certificate.as_bytes(),
-        number.parse().ok().unwrap_or(0),
-        place.as_bytes(),
-    )
+    let first = broken(alloc, words, question, Further::Left)?;
+    let all = broken(alloc, words, question, Further::Told)?;
+    match all.strip_prefix(first.as_slice()) {
+        Some(others) => Vec::from_slice(alloc, others),
+        None => Ok(all),
+    }
 }
 
 /// What is said of bytes that are no certificate; nothing of those that are one.
 fn malformed(alloc: Global, question: &str) -> Result<Vec<u8>, AllocError> {
     match from_json(alloc, question.as_bytes()) {
         Ok(_) => Ok(Vec::new(alloc)),
-        Err(fault) => explain_certificate(alloc, question.as_bytes(), fault),
+        Err(fault) => {
+            let certificate = question.as_bytes();
+            let explained = explain_certificate(alloc, certificate, Stands::First, fault)?;
+            explained.plain(alloc, &[], certificate)
+        }
     }
 }
 
@@ -79,14 +89,15 @@ fn malformed(alloc: Global, question: &str) -> Result<Vec<u8>, AllocError> {
 fn limited(alloc: Global, words: &str, question: &str) -> Result<Vec<u8>, AllocError> {
     let (top, rest) = first_and_rest(words, " ");
     let (steps, time) = first_and_rest(rest, " ");
-    explain_limit(
+    let explained = explain_limit(
         alloc,
         question.as_bytes(),
         top.as_bytes(),
         false,
         steps.parse().ok().unwrap_or(0),
         time.parse().ok().unwrap_or(0),
-    )
+    )?;
+    explained.plain(alloc, question.as_bytes(), &[])
 }
 
 impl Answers for Explains {
@@ -94,7 +105,7 @@ impl Answers for Explains {
         let alloc = text.alloc();
         let (kind, rest) = first_and_rest(words, " ");
         let explained = match kind {
-            "rule" => broken(alloc, rest, question),
+            "rule" => broken(alloc, rest, question, Further::Left),
             "others" => others(alloc, rest, question),
             "certificate" => malformed(alloc, question),
             "limit" => limited(alloc, rest, question),

@@ -2,7 +2,7 @@
 use std::alloc::{AllocError, Global};
 use vs_explain::{Asked, explain_pair};
 use vs_race::vs_simulate::{Policy, simulate};
-use vs_race::{Race, Search, Span, Witness, choices_of, race};
+use vs_race::{LineWitness, Race, Search, Span, Unwatched, Witness, choices_of, race};
 use vs_row_files::{Answers, Text, first_and_rest};
 use vs_run_steps::Dropped;
 use vs_vcd_writing::Counted;
@@ -86,6 +86,77 @@ fn put_race(source: &[u8], top: &[u8], witness: &Witness, tells: bool, text: &mu
     }
 }
 
+/// What a run to a moment prints.
+fn lines_of(
+    alloc: Global,
+    source: &[u8],
+    top: &[u8],
+    time: u64,
+    policy: &Policy,
+) -> Option<Vec<u8>> {
+    if time >= 1 << 62 {
+        return None;
+    }
+    let mut lines = Counted::new(Vec::new(alloc));
+    let answered = simulate(
+        alloc,
+        source,
+        top,
+        time,
+        STEPS,
+        policy,
+        &mut Dropped,
+        &mut lines,
+    );
+    match answered {
+        Ok(_) => Some(lines.into_inner()),
+        Err(_) => None,
+    }
+}
+
+/// How often a row stands in a text.
+fn count_of(text: &[u8], row: &[u8]) -> u64 {
+    let mut count: u64 = 0;
+    for line in text.split(|byte| *byte == b'\n') {
+        if line == row {
+            count = count.saturating_add(1);
+        }
+    }
+    count
+}
+
+/// Whether the runs under the two orders of a race in what `$strobe` prints print a row so often.
+fn is_printed(alloc: Global, source: &[u8], top: &[u8], witness: &LineWitness) -> bool {
+    let Ok(choices) = choices_of(alloc, &witness.choices, STEPS) else {
+        return false;
+    };
+    let row = witness.row.as_slice();
+    let first = lines_of(alloc, source, top, witness.time, &Policy::Fifo);
+    let other = lines_of(alloc, source, top, witness.time, &Policy::Listed(&choices));
+    match (first, other) {
+        (Some(one), Some(two)) => {
+            count_of(&one, row) == witness.first && count_of(&two, row) == witness.other
+        }
+        _ => false,
+    }
+}
+
+/// Puts a race in what `$strobe` prints: whether both runs print it; then the row, the moment and how often.
+fn put_line_race(source: &[u8], top: &[u8], witness: &LineWitness, text: &mut Text) {
+    if !is_printed(text.alloc(), source, top, witness) {
+        text.put(b"a race that its orders don't show");
+        return;
+    }
+    text.put(b"a race of lines `");
+    text.put(&witness.row);
+    text.put(b"` to ");
+    text.put_shown(witness.time);
+    text.put(b": ");
+    text.put_shown(witness.first);
+    text.put(b" or ");
+    text.put_shown(witness.other);
+}
+
 /// The two lines on the events whose order makes the difference of a race.
 fn pair_text(
     alloc: Global,
@@ -93,16 +164,15 @@ fn pair_text(
     top: &[u8],
     witness: &Witness,
 ) -> Result<Vec<u8>, AllocError> {
-    let choices = choices_of(alloc, &witness.choices, STEPS)?;
     let asked = Asked {
         time: witness.time,
         signal: witness.signal,
         first: witness.first,
         other: witness.other,
-        choices: &choices,
+        choices: &witness.choices,
         steps: STEPS,
     };
-    explain_pair(alloc, source, top, &asked)
+    explain_pair(alloc, source, top, &asked)?.plain(alloc, source, &[])
 }
 
 /// Puts the signal and the moment of a race, and the lines on its two events, one behind another.
@@ -135,7 +205,13 @@ impl Answers for Races {
             tries: u64::from(tries),
             seed: 0,
         };
-        let answered = race(text.alloc(), question.as_bytes(), top.as_bytes(), &search);
+        let answered = race(
+            text.alloc(),
+            question.as_bytes(),
+            top.as_bytes(),
+            &search,
+            &mut Unwatched,
+        );
         match &answered {
             Ok(Race::Certified(_)) => text.put(b"certified"),
             Ok(Race::Found(witness, _)) if kind == "pair" => {
@@ -149,6 +225,9 @@ impl Answers for Races {
                     kind == "told",
                     text,
                 )
+            }
+            Ok(Race::FoundLine(witness, _)) => {
+                put_line_race(question.as_bytes(), top.as_bytes(), witness, text)
             }
             Ok(Race::NotFound(_, _)) => text.put(b"none found"),
             Err(_) => text.put(b"refused"),

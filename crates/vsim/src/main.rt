@@ -1,10 +1,12 @@
 //! The program `vsim`.
 #![tactic(auto)]
 
+use std::io::IsTerminal;
 use std::process::ExitCode;
 use std::{env, io};
+use vs_program::vs_outputs::DiskFile;
 use vs_program::vs_preprocess::Disk;
-use vs_program::{program_on, refuse_start};
+use vs_program::{Counting, Writers, program_on, refuse_start};
 
 /// Runs the program on the words of the call and the standard streams, and answers its exit status.
 fn run(rt: &HostRuntime) -> io::Result<u8> {
@@ -15,12 +17,21 @@ fn run(rt: &HostRuntime) -> io::Result<u8> {
         texts.push(word.as_str())?;
     }
     let mut disk = Disk { runtime: rt };
+    let mut watch = Counting::new(rt.stderr(), rt.stderr().is_terminal());
+    let writers = Writers {
+        out: rt.stdout(),
+        is_terminal: rt.stdout().is_terminal(),
+        text: DiskFile::new(rt),
+        dump: DiskFile::new(rt),
+        other: DiskFile::new(rt),
+    };
     let (status, _) = program_on(
         alloc,
         &texts,
         &mut disk,
         rt.stdin(),
-        rt.stdout(),
+        writers,
+        &mut watch,
         rt.stderr(),
     );
     Ok(status)

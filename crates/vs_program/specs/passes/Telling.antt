@@ -11,5 +11,6 @@ abbrev pub TellsWords : WordsFault → Option (List ℕ) → Option (List ℕ) �
 TellsWords (fault.Refused e) old new status =
     ((status ≡ 3) ⊎ (status ≡ words_status (kind_of e))) × ((words_status (kind_of e) ≡ 0) ⊎ Keeps old new)
 TellsWords fault.OrderOfCertified old new status = Keeps old new × (status ≡ 64)
-TellsWords fault.Choices old new status = Keeps old new × (status ≡ 64)
+TellsWords fault.TwoDumps old new status = Keeps old new × (status ≡ 64)
+TellsWords fault.Unread old new status = Keeps old new × (status ≡ 64)
 TellsWords fault.Memory old new status = Keeps old new × (status ≡ 3)

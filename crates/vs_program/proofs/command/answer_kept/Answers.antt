@@ -1,33 +1,21 @@
-use Rattle.std.proofs.Common.{◌∙◌, List, ℕ, ap, subst, sym}
-use Rattle.std.specs.Prelude.{false, ◌≡◌, Option}
-use Rattle.std.specs.Io.KnownBytes.{Keeps}
-use Rattle.std.proofs.KnownBytes.{Keeps-refl}
-use Rattle.vs_certified.specs.Certified.{is_before_run}
-use Rattle.vs_program.specs.Buffers.{all_bytes}
-use Rattle.vs_program.specs.Ends.{HasBegunWriting, HasWritten}
-use Rattle.vs_program.proofs.Ends.{ends_by_doing, ends_by_fault}
+use Rattle.std.proofs.Common.{ap, refl}
+use Rattle.vs_program.proofs.Ends.{ends_in_file, ends_making, ends_on_out, keeps_same, other_call}
 use Rattle.vs_program.proofs.command.answer_kept.Goals as goal
 
-pub returns-in-Ok-do_call : goal.returns-in-Ok-do_call
-returns-in-Ok-do_call g c =
-    let contents = g.O.Write.contents in
-    let call = c.args.call.now.subcommand in
-    let text = all_bytes contents c.do_call.new.shown in
-    ends_by_doing (contents c.args.out) text (contents c.finish.result.1) c.in-Ok-do_call.done call c.args.kept.now.certificate.items c.args.kept.now.source.items c.finish.result.0
-    (subst (λ (old : Option (List ℕ)). HasWritten c.args.kept.now.source.items c.args.kept.now.certificate.items call c.in-Ok-do_call.done old text) c.new-buffer.ensures.bytes
-    (rw (c.deref.ensures.value, c.deref-2.ensures.value) at c.in-Ok-do_call.ensures.ok)) c.finish.ensures
+pub returns-in-None : goal.returns-in-None
+returns-in-None g c =
+    let call = c.args.call.now in
+    ends_on_out c.args.kept.now.certificate.items c.args.kept.now.source.items call.outputs call.subcommand _ _ c.answer_shown.result.0 c.in-None.is
+    c.answer_shown.ensures.ends (keeps_same _ _ (ap g.F.OutputFile.bytes c.answer_shown.ensures.kept))
 
-pub returns-in-Err : goal.returns-in-Err
-returns-in-Err g c =
-    let contents = g.O.Write.contents in
-    let call = c.args.call.now.subcommand in
-    let kept = c.args.kept.now in
-    let text = all_bytes contents c.do_call.new.shown in
-    ends_by_fault (contents c.args.out) text (contents c.give_up.result.1) c.in-Err.fault call kept.certificate.items kept.source.items c.give_up.result.0
-    (rw (c.deref.ensures.value, c.deref-2.ensures.value) at c.in-Err.ensures.err)
-    (λ refused. subst (Keeps (contents c.args.out))
-    (sym (c.give_up.ensures.refused refused ∙ ap (λ b. contents b.writer) (c.in-Err.ensures.refused refused) ∙ ap contents c.new-buffer.ensures.writer))
-    (Keeps-refl (contents c.args.out)))
-    (subst (λ (old : Option (List ℕ)). is_before_run c.in-Err.fault ≡ false → HasBegunWriting kept.source.items kept.certificate.items call old text) c.new-buffer.ensures.bytes
-    (rw (c.deref.ensures.value, c.deref-2.ensures.value) at c.in-Err.ensures.begun))
-    c.give_up.ensures.begun c.give_up.ensures.status
+pub returns-in-Certify : goal.returns-in-Certify
+returns-in-Certify g c =
+    let call = c.args.call.now in
+    ends_making c.args.kept.now.certificate.items c.args.kept.now.source.items _ call.outputs call.subcommand c.in-Certify.top c.in-Certify.grain c.in-Some.name _ _ _
+    c.in-Some.is c.in-Certify.is refl c.certify_in_file.ensures
+
+pub returns : goal.returns
+returns g c =
+    let call = c.args.call.now in
+    ends_in_file c.args.kept.now.certificate.items c.args.kept.now.source.items call.outputs call.subcommand c.in-Some.name _ _ _ c.in-Some.is
+    (other_call call.subcommand c.in_default.not-Certify) c.answer_in_file.ensures.ends (keeps_same _ _ (ap g.O.Write.contents c.answer_in_file.ensures.kept))

@@ -2,16 +2,17 @@ use Rattle.std.proofs.Common.{ℕ, List, ◌≡◌, ◌∙◌, ap, sym, ◌⊎�
 use Rattle.std.proofs.Math.Nat.{suc-ne-zero}
 use Rattle.std.specs.Prelude.{Option}
 use Rattle.std.specs.Io.KnownBytes.{Keeps}
+use Rattle.std.proofs.KnownBytes.{Keeps-refl}
 use Rattle.clap.specs.Words.{kind_of}
 use Rattle.clap.specs.declared.error.Error.{Error}
 use Rattle.clap.specs.declared.error.kind.ErrorKind.{ErrorKind}
 use Rattle.clap.specs.declared.error.kind.ErrorKind.TheVariants.{OutOfMemory}
 use Rattle.vs_program.specs.Statuses.{words_status}
 use Rattle.vs_program_words.specs.Asks.{HaveFault, WordsFail}
-use Rattle.vs_program.specs.Ends.{EndsWords, by_kind, by_choices, by_order, by_memory, by_help, with_call, without_call}
+use Rattle.vs_program.specs.Ends.{EndsWords, by_kind, by_dumps, by_order, by_words, by_memory, by_help, with_call, without_call}
 use Rattle.vs_program.specs.passes.Telling.{TellsWords}
 use Rattle.vs_program_words.specs.declared.words.WordsFault.{WordsFault}
-use Rattle.vs_program_words.specs.declared.words.WordsFault.TheVariants.{Choices, Memory, OrderOfCertified, Refused}
+use Rattle.vs_program_words.specs.declared.words.WordsFault.TheVariants.{Memory, OrderOfCertified, Refused, TwoDumps, Unread}
 use Rattle.vs_program.proofs.command.program_on.Goals as goal
 
 -- want of memory is no help
@@ -41,11 +42,12 @@ told_error words e old new status (inr fault) (inr is) kept = by_kind (kind_of e
 told_fault : (words : List (List ℕ)) (f : WordsFault) (old new : Option (List ℕ)) (status : ℕ) → WordsFail words f → TellsWords f old new status → EndsWords words old new status
 told_fault words (Refused e) old new status fails told = told_error words e old new status fails told.0 told.1
 told_fault words OrderOfCertified old new status fails told = by_order fails told.0 told.1
-told_fault words Choices old new status fails told = by_choices fails told.0 told.1
+told_fault words TwoDumps old new status fails told = by_dumps fails told.0 told.1
+told_fault words Unread old new status fails told = by_words fails told.0 told.1
 told_fault words Memory old new status fails told = by_memory told.0 told.1
 
 pub returns-in-Ok : goal.returns-in-Ok
 returns-in-Ok g c = with_call c.in-Ok.call c.in-Ok.ensures.ok c.answer_call.ensures
 
 pub returns-in-Err : goal.returns-in-Err
-returns-in-Err g c = without_call (told_fault _ c.in-Err.fault _ _ c.tell_words.result.0 c.in-Err.ensures.err c.tell_words.ensures)
+returns-in-Err g c = without_call (told_fault _ c.in-Err.fault _ _ c.tell_words-status.result.0 c.in-Err.ensures.err c.tell_words-status.ensures) (Keeps-refl _) (Keeps-refl _)

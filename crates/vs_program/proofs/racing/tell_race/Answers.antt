@@ -1,25 +1,12 @@
-use Rattle.std.proofs.Common.{◌≡◌, ◌∙◌, Bool, true, false, ℕ, List, inr, refl, subst, sym}
-use Rattle.std.proofs.lemmas.Bool.{false≢true}
+use Rattle.std.proofs.Common.{ℕ, List, inr, refl, subst, sym}
 use Rattle.std.proofs.lemmas.Result.{err_from_is_err_and}
 use Rattle.std.specs.Io.KnownBytes.{Appends}
 use Rattle.vs_certified.specs.vs_vcd_writing.specs.Sinks.{AppendsPart}
-use Rattle.vs_design.specs.Parts.{Parts}
-use Rattle.vs_explain.specs.vs_simulate.specs.Honesty.{Defines, SimulationFails, is_refusal}
+use Rattle.vs_certified.specs.vs_simulate.specs.Honesty.{SimulationFails, is_refusal}
 use Rattle.vs_race.specs.Races.{IsAnswer}
-use Rattle.vs_race.specs.declared.answer.Race.{Race}
-use Rattle.vs_race.specs.declared.answer.Race.TheVariants.{Certified, Found, NotFound}
 use Rattle.vs_program.proofs.Fails.{if_err}
+use Rattle.vs_program.proofs.RacingLemmas.{defined_of, not_late}
 use Rattle.vs_program.proofs.racing.tell_race.Goals as goal
-
--- what is answered is of a source that defines a design
-defined_of : (source top : List ℕ) (r : Race) → IsAnswer source top r → (d : Parts) × Defines source top d
-defined_of source top (Certified c) is = (is.design, is.defined)
-defined_of source top (Found w refused) is = (is.design, is.defined)
-defined_of source top (NotFound missed refused) is = is
-
--- what is told before a run is no fault of one
-not_late : {X : Type 0} (b : Bool) → b ≡ true → b ≡ false → X
-not_late b early late = absurd (false≢true (sym late ∙ early))
 
 pub returns-in_err-found-clause-begun : goal.returns-in_err-found-clause-begun
 returns-in_err-found-clause-begun g c =

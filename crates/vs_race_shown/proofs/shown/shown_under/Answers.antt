@@ -9,7 +9,7 @@ use Rattle.vs_race_shown.proofs.GiveLemmas.{gives}
 use Rattle.vs_race_shown.proofs.shown.shown_under.Goals as goal
 
 pub returns : goal.returns
-returns c =
+returns g c =
     IfOk-weaker c.values_at.result _ _
     (λ o h. IfSome_then o h
     (λ values is.

@@ -1,0 +1,19 @@
+-- What is answered of a race says of its source.
+use Rattle.std.proofs.Common.{◌≡◌, ◌∙◌, Bool, true, false, List, ℕ, sym}
+use Rattle.std.proofs.lemmas.Bool.{false≢true}
+use Rattle.vs_design.specs.Parts.{Parts}
+use Rattle.vs_certified.specs.vs_simulate.specs.Honesty.{Defines}
+use Rattle.vs_race.specs.Races.{IsAnswer}
+use Rattle.vs_race.specs.declared.answer.Race.{Race}
+use Rattle.vs_race.specs.declared.answer.Race.TheVariants.{Certified, Found, FoundLine, NotFound}
+
+-- what is answered is of a source that defines a design
+pub defined_of : (source top : List ℕ) (r : Race) → IsAnswer source top r → (d : Parts) × Defines source top d
+defined_of source top (Certified c) is = (is.design, is.defined)
+defined_of source top (Found w refused) is = (is.design, is.defined)
+defined_of source top (FoundLine w refused) is = (is.design, is.defined)
+defined_of source top (NotFound missed refused) is = is
+
+-- what is told before a run is no fault of one
+pub not_late : {X : Type 0} (b : Bool) → b ≡ true → b ≡ false → X
+not_late b early late = absurd (false≢true (sym late ∙ early))

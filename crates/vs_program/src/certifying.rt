@@ -1,0 +1,127 @@
+//! Certificates that a call makes.
+ghost use Rattle.std.specs.Prelude.{◌≡◌, ◌⊎◌, ℕ, List, [], IfOk, IfErr, true};
+ghost use Rattle.std.specs.Io.KnownBytes.{Appends, append_known};
+ghost use Rattle.vs_certified.specs.Certified.{is_before_run};
+ghost use Rattle.vs_program.specs.Ends.{MakingFails, done_status, held_of};
+ghost use Rattle.vs_program.specs.passes.Proposing.{HasProposed, WroteLine};
+
+use crate::command::Writers;
+use crate::doing::Done;
+use crate::input::Kept;
+use crate::telling::{tell, tell_done};
+use crate::texts::{FAILED, is_too_long, proposal_line};
+use crate::writing::{Place, tell_write};
+use std::alloc::Global;
+use std::io::Write;
+use vs_certified::CertifiedFault;
+use vs_certified::vs_simulate::design_of;
+use vs_certified::vs_vcd_writing::{Counted, WriteFault, write_all};
+use vs_outputs::{Late, OutputFile};
+use vs_program_words::Call;
+use vs_program_words::vs_certificate::{CertFault, ClaimedGrain, written_reads_back};
+use vs_race::vs_propose::{Proposal, propose};
+
+/// What is proposed, and its line.
+#[derive(Drop)]
+pub(crate) struct ProposalLine {
+    pub(crate) proposal: Proposal,
+    pub(crate) line: Vec<u8>,
+}
+
+/// Proposes a certificate. One whose text is longer than one that is read is refused.
+#[tactic(auto, using(crate::proofs::Proposing::reads_back))]
+pub(crate) fn proposed<'s>(
+    alloc: Global,
+    top: &str,
+    grain: ClaimedGrain,
+    source: &'s [u8],
+) -> Result<ProposalLine, CertifiedFault<'s>>
+    ensures ok { IfOk result (HasProposed source.entry.now top.now grain) }
+    ensures err { IfErr result (λ fault. MakingFails source.entry.now top.now grain fault) }
+    ensures before { IfErr result (λ fault. is_before_run fault ≡ true) }
+{
+    written_reads_back();
+    let design = design_of(alloc, source, top.as_bytes())?;
+    let proposal = propose(alloc, &design, grain)?;
+    let line = proposal_line(alloc, &proposal)?;
+    if is_too_long(&proposal, &line) {
+        return Err(CertifiedFault::Certificate(CertFault::NotJson));
+    }
+    Ok(ProposalLine { proposal, line })
+}
+
+// Writes a line, and answers whether all of it is written.
+fn write_line<W: Write>(out: W, line: &[u8]) -> (bool, W)
+    ensures { (lost : List ℕ) × (result.0 ≡ true → lost ≡ [])
+        × Appends (W.contents out) (append_known (W.contents result.1) lost) line.now }
+{
+    let mut shown = Counted::new(out);
+    match write_all(&mut shown, line) {
+        Ok(()) => (true, shown.into_inner()),
+        Err(WriteFault) => (false, shown.into_inner()),
+    }
+}
+
+/// Writes the line of what is proposed, and answers whether all of it is written: a certificate to the file of a name, and why none is made to
+/// standard output. Then the file isn't opened.
+pub(crate) fn write_proposed<O: Write + Drop, F: OutputFile + Drop>(
+    proposed: &ProposalLine,
+    name: &str,
+    writers: Writers<O, F>,
+) -> (bool, Writers<O, F>)
+    ensures { (lost : List ℕ) × (result.0 ≡ true → lost ≡ [])
+        × WroteLine proposed.now.proposal proposed.now.line.items lost (held_of O.contents F.bytes writers)
+        (held_of O.contents F.bytes result.1) }
+{
+    let Writers {
+        out,
+        is_terminal,
+        text,
+        dump,
+        other,
+    } = writers;
+    match &proposed.proposal {
+        Proposal::Made(_) => {
+            let (whole, file) = write_line(Late::new(text, name), &proposed.line);
+            let writers = Writers {
+                out,
+                is_terminal,
+                text: file.into_inner(),
+                dump,
+                other,
+            };
+            (whole, writers)
+        }
+        Proposal::NotMade(_) => {
+            let (whole, out) = write_line(out, &proposed.line);
+            let writers = Writers {
+                out,
+                is_terminal,
+                text,
+                dump,
+                other,
+            };
+            (whole, writers)
+        }
+    }
+}
+
+/// What is told of what is proposed, whose line is written or isn't.
+pub(crate) fn tell_proposed<E: Write>(
+    alloc: Global,
+    call: &Call,
+    kept: &Kept,
+    done: &Done,
+    whole: bool,
+    err: &mut E,
+) -> u8
+    ensures { ((whole ≡ true) × (result ≡ done_status done.now)) ⊎ (result ≡ 3) }
+{
+    if whole {
+        return tell_done(alloc, call, kept, done, err);
+    }
+    match done {
+        Done::Proposed(Proposal::NotMade(_)) => tell(err, b"write", FAILED),
+        _ => tell_write(call, Place::Text, err),
+    }
+}

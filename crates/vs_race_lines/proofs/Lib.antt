@@ -1,0 +1,4 @@
+mod DisplayLemmas
+mod RowLemmas
+mod SilentLemmas
+mod StrobeLemmas

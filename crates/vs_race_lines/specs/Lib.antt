@@ -1,0 +1,3 @@
+pub mod Displays
+pub mod Rows
+pub mod Strobes

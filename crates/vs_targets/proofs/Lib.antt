@@ -1,0 +1,2 @@
+mod TargetLemmas
+mod TickLemmas

@@ -1,0 +1,2 @@
+mod Indexed
+mod UsesLemmas
