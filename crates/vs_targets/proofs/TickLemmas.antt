@@ -1,14 +1,13 @@
 -- Lemmas on what a tick stands for.
-use Rattle.std.proofs.Common.{◌≡◌, ◌∙◌, ℕ, zero, suc, ◌+◌, ◌^◌, ◌<◌, arith, ◌≤◌, List, [], ◌∷◌, ◌++◌, Option, Some, None, length, take, get_or, refl, ap, sym}
+use Rattle.std.proofs.Common.{◌≡◌, ◌∙◌, ℕ, zero, suc, ◌^◌, ◌<◌, arith, List, [], ◌∷◌, ◌++◌, Some, None, length, take, get_or, refl, ap, sym}
 use Rattle.std.proofs.Math.Nat.{one-le-pow}
 use Rattle.std.specs.List.{flat_map}
 use Rattle.std.proofs.lemmas.Option.{none-some, same_Some}
 use Rattle.vs_design.specs.declared.timescale.Timescale.{Timescale}
 use Rattle.vs_syntax.specs.declared.tree.Module.{Module}
 use Rattle.vs_syntax.specs.declared.tree.Source.{Source}
-use Rattle.vs_elaborate.specs.Timescales.{first_or_default, scales_in, scales_of, span_exponent, timescale_of}
-use Rattle.vs_elaborate.proofs.ScaleLemmas.{none_all}
-use Rattle.vs_targets.specs.Ticks.{first_precision, tick_exponent}
+use Rattle.vs_elaborate.specs.Timescales.{first_or_default, scales_in, scales_of, span_exponent}
+use Rattle.vs_targets.specs.Ticks.{first_precision}
 
 -- a power of ten isn't 0
 pub ten_pos : (k : ℕ) → 0 < 10 ^ k

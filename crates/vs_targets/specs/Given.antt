@@ -5,7 +5,7 @@ use Rattle.vs_design.specs.declared.timescale.TimeUnit.{TimeUnit}
 use Rattle.vs_syntax.specs.declared.tree.Source.{Source}
 use Rattle.vs_program_words.specs.declared.words.Call as asked
 use Rattle.vs_program_words.specs.declared.words.Subcommand.{Subcommand}
-use Rattle.vs_targets.specs.Targets.{IsNoSource, IsSourceOf, MeansUntil, top_of, until_of}
+use Rattle.vs_targets.specs.Targets.{IsNoSource, IsSourceOf, MeansUntil, until_of}
 use Rattle.vs_targets.specs.declared.target.Target.{Target}
 use Rattle.vs_targets.specs.declared.target.TargetFault.{TargetFault}
 use Rattle.vs_targets.specs.declared.target.TargetFault.TheVariants as fault

@@ -1,5 +1,5 @@
-use Rattle.std.proofs.Common.{ap, sym, refl, ◌∙◌, arith}
-use Rattle.std.specs.Prelude.{Some, None}
+use Rattle.std.proofs.Common.{ap, sym, ◌∙◌, arith}
+use Rattle.std.specs.Prelude.{Some}
 use Rattle.vs_design.specs.vs_logic4.proofs.Basics.{get_or_same}
 use Rattle.vs_elaborate.specs.Timescales.{scale_in}
 use Rattle.vs_elaborate.proofs.ScaleLemmas.{none_all, none_more}
