@@ -9,6 +9,9 @@ use vs_run_regions::Pick;
 /// The most spans that are told.
 const TOLD: usize = 65536;
 
+/// In a list of more than twice so many items a kept place is so near to an end, since the place of an item is sought from there.
+const NEAR: usize = 64;
+
 /// Of a hundred choices so many draw a new place, from one try to the next.
 const REDRAWN: [u64; 3] = [8, 20, 40];
 
@@ -21,6 +24,24 @@ enum Place {
     Last,
     /// That of a number, modulo how many there are.
     At(usize),
+    /// The same, but of a long list one near an end.
+    Near(usize),
+}
+
+// The item at a kept place among so many.
+fn near_item(number: usize, n: usize) -> usize
+    requires { 0 < n }
+    ensures { result < n }
+{
+    if n <= 2 * NEAR {
+        return number % n;
+    }
+    let place = number % (2 * NEAR);
+    if place < NEAR {
+        place
+    } else {
+        n - 2 * NEAR + place
+    }
 }
 
 /// How items are chosen.
@@ -44,6 +65,8 @@ pub(crate) struct Chooser<'p> {
     state: u64,
     /// Whether it may choose another item than the first now.
     free: bool,
+    /// The number of the choice before which it chooses the first item.
+    begins: u64,
     count: u64,
     /// Whether choices are told.
     tells: bool,
@@ -60,6 +83,7 @@ impl<'p> Chooser<'p> {
             place: Place::First,
             state,
             free: true,
+            begins: 0,
             count: 0,
             tells: false,
             told: Vec::new(alloc),
@@ -70,6 +94,13 @@ impl<'p> Chooser<'p> {
     /// One that makes the choices of spans, which rise.
     pub(crate) fn planned(alloc: Global, spans: &'p [Span]) -> Self {
         Chooser::new(alloc, Way::Planned, spans, 0)
+    }
+
+    /// One that always chooses the last item, from the choice of a number on.
+    pub(crate) fn last_from(alloc: Global, begins: u64) -> Self {
+        let mut chooser = Chooser::new(alloc, Way::Last, &[], 0);
+        chooser.begins = begins;
+        chooser
     }
 
     /// That of a try, by its number from 0.
@@ -112,6 +143,7 @@ impl<'p> Chooser<'p> {
             place: _,
             state: _,
             free: _,
+            begins: _,
             count: _,
             tells: _,
             told,
@@ -135,7 +167,7 @@ impl<'p> Chooser<'p> {
             self.place = match drawn % 3 {
                 0 => Place::First,
                 1 => Place::Last,
-                _ => Place::At((drawn / 3) as usize),
+                _ => Place::Near((drawn / 3) as usize),
             };
         }
         self.place
@@ -143,7 +175,7 @@ impl<'p> Chooser<'p> {
 
     // The place of the next choice.
     fn next_place(&mut self) -> Place {
-        if !self.free {
+        if !self.free || self.count < self.begins {
             self.plan.skip();
             return Place::First;
         }
@@ -193,6 +225,7 @@ impl<'p> Pick for Chooser<'p> {
             Place::First => 0,
             Place::Last => n - 1,
             Place::At(number) => number % n,
+            Place::Near(number) => near_item(number, n),
         };
         if self.tells && item > 0 {
             self.tell_choice(item);

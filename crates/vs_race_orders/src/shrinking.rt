@@ -16,6 +16,12 @@ const DELAYS: u64 = 120;
 /// The most runs that are made to find one choice that is enough, and then to leave choices of a list out.
 const OTHERS: u64 = 120;
 
+/// A slot of more choices than this is long: a run under a delay, or under some choices of a try, takes time in their square.
+const LONG: u64 = 4096;
+
+/// The most such runs that are made in a long slot.
+const FEW: u64 = 16;
+
 /// The most items of a choice that are tried one by one.
 const ITEMS: usize = 4;
 
@@ -37,6 +43,17 @@ pub(crate) struct Stage<'a> {
 struct Choices {
     first: u64,
     end: u64,
+}
+
+impl Choices {
+    // How many runs are made where in a shorter slot so many are.
+    fn runs(self, most: u64) -> u64 {
+        if self.end.saturating_sub(self.first) > LONG {
+            FEW
+        } else {
+            most
+        }
+    }
 }
 
 // A trial under an order.
@@ -88,25 +105,83 @@ fn differs_under(stage: &Stage, spans: &[Span]) -> Result<Option<u64>, WriterFau
     Ok(None)
 }
 
-// A delay that is enough: from one choice of the slot on the second item, to the end.
+// A delay that begins at a choice, where it is enough: from there on the second item, to the end.
+fn delay_from(stage: &Stage, first: u64) -> Result<Option<Span>, WriterFault>
+    requires { AreScripts stage.now.design.now stage.now.scripts.now }
+{
+    let span = Span {
+        first,
+        last: u64::MAX,
+        item: 1,
+    };
+    let Some(count) = differs_under(stage, &[span])? else {
+        return Ok(None);
+    };
+    let last = count.saturating_sub(1);
+    Ok(Some(Span {
+        first,
+        last,
+        item: 1,
+    }))
+}
+
+// The first delay of the slot that is enough.
 fn delay_of(stage: &Stage, choices: Choices) -> Result<Option<Span>, WriterFault>
     requires { AreScripts stage.now.design.now stage.now.scripts.now }
 {
-    for first in choices.first..choices.end.min(choices.first.saturating_add(DELAYS)) {
-        let span = Span {
-            first,
-            last: u64::MAX,
-            item: 1,
-        };
-        if let Some(count) = differs_under(stage, &[span])? {
-            return Ok(Some(Span {
-                first,
-                last: count.saturating_sub(1),
-                item: 1,
-            }));
+    let end = choices.first.saturating_add(choices.runs(DELAYS));
+    for first in choices.first..choices.end.min(end) {
+        let span = delay_from(stage, first)?;
+        if span.is_some() {
+            return Ok(span);
         }
     }
     Ok(None)
+}
+
+// Whether it differs where from a choice on always the last item is chosen.
+fn differs_by_last(stage: &Stage, begins: u64) -> Result<bool, WriterFault>
+    requires { AreScripts stage.now.design.now stage.now.scripts.now }
+{
+    let mut chooser = Chooser::last_from(stage.alloc, begins);
+    let ended = try_under(stage, &mut chooser)?;
+    Ok(is_difference(stage, ended))
+}
+
+// A choice of the slot from which on that is enough, and from the next one on it isn't; sought by halves.
+fn turn_of(stage: &Stage, choices: Choices) -> Result<Option<u64>, WriterFault>
+    requires { AreScripts stage.now.design.now stage.now.scripts.now }
+{
+    if !differs_by_last(stage, choices.first)? {
+        return Ok(None);
+    }
+    let mut turn = choices.first;
+    let mut end = choices.end;
+    for _ in 0..64 {
+        let middle = turn.saturating_add(end.saturating_sub(turn) / 2);
+        if middle == turn {
+            break;
+        }
+        if differs_by_last(stage, middle)? {
+            turn = middle;
+        } else {
+            end = middle;
+        }
+    }
+    Ok(Some(turn))
+}
+
+// A delay that is enough, in a slot of more choices than delays are tried: that which begins where the order must turn.
+fn late_delay(stage: &Stage, choices: Choices) -> Result<Option<Span>, WriterFault>
+    requires { AreScripts stage.now.design.now stage.now.scripts.now }
+{
+    if choices.end.saturating_sub(choices.first) <= DELAYS {
+        return Ok(None);
+    }
+    match turn_of(stage, choices)? {
+        Some(turn) => delay_from(stage, turn),
+        None => Ok(None),
+    }
 }
 
 // The number of a trial of one choice as that choice: of each some items are tried, from the second on.
@@ -178,12 +253,12 @@ fn without_pieces(
     Ok((kept, left))
 }
 
-// Spans of which those are left out that aren't needed, within some runs: halves first, then smaller pieces.
-fn shortened(stage: &Stage, spans: Vec<Span>) -> Result<Vec<Span>, WriterFault>
+// Spans of which those are left out that aren't needed, within so many runs: halves first, then smaller pieces.
+fn shortened(stage: &Stage, spans: Vec<Span>, runs: u64) -> Result<Vec<Span>, WriterFault>
     requires { AreScripts stage.now.design.now stage.now.scripts.now }
 {
     let mut kept = spans;
-    let mut left = OTHERS;
+    let mut left = runs;
     let mut size = kept.len() / 2;
     for _ in 0..64 {
         if size == 0 || left == 0 {
@@ -220,6 +295,9 @@ pub(crate) fn few_choices(stage: &Stage, number: u64, seed: u64) -> Result<Vec<S
     requires { AreScripts stage.now.design.now stage.now.scripts.now }
 {
     let choices = last_choices(stage)?;
+    if let Some(span) = late_delay(stage, choices)? {
+        return Ok(alone(stage.alloc, span)?);
+    }
     if let Some(span) = delay_of(stage, choices)? {
         return Ok(alone(stage.alloc, span)?);
     }
@@ -227,5 +305,5 @@ pub(crate) fn few_choices(stage: &Stage, number: u64, seed: u64) -> Result<Vec<S
         return Ok(alone(stage.alloc, span)?);
     }
     let made = choices_made(stage, number, seed)?;
-    shortened(stage, made)
+    shortened(stage, made, choices.runs(OTHERS))
 }
