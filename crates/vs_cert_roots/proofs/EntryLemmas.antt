@@ -2,8 +2,6 @@
 use Rattle.std.proofs.Common.{◌≡◌, ℕ, zero, suc, ◌<◌, ◌≤◌, ◌⊎◌, ◌↔◌, ◌++◌, Bool, true, false, is_some, if◌then◌else◌, Option, Some, None, List, [], ◌∷◌, length, map, get_or, option_map, slice_get, refl, sym, ◌∙◌, ap, subst, arith}
 use Rattle.std.specs.List.{Contains}
 use Rattle.std.specs.Str.{bytes_eq}
-use Rattle.std.specs.declared.vec.Vec.{Vec}
-use Rattle.std.specs.declared.alloc.Global.{Global}
 use Rattle.std.proofs.lemmas.Option.{same_Some, slice_get-map, slice_get_within, slice_get_past}
 use Rattle.std.proofs.lemmas.Slice.Eq.{bytes_eq-Decides}
 use Rattle.vs_design.specs.vs_logic4.proofs.Basics.{there}
@@ -14,7 +12,7 @@ use Rattle.vs_rules.specs.Certificates.{claims_of, edge_claim}
 use Rattle.vs_rules.specs.Claims.{Name, Claims, EdgeClaim, IsSignalNamed, IsRootOf, signal_name, times_in}
 use Rattle.vs_rules.specs.Rules.{IsEdgeSignal}
 use Rattle.vs_drivers.specs.Copies.{IsOnly}
-use Rattle.vs_drivers.specs.vs_maps.specs.Indexes.{AreRows, row_of}
+use Rattle.vs_rules_of_signals.specs.vs_graph.specs.Rows.{AreRows, row as row_of}
 use Rattle.vs_rules_of_signals.specs.vs_claims.specs.Facts.{IsRootAt}
 use Rattle.vs_cert_roots.specs.Entries.{NamesEntry, HasEntries}
 use Rattle.vs_drivers.proofs.ListLemmas.{same_read}
@@ -51,7 +49,7 @@ past_named d edges place past old = nothing_more old (NamesEntry d edges place) 
 
 -- ---- rows
 
-pub row_is : (d : Parts) (edges : List EdgeClaim) (m n : ℕ) (table : List (Vec ℕ Global)) (v : ℕ) (row : List ℕ) → AreRows (NamesEntry d edges) m n table → m ≡ length edges → v < n → row_of table v ≡ row →
+pub row_is : (d : Parts) (edges : List EdgeClaim) (m n : ℕ) (table : List (List ℕ)) (v : ℕ) (row : List ℕ) → AreRows (NamesEntry d edges) m n table → m ≡ length edges → v < n → row_of table v ≡ row →
     (place : ℕ) → (Contains row place ↔ NamesEntry d edges place v)
 row_is d edges m n table v row are e h same place = (
   λ c. ((are v place h).0 (subst (λ (l : List ℕ). Contains l place) (sym same) c)).1,

@@ -1,8 +1,6 @@
 -- Rows of roots and of what writes in the first slot.
 use Rattle.std.proofs.Common.{◌≡◌, ℕ, ◌<◌, ◌≤◌, ◌⊎◌, ◌↔◌, ◌==◌, ◌∷◌, [], ◌++◌, inl, inr, Bool, true, false, not, IsTrue, Option, Some, None, List, length, get_or, slice_get, refl, sym, ◌∙◌, ap, subst, arith}
 use Rattle.std.specs.List.{Contains}
-use Rattle.std.specs.declared.vec.Vec.{Vec}
-use Rattle.std.specs.declared.alloc.Global.{Global}
 use Rattle.std.proofs.lemmas.Option.{same_Some, slice_get_within}
 use Rattle.vs_design.specs.vs_logic4.specs.declared.digit.Digit.{Digit}
 use Rattle.vs_design.specs.vs_logic4.specs.declared.digit.Digit.TheVariants.{Zero, One, X, Z}
@@ -23,7 +21,7 @@ use Rattle.vs_drivers.specs.vs_maps.specs.declared.along.Along.TheVariants.{Zero
 use Rattle.vs_drivers.specs.vs_maps.specs.Inside.{along_in}
 use Rattle.vs_drivers.specs.vs_maps.specs.Ranges.{HasSignal, now_at, later_at}
 use Rattle.vs_drivers.specs.vs_maps.specs.Reaches.{Chart, places, stops_along, InSlot0}
-use Rattle.vs_drivers.specs.vs_maps.specs.Indexes.{AreRows, row_of}
+use Rattle.vs_rules_of_signals.specs.vs_graph.specs.Rows.{AreRows, row as row_of}
 use Rattle.vs_rules_of_signals.specs.vs_claims.specs.Facts.{AreCharts, IsRootAt}
 use Rattle.vs_cert_roots.specs.First.{SiteAt, HasSite, IsSilent, NamesRoot, WakesSignal, WakesEntry, StartsSilently, StartsWellIn, StartsWell}
 use Rattle.std.proofs.lemmas.Bool.{eqb-true, eqb-false, ne_eqb}
@@ -33,7 +31,7 @@ use Rattle.vs_cert_roots.proofs.FirstLemmas.{first_by_places}
 use Rattle.vs_cert_roots.proofs.EntryLemmas.{no_name}
 use Rattle.vs_cert_roots.proofs.ListLemmas.{in_one, nothing_more, appended}
 
-pub row_exact : (has : ℕ → ℕ → Type 0) (m n : ℕ) (table : List (Vec ℕ Global)) (v : ℕ) (row : List ℕ) → AreRows has m n table → ((i : ℕ) → has i v → i < m) → v < n → row_of table v ≡ row →
+pub row_exact : (has : ℕ → ℕ → Type 0) (m n : ℕ) (table : List (List ℕ)) (v : ℕ) (row : List ℕ) → AreRows has m n table → ((i : ℕ) → has i v → i < m) → v < n → row_of table v ≡ row →
     (i : ℕ) → (Contains row i ↔ has i v)
 row_exact has m n table v row are within h same i = (
   λ c. ((are v i h).0 (subst (λ (l : List ℕ). Contains l i) (sym same) c)).1,

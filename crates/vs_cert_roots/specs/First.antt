@@ -1,7 +1,5 @@
 -- What a root is given in the first slot, by the places of maps.
 use Rattle.std.specs.Prelude.{ℕ, ◌≡◌, ◌↔◌, true, false, Some, List, length, slice_get}
-use Rattle.std.specs.declared.vec.Vec.{Vec}
-use Rattle.std.specs.declared.alloc.Global.{Global}
 use Rattle.vs_design.specs.vs_logic4.specs.declared.digit.Digit.{Digit}
 use Rattle.vs_design.specs.vs_logic4.specs.declared.digit.Digit.TheVariants.{X}
 use Rattle.vs_design.specs.vs_logic4.specs.Edges.{is_edge}
@@ -14,7 +12,7 @@ use Rattle.vs_rules.specs.Paths.{HasTerm}
 use Rattle.vs_rules.specs.Rules.{K10_Signal}
 use Rattle.vs_drivers.specs.vs_slots_constants.specs.Givings.{given_here}
 use Rattle.vs_drivers.specs.Copies.{IsOnly}
-use Rattle.vs_drivers.specs.vs_maps.specs.Indexes.{AreRows}
+use Rattle.vs_rules_of_signals.specs.vs_graph.specs.Rows.{AreRows}
 use Rattle.vs_drivers.specs.vs_maps.specs.Ranges.{HasSignal, later_at, statement_at}
 use Rattle.vs_drivers.specs.vs_maps.specs.Reaches.{Chart, InSlot0}
 use Rattle.vs_rules_of_signals.specs.vs_claims.specs.Facts.{Case, AreCharts, IsRootAt}
@@ -47,7 +45,7 @@ abbrev pub StartsWell : Parts → Claims → List Chart → ℕ → ℕ → Type
 StartsWell d c charts j v = (t : Chart) × (slice_get charts j ≡ Some t) × StartsWellIn d c t v
 
 -- the processes that write signals in the first slot, by these signals
-abbrev pub AreFirstRows : Case → List (Vec ℕ Global) → Type 0
+abbrev pub AreFirstRows : Case → List (List ℕ) → Type 0
 AreFirstRows k table = AreRows (HasSite k.charts) (length k.design.processes) (length k.design.signals) table
 
 -- the entry of a place has the root
@@ -55,11 +53,11 @@ abbrev pub NamesRoot : Parts → List EdgeClaim → ℕ → ℕ → Type 0
 NamesRoot d edges place root = (v : ℕ) × IsRootAt d edges place root v
 
 -- the places of entries, by their roots
-abbrev pub AreRootRows : Case → List (Vec ℕ Global) → Type 0
+abbrev pub AreRootRows : Case → List (List ℕ) → Type 0
 AreRootRows k table = AreRows (NamesRoot k.design k.claims.edges) (length k.claims.edges) (length k.design.signals) table
 
 -- what is kept
-pub record KeepsFirst (k : Case) (claimed writers : List (Vec ℕ Global)) : Type 0 where
+pub record KeepsFirst (k : Case) (claimed writers : List (List ℕ)) : Type 0 where
   pub maps : AreCharts k.design k.charts
   pub roots_long : length claimed ≡ length k.design.signals
   pub roots_are : AreRootRows k claimed

@@ -18,11 +18,11 @@ use std::marker::Model;
 use vs_design::EventTerm;
 use vs_design::vs_logic4::{Digit, Edge};
 use vs_drivers::only;
-use vs_drivers::vs_maps::{index_of, terms};
+use vs_drivers::vs_maps::terms;
 use vs_rules::vs_certificate::Certificate;
 use vs_rules_of_signals::Writes;
 use vs_rules_of_signals::vs_claims::Facts;
-use vs_rules_of_signals::vs_graph::{Family, gather};
+use vs_rules_of_signals::vs_graph::{Family, Rows, gather, index_of};
 
 // The signals of the entries.
 #[derive(Drop)]
@@ -202,10 +202,10 @@ fn put_root(facts: &Facts, place: usize, v: usize, out: &mut Vec<usize>) -> Resu
 #[derive(Drop)]
 pub struct Entries<'a> {
     writes: Writes<'a>,
-    places: Vec<Vec<usize>>,
+    places: Rows<usize>,
     terms: Vec<EventTerm>,
     // For each signal the numbers of its edge terms.
-    edges: Vec<Vec<usize>>,
+    edges: Rows<usize>,
 }
 
 impl<'a> Model for Entries<'a> {
@@ -221,7 +221,7 @@ impl<'a> Model for Entries<'a> {
 
     ghost view = { λ e. e.writes };
 
-    ghost invariant = { λ e. KeepsEntries e.writes e.places.items e.terms.items e.edges.items };
+    ghost invariant = { λ e. KeepsEntries e.writes e.places e.terms.items e.edges };
 }
 
 impl<'a> Entries<'a> {
@@ -269,7 +269,7 @@ impl<'a> Entries<'a> {
         if v >= self.edges.len() {
             return any_edge_of(&self.terms, v);
         }
-        !self.edges[v].is_empty()
+        !self.edges.row(v).is_empty()
     }
 
     /// Whether a change of a signal from x to a digit wakes no edge term of it. It takes as long as the signal has edge terms.
@@ -277,7 +277,7 @@ impl<'a> Entries<'a> {
         requires { v < length self.now.design.signals }
         ensures { IsTrue result ↔ (WakesSignal self.now.design v digit → ⊥) }
     {
-        none_wakes(&self.terms, &self.edges[v], digit)
+        none_wakes(&self.terms, self.edges.row(v), digit)
     }
 
     // The places of the entries of a signal.
@@ -285,7 +285,7 @@ impl<'a> Entries<'a> {
         ensures { (place : ℕ) → (Contains result.now place ↔ NamesEntry self.now.design self.now.claims.edges place v) }
     {
         if v < self.places.len() {
-            &self.places[v]
+            self.places.row(v)
         } else {
             &[]
         }

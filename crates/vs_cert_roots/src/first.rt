@@ -14,11 +14,11 @@ use crate::entries::Entries;
 use std::alloc::{AllocError, Global};
 use std::marker::Model;
 use vs_design::vs_logic4::Digit;
-use vs_drivers::vs_maps::{Tables, index_of};
+use vs_drivers::vs_maps::Tables;
 use vs_drivers::vs_slots_constants::{Bit, given_by};
 use vs_drivers::{only, push_signals};
 use vs_rules_of_signals::vs_claims::Facts;
-use vs_rules_of_signals::vs_graph::{Family, gather};
+use vs_rules_of_signals::vs_graph::{Family, Rows, gather, index_of};
 
 // Whether a place is done in the first slot and writes a signal.
 fn is_site(tables: &Tables, v: usize, p: usize) -> bool
@@ -139,8 +139,8 @@ impl<'a> Family for Claimed<'a> {
 #[derive(Drop)]
 pub struct FirstWrites<'a> {
     entries: &'a Entries<'a>,
-    claimed: Vec<Vec<usize>>,
-    writers: Vec<Vec<usize>>,
+    claimed: Rows<usize>,
+    writers: Rows<usize>,
 }
 
 impl<'a> Model for FirstWrites<'a> {
@@ -156,7 +156,7 @@ impl<'a> Model for FirstWrites<'a> {
 
     ghost view = { λ w. w.entries.now };
 
-    ghost invariant = { λ w. KeepsFirst w.entries.now w.claimed.items w.writers.items };
+    ghost invariant = { λ w. KeepsFirst w.entries.now w.claimed w.writers };
 }
 
 // A place of a text, which may write a signal.
@@ -235,7 +235,7 @@ impl<'a> FirstWrites<'a> {
         ensures { (place : ℕ) → (Contains result.now place ↔ NamesRoot self.now.design self.now.claims.edges place root) }
     {
         if root < self.claimed.len() {
-            &self.claimed[root]
+            self.claimed.row(root)
         } else {
             &[]
         }
@@ -288,7 +288,7 @@ impl<'a> FirstWrites<'a> {
         requires { v < length self.now.design.signals }
         ensures { (i : ℕ) → (Contains result.now i ↔ HasSite self.now.charts i v) }
     {
-        &self.writers[v]
+        self.writers.row(v)
     }
 }
 

@@ -1,5 +1,5 @@
 //! Stores.
-ghost use Rattle.std.specs.Prelude.{◌≡◌, Some, None, IfOk, IfSome, MatchOption, length, map};
+ghost use Rattle.std.specs.Prelude.{◌≡◌, [], Some, None, IfOk, IfSome, MatchOption, length, map};
 ghost use Rattle.vs_design.specs.Stores.{word_of, put, put_part, overlaid, changes_nothing, start_store};
 ghost use Rattle.vs_logic4.specs.Planes.{value_plane, unknown_plane, digits_of_planes, ArePlanes};
 ghost use Rattle.vs_design.specs.InOrder.{numbered_word, with_word};
@@ -47,6 +47,17 @@ impl<'a> Store<'a> {
         let mut first = undriven_words(alloc, signals)?;
         fill_all(&mut first, design.assigns());
         Store::copies(alloc, design.extents(), &first)
+    }
+
+    /// The store of no signals, in which a constant is evaluated. It takes no memory.
+    pub fn without_signals(alloc: Global) -> Self
+        ensures { result ≡ [] }
+    {
+        Store {
+            extents: &[],
+            values: Vec::new(alloc),
+            unknowns: Vec::new(alloc),
+        }
     }
 
     /// Each word as often as its signal has words.

@@ -11,8 +11,8 @@ use Rattle.std.proofs.lemmas.Option.{none-some, same_Some, slice_get_within}
 use Rattle.vs_design.specs.declared.range.BitRange.{BitRange}
 use Rattle.vs_design.specs.declared.signal.Signal.{Signal}
 use Rattle.vs_design.specs.Kinds.{is_variable}
-use Rattle.vs_design.specs.Tables.{rows}
 use Rattle.vs_maps.specs.vs_graph.specs.Reached.{AreReached}
+use Rattle.vs_maps.specs.vs_graph.proofs.RowLemmas.{row_here}
 use Rattle.vs_rules.specs.Drivers.{Driver, DriverWrites}
 use Rattle.vs_drivers.specs.declared.writers.Written.{Written}
 use Rattle.vs_drivers.specs.Walks.{Passed, Named, AreWriters, AreNeeds, all_met, linked, AreFreed}
@@ -29,18 +29,8 @@ get_or_same (x ∷ xs) (suc k) d e h = get_or_same xs k d e (omega (arith, h))
 
 -- ---- rows
 
-pub row_here : {A : Type 0} (table : List (Vec A Global)) (v : ℕ) (row : Vec A Global) → slice_get table v ≡ Some row → get_or (rows table) v [] ≡ row.items
-row_here [] v row h = absurd (none-some row h)
-row_here {A = A} (x ∷ xs) zero row h = ap (λ (y : Vec A Global). y.items) (same_Some x row h)
-row_here (x ∷ xs) (suc v) row h = row_here xs v row h
-
-pub row_past : {A : Type 0} (table : List (Vec A Global)) (v : ℕ) → slice_get table v ≡ None → get_or (rows table) v [] ≡ []
-row_past [] v h = refl
-row_past (x ∷ xs) zero h = absurd (none-some x (sym h))
-row_past (x ∷ xs) (suc v) h = row_past xs v h
-
 -- what the row of a signal has
-pub writers_here : (x : Wiring) (table : List (Vec Written Global)) (v : ℕ) (row : List Written) → AreWriters x table → get_or (rows table) v [] ≡ row → (e : Written) →
+pub writers_here : (x : Wiring) (table : List (List Written)) (v : ℕ) (row : List Written) → AreWriters x table → get_or table v [] ≡ row → (e : Written) →
     (Contains row e ↔ ((v < length x.design.signals) × (e.range.signal ≡ v) × WritesAt x e.driver e.range))
 writers_here x table v row are is e =
     subst (λ (l : List Written). (Contains l e ↔ ((v < length x.design.signals) × (e.range.signal ≡ v) × WritesAt x e.driver e.range))) is (are.exact v e)
@@ -50,7 +40,7 @@ pub needs_here : (x : Wiring) (table : List (Vec BitRange Global)) (n : ℕ) (ro
     (Contains row.items r ↔ ((n < drivers x.design) × NeedsAt x n r))
 needs_here x table n row are is r =
     let below : n < drivers x.design = subst (λ (k : ℕ). n < k) are.long (slice_get_within table n row is) in
-    let both = subst (λ (l : List BitRange). (Contains l r ↔ NeedsAt x n r)) (row_here table n row is) (are.exact n r below) in
+    let both = subst (λ (l : List BitRange). (Contains l r ↔ NeedsAt x n r)) (sym (row_here n table row is)) (are.exact n r below) in
     (λ h. (below, both.0 h), λ y. both.1 y.1)
 
 pub needs_past : (x : Wiring) (table : List (Vec BitRange Global)) (n : ℕ) → AreNeeds x table → length table ≤ n → (r : BitRange) →
@@ -62,7 +52,7 @@ needs_past x table n are past r = (λ h. absurd (none_in r h), λ y. absurd (ome
 past_false : (marks : List Bool) (n : ℕ) → length marks ≤ n → IsTrue (get_or marks n false) → ⊥
 past_false marks n past h = false≢true (sym (get_or_past marks n false past) ∙ h)
 
-pub passed_marks : (x : Wiring) (needs : List (Vec BitRange Global)) (table : List (Vec Written Global)) (rs : List BitRange) (marks : List Bool) → AreNeeds x needs → AreWriters x table →
+pub passed_marks : (x : Wiring) (needs : List (Vec BitRange Global)) (table : List (List Written)) (rs : List BitRange) (marks : List Bool) → AreNeeds x needs → AreWriters x table →
     length marks ≡ length needs → AreReached (linked x.design.signals needs table) (all_met x.design.signals table rs) (length needs) marks → (n : ℕ) →
     (IsTrue (get_or marks n false) ↔ Passed x rs n)
 passed_marks x needs table rs marks a b long reached n = elim (cases_lt n (length needs)) [

@@ -1,12 +1,9 @@
 -- Lists of numbers.
-use Rattle.std.proofs.Common.{◌≡◌, ℕ, zero, suc, ◌+◌, ◌<◌, ◌≤◌, ◌⊎◌, ◌↔◌, inl, inr, Option, Some, None, List, [], ◌∷◌, ◌++◌, length, map, get_or, slice_get, refl, sym, ◌∙◌, ap, subst, arith}
+use Rattle.std.proofs.Common.{◌≡◌, ℕ, ◌+◌, ◌<◌, ◌≤◌, ◌⊎◌, ◌↔◌, inl, inr, Some, None, List, [], ◌∷◌, ◌++◌, length, map, get_or, sym, ◌∙◌, ap, subst, arith}
 use Rattle.std.specs.List.{Contains}
 use Rattle.std.proofs.lemmas.Option.{same_Some, slice_get-get_or}
 use Rattle.std.proofs.lemmas.List.Elements.{Contains-append_left, Contains-append_right, Contains-append_cases}
-use Rattle.std.specs.declared.vec.Vec.{Vec}
-use Rattle.std.specs.declared.alloc.Global.{Global}
 use Rattle.vs_design.specs.declared.range.BitRange.{BitRange}
-use Rattle.vs_maps.specs.Indexes.{row_of}
 use Rattle.vs_maps.specs.Ranges.{HasSignal}
 use Rattle.vs_maps.proofs.RangeLemmas.{first_in, later_in, in_either}
 use Rattle.vs_drivers.specs.Copies.{IsOnly}
@@ -74,10 +71,3 @@ signals_in old new rs e v = (λ h. there (Contains-append_cases old (map (λ (r 
   back : Contains old v ⊎ HasSignal rs v → Contains (old ++ map (λ (r : BitRange). r.signal) rs) v
   back (inl c) = Contains-append_left old (map (λ (r : BitRange). r.signal) rs) v c
   back (inr y) = Contains-append_right old (map (λ (r : BitRange). r.signal) rs) v (from_range rs v y.0 y.1 y.2)
-
--- ---- rows
-
-pub row_at : (table : List (Vec ℕ Global)) (r : ℕ) (row : Vec ℕ Global) → r < length table → row ≡ get_or table r row → row_of table r ≡ row.items
-row_at [] r row h e = absurd (omega (arith, h))
-row_at (x ∷ xs) zero row h e = ap (λ (v : Vec ℕ Global). v.items) (sym e)
-row_at (x ∷ xs) (suc r) row h e = row_at xs r row (omega (arith, h)) e

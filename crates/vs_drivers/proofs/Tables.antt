@@ -1,11 +1,13 @@
 -- The tables of drivers, as far as they are made.
-use Rattle.std.proofs.Common.{◌≡◌, ℕ, zero, suc, ◌+◌, ◌<◌, ◌≤◌, ◌⊎◌, ◌↔◌, inl, inr, List, [], ◌∷◌, ◌++◌, length, get_or, replicate, refl, sym, ◌∙◌, ap, subst, arith}
+use Rattle.std.proofs.Common.{◌≡◌, ℕ, zero, suc, ◌+◌, ◌<◌, ◌≤◌, ◌⊎◌, ◌↔◌, inl, inr, List, [], ◌∷◌, ◌++◌, length, get_or, refl, sym, ◌∙◌, ap, subst, arith}
 use Rattle.std.specs.List.{Contains}
 use Rattle.std.specs.declared.vec.Vec.{Vec}
 use Rattle.std.specs.declared.alloc.Global.{Global}
-use Rattle.std.proofs.lemmas.List.{length-map, length-replicate}
+use Rattle.std.proofs.lemmas.List.{length-replicate}
 use Rattle.vs_design.specs.declared.range.BitRange.{BitRange}
-use Rattle.vs_design.specs.Tables.{rows, empty_rows}
+use Rattle.vs_design.specs.Tables.{rows}
+use Rattle.vs_maps.specs.vs_graph.specs.Rows.{empty_rows}
+use Rattle.vs_maps.specs.vs_graph.proofs.RowLemmas.{row_empty}
 use Rattle.vs_drivers.specs.declared.writers.Written.{Written}
 use Rattle.vs_drivers.specs.Walks.{all_noted, AreWriters, AreNeeds}
 use Rattle.vs_drivers.specs.Wires.{Wiring, WritesAt, NeedsAt, drivers}
@@ -24,16 +26,11 @@ pub record HasBelow (x : Wiring) (n : ℕ) (t : List (List Written)) : Type 0 wh
   pub exact : (v : ℕ) (e : Written) → (Contains (get_or t v []) e ↔
       ((v < length x.design.signals) × (e.range.signal ≡ v) × (e.driver < n) × WritesAt x e.driver e.range))
 
-none_of : (n v : ℕ) → get_or (replicate {A = List Written} n []) v [] ≡ []
-none_of zero v = refl
-none_of (suc n) zero = refl
-none_of (suc n) (suc v) = none_of n v
-
 pub has_none : (x : Wiring) (n : ℕ) (t : List (List Written)) → n ≡ length x.design.signals → t ≡ empty_rows n → HasBelow x 0 t
 has_none x n t long is = record {
   long = ap length is ∙ length-replicate n [] ∙ long;
   exact = λ v e. (
-    λ h. absurd (none_in e (subst (λ (l : List Written). Contains l e) (ap (λ (l : List (List Written)). get_or l v []) is ∙ none_of n v) h)),
+    λ h. absurd (none_in e (subst (λ (l : List Written). Contains l e) (ap (λ (l : List (List Written)). get_or l v []) is ∙ row_empty n v) h)),
     λ y. absurd (omega (arith, y.2)),
   );
 }
@@ -54,9 +51,9 @@ has_more x n t u rs is writes h = record {
   );
 }
 
-pub has_all : (x : Wiring) (n : ℕ) (table : List (Vec Written Global)) → drivers x.design ≤ n → HasBelow x n (rows table) → AreWriters x table
+pub has_all : (x : Wiring) (n : ℕ) (table : List (List Written)) → drivers x.design ≤ n → HasBelow x n table → AreWriters x table
 has_all x n table all h = record {
-  long = sym (length-map table (λ row. row.items)) ∙ h.long;
+  long = h.long;
   exact = λ v e. (
     λ k. let y = (h.exact v e).0 k in (y.0, y.1, y.3),
     λ y. let below = writes_below x e.driver e.range y.2 in (h.exact v e).1 (y.0, y.1, omega (arith, below, all), y.2),

@@ -19,7 +19,7 @@ use Rattle.vs_rules.specs.Paths.{Meet}
 use Rattle.vs_drivers.specs.declared.writers.Written.{Written}
 use Rattle.vs_drivers.specs.Meets.{meet_among}
 use Rattle.vs_drivers.specs.Wires.{Wiring, Drives, driver_at, drivers, WritesAt, NeedsAt, IsFree}
-use Rattle.vs_drivers.specs.Walks.{MeetsAt, Passed, Named, AreWriters, AreNeeds, met_in, met, all_met, linked}
+use Rattle.vs_drivers.specs.Walks.{MeetsAt, Passed, Named, AreWriters, AreNeeds, met, all_met, linked}
 use Rattle.vs_drivers.specs.Walks as w
 use Rattle.vs_drivers.proofs.ListBasics.{split, none_in, head_in, joined_on, joined_back}
 use Rattle.vs_drivers.proofs.Numbers.{AreMarks, number_of, writes_below, drives_on, drives_back, free_is}
@@ -122,19 +122,19 @@ one_if : (b : Bool) (k n : ℕ) → Contains (if b then k ∷ [] else []) n → 
 one_if true k n h = elim (split k n [] h) [ inl e ↦ (refl, e) | inr o ↦ absurd (none_in n o) ]
 one_if false k n h = absurd (none_in n h)
 
-met_on : (x : Wiring) (table : List (Vec Written Global)) → AreWriters x table → (p : BitRange) (n : ℕ) → Contains (met x.design.signals table p) n → MeetsAt x p n
+met_on : (x : Wiring) (table : List (List Written)) → AreWriters x table → (p : BitRange) (n : ℕ) → Contains (met x.design.signals table p) n → MeetsAt x p n
 met_on x table are p n h =
-    let y = joined_on (λ (e : Written). if meet_among x.design.signals e.range p then e.driver ∷ [] else []) (get_or (rows table) p.signal []) n h in
+    let y = joined_on (λ (e : Written). if meet_among x.design.signals e.range p then e.driver ∷ [] else []) (get_or table p.signal []) n h in
     let e = one_if (meet_among x.design.signals y.0.range p) y.0.driver n y.2 in record {
       range = y.0.range;
       writes = subst (λ (k : ℕ). WritesAt x k y.0.range) e.1 ((are.exact p.signal y.0).0 y.1).2;
       meets = e.0;
     }
 
-met_back : (x : Wiring) (table : List (Vec Written Global)) → AreWriters x table → (p : BitRange) (n : ℕ) → MeetsAt x p n → Contains (met x.design.signals table p) n
+met_back : (x : Wiring) (table : List (List Written)) → AreWriters x table → (p : BitRange) (n : ℕ) → MeetsAt x p n → Contains (met x.design.signals table p) n
 met_back x table are p n m =
     let s = meet_signal x.design m.range p m.meets in
-    joined_back (λ (e : Written). if meet_among x.design.signals e.range p then e.driver ∷ [] else []) (get_or (rows table) p.signal [])
+    joined_back (λ (e : Written). if meet_among x.design.signals e.range p then e.driver ∷ [] else []) (get_or table p.signal [])
     (record { driver = n; range = m.range }) n
     ((are.exact p.signal (record { driver = n; range = m.range })).1 (subst (λ (k : ℕ). k < length x.design.signals) s.0 s.1, s.0, m.writes))
     (subst (λ (b : Bool). Contains (if b then n ∷ [] else []) n) (sym m.meets) (head_in n []))
@@ -143,7 +143,7 @@ pub passed_below : (x : Wiring) (rs : List BitRange) (n : ℕ) → Passed x rs n
 passed_below x rs _ (w.begins p n h meets) = writes_below x n meets.range meets.writes
 passed_below x rs _ (w.goes_on l n q passed before meets) = writes_below x n meets.range meets.writes
 
-reached_on : (x : Wiring) (needs : List (Vec BitRange Global)) (table : List (Vec Written Global)) → AreNeeds x needs → AreWriters x table → (rs : List BitRange) (n : ℕ) →
+reached_on : (x : Wiring) (needs : List (Vec BitRange Global)) (table : List (List Written)) → AreNeeds x needs → AreWriters x table → (rs : List BitRange) (n : ℕ) →
     Reached (linked x.design.signals needs table) (all_met x.design.signals table rs) n → Passed x rs n
 reached_on x needs table a b rs _ (begins n h) =
     let y = joined_on (met x.design.signals table) rs n h in w.begins y.0 n y.1 (met_on x table b y.0 n y.2)
@@ -152,7 +152,7 @@ reached_on x needs table a b rs _ (goes_on l n before h) =
     let y = joined_on (met x.design.signals table) (get_or (rows needs) l []) n h in
     w.goes_on l n y.0 passed ((a.exact l y.0 (passed_below x rs l passed)).0 y.1) (met_on x table b y.0 n y.2)
 
-reached_back : (x : Wiring) (needs : List (Vec BitRange Global)) (table : List (Vec Written Global)) → AreNeeds x needs → AreWriters x table → (rs : List BitRange) (n : ℕ) →
+reached_back : (x : Wiring) (needs : List (Vec BitRange Global)) (table : List (List Written)) → AreNeeds x needs → AreWriters x table → (rs : List BitRange) (n : ℕ) →
     Passed x rs n → Reached (linked x.design.signals needs table) (all_met x.design.signals table rs) n
 reached_back x needs table a b rs _ (w.begins p n h meets) =
     begins n (joined_back (met x.design.signals table) rs p n h (met_back x table b p n meets))
@@ -161,12 +161,12 @@ reached_back x needs table a b rs _ (w.goes_on l n q passed before meets) =
     (joined_back (met x.design.signals table) (get_or (rows needs) l []) q n ((a.exact l q (passed_below x rs l passed)).1 before) (met_back x table b q n meets))
 
 -- what is reached on the tables is what walks lead to
-pub reached_are : (x : Wiring) (needs : List (Vec BitRange Global)) (table : List (Vec Written Global)) → AreNeeds x needs → AreWriters x table → (rs : List BitRange) (n : ℕ) →
+pub reached_are : (x : Wiring) (needs : List (Vec BitRange Global)) (table : List (List Written)) → AreNeeds x needs → AreWriters x table → (rs : List BitRange) (n : ℕ) →
     (Reached (linked x.design.signals needs table) (all_met x.design.signals table rs) n ↔ Passed x rs n)
 reached_are x needs table a b rs n = (reached_on x needs table a b rs n, reached_back x needs table a b rs n)
 
 -- the tables lead to drivers alone
-pub met_below : (x : Wiring) (table : List (Vec Written Global)) → AreWriters x table → (rs : List BitRange) (n : ℕ) → Contains (all_met x.design.signals table rs) n → n < drivers x.design
+pub met_below : (x : Wiring) (table : List (List Written)) → AreWriters x table → (rs : List BitRange) (n : ℕ) → Contains (all_met x.design.signals table rs) n → n < drivers x.design
 met_below x table are rs n h =
     let y = joined_on (met x.design.signals table) rs n h in
     let m = met_on x table are y.0 n y.2 in writes_below x n m.range m.writes

@@ -1,12 +1,12 @@
 -- Walks from ranges backward through drivers.
-use Rattle.std.specs.Prelude.{ℕ, ◌≡◌, ◌<◌, ◌↔◌, ◌⊎◌, ◌++◌, Bool, false, List, [], ◌∷◌, length, map, get_or, slice_index_or, if◌then◌else◌, IsTrue}
+use Rattle.std.specs.Prelude.{ℕ, ◌≡◌, ◌<◌, ◌↔◌, ◌⊎◌, Bool, false, List, [], ◌∷◌, length, map, get_or, slice_index_or, if◌then◌else◌, IsTrue}
 use Rattle.std.specs.List.{Contains}
 use Rattle.std.specs.declared.vec.Vec.{Vec}
 use Rattle.std.specs.declared.alloc.Global.{Global}
 use Rattle.vs_design.specs.declared.range.BitRange.{BitRange}
 use Rattle.vs_design.specs.declared.signal.Signal.{Signal}
 use Rattle.vs_design.specs.Tables.{rows}
-use Rattle.vs_design.specs.Stores.{changed_at}
+use Rattle.vs_maps.specs.vs_graph.specs.Rows.{row, with_one}
 use Rattle.vs_design.specs.Uses.{joined}
 use Rattle.vs_rules.specs.Paths.{Meet}
 use Rattle.vs_drivers.specs.declared.writers.Written.{Written}
@@ -33,7 +33,7 @@ pub data Named (x : Wiring) (rs : List BitRange) (u : ℕ) : Type 0 where
 
 -- a table with a range that is written, in the row of its signal
 abbrev pub noted : Written → List (List Written) → List (List Written)
-noted w table = changed_at (λ row. row ++ w ∷ []) w.range.signal table
+noted w table = with_one w.range.signal w table
 
 -- a table with all ranges that a driver writes
 abbrev pub all_noted : ℕ → List BitRange → List (List Written) → List (List Written)
@@ -41,9 +41,9 @@ all_noted driver [] table = table
 all_noted driver (r ∷ rs) table = all_noted driver rs (noted (record { driver = driver; range = r }) table)
 
 -- a table has for each signal of the design the ranges of it that drivers write
-pub record AreWriters (x : Wiring) (table : List (Vec Written Global)) : Type 0 where
+pub record AreWriters (x : Wiring) (table : List (List Written)) : Type 0 where
   pub long : length table ≡ length x.design.signals
-  pub exact : (v : ℕ) (w : Written) → (Contains (get_or (rows table) v []) w ↔
+  pub exact : (v : ℕ) (w : Written) → (Contains (row table v) w ↔
       ((v < length x.design.signals) × (w.range.signal ≡ v) × WritesAt x w.driver w.range))
 
 -- a table has for each driver the ranges that it needs
@@ -52,27 +52,27 @@ pub record AreNeeds (x : Wiring) (table : List (Vec BitRange Global)) : Type 0 w
   pub exact : (n : ℕ) (r : BitRange) → n < drivers x.design → (Contains (get_or (rows table) n []) r ↔ NeedsAt x n r)
 
 -- the two tables of a wiring
-pub record AreDrivers (x : Wiring) (needs : List (Vec BitRange Global)) (writers : List (Vec Written Global)) : Type 0 where
+pub record AreDrivers (x : Wiring) (needs : List (Vec BitRange Global)) (writers : List (List Written)) : Type 0 where
   pub needs_are : AreNeeds x needs
   pub writers_are : AreWriters x writers
 
 -- the drivers of a row whose ranges meet the range
 abbrev pub met_in : List Signal → List Written → BitRange → List ℕ
-met_in signals row r = joined (map (λ (w : Written). if meet_among signals w.range r then w.driver ∷ [] else []) row)
+met_in signals written r = joined (map (λ (w : Written). if meet_among signals w.range r then w.driver ∷ [] else []) written)
 
 -- those of a table
-abbrev pub met : List Signal → List (Vec Written Global) → BitRange → List ℕ
-met signals table r = met_in signals (get_or (rows table) r.signal []) r
+abbrev pub met : List Signal → List (List Written) → BitRange → List ℕ
+met signals table r = met_in signals (row table r.signal) r
 
-abbrev pub all_met : List Signal → List (Vec Written Global) → List BitRange → List ℕ
+abbrev pub all_met : List Signal → List (List Written) → List BitRange → List ℕ
 all_met signals table rs = joined (map (met signals table) rs)
 
 -- where a step backward leads from a driver
-abbrev pub linked : List Signal → List (Vec BitRange Global) → List (Vec Written Global) → ℕ → List ℕ
+abbrev pub linked : List Signal → List (Vec BitRange Global) → List (List Written) → ℕ → List ℕ
 linked signals needs table n = all_met signals table (get_or (rows needs) n [])
 
 -- tables lead to drivers below a number alone
-abbrev pub LeadBelow : ℕ → List Signal → List (Vec Written Global) → Type 0
+abbrev pub LeadBelow : ℕ → List Signal → List (List Written) → Type 0
 LeadBelow count signals table = (rs : List BitRange) (n : ℕ) → Contains (all_met signals table rs) n → n < count
 
 -- ---- marks of signals

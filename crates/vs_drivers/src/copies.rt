@@ -12,8 +12,7 @@ use crate::lists::{only, push_signals};
 use std::alloc::{AllocError, Global};
 use std::marker::Model;
 use vs_design::{Design, SignalKind, writes};
-use vs_maps::index_of;
-use vs_maps::vs_graph::{Family, Graph, reach};
+use vs_maps::vs_graph::{Family, Graph, index_of, reach};
 use vs_slots_constants::{is_plain, whole, whole_target};
 
 // The signals that continuous assignments name on their left sides.
@@ -132,7 +131,7 @@ fn sources_of(alloc: Global, design: &Design) -> Result<Vec<Option<usize>>, Allo
     let drivers = index_of(alloc, &Targets { design }, design.assigns().len(), count)?;
     let mut sources = Vec::new(alloc);
     for v in 0..count {
-        sources.push(source_of(design, &drivers[v], v))?;
+        sources.push(source_of(design, drivers.row(v), v))?;
     }
     Ok(sources)
 }

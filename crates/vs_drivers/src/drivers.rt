@@ -14,6 +14,7 @@ use std::alloc::{AllocError, Global};
 use std::marker::Model;
 use vs_design::{BitRange, Design, Signal, SignalKind};
 use vs_maps::Tables;
+use vs_maps::vs_graph::Rows;
 
 /// The drivers of a design. A contract sees the design and the marks of its processes of kind comb.
 #[derive(Drop)]
@@ -24,7 +25,7 @@ pub(crate) struct Drivers<'a> {
     // For each driver what it reads and waits for.
     needs: Vec<Vec<BitRange>>,
     // For each signal what drivers write of it.
-    writers: Vec<Vec<Written>>,
+    writers: Rows<Written>,
 }
 
 impl<'a> Model for Drivers<'a> {
@@ -40,7 +41,7 @@ impl<'a> Model for Drivers<'a> {
 
     ghost view = { λ s. wiring s.design.now s.blocks.now };
 
-    ghost invariant = { λ s. AreDrivers (wiring s.design.now s.blocks.now) s.needs.items s.writers.items };
+    ghost invariant = { λ s. AreDrivers (wiring s.design.now s.blocks.now) s.needs.items s.writers };
 }
 
 // Whether a signal is declared as a variable.
@@ -114,10 +115,7 @@ impl<'a> Drivers<'a> {
         ensures { (w : written.Written) → (Contains result.now w ↔
             ((v < length self.now.design.signals) × (w.range.signal ≡ v) × WritesAt self.now w.driver w.range)) }
     {
-        match self.writers.get(v) {
-            None => &[],
-            Some(row) => row,
-        }
+        self.writers.row(v)
     }
 
     /// What the driver of a number reads and waits for.

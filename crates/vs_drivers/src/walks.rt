@@ -9,7 +9,7 @@ use crate::common::meets;
 use crate::writers::Written;
 use std::alloc::{AllocError, Global};
 use vs_design::{BitRange, Signal};
-use vs_maps::vs_graph::{Graph, reach};
+use vs_maps::vs_graph::{Graph, Rows, reach};
 
 // Puts the driver of a range that meets another one.
 fn push_one(
@@ -45,22 +45,21 @@ fn push_met_in(
 // Puts the drivers of a table whose ranges meet one.
 fn push_met(
     signals: &[Signal],
-    writers: &[Vec<Written>],
+    writers: &Rows<Written>,
     range: BitRange,
     out: &mut Vec<usize>,
 ) -> Result<(), AllocError>
     ensures { OnOk result (out.new.items ≡ out.old.items ++ met signals.now writers.now range) }
 {
-    match writers.get(range.signal) {
-        None => Ok(()),
-        Some(row) => push_met_in(signals, row, range, out),
-    }
+    let row = writers.row(range.signal);
+    push_met_in(signals, row, range, out)?;
+    Ok(())
 }
 
 // Puts the drivers of a table whose ranges meet one of several.
 fn push_all_met(
     signals: &[Signal],
-    writers: &[Vec<Written>],
+    writers: &Rows<Written>,
     ranges: &[BitRange],
     out: &mut Vec<usize>,
 ) -> Result<(), AllocError>
@@ -77,7 +76,7 @@ fn push_all_met(
 struct Links<'a> {
     signals: &'a [Signal],
     needs: &'a [Vec<BitRange>],
-    writers: &'a [Vec<Written>],
+    writers: &'a Rows<Written>,
     ghost within: { LeadBelow (length needs.now) signals.now writers.now },
 }
 
@@ -106,7 +105,7 @@ pub(crate) fn passed(
     alloc: Global,
     signals: &[Signal],
     needs: &[Vec<BitRange>],
-    writers: &[Vec<Written>],
+    writers: &Rows<Written>,
     ranges: &[BitRange],
 ) -> Result<Vec<bool>, AllocError>
     requires { LeadBelow (length needs.now) signals.now writers.now }

@@ -1,5 +1,5 @@
 -- What a resolved expression stands for.
-use Rattle.std.specs.Prelude.{◌≡◌, ℕ, ◌+◌, ◌<◌, pos, false, Some, List, length, slice_get}
+use Rattle.std.specs.Prelude.{◌≡◌, ℕ, ◌+◌, ◌<◌, Bool, pos, false, Some, List, length, slice_get}
 use Rattle.vs_design.specs.vs_logic4.specs.declared.digit.Digit.{Digit}
 use Rattle.vs_design.specs.vs_logic4.specs.Operators.{sizing_of}
 use Rattle.vs_design.specs.vs_logic4.specs.Vectors.{resized}
@@ -9,13 +9,13 @@ use Rattle.vs_design.specs.declared.expression.Axis.{Axis}
 use Rattle.vs_design.specs.declared.expression.Selection.{Selection}
 use Rattle.vs_design.specs.declared.signal.Signal.{Signal}
 use Rattle.vs_design.specs.InOrder.{IsStoreOf, words_before}
-use Rattle.vs_design.specs.Selects.{place_of}
-use Rattle.vs_design.specs.Stores.{Store}
-use Rattle.vs_eval.specs.Values.{left_side, right_side, value_of}
+use Rattle.vs_design.specs.Selects.{place_of, word_place}
+use Rattle.vs_design.specs.Stores.{Store, word_of}
+use Rattle.vs_eval.specs.Values.{bits_value, left_side, right_side, value_of}
 use Rattle.vs_eval_resolved.specs.declared.node.Array.{Array}
 use Rattle.vs_eval_resolved.specs.declared.node.Node.{Node}
 use Rattle.vs_eval_resolved.specs.declared.node.Sides.{Sides}
-use Rattle.vs_eval_resolved.specs.Nodes.{planes_in}
+use Rattle.vs_eval_resolved.specs.Nodes.{counted, planes_in}
 use Rattle.vs_eval_resolved.specs.PlanesOf.{planes_of}
 
 -- what an expression, or a part of one, gives in a store at a time
@@ -40,13 +40,20 @@ pub record Meaning : Type 0 where
   pub signals : List Signal
   pub expression : Typed
 
--- whether an index of a range is the number of the element, and the range has so many of them
+-- whether an index of a range counts the elements, from the first one up or from the last one down, and the range has so many of them
 pub record IsPlain (axis : Axis) (length : ℕ) : Type 0 where
-  pub right : axis.right ≡ pos 0
-  pub rising : axis.ascending ≡ false
+  pub right : axis.right ≡ pos (counted axis.ascending length 0)
   pub below : axis.below ≡ 0
   pub signed : axis.signed ≡ false
   pub long : axis.length ≡ length
+
+-- the word of a signal that an index with these digits chooses; x in so many bits where there is no such word (clause 5.2.1)
+abbrev pub word_value : ℕ → ℕ → Axis → Store → List Digit → List Digit
+word_value signal width axis store index = bits_value (pos 0) width (word_of store signal (word_place axis index))
+
+-- so many bits of a signal's first word that an index with these digits chooses (clause 5.2.1)
+abbrev pub part_value : ℕ → ℕ → Axis → Store → List Digit → List Digit
+part_value signal width axis store index = bits_value (place_of axis width index) width (word_of store signal 0)
 
 -- whether a signal has a word, of this size and number
 pub record IsWordOf (signals : List Signal) (signal word number width : ℕ) : Type 0 where
@@ -64,18 +71,22 @@ pub record IsArrayOf (signals : List Signal) (signal : ℕ) (array : Array) : Ty
   pub count : array.count ≡ declared.count
   pub width : array.width ≡ declared.width
 
--- whether two indices choose a whole one of the words that an array has, by the first one's value
+-- whether an array has the words of another one, counted from the first one up or from the last one down
+pub record IsCounting (b a : Array) (falling : Bool) : Type 0 where
+  pub first : b.first ≡ a.first
+  pub count : b.count ≡ a.count
+  pub width : b.width ≡ a.width
+  pub falls : b.falls ≡ falling
+
+-- whether two indices choose a whole one of the words that an array has, by the first one
 pub record IsElementOf (signals : List Signal) (s : Selection) (low : Typed) (array : Array) : Type 0 where
   pub words : IsArrayOf signals s.signal array
   pub wide : s.width ≡ array.width
-  pub plain : IsPlain s.words array.count
   pub lowest : (store : Store) (time : ℕ) → place_of s.bits s.width (value_of low store time) ≡ pos 0
 
--- whether two indices choose a bit of the first word that an array has, by the second one's value
-pub record IsBitOf (signals : List Signal) (s : Selection) (word : Typed) (array : Array) : Type 0 where
+-- whether two indices choose bits of the first word that an array has, by the second one
+pub record IsBitsOf (signals : List Signal) (s : Selection) (word : Typed) (array : Array) : Type 0 where
   pub words : IsArrayOf signals s.signal array
-  pub wide : s.width ≡ 1
-  pub plain : IsPlain s.bits array.width
   pub lowest : (store : Store) (time : ℕ) → place_of s.words 1 (value_of word store time) ≡ pos 0
 
 -- whether sides take what stands on the left and on the right, of these sizes, as a link does

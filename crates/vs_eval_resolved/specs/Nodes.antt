@@ -1,21 +1,23 @@
 -- The values of resolved expressions.
-use Rattle.std.specs.Prelude.{ℕ, ◌+◌, ◌/◌, ◌^◌, ◌&&◌, ◌==◌, nat_lt, if◌then◌else◌, List, [], ◌∷◌, map, take}
+use Rattle.std.specs.Prelude.{ℕ, suc, ◌+◌, ◌-◌, ◌/◌, ◌^◌, ◌&&◌, ◌==◌, Bool, nat_lt, if◌then◌else◌, List, [], ◌∷◌, map, take}
 use Rattle.vs_design.specs.vs_logic4.specs.declared.digit.Digit.{Digit}
 use Rattle.vs_design.specs.vs_logic4.specs.declared.digit.Digit.TheVariants.{Zero, One, X, Z}
 use Rattle.vs_design.specs.vs_logic4.specs.declared.operators.Unary.{Unary}
 use Rattle.vs_design.specs.vs_logic4.specs.Bitwise.{merged}
 use Rattle.vs_design.specs.vs_logic4.specs.Comparisons.{truth}
 use Rattle.vs_design.specs.vs_logic4.specs.Operators.{unary, binary}
-use Rattle.vs_design.specs.vs_logic4.specs.Parts.{replication}
+use Rattle.vs_design.specs.vs_logic4.specs.Parts.{replication, selected}
 use Rattle.vs_design.specs.vs_logic4.specs.Planes.{digits_of_planes}
 use Rattle.vs_design.specs.vs_logic4.specs.Vectors.{all_unknown, resized}
 use Rattle.vs_design.specs.declared.expression.Count.{Count}
 use Rattle.vs_design.specs.InOrder.{numbered_word}
+use Rattle.vs_design.specs.Selects.{place_of, word_place}
 use Rattle.vs_design.specs.Stores.{Store}
 use Rattle.vs_eval.specs.Values.{concatenated, value_of}
 use Rattle.vs_eval_resolved.specs.declared.node.Array.{Array}
 use Rattle.vs_eval_resolved.specs.declared.node.Change.{Change}
 use Rattle.vs_eval_resolved.specs.declared.node.Field.{Field}
+use Rattle.vs_eval_resolved.specs.declared.node.Index.{Index}
 use Rattle.vs_eval_resolved.specs.declared.node.Node.{Node, Node-F, fold-Node}
 use Rattle.vs_eval_resolved.specs.declared.node.Node.TheOpen as n
 use Rattle.vs_eval_resolved.specs.declared.node.Planes.{Planes}
@@ -35,17 +37,36 @@ planes_from low width p = planes_of (digits_of_planes width (p.value / 2 ^ low) 
 abbrev pub field_planes : Field → Store → Planes
 field_planes f store = planes_from f.low f.width (word_planes store f.number)
 
--- the word that an index chooses; x where there is no such word
+-- the number of the element that an index of this value counts among so many, from the first one up or from the last one down
+abbrev pub counted : Bool → ℕ → ℕ → ℕ
+counted falls n value = if falls then n - suc value else value
+
+-- the word that the value of an index counts; x where there is no such word
 abbrev pub element_planes : Array → Planes → Store → Planes
 element_planes a index store =
-    if (index.unknown == 0) && nat_lt index.value a.count then word_planes store (a.first + index.value) else planes_of (all_unknown a.width)
+    if (index.unknown == 0) && nat_lt index.value a.count
+    then word_planes store (a.first + counted a.falls a.count index.value)
+    else planes_of (all_unknown a.width)
 
--- the bit of a word that an index chooses; x where there is no such bit
+-- the bit that the value of an index counts; x where there is no such bit
 abbrev pub bit_planes : Array → Planes → Store → Planes
 bit_planes a index store =
     if (index.unknown == 0) && nat_lt index.value a.width
-    then planes_from index.value 1 (word_planes store a.first)
+    then planes_from (counted a.falls a.width index.value) 1 (word_planes store a.first)
     else planes_of (all_unknown 1)
+
+-- the word of a number among those of an array; x where there is no such word
+abbrev pub nth_planes : Array → ℕ → Store → Planes
+nth_planes a n store = if nat_lt n a.count then word_planes store (a.first + n) else planes_of (all_unknown a.width)
+
+-- the word that any index chooses
+abbrev pub indexed_planes : Array → Index → Planes → Store → Planes
+indexed_planes a i p store = nth_planes a (word_place i.axis (digits_of i.size p)) store
+
+-- so many bits of the first word that any index chooses
+abbrev pub ranged_planes : Array → Index → Size → Planes → Store → Planes
+ranged_planes a i size p store =
+    planes_of (selected (place_of i.axis size.width (digits_of i.size p)) size.width (digits_of a.width (word_planes store a.first)))
 
 -- what an operator gives of an operand of this size
 abbrev pub unary_planes : Unary → Size → Planes → Planes
@@ -86,6 +107,8 @@ planes_step store time (n.Word number) = word_planes store number
 planes_step store time (n.Bits field) = field_planes field store
 planes_step store time (n.Element array x) = element_planes array x.value store
 planes_step store time (n.Bit array x) = bit_planes array x.value store
+planes_step store time (n.Indexed array index x) = indexed_planes array index x.value store
+planes_step store time (n.Ranged array index size x) = ranged_planes array index size x.value store
 planes_step store time (n.Unary operator size x) = unary_planes operator size x.value
 planes_step store time (n.Two sides x y) = combined x.value (sides, y.value)
 planes_step store time (n.Chain x links) = chained x.value links.items

@@ -4,12 +4,12 @@ ghost use Rattle.vs_design.specs.vs_logic4.specs.Bitwise.{merged};
 ghost use Rattle.vs_design.specs.vs_logic4.specs.Comparisons.{truth};
 ghost use Rattle.vs_eval.specs.Values.{value_of};
 ghost use Rattle.vs_eval_resolved.specs.PlanesOf.{planes_of, digits_of};
-ghost use Rattle.vs_eval_resolved.specs.Nodes.{planes_in, word_planes, field_planes, element_planes, bit_planes, combined, chained, chosen, unary_planes, changed_planes, joined, repeated};
+ghost use Rattle.vs_eval_resolved.specs.Nodes.{planes_in, word_planes, field_planes, element_planes, bit_planes, indexed_planes, ranged_planes, counted, combined, chained, chosen, unary_planes, changed_planes, joined, repeated};
 
-use crate::node::{Array, Change, Field, Node, Planes, Sides, Size};
+use crate::node::{Array, Change, Field, Index, Node, Planes, Sides, Size};
 use vs_design::vs_logic4::{Binary, Digit, Unary, Vec4};
 use vs_design::{Count, Store, Typed};
-use vs_eval::value;
+use vs_eval::{place_of, value, word_place};
 
 /// The planes of a vector.
 #[inline(always)]
@@ -59,6 +59,15 @@ pub(crate) fn planes_at(node: &Node, store: &Store, time: u64) -> Planes
         Node::Bits(field) => bits(*field, store),
         Node::Element(array, x) => element(*array, quick_planes(x, store, time), store),
         Node::Bit(array, x) => bit(*array, quick_planes(x, store, time), store),
+        Node::Indexed(array, index, x) => indexed(
+            array,
+            index,
+            quick_planes(x, store, time),
+            store,
+        ),
+        Node::Ranged(array, index, size, x) => {
+            ranged(array, index, *size, quick_planes(x, store, time), store)
+        }
         Node::Unary(operator, size, x) => unary(*operator, *size, quick_planes(x, store, time)),
         Node::Two(sides, x, y) => {
             let left = quick_planes(x, store, time);
@@ -163,13 +172,24 @@ fn bits(field: Field, store: &Store) -> Planes
     planes(Vec4::from_planes(field.width, p.value >> field.low, p.unknown >> field.low))
 }
 
+/// The number of the element that an index of this value counts among so many.
+#[inline(always)]
+fn counted(falls: bool, count: u32, value: u32) -> u32
+    requires { value < count }
+    ensures is { result ≡ counted falls count value }
+    ensures below { result < count }
+{
+    if falls { count - 1 - value } else { value }
+}
+
 /// The word of an array that an index chooses.
 #[inline(always)]
 fn element(array: Array, index: Planes, store: &Store) -> Planes
     ensures { result ≡ element_planes array index store.now }
 {
     if index.unknown == 0 && index.value < u64::from(array.count) {
-        word(array.first + index.value as usize, store)
+        let place = counted(array.falls, array.count, index.value as u32);
+        word(array.first + place as usize, store)
     } else {
         planes(Vec4::unknown(array.width))
     }
@@ -181,11 +201,35 @@ fn bit(array: Array, index: Planes, store: &Store) -> Planes
     ensures { result ≡ bit_planes array index store.now }
 {
     if index.unknown == 0 && index.value < u64::from(array.width) {
+        let place = counted(array.falls, array.width, index.value as u32);
         let p = word(array.first, store);
-        planes(Vec4::from_planes(1, p.value >> index.value, p.unknown >> index.value))
+        planes(Vec4::from_planes(1, p.value >> place, p.unknown >> place))
     } else {
         planes(Vec4::unknown(1))
     }
+}
+
+/// The word of an array that any index chooses.
+#[inline(never)]
+fn indexed(array: &Array, index: &Index, p: Planes, store: &Store) -> Planes
+    ensures { result ≡ indexed_planes array.now index.now p store.now }
+{
+    let place = word_place(index.axis, vector(index.size, p));
+    if place < array.count as usize {
+        word(array.first + place, store)
+    } else {
+        planes(Vec4::unknown(array.width))
+    }
+}
+
+/// So many bits of a word that any index chooses.
+#[inline(never)]
+fn ranged(array: &Array, index: &Index, size: Size, p: Planes, store: &Store) -> Planes
+    ensures { result ≡ ranged_planes array.now index.now size p store.now }
+{
+    let place = place_of(index.axis, size.width, vector(index.size, p));
+    let all = vector(array.width, word(array.first, store));
+    planes(all.select(place, size.width))
 }
 
 /// What an operator gives of an operand of this size.

@@ -3,7 +3,7 @@ ghost use Rattle.std.specs.Prelude.{◌≡◌, ◌<◌, ◌≤◌, ◌+◌, ◌^
 ghost use Rattle.vs_design.specs.vs_logic4.specs.Operators.{is_even, sizing_of};
 
 use vs_design::vs_logic4::{Binary, Unary};
-use vs_design::{Count, Typed};
+use vs_design::{Axis, Count, Typed};
 
 /// A value in two planes: a digit is 0, 1, z or x where their bits are 00, 10, 01 or 11.
 #[derive(Clone, Copy)]
@@ -34,7 +34,7 @@ pub(crate) struct Field {
     pub ghost sized: { (0 < width) × (width ≤ 64) },
 }
 
-/// Words of one signal, of which an index chooses one: that of the index's value.
+/// Words of one signal, of which an index chooses one.
 #[derive(Clone, Copy)]
 pub(crate) struct Array {
     /// The number of the first word.
@@ -43,8 +43,20 @@ pub(crate) struct Array {
     pub count: u32,
     /// The size of each word in bits.
     pub width: u32,
+    /// Where the index's value counts the elements: whether it does so from the last one down, and not from the first one up.
+    pub falls: bool,
+    pub ghost some: { 0 < count },
     pub ghost sized: { (0 < width) × (width ≤ 64) },
     pub ghost inside: { first + count < 2 ^ 64 },
+}
+
+/// How an index of this size chooses.
+#[derive(Clone, Copy)]
+pub(crate) struct Index {
+    pub axis: Axis,
+    /// The size of the index in bits.
+    pub size: u32,
+    pub ghost sized: { (0 < size) × (size ≤ 64) },
 }
 
 /// An operator, and the sizes at which it takes what stands on its left and on its right.
@@ -79,10 +91,14 @@ pub(crate) enum Node {
     Word(usize),
     /// Bits of a word.
     Bits(Field),
-    /// A word of an array.
+    /// A word of an array, by an index whose value counts them.
     Element(Array, Box<Node>),
-    /// A bit of the first word of an array, by an index of its own value.
+    /// A bit of the first word of an array, by an index whose value counts them.
     Bit(Array, Box<Node>),
+    /// A word of an array, by any index.
+    Indexed(Array, Index, Box<Node>),
+    /// So many bits of the first word of an array, by any index.
+    Ranged(Array, Index, Size, Box<Node>),
     /// An operator and its operand, which has this size.
     Unary(Unary, Size, Box<Node>),
     /// An operator and its operands.
@@ -109,6 +125,8 @@ impl Drop for Node {
             | Self::Bits(_)
             | Self::Element(_, _)
             | Self::Bit(_, _)
+            | Self::Indexed(_, _, _)
+            | Self::Ranged(_, _, _, _)
             | Self::Unary(_, _, _)
             | Self::Two(_, _, _)
             | Self::Chain(_, _)

@@ -9,12 +9,13 @@ ghost use Rattle.vs_design.specs.declared.signal.Signal.{Signal};
 ghost use Rattle.vs_design.specs.Selects.{place_of};
 ghost use Rattle.vs_design.specs.Stores.{Store, word_of};
 ghost use Rattle.vs_eval.specs.Values.{value_of, operand_value, bits_value, selection_value, left_side, right_side, linked, chained, picked, chosen, concatenated};
-ghost use Rattle.vs_eval_resolved.specs.Meant.{IsMeant, Means, Values, AreSides, AreSized, IsWordOf, IsArrayOf, IsElementOf, IsBitOf, IsPlain};
+ghost use Rattle.vs_eval_resolved.specs.Meant.{IsMeant, Means, Values, AreSides, AreSized, IsWordOf, IsArrayOf, IsElementOf, IsBitsOf, IsCounting, IsPlain, word_value, part_value};
+ghost use Rattle.vs_eval_resolved.specs.Nodes.{counted};
 ghost use Rattle.vs_eval_resolved.specs.PlanesOf.{planes_of};
 
 use crate::copy::boxed;
 use crate::evaluate::planes;
-use crate::node::{Array, Change, Field, Node, Sides, Size};
+use crate::node::{Array, Change, Field, Index, Node, Sides, Size};
 use std::alloc::{AllocError, Global};
 use vs_design::vs_logic4::{Sizing, Unary, Vec4};
 use vs_design::{Axis, Count, Design, Extension, Link, Operand, Selection, Slice, Typed};
@@ -89,12 +90,15 @@ fn whole(alloc: Global, design: &Design, o: Operand, e: &Typed) -> Result<(Node,
         ≡ operand_value o.signed o.width (word_of store o.signal 0))
         → IsMeant design.now.signals e.now r.0 r.1.width) }
 {
-    match word_of(design, o.signal, 0) {
-        Some((number, size)) if keeps_planes(o.signed, o.width, size) => {
-            Ok((Node::Word(number), Size { width: o.width }))
-        }
-        _ => other(alloc, e, o.width),
-    }
+    let Some((number, size)) = word_of(design, o.signal, 0) else {
+        return other(alloc, e, o.width);
+    };
+    let to = Extension {
+        width: o.width,
+        signed: o.signed,
+    };
+    let made = brought(alloc, to, (Node::Word(number), size))?;
+    Ok(made)
 }
 
 /// The number of a word of a signal and its size, where there is such a word.
@@ -162,14 +166,27 @@ fn array_of(design: &Design, signal: usize) -> Option<Array>
         first,
         count: s.count,
         width: s.width,
+        falls: false,
     })
 }
 
-/// Whether an index of a range is the number of the element, and the range has so many of them.
+/// The index of the element of number 0, where the indices of so many elements are 0 and those after it.
+fn right_of(falls: bool, length: u32) -> i64
+    requires { 0 < length }
+    ensures { result ≡ pos (counted falls length 0) }
+{
+    if falls { i64::from(length - 1) } else { 0 }
+}
+
+/// Whether an index of a range counts the elements, from the first one up or from the last one down, and the range has so many of them.
 fn is_plain(axis: Axis, length: u32) -> bool
+    requires { 0 < length }
     ensures { result ≡ true → IsPlain axis length }
 {
-    axis.right == 0 && !axis.ascending && axis.below == 0 && !axis.signed && axis.length == length
+    axis.right == right_of(axis.ascending, length)
+        && axis.below == 0
+        && !axis.signed
+        && axis.length == length
 }
 
 /// Whether an expression is a literal that chooses the element of number 0.
@@ -187,7 +204,7 @@ fn element_of(design: &Design, s: Selection, low: &Typed) -> Option<Array>
     ensures { IfSome result (λ a. IsElementOf design.now.signals s low.now a) }
 {
     let array = array_of(design, s.signal)?;
-    if s.width != array.width || !is_plain(s.words, array.count) {
+    if s.width != array.width {
         return None;
     }
     if is_lowest(s.bits, s.width, low) {
@@ -197,19 +214,68 @@ fn element_of(design: &Design, s: Selection, low: &Typed) -> Option<Array>
     }
 }
 
-/// The words of a signal, where two indices choose a bit of the first one by the second one's value.
-fn bit_of(design: &Design, s: Selection, word: &Typed) -> Option<Array>
-    ensures { IfSome result (λ a. IsBitOf design.now.signals s word.now a) }
+/// The words of a signal, where two indices choose bits of the first one by the second one's value.
+fn bits_of(design: &Design, s: Selection, word: &Typed) -> Option<Array>
+    ensures { IfSome result (λ a. IsBitsOf design.now.signals s word.now a) }
 {
     let array = array_of(design, s.signal)?;
-    if s.width != 1 || !is_plain(s.bits, array.width) {
-        return None;
-    }
     if is_lowest(s.words, 1, word) {
         Some(array)
     } else {
         None
     }
+}
+
+/// The words of an array, counted as an index of this kind does.
+fn counting(array: Array, axis: Axis) -> Array
+    ensures { IsCounting result array axis.ascending }
+{
+    Array {
+        first: array.first,
+        count: array.count,
+        width: array.width,
+        falls: axis.ascending,
+    }
+}
+
+/// The word of an array that an index chooses.
+fn word_by(alloc: Global, array: Array, axis: Axis, x: (Node, Size)) -> Result<Node, AllocError>
+    ensures { IfOk result (λ node. (signals : List Signal) (signal : ℕ) (values : Values) → IsArrayOf signals signal array
+        → Means signals values x.0 x.1.width → Means signals (λ store time. word_value signal array.width axis store (values store time)) node array.width) }
+{
+    let (node, own) = x;
+    let x = Box::new(alloc, node)?;
+    if is_plain(axis, array.count) {
+        return Ok(Node::Element(counting(array, axis), x));
+    }
+    let index = Index {
+        axis,
+        size: own.width,
+    };
+    Ok(Node::Indexed(array, index, x))
+}
+
+/// So many bits of the first word of an array that an index chooses.
+fn bits_by(
+    alloc: Global,
+    array: Array,
+    axis: Axis,
+    size: Size,
+    x: (Node, Size),
+) -> Result<Node, AllocError>
+    ensures { IfOk result (λ node. (signals : List Signal) (signal : ℕ) (values : Values) → IsArrayOf signals signal array
+        → Means signals values x.0 x.1.width → Means signals (λ store time. part_value signal size.width axis store (values store time)) node size.width) }
+{
+    let (node, own) = x;
+    let x = Box::new(alloc, node)?;
+    if size.width == 1 && is_plain(axis, array.width) {
+        return Ok(Node::Bit(counting(array, axis), x));
+    }
+    let index = Index {
+        axis,
+        size: own.width,
+    };
+    Ok(Node::Ranged(array, index, size, x))
 }
 
 /// The bits that two indices choose: a word of an array or a bit of a word, else any bits.
@@ -226,16 +292,17 @@ fn select(
         ≡ selection_value s store (value_of word.now store time) (value_of low.now store time))
         → IsMeant design.now.signals e.now r.0 r.1.width) }
 {
+    let own = Size { width: s.width };
     if let Some(array) = element_of(design, s, low) {
-        if let Some((x, _)) = resolve(alloc, design, word)? {
-            let node = Node::Element(array, Box::new(alloc, x)?);
-            return Ok((node, Size { width: s.width }));
+        if let Some(x) = resolve(alloc, design, word)? {
+            let node = word_by(alloc, array, s.words, x)?;
+            return Ok((node, own));
         }
     }
-    if let Some(array) = bit_of(design, s, word) {
-        if let Some((x, _)) = resolve(alloc, design, low)? {
-            let node = Node::Bit(array, Box::new(alloc, x)?);
-            return Ok((node, Size { width: s.width }));
+    if let Some(array) = bits_of(design, s, word) {
+        if let Some(x) = resolve(alloc, design, low)? {
+            let node = bits_by(alloc, array, s.bits, own, x)?;
+            return Ok((node, own));
         }
     }
     other(alloc, e, s.width)

@@ -1,9 +1,8 @@
 //! Runs that take too many steps, and the events whose order makes two runs differ.
 
 use crate::scopes::put_scope;
+use crate::{Taken, explain_steps, last_steps};
 use std::alloc::{AllocError, Global};
-use vs_explain_limit::{Taken, explain_steps};
-use vs_explain_steps::last_steps;
 use vs_explain_text::vs_explain_outline::{Explanation, Page, SourceText};
 use vs_race_pair::{Asked, put_pair};
 use vs_simulate::design_of;

@@ -4,12 +4,11 @@ use std::alloc::{AllocError, Global};
 use vs_certificate::ClaimedKind;
 use vs_design::ProcessKind;
 use vs_design::vs_logic4::Edge;
-use vs_explain_spots::vs_explain_facts::{
+use vs_explain_writers::vs_explain_facts::{
     Question, TextFacts, TextKind, delay_ends, kind_word, process_of,
 };
-use vs_explain_spots::vs_explain_outline::Page;
-use vs_explain_spots::vs_explain_places::{found, put_marked};
-use vs_explain_spots::{Site, is_finish, mark_site, put_residues, put_rule, put_site, text_at};
+use vs_explain_writers::vs_explain_outline::{Page, found, put_marked};
+use vs_explain_writers::{Site, is_finish, mark_site, put_residues, put_rule, put_site, text_at};
 
 /// Why a process has both kinds of wait.
 #[derive(Clone, Copy, PartialEq, Eq)]

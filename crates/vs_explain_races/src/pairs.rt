@@ -1,10 +1,10 @@
 //! Reads of a process, and writes by `=` of what they depend on.
 
 use std::alloc::{AllocError, Global};
-use vs_explain_spots::vs_explain_facts::{
+use vs_explain_writers::vs_explain_facts::{
     Cone, Course, Facts, Point, Question, TextFacts, TextKind,
 };
-use vs_explain_spots::{Site, common, edge_times, in_order, push_times, text_at};
+use vs_explain_writers::{Site, common, edge_times, in_order, push_times, text_at};
 
 /// A read of a process, and a write by `=` of a variable on which that depends.
 #[derive(Drop)]

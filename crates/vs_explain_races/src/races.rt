@@ -3,10 +3,9 @@
 use crate::pairs::{Pair, meet, pairs_of, read_times, write_times};
 use std::alloc::{AllocError, Global};
 use vs_design::{ProcessKind, Statement};
-use vs_explain_spots::vs_explain_facts::{Course, Facts, Question, TextFacts, TextKind};
-use vs_explain_spots::vs_explain_outline::Page;
-use vs_explain_spots::vs_explain_places::{found, put_marked};
-use vs_explain_spots::{
+use vs_explain_writers::vs_explain_facts::{Course, Facts, Question, TextFacts, TextKind};
+use vs_explain_writers::vs_explain_outline::{Page, found, put_marked};
+use vs_explain_writers::{
     ClockForm, Site, common, form_of, free_before, has_clocks, longer_initial, mark_site, point_at,
     put_path, put_residues, put_rule, put_short, put_signal, put_site, put_times, residues_of,
     text_at, turner_of, turning_in, turning_of,

@@ -1,11 +1,10 @@
 //! What a certificate says of a subject, where nothing is wrong with the design itself.
 
+use crate::sentence_of;
+use crate::vs_explain_facts::{Question, entry_of, mode_word};
+use crate::vs_explain_outline::{Page, put_marked};
 use crate::writes::{Wanted, write_in};
 use vs_certificate::SignalEntry;
-use vs_explain_spots::sentence_of;
-use vs_explain_spots::vs_explain_facts::{Question, entry_of, mode_word};
-use vs_explain_spots::vs_explain_outline::Page;
-use vs_explain_spots::vs_explain_places::put_marked;
 
 /// How many writers are told.
 const TOLD: usize = 4;

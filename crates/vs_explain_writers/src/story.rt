@@ -1,8 +1,8 @@
 //! What is said of a cause: what is wrong, and what mends it.
 
-use vs_explain_spots::vs_explain_facts::Question;
-use vs_explain_spots::vs_explain_outline::Page;
-use vs_explain_spots::{Site, mark_site, sentence_of};
+use crate::vs_explain_facts::Question;
+use crate::vs_explain_outline::Page;
+use crate::{Site, mark_site, sentence_of};
 
 /// A cause in a sentence, and what mends it in one; `%` stands for the name of a signal.
 #[derive(Clone, Copy)]

@@ -2,10 +2,10 @@
 
 use crate::claimed::put_writers_claimed;
 use crate::story::{Story, name_of, put_story};
+use crate::vs_explain_facts::{Facts, Question, TextKind};
+use crate::vs_explain_outline::Page;
 use crate::writes::{Wanted, write_in};
-use vs_explain_spots::vs_explain_facts::{Facts, Question, TextKind};
-use vs_explain_spots::vs_explain_outline::Page;
-use vs_explain_spots::{Site, mark_site};
+use crate::{Site, mark_site};
 
 /// Where a process writes a signal by `=`, and where by `<=`.
 #[derive(Clone, Copy)]

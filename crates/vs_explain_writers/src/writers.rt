@@ -1,15 +1,14 @@
 //! Who writes a signal, in the rule K2.
 
+use crate::Site;
 use crate::claimed::put_writers_claimed;
 use crate::story::{Story, name_of, put_maybe, put_story};
+use crate::vs_explain_facts::{Facts, Question, Reading, TextKind};
+use crate::vs_explain_outline::{Page, is_declaration, put_marked};
 use crate::writes::{Wanted, is_part, number_of, source_of, target_of, write_in};
 use std::alloc::{AllocError, Global};
 use vs_design::vs_logic4::{Binary, Edge};
 use vs_design::{SignalKind, Statement, Typed};
-use vs_explain_spots::Site;
-use vs_explain_spots::vs_explain_facts::{Facts, Question, Reading, TextKind};
-use vs_explain_spots::vs_explain_outline::Page;
-use vs_explain_spots::vs_explain_places::{is_declaration, put_marked};
 
 /// Why two processes may not write a signal.
 #[derive(Clone, Copy, PartialEq, Eq)]

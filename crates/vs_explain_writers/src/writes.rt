@@ -1,9 +1,9 @@
 //! The writes of a signal in the texts of processes.
 
+use crate::vs_explain_facts::{Facts, Point};
+use crate::{Site, unsized_of};
 use vs_design::vs_logic4::{Unary, Vec4};
 use vs_design::{Aim, Signal, Statement, Target, Typed};
-use vs_explain_spots::vs_explain_facts::{Facts, Point};
-use vs_explain_spots::{Site, unsized_of};
 
 /// Which writes are looked for.
 #[derive(Clone, Copy, PartialEq, Eq)]

@@ -6,3 +6,4 @@ pub mod Joined
 pub mod Orders
 pub mod NumberLemmas
 pub mod Sorts
+pub mod RowLemmas

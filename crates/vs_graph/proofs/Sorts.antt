@@ -1,14 +1,15 @@
 -- Orders that go on, and tables of what things need.
-use Rattle.std.proofs.Common.{◌≡◌, ℕ, zero, suc, ◌+◌, ◌<◌, ◌≤◌, ◌⊎◌, ◌++◌, inl, inr, Bool, true, false, Some, List, [], ◌∷◌, length, replicate, set, get_or, slice_get, slice_set, slice_index_or, refl, sym, ◌∙◌, ap, subst, arith}
+use Rattle.std.proofs.Common.{◌≡◌, ℕ, zero, suc, ◌+◌, ◌<◌, ◌≤◌, ◌↔◌, ◌⊎◌, ◌++◌, inl, inr, Bool, true, false, Some, List, [], ◌∷◌, length, replicate, set, get_or, slice_get, slice_set, slice_index_or, refl, sym, ◌∙◌, ap, subst, arith}
 use Rattle.std.specs.List.{Contains}
 use Rattle.std.specs.declared.vec.Vec.{Vec}
 use Rattle.std.specs.declared.alloc.Global.{Global}
 use Rattle.std.proofs.lemmas.List.{length-set, length-replicate}
-use Rattle.std.proofs.lemmas.List.Elements.{Contains-append_left, Contains-push, Contains-push_cases}
+use Rattle.std.proofs.lemmas.List.Elements.{Contains-append_left, Contains-append_right, Contains-append_cases, Contains-push, Contains-push_cases}
 use Rattle.std.proofs.lemmas.Bool.{cases_eq}
 use Rattle.std.proofs.lemmas.Option.{slice_get_within, get_or_from_slice_get, slice_get-get_or}
 use Rattle.vs_graph.specs.Order.{Needs, StandsBefore, Lacks, IsSorted}
-use Rattle.vs_graph.specs.Sorting.{IsPlaced, AreSorted, LacksOne, GoesOn, IsTried, IsPlacing, ArePlacing, LacksAt, AreTriedAt, KeepsNeeds, IsNoted, AreNoted, AreUsers}
+use Rattle.vs_graph.specs.Rows.{AreRows, row}
+use Rattle.vs_graph.specs.Sorting.{IsPlaced, AreSorted, LacksOne, GoesOn, IsTried, IsPlacing, ArePlacing, LacksAt, AreTriedAt, AreUsers}
 
 below_or : (i n : ℕ) → i < n + 1 → (i < n) ⊎ (i ≡ n)
 below_or i n h = grind (arith, h)
@@ -130,81 +131,28 @@ one_more table order marks x row s within new is all = record {
       let p = place_of order z (s.there z (all z (subst (λ (r : Vec ℕ Global). Contains r.items z) (sym row_is) n.has))) in
       record { place = p.0; before = subst (λ k. p.0 < k) (sym e.0) p.1; is = append_keeps order (x ∷ []) p.0 z p.2 }
 
--- ---- tables
+-- ---- what things need
 
-pub keeps_refl : (xs : List (Vec ℕ Global)) → KeepsNeeds xs xs
-keeps_refl xs = record { long = refl; kept = λ x y n. n }
+-- those of a list put at the end of another one
+pub needs_put : (table : List (Vec ℕ Global)) (x : ℕ) (list : Vec ℕ Global) (old new : List ℕ) → slice_get table x ≡ Some list → new ≡ old ++ list.items → (y : ℕ) →
+    (Contains new y ↔ (Contains old y ⊎ Needs table x y))
+needs_put table x list old new is made y = (
+  λ c. elim (Contains-append_cases old list.items y (subst (λ l. Contains l y) made c)) [
+    | inl a ↦ inl a
+    | inr b ↦ inr (record { list = list; is = is; has = b })
+  ],
+  λ h. subst (λ l. Contains l y) (sym made) (elim h [
+    | inl a ↦ Contains-append_left old list.items y a
+    | inr n ↦ Contains-append_right old list.items y (subst (λ (v : Vec ℕ Global). Contains v.items y) (same_some n.list list (sym n.is ∙ is)) n.has)
+  ]),
+)
 
-pub keeps_trans : (xs ys zs : List (Vec ℕ Global)) → KeepsNeeds xs ys → KeepsNeeds ys zs → KeepsNeeds xs zs
-keeps_trans xs ys zs a b = record { long = b.long ∙ a.long; kept = λ x y n. b.kept x y (a.kept x y n) }
+-- of none there are none
+pub needs_past : (table : List (Vec ℕ Global)) (x : ℕ) (out : List ℕ) → length table ≤ x → (y : ℕ) → (Contains out y ↔ (Contains out y ⊎ Needs table x y))
+needs_past table x out past y = (inl, λ h. elim h [ inl a ↦ a | inr n ↦ absurd (omega (arith, past, slice_get_within table x n.list n.is)) ])
 
-at_same : {A : Type 0} (xs : List A) (i : ℕ) (x y : A) → slice_get xs i ≡ Some x → slice_get (slice_set xs i y) i ≡ Some y
-at_same [] i x y h = cc
-at_same (z ∷ zs) zero x y h = refl
-at_same (z ∷ zs) (suc i) x y h = at_same zs i x y h
-
-at_other : {A : Type 0} (xs : List A) (i j : ℕ) (y : A) → (j ≡ i → ⊥) → slice_get (slice_set xs i y) j ≡ slice_get xs j
-at_other [] i j y h = refl
-at_other (z ∷ zs) zero zero y h = absurd (h refl)
-at_other (z ∷ zs) zero (suc j) y h = refl
-at_other (z ∷ zs) (suc i) zero y h = refl
-at_other (z ∷ zs) (suc i) (suc j) y h = at_other zs i j y (λ e. h (ap suc e))
-
--- a row gets one more thing
-pub noted_at : (users : List (Vec ℕ Global)) (x needed : ℕ) (row more : Vec ℕ Global) → slice_get users needed ≡ Some row → more.items ≡ row.items ++ x ∷ [] →
-    IsNoted users (slice_set users needed more) x needed
-noted_at users x needed row more is items = record {
-  keeps = record {
-    long = length-set users needed more;
-    kept = λ u v n. elim (cases_eq u needed) [
-      | inl e ↦
-          let same : row ≡ n.list = same_some row n.list (sym is ∙ ap (slice_get users) (sym e) ∙ n.is) in
-          record {
-            list = more;
-            is = subst (λ k. slice_get (slice_set users needed more) k ≡ Some more) (sym e) (at_same users needed row more is);
-            has = subst (λ l. Contains l v) (sym items) (Contains-append_left row.items (x ∷ []) v (subst (λ (r : Vec ℕ Global). Contains r.items v) (sym same) n.has));
-          }
-      | inr ne ↦ record { list = n.list; is = at_other users needed u more ne ∙ n.is; has = n.has }
-    ];
-  };
-  noted = λ within. record {
-    list = more;
-    is = at_same users needed row more is;
-    has = subst (λ l. Contains l x) (sym items) (Contains-push row.items x);
-  };
-}
-
--- a row that isn't there
-pub noted_past : (users : List (Vec ℕ Global)) (x needed : ℕ) → length users ≤ needed → IsNoted users users x needed
-noted_past users x needed past = record { keeps = keeps_refl users; noted = λ within. absurd (omega (arith, within, past)) }
-
--- ---- rows of some things
-
-pub more_noted : (start old new : List (Vec ℕ Global)) (x e i : ℕ) (needed : List ℕ) → KeepsNeeds start old → slice_get needed i ≡ Some e → IsNoted old new x e →
-    ((k y : ℕ) → k < i → slice_get needed k ≡ Some y → y < length start → Needs old y x) →
-    (k y : ℕ) → k < i + 1 → slice_get needed k ≡ Some y → y < length start → Needs new y x
-more_noted start old new x e i needed keeps is noted before k y below at within = elim (below_or k i below) [
-  | inl l ↦ noted.keeps.kept y x (before k y l at within)
-  | inr same ↦
-      let e_is : e ≡ y = same_some e y (sym is ∙ ap (slice_get needed) (sym same) ∙ at) in
-      subst (λ z. Needs new z x) e_is (noted.noted (subst (λ z. z < length old) (sym e_is) (subst (λ n. y < n) (sym keeps.long) within)))
-]
-
-pub all_noted : (start new : List (Vec ℕ Global)) (x i : ℕ) (needed : List ℕ) → KeepsNeeds start new → length needed ≤ i →
-    ((k y : ℕ) → k < i → slice_get needed k ≡ Some y → y < length start → Needs new y x) → AreNoted start new x needed
-all_noted start new x i needed keeps all noted = record {
-  keeps = keeps;
-  noted = λ y has within. let p = place_of needed y has in noted p.0 y (omega (arith, p.1, all)) p.2 within;
-}
-
-pub more_users : (table old new : List (Vec ℕ Global)) (x : ℕ) (row : Vec ℕ Global) → slice_get table x ≡ Some row → AreNoted old new x row.items → length old ≡ length table →
-    ((a b : ℕ) → a < x → Needs table a b → b < length table → Needs old b a) → (a b : ℕ) → a < x + 1 → Needs table a b → b < length table → Needs new b a
-more_users table old new x row is noted long before a b below needs within = elim (below_or a x below) [
-  | inl l ↦ noted.keeps.kept b a (before a b l needs within)
-  | inr same ↦
-      let row_is : row ≡ needs.list = same_some row needs.list (sym is ∙ ap (slice_get table) (sym same) ∙ needs.is) in
-      subst (Needs new b) (sym same) (noted.noted b (subst (λ (r : Vec ℕ Global). Contains r.items b) (sym row_is) needs.has) (subst (λ n. b < n) (sym long) within))
-]
+pub users_are : (table : List (Vec ℕ Global)) (users : List (List ℕ)) → AreRows (Needs table) (length table) (length table) users → AreUsers table users
+users_are table users rows x y needs within = (rows y x within).1 (slice_get_within table x needs.list needs.is, needs)
 
 -- ---- things that are tried
 
@@ -270,17 +218,15 @@ more_first table old new before after x sorted placing within tried y below = el
 same_or : (x y : ℕ) → (x ≡ y) ⊎ (x ≡ y → ⊥)
 same_or x y = cases_eq x y
 
-pub tried_on : (table users : List (Vec ℕ Global)) (old new : List ℕ) (before after : List Bool) (i w : ℕ) (row : Vec ℕ Global) → AreUsers table users → AreSorted table old before →
-    slice_get old i ≡ Some w → slice_get users w ≡ Some row → ArePlacing table row.items old new after → AreTriedAt table old before i → AreTriedAt table new after (i + 1)
-tried_on table users old new before after i w row are sorted is at placing tried x within = elim (tried x within) [
+pub tried_on : (table : List (Vec ℕ Global)) (users : List (List ℕ)) (old new : List ℕ) (before after : List Bool) (i w : ℕ) → AreUsers table users → AreSorted table old before →
+    slice_get old i ≡ Some w → ArePlacing table (row users w) old new after → AreTriedAt table old before i → AreTriedAt table new after (i + 1)
+tried_on table users old new before after i w are sorted is placing tried x within = elim (tried x within) [
   | inl p ↦ inl (still_placed table old new before after x sorted placing.sorted placing.goes_on p)
   | inr lacks ↦ elim (same_or lacks.lacked w) [
     | inl same ↦
         let needs : Needs table x w = subst (Needs table x) same lacks.needs in
         let inside : w < length table = subst (λ n. w < n) sorted.long (placed_within before w (sorted.marked w (contains_at old i w is))) in
-        let user = are.noted x w needs inside in
-        let row_is : user.list ≡ row = same_some user.list row (sym user.is ∙ at) in
-        elim (placing.tried x (subst (λ (r : Vec ℕ Global). Contains r.items x) row_is user.has) within) [
+        elim (placing.tried x (are x w needs inside) within) [
           | inl p ↦ inl p
           | inr l ↦ inr (record {
             lacked = l.lacked;
@@ -339,27 +285,7 @@ nothing_sorted table order marks e m = record {
   nowhere : (i x : ℕ) → slice_get [] i ≡ Some x → ⊥
   nowhere i x h = cc
 
--- ---- what a step of a sort leaves
-
-pub carried_sorted : (table : List (Vec ℕ Global)) (o n : Vec ℕ Global) (p q : Vec Bool Global) → o ≡ n → p ≡ q → AreSorted table n.items q.items → AreSorted table o.items p.items
-carried_sorted table o n p q e f h = subst (λ (v : Vec ℕ Global). AreSorted table v.items p.items) (sym e) (subst (λ (v : Vec Bool Global). AreSorted table n.items v.items) (sym f) h)
-
-pub carried_tried : (table : List (Vec ℕ Global)) (o n : Vec ℕ Global) (p q : Vec Bool Global) (i : ℕ) → o ≡ n → p ≡ q → AreTriedAt table n.items q.items i →
-    AreTriedAt table o.items p.items i
-carried_tried table o n p q i e f h =
-    subst (λ (v : Vec ℕ Global). AreTriedAt table v.items p.items i) (sym e) (subst (λ (v : Vec Bool Global). AreTriedAt table n.items v.items i) (sym f) h)
-
-pub placed_in : (table : List (Vec ℕ Global)) (order : List ℕ) (marks : List Bool) (i x : ℕ) → AreSorted table order marks → slice_get order i ≡ Some x → x < length table
-placed_in table order marks i x sorted is = subst (λ n. x < n) sorted.long (placed_within marks x (sorted.marked x (contains_at order i x is)))
-
 pub is_clear : (marks : List Bool) (x : ℕ) (b : Bool) → x < length marks → b ≡ get_or marks x b → b ≡ false → IsPlaced marks x → ⊥
 is_clear [] x b h e f p = omega (arith, h)
 is_clear (m ∷ marks) zero b h e f p = cc
 is_clear (m ∷ marks) (suc x) b h e f p = is_clear marks x b (omega (arith, h)) e f p
-
-pub users_are : (table users : List (Vec ℕ Global)) (x : ℕ) → length table ≤ x → length users ≡ length table →
-    ((a b : ℕ) → a < x → Needs table a b → b < length table → Needs users b a) → AreUsers table users
-users_are table users x all long noted = record {
-  long = long;
-  noted = λ a b needs within. noted a b (omega (arith, slice_get_within table a needs.list needs.is, all)) needs within;
-}

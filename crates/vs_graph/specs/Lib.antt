@@ -1,4 +1,5 @@
 pub mod Reached
+pub mod Rows
 pub mod Owed
 pub mod Verdicts
 pub mod Clear

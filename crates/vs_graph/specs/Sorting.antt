@@ -4,6 +4,7 @@ use Rattle.std.specs.List.{Contains}
 use Rattle.std.specs.declared.vec.Vec.{Vec}
 use Rattle.std.specs.declared.alloc.Global.{Global}
 use Rattle.vs_graph.specs.Order.{Needs, StandsBefore, Lacks}
+use Rattle.vs_graph.specs.Rows.{row}
 
 abbrev pub IsPlaced : List Bool → ℕ → Type 0
 IsPlaced placed x = slice_index_or placed x false ≡ true
@@ -52,22 +53,6 @@ pub record LacksAt (table : List (Vec ℕ Global)) (order : List ℕ) (i x : ℕ
 abbrev pub AreTriedAt : List (Vec ℕ Global) → List ℕ → List Bool → ℕ → Type 0
 AreTriedAt table order placed i = (x : ℕ) → x < length table → IsPlaced placed x ⊎ LacksAt table order i x
 
--- a table goes on as it was
-pub record KeepsNeeds (old new : List (Vec ℕ Global)) : Type 0 where
-  pub long : length new ≡ length old
-  pub kept : (x y : ℕ) → Needs old x y → Needs new x y
-
--- and a thing stands in the row of one that it needs
-pub record IsNoted (old new : List (Vec ℕ Global)) (x needed : ℕ) : Type 0 where
-  pub keeps : KeepsNeeds old new
-  pub noted : needed < length old → Needs new needed x
-
--- and in the rows of some
-pub record AreNoted (old new : List (Vec ℕ Global)) (x : ℕ) (needed : List ℕ) : Type 0 where
-  pub keeps : KeepsNeeds old new
-  pub noted : (y : ℕ) → Contains needed y → y < length old → Needs new y x
-
 -- each thing stands in the row of each that it needs
-pub record AreUsers (table users : List (Vec ℕ Global)) : Type 0 where
-  pub long : length users ≡ length table
-  pub noted : (x y : ℕ) → Needs table x y → y < length table → Needs users y x
+abbrev pub AreUsers : List (Vec ℕ Global) → List (List ℕ) → Type 0
+AreUsers table users = (x y : ℕ) → Needs table x y → y < length table → Contains (row users y) x

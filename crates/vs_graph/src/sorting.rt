@@ -1,42 +1,37 @@
 //! An order in which each thing stands after those that it needs.
 ghost use Rattle.std.specs.Prelude.{ℕ, ◌≡◌, ◌<◌, true, false, length, slice_index_or, IfOk, OnOk};
 ghost use Rattle.std.specs.List.{Contains};
-ghost use Rattle.vs_graph.specs.Order.{IsSorted};
-ghost use Rattle.vs_graph.specs.Sorting.{IsPlaced, AreSorted, LacksOne, IsPlacing, ArePlacing, AreTriedAt, IsNoted, AreNoted, AreUsers};
+ghost use Rattle.vs_graph.specs.Order.{IsSorted, Needs};
+ghost use Rattle.vs_graph.specs.Sorting.{IsPlaced, AreSorted, LacksOne, IsPlacing, ArePlacing, AreTriedAt, AreUsers};
 
+use crate::families::Family;
+use crate::rows::{Rows, index_of};
 use std::alloc::{AllocError, Global};
 
-// Notes a thing with one that it needs; one past the end is none of the table.
-fn note(users: &mut Vec<Vec<usize>>, x: usize, needed: usize) -> Result<(), AllocError>
-    ensures { OnOk result (IsNoted users.old.items users.new.items x needed) }
-{
-    if let Some(row) = users.get_mut(needed) {
-        row.push(x)?;
-    }
-    Ok(())
+// The lists of what each thing needs.
+#[derive(Drop)]
+struct Needed<'a> {
+    needs: &'a [Vec<usize>],
 }
 
-// Notes a thing with those that it needs.
-fn note_all(users: &mut Vec<Vec<usize>>, x: usize, needed: &[usize]) -> Result<(), AllocError>
-    ensures { OnOk result (AreNoted users.old.items users.new.items x needed.now) }
-{
-    for y in needed {
-        note(users, x, *y)?;
+impl<'a> Family for Needed<'a> {
+    ghost has = { λ f x y. Needs f.needs.now x y };
+
+    fn put(&self, _alloc: Global, i: usize, out: &mut Vec<usize>) -> Result<(), AllocError> {
+        if i >= self.needs.len() {
+            return Ok(());
+        }
+        out.extend_from_slice(&self.needs[i])?;
+        Ok(())
     }
-    Ok(())
 }
 
 // For each thing those that need it.
-fn users_of(alloc: Global, needs: &[Vec<usize>]) -> Result<Vec<Vec<usize>>, AllocError>
-    ensures { IfOk result (λ users. AreUsers needs.now users.items) }
+fn users_of(alloc: Global, needs: &[Vec<usize>]) -> Result<Rows<usize>, AllocError>
+    ensures { IfOk result (λ users. AreUsers needs.now users) }
 {
-    let mut users = Vec::new(alloc);
-    for _ in 0..needs.len() {
-        users.push(Vec::new(alloc))?;
-    }
-    for x in 0..needs.len() {
-        note_all(&mut users, x, &needs[x])?;
-    }
+    let count = needs.len();
+    let users = index_of(alloc, &Needed { needs }, count, count)?;
     Ok(users)
 }
 
@@ -126,9 +121,7 @@ pub fn sorted(alloc: Global, needs: &[Vec<usize>]) -> Result<Vec<usize>, AllocEr
             break;
         }
         let x = order[i];
-        if x < users.len() {
-            place_all(&mut order, &mut placed, needs, &users[x])?;
-        }
+        place_all(&mut order, &mut placed, needs, users.row(x))?;
     }
     Ok(order)
 }

@@ -1,3 +1,5 @@
+pub mod Testing
+pub mod Alone
 pub mod Race
 pub mod Carry
 pub mod RiseThreads
@@ -7,13 +9,17 @@ pub mod Lines
 pub mod Kept
 pub mod Certificates
 pub mod Texts
-pub mod WitnessesRise
+pub mod RiseRules
 pub mod BlockPoints
 pub mod Block
-pub mod WitnessesRace
+pub mod RaceRules
 pub mod Swap
 pub mod SwapNow
 pub mod SwapPoints
 pub mod SwapLater
 pub mod MixerPoints
 pub mod Mixer
+pub mod RootsPoints
+pub mod Roots
+pub mod LatePoints
+pub mod Late

@@ -1,3 +1,4 @@
+pub mod Alone
 pub mod Race
 pub mod Carry
 pub mod Rise
@@ -6,10 +7,12 @@ pub mod Lines
 pub use Rattle.vs_independence
 pub mod Names
 pub mod Kept
-pub mod WitnessesRise
+pub mod RiseRules
 pub mod Block
-pub mod WitnessesRace
+pub mod RaceRules
 pub mod Swap
 pub mod Mixer
 pub use Rattle.vs_law_rules
 pub use Rattle.vs_threads
+pub mod Roots
+pub mod Late

@@ -1,16 +1,20 @@
-//! Designs that show that the discipline and the rules of certificates say something: designs that keep them, races that keep those of no
-//! certificate, and one whose lines are not alike.
+//! Designs that show that the discipline and the rules of certificates say something: designs that keep them, also since their processes run at
+//! different residues, races that keep those of no certificate, one whose lines are not alike, and designs whose executions differ in one thing alone.
 #![tactic(auto)]
 
-mod laws;
-mod witnesses_laws;
+mod differences;
+mod disciplined;
+mod ruled;
+mod staggered;
 
-pub use laws::{
+pub use differences::{finish_alone_differs, strobe_lines_alone_differ};
+pub use disciplined::{
     a_block_is_disciplined, a_carry_is_disciplined, a_race_is_seen, a_rise_is_disciplined,
     lines_are_seen,
 };
-pub use witnesses_laws::{
+pub use ruled::{
     a_block_at_a_net_keeps_the_rules, a_block_keeps_the_rules, a_clocked_design_keeps_the_rules,
     a_mixer_keeps_the_rules, a_race_keeps_no_rules, a_race_of_edges_keeps_no_rules,
     a_rise_keeps_the_rules, a_wrong_mode_is_told,
 };
+pub use staggered::{a_late_read_keeps_the_rules, two_roots_keep_the_rules};

@@ -5,7 +5,6 @@ pub mod Exact
 pub mod EachPoint
 pub mod ControlLemmas
 pub mod RangeLemmas
-pub mod IndexLemmas
 pub mod WalkLemmas
 pub mod MarkLemmas
 pub mod ReadingLemmas

@@ -1,8 +1,6 @@
 -- The signals of ranges and of terms.
 use Rattle.std.proofs.Common.{◌≡◌, ℕ, ◌<◌, ◌≤◌, ◌⊎◌, ◌↔◌, inl, inr, List, [], ◌∷◌, ◌++◌, Some, length, map, get_or, slice_get, sym, ◌∙◌, ap, subst, arith}
 use Rattle.std.specs.List.{Contains}
-use Rattle.std.specs.declared.vec.Vec.{Vec}
-use Rattle.std.specs.declared.alloc.Global.{Global}
 use Rattle.std.proofs.lemmas.List.Elements.{Contains-append_left, Contains-append_right, Contains-append_cases}
 use Rattle.std.proofs.lemmas.Option.{slice_get_past, slice_get-get_or, slice_get_within, same_Some, none-some}
 use Rattle.vs_design.specs.declared.design.Process.{Process}
@@ -14,7 +12,7 @@ use Rattle.vs_threads.specs.Writes.{statement_writes}
 use Rattle.vs_rules.specs.Paths.{ListsSignal, reads_for, reads_of, text_reads, writes_of}
 use Rattle.vs_maps.specs.Ranges.{HasSignal, HasTermAt}
 use Rattle.vs_maps.specs.Reaches.{Chart}
-use Rattle.vs_maps.specs.Indexes.{AreRows}
+use Rattle.vs_graph.specs.Rows.{AreRows}
 use Rattle.vs_maps.proofs.RangeLemmas.{first_in, later_in, in_either, lists_signal}
 use Rattle.vs_maps.specs.declared.sites.Site.{Site}
 use Rattle.vs_maps.specs.Texts.{WaitsFor}
@@ -127,5 +125,5 @@ pub waiters_row : (charts : List Chart) (i v : ℕ) (row : List ℕ) → (Contai
 waiters_row charts i v row f = (λ c. (f.0 c).1, λ w. f.1 (slice_get_within charts i w.0 w.1, w))
 
 -- rows by other names of the same numbers
-pub rows_as : (has : ℕ → ℕ → Type 0) (l m n k : ℕ) (table : List (Vec ℕ Global)) → l ≡ m → n ≡ k → AreRows has l n table → AreRows has m k table
+pub rows_as : (has : ℕ → ℕ → Type 0) (l m n k : ℕ) (table : List (List ℕ)) → l ≡ m → n ≡ k → AreRows has l n table → AreRows has m k table
 rows_as has l m n k table e f rows = subst (λ (x : ℕ). AreRows has x k table) e (subst (λ (x : ℕ). AreRows has l x table) f rows)

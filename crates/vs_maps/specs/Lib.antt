@@ -4,7 +4,6 @@ pub mod Inside
 pub mod Exact
 pub mod Ranges
 pub mod Walks
-pub mod Indexes
 pub use Rattle.vs_graph
 pub mod Texts
 pub mod Written

@@ -7,7 +7,7 @@ use Rattle.vs_design.specs.declared.statement.EventTerm.{EventTerm}
 use Rattle.vs_design.specs.Parts.{Parts}
 use Rattle.vs_design.specs.Tables.{rows}
 use Rattle.vs_rules.specs.Paths.{reads_of, writes_of}
-use Rattle.vs_maps.specs.Indexes.{AreRows}
+use Rattle.vs_graph.specs.Rows.{AreRows}
 use Rattle.vs_maps.specs.Ranges.{HasSignal, HasTermAt, now_at, later_at}
 use Rattle.vs_maps.specs.Reaches.{Chart, IsPlace, places}
 use Rattle.vs_maps.specs.Walks.{AreMarked, InLate}
@@ -56,7 +56,7 @@ AreLate charts table n =
 
 -- the processes whose texts write, read and wait for each signal, the points with a write of it by `=` and by `<=`, by their numbers among all, and
 -- the late places of each map
-pub record AreUses (x : Texts) (sites : List Site) (writers readers waiters now later : List (Vec ℕ Global)) (late : List (Vec Bool Global)) :
+pub record AreUses (x : Texts) (sites : List Site) (writers readers waiters now later : List (List ℕ)) (late : List (Vec Bool Global)) :
     Type 0 where
   pub sites_are : AreSites x.charts sites
   pub late_are : AreLate x.charts late (length x.charts)

@@ -1,9 +1,7 @@
 -- At which places signals are written.
 use Rattle.std.specs.Prelude.{ℕ, ◌≡◌, ◌<◌, ◌⊎◌, List, length}
 use Rattle.std.specs.List.{Contains}
-use Rattle.std.specs.declared.vec.Vec.{Vec}
-use Rattle.std.specs.declared.alloc.Global.{Global}
-use Rattle.vs_maps.specs.Indexes.{row_of}
+use Rattle.vs_graph.specs.Rows.{row}
 use Rattle.vs_maps.specs.Ranges.{HasSignal, now_at, later_at}
 use Rattle.vs_maps.specs.Reaches.{Chart}
 
@@ -12,9 +10,9 @@ abbrev pub IsWrittenAt : Chart → ℕ → ℕ → Type 0
 IsWrittenAt t p v = HasSignal (now_at t p) v ⊎ HasSignal (later_at t p) v
 
 -- the place stands in the row of the signal
-abbrev pub StandsIn : List (Vec ℕ Global) → ℕ → ℕ → Type 0
-StandsIn table v p = Contains (row_of table v) p
+abbrev pub StandsIn : List (List ℕ) → ℕ → ℕ → Type 0
+StandsIn table v p = Contains (row table v) p
 
 -- there are as many rows, and what stood in one stands there
-abbrev pub HasGrown : List (Vec ℕ Global) → List (Vec ℕ Global) → Type 0
+abbrev pub HasGrown : List (List ℕ) → List (List ℕ) → Type 0
 HasGrown old new = (length new ≡ length old) × ((v p : ℕ) → v < length old → StandsIn old v p → StandsIn new v p)

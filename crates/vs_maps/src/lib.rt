@@ -5,7 +5,6 @@
 mod along;
 mod delays;
 mod families;
-mod indexes;
 mod laws;
 mod paths;
 mod pauses;
@@ -19,7 +18,6 @@ mod written;
 
 pub use along::Along;
 pub use delays::controls;
-pub use indexes::{empty_rows, index_of, put_all};
 pub use laws::{maps_are_exact, texts_are_exact};
 pub use pauses::Pause;
 pub use readings::text_reads;

@@ -2,18 +2,18 @@
 ghost use Rattle.std.specs.Prelude.{ℕ, ◌≡◌, ◌<◌, ◌↔◌, Some, length, slice_get, IfOk, IsTrue};
 ghost use Rattle.std.specs.List.{Contains};
 ghost use Rattle.vs_rules.specs.Paths.{ListsSignal, Writes, reads_of};
-ghost use Rattle.vs_maps.specs.Indexes.{row_of};
 ghost use Rattle.vs_maps.specs.declared.sites.Site.{Site};
 ghost use Rattle.vs_maps.specs.Texts.{AllNow, AllLater, WaitsFor, marks_of, texts_of};
 ghost use Rattle.vs_maps.specs.Reaches.{Chart, places};
 ghost use Rattle.vs_maps.specs.Walks.{AreMarked, InLate};
 
+use crate::Tables;
 use crate::families::{Reading, Waiting, Writing, WritingLater, WritingNow};
 use crate::sites::{Site, SiteRule, late_marks, sites};
-use crate::{Tables, index_of};
 use std::alloc::{AllocError, Global};
 use std::marker::Model;
 use vs_design::Design;
+use vs_graph::{Rows, index_of};
 
 /// The uses of the signals of a design, with the tables of its processes. A contract sees the design and the maps.
 #[derive(Drop)]
@@ -21,11 +21,11 @@ pub struct Uses<'a> {
     design: &'a Design,
     tables: &'a [Tables<'a>],
     sites: Vec<Site>,
-    writers: Vec<Vec<usize>>,
-    readers: Vec<Vec<usize>>,
-    waiters: Vec<Vec<usize>>,
-    blocking: Vec<Vec<usize>>,
-    nonblocking: Vec<Vec<usize>>,
+    writers: Rows<usize>,
+    readers: Rows<usize>,
+    waiters: Rows<usize>,
+    blocking: Rows<usize>,
+    nonblocking: Rows<usize>,
     late: Vec<Vec<bool>>,
 }
 
@@ -42,18 +42,8 @@ impl<'a> Model for Uses<'a> {
     ghost view = { λ u. texts_of u.design.now u.tables.now };
 
     ghost invariant = { λ u.
-        AreUses (texts_of u.design.now u.tables.now) u.sites.items u.writers.items u.readers.items u.waiters.items
-        u.blocking.items u.nonblocking.items u.late.items };
-}
-
-// The row of a number.
-fn row_of(rows: &[Vec<usize>], v: usize) -> &[usize]
-    ensures { result.now ≡ row_of rows.now v }
-{
-    if v >= rows.len() {
-        return &[];
-    }
-    &rows[v]
+        AreUses (texts_of u.design.now u.tables.now) u.sites.items u.writers u.readers u.waiters u.blocking u.nonblocking
+        u.late.items };
 }
 
 // The marks of a number.
@@ -141,7 +131,7 @@ impl<'a> Uses<'a> {
         requires { v < length self.now.design.signals }
         ensures { (i : ℕ) → (Contains result.now i ↔ Writes self.now.design i v) }
     {
-        row_of(&self.writers, v)
+        self.writers.row(v)
     }
 
     /// Those whose texts read it.
@@ -149,7 +139,7 @@ impl<'a> Uses<'a> {
         requires { v < length self.now.design.signals }
         ensures { (i : ℕ) → (Contains result.now i ↔ ListsSignal self.now.design (reads_of self.now.design i) v) }
     {
-        row_of(&self.readers, v)
+        self.readers.row(v)
     }
 
     /// Those of which an event control names it.
@@ -157,7 +147,7 @@ impl<'a> Uses<'a> {
         requires { v < length self.now.design.signals }
         ensures { (i : ℕ) → (Contains result.now i ↔ WaitsFor self.now.charts i v) }
     {
-        row_of(&self.waiters, v)
+        self.waiters.row(v)
     }
 
     /// The places of a process's map to which a path leads once a control has been passed: a mark for each.
@@ -172,7 +162,7 @@ impl<'a> Uses<'a> {
         requires { v < length self.now.design.signals }
         ensures { IsTrue result ↔ AllNow self.now v (R.keeps rule.now) }
     {
-        all_keep(&self.sites, row_of(&self.blocking, v), rule)
+        all_keep(&self.sites, self.blocking.row(v), rule)
     }
 
     /// Whether all points of the maps with a write of the signal by `<=` keep a rule.
@@ -180,6 +170,6 @@ impl<'a> Uses<'a> {
         requires { v < length self.now.design.signals }
         ensures { IsTrue result ↔ AllLater self.now v (R.keeps rule.now) }
     {
-        all_keep(&self.sites, row_of(&self.nonblocking, v), rule)
+        all_keep(&self.sites, self.nonblocking.row(v), rule)
     }
 }

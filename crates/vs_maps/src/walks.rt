@@ -6,16 +6,15 @@ ghost use Rattle.vs_graph.specs.Clear.{AreClear};
 ghost use Rattle.vs_maps.specs.Reaches.{places, pause_view, IsPlace};
 ghost use Rattle.vs_maps.specs.Ranges.{HasSignal, HasTermAt, now_at, pause_terms};
 ghost use Rattle.vs_maps.specs.Walks.{WalkFrom, AreMarked, HasControl, InLate, InHot, IsControlBefore, is_control};
-ghost use Rattle.vs_maps.specs.Indexes.{AreRows};
+ghost use Rattle.vs_graph.specs.Rows.{AreRows};
 ghost use Rattle.vs_design.specs.declared.statement.EventTerm.{EventTerm};
 
 use crate::along::Along;
-use crate::indexes::{empty_rows, put_all};
 use crate::pauses::Pause;
 use crate::tables::Tables;
 use std::alloc::{AllocError, Global};
 use vs_design::EventTerm;
-use vs_graph::{Family, Rule, clear_marks, gather};
+use vs_graph::{Family, Rows, Rule, clear_marks, gather};
 
 /// Marks which of the things below a number keep a rule.
 pub fn marks_of<R: Rule>(alloc: Global, rule: &R, n: usize) -> Result<Vec<bool>, AllocError>
@@ -171,20 +170,17 @@ fn places_after<'a>(
 
 /// For each place the controls from which a walk without a further control leads to it. It takes as long as these rows are, and the ways of their
 /// places.
-pub fn controls_before<'a>(
-    alloc: Global,
-    tables: &'a Tables<'a>,
-) -> Result<Vec<Vec<usize>>, AllocError>
-    ensures len { IfOk result (λ table. length table.items ≡ places tables.entry.now) }
+pub fn controls_before<'a>(alloc: Global, tables: &'a Tables<'a>) -> Result<Rows<usize>, AllocError>
+    ensures len { IfOk result (λ table. length table ≡ places tables.entry.now) }
     ensures exact { IfOk result (λ table.
-        AreRows (IsControlBefore tables.entry.now) (places tables.entry.now) (places tables.entry.now) table.items) }
+        AreRows (IsControlBefore tables.entry.now) (places tables.entry.now) (places tables.entry.now) table) }
 {
     let count = tables.places();
-    let mut table = empty_rows(alloc, count)?;
+    let mut table = Rows::empty(alloc, count)?;
     let mut marks = clear_marks(alloc, count)?;
     for q in 0..count {
         let after = places_after(alloc, &*tables, q, &mut marks)?;
-        put_all(&mut table, q, &after)?;
+        table.put_all(&after, q)?;
     }
     Ok(table)
 }

@@ -2,6 +2,7 @@
 //! the file, notes of other places, and the rest of what is said.
 
 use crate::given::Extent;
+use crate::remedies::{remedy_of, without_mark};
 use crate::sheet::{Sheet, push_line, push_mark, push_note};
 use crate::told::Told;
 use std::alloc::AllocError;
@@ -189,6 +190,7 @@ impl<'p> Sheet<'p> {
         self.push_notes_of(&mut text, first)?;
         self.push_leads(&mut text, explanation, leads.count)?;
         push_indented(&mut text, rest)?;
+        push_indented(&mut text, remedy_of(told.number, rest).as_bytes())?;
         Ok(Some(text))
     }
 
@@ -204,7 +206,8 @@ impl<'p> Sheet<'p> {
         text.push(b'\n')?;
         if extent == Extent::Explained {
             let body = self.body_of(explanation, 0, 0)?;
-            push_indented(&mut text, &body)?;
+            push_indented(&mut text, without_mark(&body))?;
+            push_indented(&mut text, remedy_of(told.number, &body).as_bytes())?;
         }
         Ok(text)
     }

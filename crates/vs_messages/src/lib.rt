@@ -8,6 +8,7 @@ mod faults;
 mod given;
 mod headlines;
 mod preprocessed;
+mod remedies;
 mod sheet;
 mod told;
 

@@ -1,0 +1,12 @@
+pub use Rattle.vs_prep_pieces.specs.Bytes
+pub use Rattle.vs_prep_pieces.specs.Parts
+pub mod Actuals
+pub mod Answers
+pub mod Bodies
+pub mod Definitions
+pub mod Directives
+pub mod Folds
+pub mod Formals
+pub mod Limits
+pub mod Names
+pub mod Spaces

@@ -1,10 +1,11 @@
 //! What uses of macros stand for (IEEE 1364-2005, clause 19.3).
 ghost use Rattle.std.specs.Prelude.{◌≡◌, ◌≤◌, length, IfOk};
 
-use crate::actuals::read_actuals;
-use crate::definition::{Definition, Formals};
+use crate::actuals::{nameless, read_actuals};
+use crate::definition::Definition;
 use crate::directive::Directive;
 use crate::fault::{Fault, Halt};
+use crate::formals::Formals;
 use crate::scan::{split_name, trimmed};
 use crate::table::Macros;
 use crate::{NESTING, TEXT_LIMIT};
@@ -65,6 +66,8 @@ pub struct Expander<'m> {
     active: Vec<usize>,
     // How much work is left.
     work: usize,
+    // The definition of the macro whose use is expanded.
+    used: Option<usize>,
 }
 
 /// An actual without the white space at its ends; one space stays behind an escaped name.
@@ -95,10 +98,7 @@ fn undefined(name: &[u8], after: &[u8]) -> Fault {
     if !name.is_empty() {
         return Fault::Undefined;
     }
-    match after {
-        [b'`' | b'"' | b'\\', ..] => Fault::Pasting,
-        _ => Fault::LoneBackquote,
-    }
+    nameless(after)
 }
 
 impl<'m> Expander<'m> {
@@ -110,12 +110,18 @@ impl<'m> Expander<'m> {
             site,
             active: Vec::new(alloc),
             work,
+            used: None,
         }
     }
 
     /// How much work is left.
     pub fn work(&self) -> usize {
         self.work
+    }
+
+    /// The definition of the macro whose use was expanded, if it is one.
+    pub fn used(&self) -> Option<usize> {
+        self.used
     }
 
     /// The definition whose text is being read, if one is.
@@ -209,7 +215,12 @@ impl<'m> Expander<'m> {
     pub fn expand_use<'s>(&mut self, after: &'s [u8], out: &mut Vec<u8>) -> Result<&'s [u8], Halt>
         ensures { IfOk result (λ rest. length rest.now ≤ length after.now) }
     {
-        let left = self.expand_bound(after, Bindings::none(), NESTING, out)?;
+        let (name, rest) = split_name(after);
+        let meaning = self.meaning(name, after)?;
+        if let Meaning::Macro(number, _) = meaning {
+            self.used = Some(number);
+        }
+        let left = self.expand_meaning(meaning, name, rest, Bindings::none(), NESTING, out)?;
         Ok(last(after, left))
     }
 
@@ -226,7 +237,24 @@ impl<'m> Expander<'m> {
         ensures { IfOk result (λ left. left ≤ length after.now) }
     {
         let (name, rest) = split_name(after);
-        match self.meaning(name, after)? {
+        let meaning = self.meaning(name, after)?;
+        self.expand_meaning(meaning, name, rest, bindings, levels, out)
+    }
+
+    /// Puts what a name of this meaning stands for, from the bytes behind it, and answers how many bytes are left behind its use.
+    #[cycle(expansion)]
+    fn expand_meaning(
+        &mut self,
+        meaning: Meaning<'m>,
+        name: &[u8],
+        rest: &[u8],
+        bindings: Bindings<'_>,
+        levels: usize,
+        out: &mut Vec<u8>,
+    ) -> Result<usize, Halt>
+        ensures { IfOk result (λ left. left ≤ length rest.now) }
+    {
+        match meaning {
             Meaning::Kept => {
                 self.put(b"`", out)?;
                 self.put(name, out)?;

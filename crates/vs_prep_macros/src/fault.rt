@@ -1,4 +1,6 @@
 //! What a preprocessor refuses.
+ghost use Rattle.std.specs.Prelude.{◌≡◌};
+ghost use Rattle.vs_prep_macros.specs.declared.fault.Halt.TheVariants as halt;
 
 use std::alloc::{AllocError, AllocFailed};
 
@@ -230,12 +232,16 @@ impl Halt {
 }
 
 impl From<AllocError> for Halt {
+    ghost from_gives = { λ _ e. e ≡ halt.Memory };
+
     fn from(_error: AllocError) -> Halt {
         Halt::Memory
     }
 }
 
 impl<T: Drop> From<AllocFailed<T>> for Halt {
+    ghost from_gives = { λ _ e. e ≡ halt.Memory };
+
     fn from(_error: AllocFailed<T>) -> Halt {
         Halt::Memory
     }

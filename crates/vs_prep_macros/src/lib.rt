@@ -2,19 +2,22 @@
 #![tactic(auto)]
 
 mod actuals;
+mod body;
 mod definition;
 mod directive;
 mod expansion;
 mod fault;
+mod formals;
 mod scan;
 mod table;
 
 pub use actuals::read_actuals;
-pub use definition::{Definition, Formals, read_definition};
+pub use definition::{Definition, read_definition};
 pub use directive::Directive;
 pub use expansion::{Expander, Site};
 pub use fault::{Fault, Halt, Spot};
-pub use scan::{behind_blank, behind_space, split_name, trimmed, wanted_name};
+pub use formals::Formals;
+pub use scan::{behind_blank, behind_space, name_at, split_name, trimmed, wanted_name};
 pub use table::Macros;
 pub use vs_prep_pieces;
 

@@ -12,6 +12,10 @@ is_blank b = not (b == 10) && is_white b
 abbrev pub in_based : ℕ → Bool
 in_based b = b == 63 || in_name b
 
+-- carriage returns
+abbrev pub is_return : ℕ → Bool
+is_return b = b == 13
+
 -- the bytes of a class
 abbrev pub in_class : Class → ℕ → Bool
 in_class c.White = is_white
@@ -20,3 +24,4 @@ in_class c.Line = in_line
 in_class c.Escaped = in_escaped
 in_class c.Name = in_name
 in_class c.Digits = in_based
+in_class c.Return = is_return

@@ -18,6 +18,8 @@ pub enum Class {
     Name,
     /// What the digits behind a base go on with.
     Digits,
+    /// Carriage returns.
+    Return,
 }
 
 impl Class {
@@ -31,6 +33,7 @@ impl Class {
             Class::Line => byte != b'\n',
             Class::Escaped => vs_lex_tokens::ByteClass::Escaped.has(byte),
             Class::Name => vs_lex_tokens::ByteClass::Name.has(byte),
+            Class::Return => byte == b'\r',
             Class::Digits => byte == b'?' || vs_lex_tokens::ByteClass::Name.has(byte),
         }
     }

@@ -8,5 +8,5 @@ mod runs;
 
 pub use classes::{Class, starts_name};
 pub use laws::{front_and_rest, one_cutting};
-pub use piece::{Form, Piece, cut, first_and_rest};
+pub use piece::{Form, Piece, cut, first_and_rest, first_piece};
 pub use runs::{behind_pair, behind_run};

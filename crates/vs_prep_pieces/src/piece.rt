@@ -1,5 +1,6 @@
 //! Cutting a text into pieces.
-ghost use Rattle.std.specs.Prelude.{◌≡◌, ◌<◌, ◌≤◌, ◌-◌, ◌∷◌, [], length, take, MatchOption};
+ghost use Rattle.std.specs.Prelude.{◌≡◌, ◌<◌, ◌≤◌, ◌-◌, ◌∷◌, [], length, take, IfSome, MatchOption};
+ghost use Rattle.vs_prep_pieces.specs.Parts.{parts_of, bytes_from, seen};
 ghost use Rattle.vs_prep_pieces.specs.Pieces.{cut_of, cut_by, slash_cut, quote_cut, apostrophe_cut, behind_sign};
 
 use crate::classes::{Class, starts_name};
@@ -151,4 +152,16 @@ pub fn cut(bytes: &[u8]) -> Piece<'_>
         text: &bytes[..bytes.len() - rest.len()],
         rest,
     }
+}
+
+/// Cuts the first piece off, if there are bytes.
+pub fn first_piece(bytes: &[u8]) -> Option<Piece<'_>>
+    ensures parts { MatchOption result (parts_of bytes.now ≡ []) (λ p. parts_of bytes.now ≡ seen p ∷ parts_of p.rest.now) }
+    ensures whole { IfSome result (λ p. bytes.now ≡ bytes_from (seen p)) }
+    ensures moves { IfSome result (λ p. length p.rest.now < length bytes.now) }
+{
+    if bytes.is_empty() {
+        return None;
+    }
+    Some(cut(bytes))
 }

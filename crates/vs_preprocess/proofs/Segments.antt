@@ -1,17 +1,21 @@
 -- Lemmas on segments, and on the files in which they lie.
-use Rattle.std.proofs.Common.{append-nil, append_assoc, arith, ◌≡◌, ◌∙◌, ◌+◌, ◌-◌, ◌<◌, ◌≤◌, ap, refl, subst, sym, ℕ, zero, suc, List, [], ◌∷◌, ◌++◌, drop, get_or, length, length-append, map, set, take}
-use Rattle.std.specs.Prelude.{Some, slice_get}
-use Rattle.std.proofs.lemmas.List.{get_or_append_left, length_push, map-append, take-append-drop}
-use Rattle.std.proofs.lemmas.List.Elements.{All-push, All-set, All-weaker}
-use Rattle.std.proofs.lemmas.List.Sums.{sum_by-set, sum_by_push}
+use Rattle.std.proofs.Common.{append-nil, append_assoc, arith, ◌≡◌, ◌∙◌, ◌+◌, ◌-◌, ◌<◌, ◌≤◌, ap, refl, subst, sym, ℕ, zero, suc, List, [], ◌∷◌, ◌++◌, drop, get_or, length, length-append, map, min, set, take}
+use Rattle.std.specs.Prelude.{Option, Some, slice_get}
+use Rattle.std.proofs.lemmas.List.{get_or-append-add, get_or-replicate, get_or_append_left, length-replicate, length_push, map-append, take-append-drop}
+use Rattle.std.proofs.lemmas.List.Elements.{All-get_or, All-push, All-set, All-weaker}
+use Rattle.std.proofs.lemmas.List.Sums.{get_or-le-sum_by, sum_by-cons, sum_by-set, sum_by_push}
+use Rattle.std.proofs.lemmas.Option.{get_or_from_slice_get, slice_get_read, slice_get_within}
 use Rattle.std.specs.List.{All, sum_by}
 use Rattle.vs_prep_macros.specs.declared.fault.Spot.{Spot}
+use Rattle.vs_preprocess.specs.declared.places.Form.{Form}
 use Rattle.vs_preprocess.specs.declared.places.Form.TheVariants as form
+use Rattle.vs_preprocess.specs.declared.places.Origin.{Origin}
 use Rattle.vs_preprocess.specs.declared.places.Segment.{Segment}
 use Rattle.vs_preprocess.specs.declared.places.SourceFile.{SourceFile}
 use Rattle.vs_preprocess.specs.Files.{bytes_of}
-use Rattle.vs_preprocess.specs.Places.{AreFrom, BeginsAtFirst, Copied, Expanded, IsFrom, IsInside, IsSegmentInside, Made, Source, copied_from, size_of, sources_in, sources_of}
-use Rattle.vs_preprocess.specs.passes.Segments.{BeginsBehind, IsJoined, IsReached}
+use Rattle.vs_preprocess.specs.Limits.{work_limit}
+use Rattle.vs_preprocess.specs.Places.{AreFrom, BeginsAtFirst, Copied, Expanded, IsFrom, IsInside, IsSegmentInside, Made, Source, copied_from, origin_of, reach, size_of, sources_in, sources_of}
+use Rattle.vs_preprocess.specs.passes.Segments.{AreInLine, BeginsBehind, IsJoined, IsLastAt, IsReached, origin_in}
 
 -- ---- the first segment
 
@@ -24,6 +28,71 @@ no_segments offset (s ∷ ss) e = absurd (omega arith)
 pub first_behind : (offset : ℕ) (ss : List Segment) (s : Segment) → s ≡ get_or ss 0 s → offset < s.offset → 0 < length ss → BeginsBehind offset ss
 first_behind offset [] s is less some = absurd (omega arith)
 first_behind offset (t ∷ ts) s is less some = subst (λ (x : Segment). offset < x.offset) is less
+
+-- the last segment that doesn't begin behind an offset stands before one number and not before the other
+pub record Between (offset : ℕ) (ss : List Segment) (low high : ℕ) : Type 0 where
+  pub order : low ≤ high
+  pub within : high ≤ length ss
+  pub none : high ≡ 0 → BeginsBehind offset ss
+  pub begun : (k : ℕ) (s : Segment) → k + 1 ≡ low → slice_get ss k ≡ Some s → s.offset ≤ offset
+  pub next : (s : Segment) → slice_get ss high ≡ Some s → offset < s.offset
+
+-- a segment that was read is the one of its number
+read_is : (ss : List Segment) (i : ℕ) (s t : Segment) → t ≡ get_or ss i t → i < length ss → slice_get ss i ≡ Some s → t ≡ s
+read_is ss i s t is less e =
+    let found : slice_get ss i ≡ Some t = slice_get_read ss (length ss) i t refl less is in
+    cc
+
+pub between_all : (offset : ℕ) (ss : List Segment) (low high : ℕ) → low ≡ 0 → high ≡ length ss → Between offset ss low high
+between_all offset ss low high first all =
+    record {
+      order = omega arith;
+      within = omega arith;
+      none = λ e. no_segments offset ss (omega arith);
+      begun = λ k s e f. absurd (omega arith);
+      next = λ s f. let less : high < length ss = slice_get_within ss high s f in absurd (omega arith);
+    }
+
+pub between_up : (offset : ℕ) (ss : List Segment) (low high middle new : ℕ) (t : Segment) → Between offset ss low high → middle < high → t ≡ get_or ss middle t → t.offset ≤ offset → new ≡ middle + 1
+    → Between offset ss new high
+between_up offset ss low high middle new t b less is begun e =
+    let within : high ≤ length ss = b.within in
+    record {
+      order = omega arith;
+      within = within;
+      none = b.none;
+      begun = λ k s f g.
+          let same : k ≡ middle = omega arith in
+          let here : slice_get ss middle ≡ Some s = subst (λ (i : ℕ). slice_get ss i ≡ Some s) same g in
+          subst (λ (x : Segment). x.offset ≤ offset) (read_is ss middle s t is (omega arith) here) begun;
+      next = b.next;
+    }
+
+pub between_down : (offset : ℕ) (ss : List Segment) (low high middle : ℕ) (t : Segment) → Between offset ss low high → low ≤ middle → middle < high → t ≡ get_or ss middle t → offset < t.offset
+    → Between offset ss low middle
+between_down offset ss low high middle t b more less is behind =
+    let within : high ≤ length ss = b.within in
+    record {
+      order = more;
+      within = omega arith;
+      none = λ e. first_behind offset ss t (subst (λ (i : ℕ). t ≡ get_or ss i t) e is) behind (omega arith);
+      begun = b.begun;
+      next = λ s f. subst (λ (x : Segment). offset < x.offset) (read_is ss middle s t is (omega arith) f) behind;
+    }
+
+pub last_between : (offset : ℕ) (ss : List Segment) (low high k : ℕ) → Between offset ss low high → high ≤ low → k + 1 ≡ low → IsLastAt offset ss k
+last_between offset ss low high k b met e =
+    let order : low ≤ high = b.order in
+    let within : high ≤ length ss = b.within in
+    let same : k + 1 ≡ high = omega arith in
+    record {
+      within = omega arith;
+      begun = λ s f. b.begun k s e f;
+      next = λ s f. b.next s (subst (λ (i : ℕ). slice_get ss i ≡ Some s) same f);
+    }
+
+pub none_between : (offset : ℕ) (ss : List Segment) (low high : ℕ) → Between offset ss low high → high ≤ low → low ≡ 0 → BeginsBehind offset ss
+none_between offset ss low high b met e = b.none (omega arith)
 
 -- it isn't behind an offset where it is at the beginning
 pub none_behind : (offset : ℕ) (ss : List Segment) → BeginsAtFirst ss → BeginsBehind offset ss → ss ≡ []
@@ -40,6 +109,130 @@ begins_set (t ∷ ts) (suc i) last s is less same first = first
 pub begins_push : (ss : List Segment) (s : Segment) → BeginsAtFirst ss → s.offset ≡ sum_by size_of ss → BeginsAtFirst (ss ++ s ∷ [])
 begins_push [] s first is = is
 begins_push (t ∷ ts) s first is = first
+
+-- ---- segments that stand one behind another
+
+-- a segment that is made longer is still the last one
+pub line_set : (from : ℕ) (ss : List Segment) (i : ℕ) (last s : Segment) (n : ℕ) (spot : Spot) → last ≡ get_or ss i last → i + 1 ≡ length ss → IsJoined last n spot s
+    → AreInLine from ss → AreInLine from (set ss i s)
+line_set from [] i last s n spot is end j h = absurd (omega arith)
+line_set from (t ∷ []) zero last s n spot is end j h = (j.offset ∙ ap (λ (x : Segment). x.offset) is ∙ h.0, tt)
+line_set from (t ∷ u ∷ us) zero last s n spot is end j h = absurd (omega arith)
+line_set from (t ∷ ts) (suc i) last s n spot is end j h =
+    let less : i + 1 ≡ length ts = omega arith in
+    (h.0, line_set (from + t.size) ts i last s n spot is less j h.1)
+
+-- one that begins where the others end stands behind them
+line_push : (from : ℕ) (ss : List Segment) (s : Segment) → s.offset ≡ from + sum_by size_of ss → AreInLine from ss → AreInLine from (ss ++ s ∷ [])
+line_push from [] s is h = (omega arith, tt)
+line_push from (t ∷ ts) s is h =
+    let more : s.offset ≡ (from + t.size) + sum_by size_of ts = omega (arith, sum_by-cons size_of t ts) in
+    (h.0, line_push (from + t.size) ts s more h.1)
+
+pub pushed_line : (ss new : List Segment) (s : Segment) → new ≡ ss ++ s ∷ [] → s.offset ≡ sum_by size_of ss → AreInLine 0 ss → AreInLine 0 new
+pushed_line ss new s e at h = subst (λ (l : List Segment). AreInLine 0 l) (sym e) (line_push 0 ss s (omega arith) h)
+
+-- a segment of them begins at their beginning or behind it
+begins_from : (from : ℕ) (ss : List Segment) (k : ℕ) (s : Segment) → AreInLine from ss → slice_get ss k ≡ Some s → from ≤ s.offset
+begins_from from [] k s h e = absurd cc
+begins_from from (t ∷ ts) zero s h e =
+    let same : t ≡ s = cc in
+    let at : t.offset ≡ s.offset = ap (λ (x : Segment). x.offset) same in
+    omega (arith, h.0)
+begins_from from (t ∷ ts) (suc k) s h e =
+    let behind : from + t.size ≤ s.offset = begins_from (from + t.size) ts k s h.1 e in
+    omega arith
+
+copied_length : (file place n : ℕ) → length (copied_from file place n) ≡ n
+copied_length file place zero = refl
+copied_length file place (suc n) = ap suc (copied_length file (suc place) n)
+
+sources_length : (f : Form) (spot : Spot) (n : ℕ) → length (sources_in f spot n) ≡ n
+sources_length form.Copied spot n = copied_length spot.file spot.place n
+sources_length form.Made spot n = length-replicate n (Made spot)
+sources_length (form.Expanded number) spot n = length-replicate n (Expanded spot number)
+
+-- a byte before the second segment is one of the first
+at_first : (from : ℕ) (t : Segment) (ts : List Segment) (offset i : ℕ) → t.offset ≡ from → AreInLine (from + t.size) ts → ((u : Segment) → slice_get ts 0 ≡ Some u → offset < u.offset)
+    → offset ≡ from + i → i < length (sources_of (t ∷ ts)) → i < t.size
+at_first from t [] offset i at h next is less =
+    let sizes : length (sources_in t.form t.spot t.size) ≡ t.size = sources_length t.form t.spot t.size in
+    omega (arith, less, length-append (sources_in t.form t.spot t.size) [])
+at_first from t (u ∷ us) offset i at h next is less =
+    let before : offset < u.offset = next u refl in
+    let second : u.offset ≡ from + t.size = h.0 in
+    omega arith
+
+-- where the byte at an offset comes from is said by the last segment that begins at or before it
+pub at_segment : (from : ℕ) (ss : List Segment) (k offset i : ℕ) (s : Segment) (d : Source) → AreInLine from ss → slice_get ss k ≡ Some s → s.offset ≤ offset
+    → ((t : Segment) → slice_get ss (k + 1) ≡ Some t → offset < t.offset) → offset ≡ from + i → i < length (sources_of ss)
+    → (offset < s.offset + s.size) × (get_or (sources_of ss) i d ≡ get_or (sources_in s.form s.spot s.size) (offset - s.offset) d)
+at_segment from [] k offset i s d h e begun next is less = absurd cc
+at_segment from (t ∷ ts) zero offset i s d h e begun next is less =
+    let same : t ≡ s = cc in
+    let within : i < t.size = at_first from t ts offset i h.0 h.1 next is less in
+    let first : t.offset ≡ from = h.0 in
+    let sizes : length (sources_in t.form t.spot t.size) ≡ t.size = sources_length t.form t.spot t.size in
+    let passed : i ≡ offset - t.offset = omega arith in
+    let here : get_or (sources_in t.form t.spot t.size ++ sources_of ts) i d ≡ get_or (sources_in t.form t.spot t.size) i d = get_or_append_left (sources_in t.form t.spot t.size) (sources_of ts) d i (omega arith) in
+    subst (λ (x : Segment). (offset < x.offset + x.size) × (get_or (sources_of (t ∷ ts)) i d ≡ get_or (sources_in x.form x.spot x.size) (offset - x.offset) d)) same
+    (omega arith, here ∙ ap (λ (j : ℕ). get_or (sources_in t.form t.spot t.size) j d) passed)
+at_segment from (t ∷ ts) (suc k) offset i s d h e begun next is less =
+    let behind : from + t.size ≤ s.offset = begins_from (from + t.size) ts k s h.1 e in
+    let sizes : length (sources_in t.form t.spot t.size) ≡ t.size = sources_length t.form t.spot t.size in
+    let all : length (sources_in t.form t.spot t.size ++ sources_of ts) ≡ length (sources_in t.form t.spot t.size) + length (sources_of ts) = length-append (sources_in t.form t.spot t.size) (sources_of ts) in
+    let more : suc k + 1 ≡ suc (k + 1) = omega arith in
+    let later : (u : Segment) → slice_get ts (k + 1) ≡ Some u → offset < u.offset = λ u f. next u (rw more f) in
+    let rest : (offset < s.offset + s.size) × (get_or (sources_of ts) (i - t.size) d ≡ get_or (sources_in s.form s.spot s.size) (offset - s.offset) d) =
+    at_segment (from + t.size) ts k offset (i - t.size) s d h.1 e begun later (omega arith) (omega (arith, less, all)) in
+    let passed : i ≡ length (sources_in t.form t.spot t.size) + (i - t.size) = omega arith in
+    (rest.0, ap (λ (j : ℕ). get_or (sources_of (t ∷ ts)) j d) passed ∙ get_or-append-add (sources_in t.form t.spot t.size) (sources_of ts) (i - t.size) d ∙ rest.1)
+
+copied_at : (file place n i : ℕ) (d : Source) → i < n → get_or (copied_from file place n) i d ≡ Copied (record { file = file; place = place + i })
+copied_at file place zero i d less = absurd (omega arith)
+copied_at file place (suc n) zero d less =
+    let same : place ≡ place + 0 = omega arith in
+    ap (λ (p : ℕ). Copied (record { file = file; place = p })) same
+copied_at file place (suc n) (suc i) d less =
+    let same : suc place + i ≡ place + suc i = omega arith in
+    copied_at file (suc place) n i d (omega arith) ∙ ap (λ (p : ℕ). Copied (record { file = file; place = p })) same
+
+-- a segment's origin is that of the byte
+pub origin_at : (f : Form) (offset : ℕ) (s : Segment) (source : Source) → s.offset ≤ offset → offset < s.offset + s.size → get_or (sources_in f s.spot s.size) (offset - s.offset) source ≡ source
+    → origin_in f offset s ≡ origin_of source
+origin_at form.Copied offset s source begun less e =
+    let is = sym (copied_at s.spot.file s.spot.place s.size (offset - s.offset) source (omega arith)) ∙ e in
+    let least : min (offset - s.offset) s.size ≡ offset - s.offset = omega arith in
+    subst (λ (x : Source). origin_in form.Copied offset s ≡ origin_of x) is (rw least refl)
+origin_at form.Made offset s source begun less e =
+    subst (λ (x : Source). origin_in form.Made offset s ≡ origin_of x) (sym (get_or-replicate s.size (offset - s.offset) (Made s.spot) source (omega arith)) ∙ e) refl
+origin_at (form.Expanded number) offset s source begun less e =
+    subst (λ (x : Source). origin_in (form.Expanded number) offset s ≡ origin_of x) (sym (get_or-replicate s.size (offset - s.offset) (Expanded s.spot number) source (omega arith)) ∙ e) refl
+
+-- what is told of an offset that is the text's, from the last segment that begins at or before it
+pub origin_exact : (fs : List SourceFile) (ss : List Segment) (offset k : ℕ) (s : Segment) (origin : Origin) (source : Source) → IsLastAt offset ss k → AreInLine 0 ss
+    → All (IsSegmentInside (map bytes_of fs)) ss → sum_by length (map bytes_of fs) ≤ work_limit → s ≡ get_or ss k s
+    → (s.spot.place + reach s.form s.size ≤ work_limit → origin ≡ origin_in s.form offset s) → slice_get (sources_of ss) offset ≡ Some source → Some origin ≡ Some (origin_of source)
+origin_exact fs ss offset k s origin source last line all small is exact e =
+    let files = map bytes_of fs in
+    let within : k < length ss = last.within in
+    let found : slice_get ss k ≡ Some s = slice_get_read ss (length ss) k s refl within is in
+    let inside : IsSegmentInside files s = subst (IsSegmentInside files) (sym is) (All-get_or (IsSegmentInside files) ss k s within all) in
+    let bytes : length (get_or files s.spot.file []) ≤ sum_by length files = get_or-le-sum_by length files s.spot.file [] inside.0 in
+    let told : origin ≡ origin_in s.form offset s = exact (omega (arith, inside.1)) in
+    let got : get_or (sources_of ss) offset source ≡ source = get_or_from_slice_get (sources_of ss) offset source source e in
+    let less : offset < length (sources_of ss) = slice_get_within (sources_of ss) offset source e in
+    let part = at_segment 0 ss k offset offset s source line found (last.begun s found) last.next (omega arith) less in
+    ap (λ (o : Origin). Some o) (told ∙ origin_at s.form offset s source (last.begun s found) part.0 (sym part.1 ∙ got))
+
+no_source : (offset : ℕ) (source : Source) → slice_get {X = Source} [] offset ≡ Some source → ⊥
+no_source zero source e = cc
+no_source (suc offset) source e = cc
+
+-- where there are no segments no offset is the text's
+pub no_origin : (offset : ℕ) (ss : List Segment) (source : Source) (origin : Option Origin) → BeginsAtFirst ss → BeginsBehind offset ss → slice_get (sources_of ss) offset ≡ Some source → origin ≡ Some (origin_of source)
+no_origin offset ss source origin first behind e =
+    absurd (no_source offset source (subst (λ (l : List Segment). slice_get (sources_of l) offset ≡ Some source) (none_behind offset ss first behind) e))
 
 -- ---- files
 

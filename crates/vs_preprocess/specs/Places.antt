@@ -1,10 +1,11 @@
 -- Where the bytes of a text come from.
-use Rattle.std.specs.Prelude.{ℕ, zero, suc, ◌≡◌, ◌+◌, ◌<◌, ◌≤◌, List, [], ◌∷◌, ◌++◌, Some, get_or, length, replicate, slice_get}
+use Rattle.std.specs.Prelude.{ℕ, zero, suc, ◌≡◌, ◌+◌, ◌<◌, ◌≤◌, List, [], ◌∷◌, ◌++◌, None, Some, get_or, length, replicate, slice_get}
 use Rattle.std.specs.Coded.{×_prop, Unit-prop, le_prop}
 use Rattle.std.proofs.Props.{props}
 use Rattle.vs_prep_macros.specs.declared.fault.Spot.{Spot}
 use Rattle.vs_preprocess.specs.declared.places.Form.{Form}
 use Rattle.vs_preprocess.specs.declared.places.Form.TheVariants as form
+use Rattle.vs_preprocess.specs.declared.places.Origin.{Origin}
 use Rattle.vs_preprocess.specs.declared.places.Segment.{Segment}
 
 -- where a byte of a text comes from: it is the byte at a spot, or stands for what is at a spot, or it is of the expansion of a use at a spot, by the
@@ -18,6 +19,12 @@ pub data Source : Type 0 where
 pub record Map : Type 0 where
   pub files : List (List ℕ)
   pub sources : List Source
+
+-- where a byte comes from, as it is told
+abbrev pub origin_of : Source → Origin
+origin_of (Copied s) = record { spot = s; definition = None }
+origin_of (Made s) = record { spot = s; definition = None }
+origin_of (Expanded s number) = record { spot = s; definition = Some number }
 
 -- a spot lies in a file that was opened, or at its end
 abbrev pub IsInside : List (List ℕ) → Spot → Type 0

@@ -147,12 +147,7 @@ impl<'c> Run<'c> {
         ensures { IfOk result (λ x. length x.now ≤ length after.now) }
     {
         let left = after.len().saturating_add(1);
-        let (name, _) = split_name(after);
-        let definition = match self.macros.find(name) {
-            Some((number, _)) => Some(number),
-            None => None,
-        };
-        let (text, rest) = self.expansion(frame, after)?;
+        let (text, rest, definition) = self.expansion(frame, after)?;
         match self
             .output
             .put_expansion(&text, frame.spot(left), definition)
@@ -242,7 +237,7 @@ impl<'c> Run<'c> {
                 return Ok((Vec::from_slice(self.alloc, inside(piece.text))?, piece.rest));
             }
             if piece.form == PieceForm::Backquote && !split_name(piece.rest).0.is_empty() {
-                let (expansion, rest) = self.expansion(frame, piece.rest)?;
+                let (expansion, rest, _) = self.expansion(frame, piece.rest)?;
                 if let Some(text) = whole_text(&expansion) {
                     return Ok((Vec::from_slice(self.alloc, text)?, rest));
                 }

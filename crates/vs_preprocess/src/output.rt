@@ -3,12 +3,15 @@ ghost use Rattle.std.specs.Prelude.{◌≡◌, ◌≤◌, ◌+◌, All, IfOk, If
 ghost use Rattle.vs_preprocess.specs.Files.{bytes_of};
 ghost use Rattle.vs_preprocess.specs.Limits.{text_limit, work_limit};
 ghost use Rattle.vs_preprocess.specs.Places.{AreFrom, AreFrom-prop, BeginsAtFirst, IsInside, IsSegmentInside, size_of, sources_in, sources_of};
-ghost use Rattle.vs_preprocess.specs.passes.Segments.{IsJoined, IsReached};
+ghost use Rattle.vs_preprocess.specs.passes.Segments.{AreInLine, AreInLine-prop, IsJoined, IsReached};
 
 use crate::places::{Form, LineMark, Segment, SourceFile};
 use std::alloc::{AllocError, Global};
 use std::rc::RcSlice;
 use vs_prep_macros::{Fault, Halt, Spot, TEXT_LIMIT, WORK_LIMIT};
+
+/// How much work opening a file is beside its bytes: 1 KiB, so that no more than 65,536 files are opened.
+const FILE_WORK: usize = 1024;
 
 /// The text that is made so far, the files that were opened, and how much work is left.
 #[derive(Drop)]
@@ -23,8 +26,9 @@ pub(crate) struct Output {
     ghost worked: { sum_by length (map bytes_of files.items) + work ≤ work_limit },
     ghost inside: { All (IsSegmentInside (map bytes_of files.items)) segments.items },
     ghost begins: { BeginsAtFirst segments.items },
+    ghost follow: { AreInLine 0 segments.items } by { AreInLine-prop 0 segments.items },
     ghost covered: { sum_by size_of segments.items ≡ vec_len text },
-    ghost mapped: { AreFrom (map bytes_of files.items) (sources_of segments.items) text.items } by { AreFrom-prop (map bytes_of files.items) (sources_of segments.items) text.items },
+    ghost mapped: { AreFrom (map bytes_of files.items) (sources_of segments.items) text.items } by { AreFrom-prop _ _ _ },
 }
 
 /// The last segment with so many bytes more, if bytes that are copied from the spot go on where it ends.
@@ -83,6 +87,12 @@ impl Output {
             }
             Err(_) => Err(AllocError),
         }
+    }
+
+    /// Takes the work that opening a file is beside its bytes.
+    pub(crate) fn spend_on_file(&mut self) {
+        let left = self.work.saturating_sub(FILE_WORK);
+        self.leave_work(left);
     }
 
     /// Says that no more work than this is left.

@@ -1,8 +1,9 @@
 //! Where the bytes of a text come from.
-ghost use Rattle.std.specs.Prelude.{◌≡◌, ◌≤◌, ◌<◌, ◌+◌, All, IfNone, IfSome, is_some, length, map, true};
+ghost use Rattle.std.specs.Prelude.{◌≡◌, ◌≤◌, ◌<◌, ◌+◌, All, IfNone, IfSome, Some, is_some, length, map, slice_get, sum_by, true};
 ghost use Rattle.vs_preprocess.specs.Files.{bytes_of};
-ghost use Rattle.vs_preprocess.specs.Places.{BeginsAtFirst, IsInside, IsSegmentInside, Map, reach, sources_of};
-ghost use Rattle.vs_preprocess.specs.passes.Segments.{BeginsBehind};
+ghost use Rattle.vs_preprocess.specs.Limits.{work_limit};
+ghost use Rattle.vs_preprocess.specs.Places.{BeginsAtFirst, IsInside, IsSegmentInside, Map, Source, origin_of, reach, sources_of};
+ghost use Rattle.vs_preprocess.specs.passes.Segments.{AreInLine, BeginsBehind, IsLastAt, origin_in};
 
 use std::marker::Model;
 use std::rc::RcSlice;
@@ -56,6 +57,7 @@ impl Segment {
     fn origin(self, offset: usize) -> Origin
         ensures file { result.spot.file ≡ self.spot.file }
         ensures place { result.spot.place ≤ self.spot.place + reach self.form self.size }
+        ensures exact { self.spot.place + reach self.form self.size ≤ work_limit → result ≡ origin_in self.form offset self }
     {
         match self.form {
             Form::Copied => {
@@ -119,17 +121,22 @@ impl Model for Places {
 
     ghost view = { λ p. record { files = map bytes_of p.files.items; sources = sources_of p.segments.items } };
 
-    ghost invariant = { λ p. All (IsSegmentInside (map bytes_of p.files.items)) p.segments.items × BeginsAtFirst p.segments.items };
+    ghost invariant = { λ p. All (IsSegmentInside (map bytes_of p.files.items)) p.segments.items × BeginsAtFirst p.segments.items
+        × AreInLine 0 p.segments.items × (sum_by length (map bytes_of p.files.items) ≤ work_limit) };
 }
 
 impl Places {
     /// Where a byte of the text comes from; at the text's length, what follows its last byte. `None`: the text is empty.
+    #[tactic(auto, using(crate::proofs::Segments::no_origin))]
     pub fn spot(&self, offset: usize) -> Option<Origin>
         ensures some { 0 < length self.now.sources → is_some result ≡ true }
         ensures inside { IfSome result (λ origin. IsInside self.now.files origin.spot) }
+        ensures exact { (source : Source) → slice_get self.now.sources offset ≡ Some source → result ≡ Some (origin_of source) }
     {
-        let number = segment_at(&self.segments, offset)?;
-        Some(self.segments[number].origin(offset))
+        match segment_at(&self.segments, offset) {
+            Some(number) => Some(self.segments[number].origin(offset)),
+            None => None,
+        }
     }
 
     /// A place as it is told.
@@ -163,7 +170,7 @@ impl Places {
 
 /// The last segment that doesn't begin behind an offset; they are in the order of their offsets.
 fn segment_at(segments: &[Segment], offset: usize) -> Option<usize>
-    ensures some { IfSome result (λ k. k < length segments.now) }
+    ensures some { IfSome result (IsLastAt offset segments.now) }
     ensures none { IfNone result (BeginsBehind offset segments.now) }
 {
     let mut low = 0;

@@ -88,12 +88,12 @@ impl<'c> Run<'c> {
         }
     }
 
-    /// What the use stands for whose backquote these bytes follow, and what stands behind it.
+    /// What the use stands for whose backquote these bytes follow, what stands behind it, and the definition of its macro, if it is one.
     pub(crate) fn expansion<'b>(
         &mut self,
         frame: &mut Frame<'b>,
         after: &'b [u8],
-    ) -> Result<(Vec<u8>, &'b [u8]), Stop>
+    ) -> Result<(Vec<u8>, &'b [u8], Option<usize>), Stop>
         ensures { IfOk result (λ x. length x.1.now ≤ length after.now) }
     {
         let left = after.len().saturating_add(1);
@@ -110,11 +110,11 @@ impl<'c> Run<'c> {
         let mut text = Vec::new(alloc);
         let mut expander = Expander::new(alloc, &self.macros, site, work);
         let answer = expander.expand_use(after, &mut text);
-        let (work, definition) = (expander.work(), expander.definition());
+        let (work, used, definition) = (expander.work(), expander.used(), expander.definition());
         drop(expander);
         self.output.leave_work(work);
         match answer {
-            Ok(rest) => Ok((text, rest)),
+            Ok(rest) => Ok((text, rest, used)),
             Err(Halt::Memory) => Err(Stop::Failed(Failure::Memory)),
             Err(Halt::Here(fault)) => Err(Stop::Refused(fault, frame.spot(left), definition)),
             Err(Halt::At(fault, at)) => Err(Stop::Refused(fault, frame.spot(at), definition)),
@@ -179,6 +179,7 @@ impl<'c> Run<'c> {
             return Err(Stop::Refused(Fault::NoFile, spot, None));
         };
         let bytes = RcSlice::from_vec(without_mark(bytes))?;
+        self.output.spend_on_file();
         let Some(file) = self
             .output
             .open(self.alloc, path, bytes.clone()?, Some(spot))?

@@ -159,6 +159,7 @@ impl<'c> Run<'c> {
         };
         let name = Vec::from_slice(self.alloc, name)?;
         let bytes = RcSlice::from_vec(without_mark(bytes))?;
+        self.output.spend_on_file();
         let Some(file) = self.output.open(self.alloc, name, bytes.clone()?, None)? else {
             return Err(refused_word(Fault::Work, number));
         };

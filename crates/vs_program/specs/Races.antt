@@ -10,8 +10,8 @@ use Rattle.vs_race.specs.Dumps.{AreDumps}
 use Rattle.vs_race.specs.Races.{IsAnswer}
 use Rattle.vs_race.specs.declared.answer.Race.{Race}
 use Rattle.vs_race.specs.declared.answer.Race.TheVariants.{Certified, Found, FoundLine, NotFound}
-use Rattle.vs_race.specs.vs_race_shown.specs.declared.witness.LineWitness.{LineWitness}
-use Rattle.vs_race.specs.vs_race_shown.specs.declared.witness.Witness.{Witness}
+use Rattle.vs_race.specs.declared.witness.LineWitness.{LineWitness}
+use Rattle.vs_race.specs.declared.witness.Witness.{Witness}
 
 -- the text of a value: its digits, the highest first
 abbrev pub value_text : List Digit → List ℕ

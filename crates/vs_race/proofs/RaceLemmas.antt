@@ -11,10 +11,10 @@ use Rattle.vs_law_rules.specs.vs_independence.specs.Discipline.{Independent}
 use Rattle.vs_certified.specs.vs_simulate.specs.Honesty.{Defines}
 use Rattle.vs_certified.proofs.CertifiedLemmas.{legal_at}
 use Rattle.vs_certified.proofs.TraceLemmas.{text_same}
-use Rattle.vs_race_shown.specs.vs_race_lines.specs.Strobes.{SameTracesPrintRowsAsOften}
-use Rattle.vs_race_shown.specs.declared.witness.LineWitness.{LineWitness}
-use Rattle.vs_race_shown.specs.declared.witness.Witness.{Witness}
-use Rattle.vs_race_shown.specs.Witnesses.{Gives, IsLineWitness, IsWitness}
+use Rattle.vs_race.specs.Strobes.{SameTracesPrintRowsAsOften}
+use Rattle.vs_race.specs.declared.witness.LineWitness.{LineWitness}
+use Rattle.vs_race.specs.declared.witness.Witness.{Witness}
+use Rattle.vs_race.specs.Witnesses.{Gives, IsLineWitness, IsWitness}
 use Rattle.vs_race.specs.Races.{IsLineRace, IsRace}
 
 differ : (d : Parts) (time signal : ℕ) (a b : List Digit) → ShowsOne → (one : Gives d time signal a) (other : Gives d time signal b) → (a ≡ b → ⊥) →

@@ -1,5 +1,8 @@
+pub mod Displays
+pub mod Rows
+pub mod Strobes
+pub mod Witnesses
+pub mod passes
 pub mod Dumps
 pub mod Races
-pub mod passes
-pub use Rattle.vs_race_shown
 pub use Rattle.vs_propose

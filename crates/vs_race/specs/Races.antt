@@ -10,9 +10,9 @@ use Rattle.vs_law_rules.specs.vs_independence.specs.Discipline.{Independent}
 use Rattle.vs_certified.specs.vs_simulate.specs.Honesty.{Defines}
 use Rattle.vs_propose.specs.Proposals.{IsMade}
 use Rattle.vs_propose.specs.vs_rules.specs.Certificates.{claims_of}
-use Rattle.vs_race_shown.specs.declared.witness.LineWitness.{LineWitness}
-use Rattle.vs_race_shown.specs.declared.witness.Witness.{Witness}
-use Rattle.vs_race_shown.specs.Witnesses.{IsLineWitness, IsWitness}
+use Rattle.vs_race.specs.declared.witness.LineWitness.{LineWitness}
+use Rattle.vs_race.specs.declared.witness.Witness.{Witness}
+use Rattle.vs_race.specs.Witnesses.{IsLineWitness, IsWitness}
 use Rattle.vs_race.specs.declared.answer.Race.{Race}
 use Rattle.vs_race.specs.declared.answer.Race.TheVariants.{Certified, Found, FoundLine, NotFound}
 

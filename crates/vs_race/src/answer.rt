@@ -1,7 +1,7 @@
 //! What a search for a race answers.
+use crate::{LineWitness, Witness};
 use vs_propose::Proposal;
 use vs_propose::vs_certificate::Certificate;
-use vs_race_shown::{LineWitness, Witness};
 
 /// A search that found nothing.
 #[derive(Clone, Copy)]

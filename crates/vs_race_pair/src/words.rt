@@ -7,8 +7,9 @@ use crate::walk::{Logs, Pair, Side, pair_of};
 use std::alloc::{AllocError, Global};
 use vs_design::vs_logic4::{Digit, Vec4};
 use vs_design::{Design, Process};
-use vs_explain_places::vs_explain_outline::{Page, SourceText, ordinal_of};
-use vs_explain_places::{found, place_of, put_code, statement_tokens};
+use vs_explain_outline::{
+    Page, SourceText, found, ordinal_of, place_of, put_code, statement_tokens,
+};
 use vs_lexer::{Kind, Mark, Word};
 use vs_race_orders::Span;
 

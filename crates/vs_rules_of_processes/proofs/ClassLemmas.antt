@@ -2,8 +2,6 @@
 use Rattle.std.proofs.Common.{◌≡◌, ℕ, ◌+◌, ◌<◌, ◌↔◌, Bool, true, false, IsTrue, List, length, slice_index_or, refl, sym, ◌∙◌, subst, arith}
 use Rattle.std.specs.Prelude.{not}
 use Rattle.std.specs.List.{Contains}
-use Rattle.std.specs.declared.vec.Vec.{Vec}
-use Rattle.std.specs.declared.alloc.Global.{Global}
 use Rattle.std.proofs.lemmas.Bool.{false≢true}
 use Rattle.std.proofs.lemmas.Option.{slice_get_within}
 use Rattle.vs_design.specs.declared.range.BitRange.{BitRange}
@@ -22,7 +20,7 @@ source_within d c u _ (r.InCone.here p source e t) = slice_get_within d.signals 
 source_within d c u _ (r.InCone.through p w q k is writes meets needs cone) = source_within d c u q cone
 
 -- the marks of what is reached from all that are written in a class
-pub marked : (d : Parts) (c : Claims) (k : ℕ) (users outs : List (Vec ℕ Global)) (n : ℕ) (seeds : List ℕ) (marks : List Bool) → AreForward d c users outs → n ≡ length users →
+pub marked : (d : Parts) (c : Claims) (k : ℕ) (users outs : List (List ℕ)) (n : ℕ) (seeds : List ℕ) (marks : List Bool) → AreForward d c users outs → n ≡ length users →
     ((v : ℕ) → (Contains seeds v ↔ ((i : ℕ) × (i < n) × (IsWrittenIn d c k i × (i ≡ v))))) →
     AreReached (forward users outs) seeds (length users + length outs) marks → AreReachedFrom d c k marks
 marked d c k users outs n seeds marks are long listed reached u p written cone =

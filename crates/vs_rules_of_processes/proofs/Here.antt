@@ -10,7 +10,7 @@ use Rattle.vs_process.specs.Ways.{Pause, none, delay, event}
 use Rattle.vs_process.specs.Stops.{stop_statement, stops_tos}
 use Rattle.vs_maps.specs.vs_graph.specs.Reached.{Reached}
 use Rattle.vs_maps.specs.declared.along.Along.TheVariants.{Plain}
-use Rattle.vs_maps.specs.Indexes.{AreRows, row_of}
+use Rattle.vs_graph.specs.Rows.{AreRows, row as row_of}
 use Rattle.vs_maps.specs.Reaches.{Chart, IsPlace, InSlot0, pause_at, pause_of, places, stops_along}
 use Rattle.vs_maps.specs.Walks.{IsControlBefore, is_control}
 use Rattle.vs_rules.specs.Certificates.{residues_from}
@@ -43,7 +43,7 @@ ends_is t list m p q here there from a c e b f =
     (subst (λ (x : Pause). (IsTrue b ↔ PauseEnds x list from m)) a f)
 
 -- by the rows of the controls before each place
-pub ended_are : (t : Chart) (list : ℕ → List ℕ) (m n : ℕ) (before : List (Vec ℕ Global)) → n ≡ places t → ((p : ℕ) → IsPlace t p → p < places t) →
+pub ended_are : (t : Chart) (list : ℕ → List ℕ) (m n : ℕ) (before : List (List ℕ)) → n ≡ places t → ((p : ℕ) → IsPlace t p → p < places t) →
     AreRows (IsControlBefore t) (places t) (places t) before → (b : Bool) →
     (IsTrue b ↔ ((p : ℕ) → p < n → (q : ℕ) → Contains (row_of before p) q → EndsAfter t list m p q)) →
     (IsTrue b ↔ ((p q : ℕ) → p < places t → IsControlBefore t q p → EndsAfter t list m p q))

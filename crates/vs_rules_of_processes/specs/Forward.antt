@@ -1,15 +1,13 @@
 -- Where signals lead forward through drivers.
-use Rattle.std.specs.Prelude.{ℕ, ◌+◌, ◌-◌, ◌≡◌, ◌<◌, ◌↔◌, Some, List, length, slice_get, map, nat_lt, if◌then◌else◌}
+use Rattle.std.specs.Prelude.{ℕ, ◌+◌, ◌-◌, ◌≡◌, ◌<◌, List, length, map, nat_lt, if◌then◌else◌}
 use Rattle.std.specs.List.{Contains}
-use Rattle.std.specs.declared.vec.Vec.{Vec}
-use Rattle.std.specs.declared.alloc.Global.{Global}
 use Rattle.vs_design.specs.declared.range.BitRange.{BitRange}
 use Rattle.vs_design.specs.Parts.{Parts}
 use Rattle.vs_rules.specs.Claims.{Claims}
 use Rattle.vs_rules.specs.Drivers.{IsDriver, DriverNeeds, DriverWrites}
 use Rattle.vs_drivers.specs.declared.writers.Written.{Written}
 use Rattle.vs_drivers.specs.Wires.{driver_at, drivers}
-use Rattle.vs_drivers.specs.vs_maps.specs.Indexes.{AreRows, row_of}
+use Rattle.vs_graph.specs.Rows.{AreRows, row}
 
 -- the signals of ranges
 abbrev pub signals_of : List BitRange → List ℕ
@@ -17,7 +15,7 @@ signals_of ranges = map (λ (r : BitRange). r.signal) ranges
 
 -- the drivers of ranges that are written
 abbrev pub drivers_of : List Written → List ℕ
-drivers_of row = map (λ (w : Written). w.driver) row
+drivers_of written = map (λ (w : Written). w.driver) written
 
 -- the driver of a number writes a signal of the design
 pub record WritesSignal (d : Parts) (c : Claims) (n v : ℕ) : Type 0 where
@@ -36,25 +34,17 @@ pub record IsUser (d : Parts) (c : Claims) (node v : ℕ) : Type 0 where
   pub driver : IsDriver d c (driver_at d number)
   pub needs : DriverNeeds d (driver_at d number) range
 
--- the rows of the first so many signals have the drivers that write them
-abbrev pub AreWriterRows : Parts → Claims → ℕ → List (Vec ℕ Global) → Type 0
-AreWriterRows d c count rows = (length rows ≡ count) × ((v : ℕ) (row : Vec ℕ Global) → slice_get rows v ≡ Some row → (n : ℕ) → (Contains row.items n ↔ WritesSignal d c n v))
-
--- the rows of the first so many nodes have the signals that they need
-abbrev pub AreNeedRows : Parts → Claims → ℕ → List (Vec ℕ Global) → Type 0
-AreNeedRows d c count rows = (length rows ≡ count) × ((node : ℕ) (row : Vec ℕ Global) → slice_get rows node ≡ Some row → (v : ℕ) → (Contains row.items v ↔ IsUser d c node v))
-
 -- for each signal the nodes of the drivers that need it, and for each driver the signals that it writes
-pub record AreForward (d : Parts) (c : Claims) (users outs : List (Vec ℕ Global)) : Type 0 where
+pub record AreForward (d : Parts) (c : Claims) (users outs : List (List ℕ)) : Type 0 where
   pub users_long : length users ≡ length d.signals
   pub outs_long : length outs ≡ drivers d
   pub users_are : AreRows (IsUser d c) (length d.signals + drivers d) (length d.signals) users
   pub outs_are : AreRows (λ v n. WritesSignal d c n v) (length d.signals) (drivers d) outs
 
 -- where an edge leads from a node
-abbrev pub forward : List (Vec ℕ Global) → List (Vec ℕ Global) → ℕ → List ℕ
-forward users outs a = if nat_lt a (length users) then row_of users a else row_of outs (a - length users)
+abbrev pub forward : List (List ℕ) → List (List ℕ) → ℕ → List ℕ
+forward users outs a = if nat_lt a (length users) then row users a else row outs (a - length users)
 
 -- edges lead to nodes alone
-abbrev pub LeadsWithin : List (Vec ℕ Global) → List (Vec ℕ Global) → Type 0
+abbrev pub LeadsWithin : List (List ℕ) → List (List ℕ) → Type 0
 LeadsWithin users outs = (a b : ℕ) → Contains (forward users outs a) b → b < length users + length outs

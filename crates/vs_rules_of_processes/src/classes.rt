@@ -9,7 +9,7 @@ use crate::forward::{outs_of, reached, users_of};
 use std::alloc::{AllocError, Global};
 use std::marker::Model;
 use vs_drivers::Cones;
-use vs_graph::{Family, gather};
+use vs_graph::{Family, Rows, gather};
 use vs_slots::Slots;
 
 /// How many classes of residues there are.
@@ -56,8 +56,8 @@ impl<'a> Family for InClass<'a> {
 fn marks_of<'a>(
     alloc: Global,
     slots: &'a Slots<'a>,
-    users: &[Vec<usize>],
-    outs: &[Vec<usize>],
+    users: &Rows<usize>,
+    outs: &Rows<usize>,
     class: usize,
 ) -> Result<Vec<bool>, AllocError>
     requires { AreForward slots.now.design slots.now.claims users.now outs.now }
@@ -72,8 +72,8 @@ fn marks_of<'a>(
 fn all_marks<'a>(
     alloc: Global,
     slots: &'a Slots<'a>,
-    users: &[Vec<usize>],
-    outs: &[Vec<usize>],
+    users: &Rows<usize>,
+    outs: &Rows<usize>,
 ) -> Result<Vec<Vec<bool>>, AllocError>
     requires { AreForward slots.now.design slots.now.claims users.now outs.now }
     ensures { IfOk result (λ table. AreClasses slots.entry.now.design slots.entry.now.claims table.items) }

@@ -1,107 +1,41 @@
 //! Where signals lead forward through drivers.
-ghost use Rattle.std.specs.Prelude.{ℕ, ◌+◌, ◌≡◌, ◌<◌, ◌↔◌, ◌++◌, length, IfOk, OnOk};
+ghost use Rattle.std.specs.Prelude.{ℕ, ◌+◌, ◌≡◌, ◌<◌, length, IfOk, OnOk};
 ghost use Rattle.std.specs.List.{Contains};
 ghost use Rattle.vs_graph.specs.Reached.{AreReached};
 ghost use Rattle.vs_drivers.specs.Wires.{drivers, IsWiringOf};
-ghost use Rattle.vs_drivers.specs.vs_maps.specs.Indexes.{row_of, AreRows};
-ghost use Rattle.vs_rules_of_processes.specs.Forward.{drivers_of, forward, signals_of, AreNeedRows, AreWriterRows, IsUser, LeadsWithin, WritesSignal};
+ghost use Rattle.vs_graph.specs.Rows.{AreRows, with_all};
+ghost use Rattle.vs_rules_of_processes.specs.Forward.{drivers_of, forward, signals_of, IsUser, LeadsWithin, WritesSignal};
 
 use std::alloc::{AllocError, Global};
 use vs_design::BitRange;
-use vs_drivers::vs_maps::index_of;
 use vs_drivers::{Cones, Written};
-use vs_graph::{Family, Graph, reach};
+use vs_graph::{Graph, Rows, reach};
 use vs_slots::vs_claims::Facts;
 
 // ---- tables
 
-// Puts the signals of some ranges at a list's end.
-fn push_signals(out: &mut Vec<usize>, ranges: &[BitRange]) -> Result<(), AllocError>
-    ensures { OnOk result (out.new.items ≡ out.old.items ++ signals_of ranges.now) }
-{
-    for range in ranges {
-        out.push(range.signal)?;
-    }
-    Ok(())
-}
-
-// Puts the drivers of some ranges that are written at a list's end.
-fn push_drivers(out: &mut Vec<usize>, row: &[Written]) -> Result<(), AllocError>
-    ensures { OnOk result (out.new.items ≡ out.old.items ++ drivers_of row.now) }
+// Puts a number at the ends of the rows of the drivers of some ranges that are written.
+fn put_drivers(table: &mut Rows<usize>, row: &[Written], number: usize) -> Result<(), AllocError>
+    ensures { OnOk result (table.new ≡ with_all (drivers_of row.now) number table.old) }
 {
     for written in row {
-        out.push(written.driver)?;
+        table.put(written.driver, number)?;
     }
     Ok(())
 }
 
-// For each signal the drivers that write it.
-fn writer_rows(alloc: Global, facts: &Facts, cones: &Cones) -> Result<Vec<Vec<usize>>, AllocError>
-    requires { IsWiringOf facts.now.design facts.now.claims cones.now }
-    ensures { IfOk result (λ rows. AreWriterRows facts.now.design facts.now.claims (length facts.now.design.signals) rows.items) }
+// Puts a number at the ends of the rows of the signals of some ranges.
+fn put_signals(
+    table: &mut Rows<usize>,
+    ranges: &[BitRange],
+    number: usize,
+) -> Result<(), AllocError>
+    ensures { OnOk result (table.new ≡ with_all (signals_of ranges.now) number table.old) }
 {
-    let mut rows = Vec::new(alloc);
-    for v in 0..facts.design().signals().len() {
-        let mut row = Vec::new(alloc);
-        push_drivers(&mut row, cones.writers(v))?;
-        rows.push(row)?;
+    for range in ranges {
+        table.put(range.signal, number)?;
     }
-    Ok(rows)
-}
-
-// The signals that the driver of a node needs; a node of a signal needs none.
-fn needs_of(
-    alloc: Global,
-    facts: &Facts,
-    cones: &Cones,
-    node: usize,
-) -> Result<Vec<usize>, AllocError>
-    requires { IsWiringOf facts.now.design facts.now.claims cones.now }
-    ensures { IfOk result (λ row. (v : ℕ) → (Contains row.items v ↔ IsUser facts.now.design facts.now.claims node v)) }
-{
-    let mut row = Vec::new(alloc);
-    let first = facts.design().signals().len();
-    if node < first {
-        return Ok(row);
-    }
-    push_signals(&mut row, cones.needs(node - first))?;
-    Ok(row)
-}
-
-// For the node of each driver the signals that it needs; for that of a signal none.
-fn need_rows(
-    alloc: Global,
-    facts: &Facts,
-    cones: &Cones,
-    nodes: usize,
-) -> Result<Vec<Vec<usize>>, AllocError>
-    requires { IsWiringOf facts.now.design facts.now.claims cones.now }
-    ensures { IfOk result (λ rows. AreNeedRows facts.now.design facts.now.claims nodes rows.items) }
-{
-    let mut rows = Vec::new(alloc);
-    for node in 0..nodes {
-        let row = needs_of(alloc, facts, cones, node)?;
-        rows.push(row)?;
-    }
-    Ok(rows)
-}
-
-// The numbers that rows have.
-#[derive(Drop)]
-struct Rows<'a> {
-    rows: &'a [Vec<usize>],
-}
-
-impl<'a> Family for Rows<'a> {
-    ghost has = { λ f i r. Contains (row_of f.rows.now i) r };
-
-    fn put(&self, _alloc: Global, i: usize, out: &mut Vec<usize>) -> Result<(), AllocError> {
-        if i >= self.rows.len() {
-            return Ok(());
-        }
-        out.extend_from_slice(&self.rows[i])?;
-        Ok(())
-    }
+    Ok(())
 }
 
 /// For each driver the signals that it writes.
@@ -109,21 +43,18 @@ pub(crate) fn outs_of<'a, 'b>(
     alloc: Global,
     facts: &'a Facts<'a>,
     cones: &'b Cones<'b>,
-) -> Result<Vec<Vec<usize>>, AllocError>
+) -> Result<Rows<usize>, AllocError>
     requires { IsWiringOf facts.now.design facts.now.claims cones.now }
-    ensures len { IfOk result (λ table. length table.items ≡ drivers facts.entry.now.design) }
+    ensures len { IfOk result (λ table. length table ≡ drivers facts.entry.now.design) }
     ensures exact { IfOk result (λ table. AreRows (λ v n. WritesSignal facts.entry.now.design facts.entry.now.claims n v)
-        (length facts.entry.now.design.signals) (drivers facts.entry.now.design) table.items) }
+        (length facts.entry.now.design.signals) (drivers facts.entry.now.design) table) }
 {
     let design = facts.design();
-    let rows = writer_rows(alloc, facts, cones)?;
-    let drivers = design.assigns().len() + design.processes().len();
-    index_of(
-        alloc,
-        &Rows { rows: &rows },
-        design.signals().len(),
-        drivers,
-    )
+    let mut outs = Rows::empty(alloc, design.assigns().len() + design.processes().len())?;
+    for v in 0..design.signals().len() {
+        put_drivers(&mut outs, cones.writers(v), v)?;
+    }
+    Ok(outs)
 }
 
 /// For each signal the nodes of the drivers that need it, where there are so many drivers as another table has rows.
@@ -131,42 +62,41 @@ pub(crate) fn users_of<'a, 'b>(
     alloc: Global,
     facts: &'a Facts<'a>,
     cones: &'b Cones<'b>,
-    outs: &[Vec<usize>],
-) -> Result<Vec<Vec<usize>>, AllocError>
+    outs: &Rows<usize>,
+) -> Result<Rows<usize>, AllocError>
     requires wiring { IsWiringOf facts.now.design facts.now.claims cones.now }
     requires outs { length outs.now ≡ drivers facts.now.design }
-    ensures len { IfOk result (λ table. length table.items ≡ length facts.entry.now.design.signals) }
+    ensures len { IfOk result (λ table. length table ≡ length facts.entry.now.design.signals) }
     ensures exact { IfOk result (λ table. AreRows (IsUser facts.entry.now.design facts.entry.now.claims)
-        (length facts.entry.now.design.signals + drivers facts.entry.now.design) (length facts.entry.now.design.signals) table.items) }
+        (length facts.entry.now.design.signals + drivers facts.entry.now.design) (length facts.entry.now.design.signals) table) }
 {
-    let signals = facts.design().signals().len();
-    let nodes = signals + outs.len();
-    let rows = need_rows(alloc, facts, cones, nodes)?;
-    index_of(alloc, &Rows { rows: &rows }, nodes, signals)
+    let first = facts.design().signals().len();
+    let mut users = Rows::empty(alloc, first)?;
+    for n in 0..outs.len() {
+        put_signals(&mut users, cones.needs(n), first + n)?;
+    }
+    Ok(users)
 }
 
 // ---- walks
 
 // Where an edge leads from a node.
-fn row<'a>(users: &'a [Vec<usize>], outs: &'a [Vec<usize>], node: usize) -> &'a [usize]
+fn row<'a>(users: &'a Rows<usize>, outs: &'a Rows<usize>, node: usize) -> &'a [usize]
     ensures { result.now ≡ forward users.now outs.now node }
 {
-    if node < users.len() {
-        return &users[node];
-    }
-    let driver = node - users.len();
-    if driver < outs.len() {
-        &outs[driver]
+    let signals = users.len();
+    if node < signals {
+        users.row(node)
     } else {
-        &[]
+        outs.row(node - signals)
     }
 }
 
 /// The signals and drivers of a design, and where each leads.
 #[derive(Drop)]
 struct Forward<'a> {
-    users: &'a [Vec<usize>],
-    outs: &'a [Vec<usize>],
+    users: &'a Rows<usize>,
+    outs: &'a Rows<usize>,
     ghost within: { LeadsWithin users.now outs.now },
 }
 
@@ -191,8 +121,8 @@ impl<'a> Graph for Forward<'a> {
 /// there are signals and drivers.
 pub(crate) fn reached<'a>(
     alloc: Global,
-    users: &'a [Vec<usize>],
-    outs: &'a [Vec<usize>],
+    users: &'a Rows<usize>,
+    outs: &'a Rows<usize>,
     seeds: &[usize],
 ) -> Result<Vec<bool>, AllocError>
     requires within { LeadsWithin users.now outs.now }

@@ -2,7 +2,7 @@
 ghost use Rattle.std.specs.Prelude.{ℕ, ◌≡◌, ◌<◌, ◌≤◌, ◌+◌, ◌%◌, ◌^◌, ◌↔◌, IfOk, IsTrue};
 ghost use Rattle.std.specs.List.{Contains};
 ghost use Rattle.vs_slots.specs.Controls.{list_by};
-ghost use Rattle.vs_maps.specs.Indexes.{row_of};
+ghost use Rattle.vs_graph.specs.Rows.{row};
 ghost use Rattle.vs_maps.specs.Reaches.{places, pause_at, pause_view, IsPlace, InSlot0};
 ghost use Rattle.vs_maps.specs.Walks.{IsControlBefore};
 ghost use Rattle.vs_rules_of_processes.specs.Closed.{PauseEnds, PauseStarts, AreClosed, KeepsResidues};
@@ -10,7 +10,7 @@ ghost use Rattle.vs_rules_of_processes.specs.Places.{list_at, HasNoEvent, PlaceB
 
 use std::alloc::{AllocError, Global};
 use vs_design::Statement;
-use vs_maps::vs_graph::{Rule, all_keep};
+use vs_maps::vs_graph::{Rows, Rule, all_keep};
 use vs_maps::{Pause, Tables, controls, controls_before};
 use vs_slots::ControlLists;
 
@@ -159,7 +159,7 @@ fn ends_after<'a>(
 #[derive(Drop)]
 struct NextPlaces<'a> {
     tables: &'a Tables<'a>,
-    before: &'a [Vec<usize>],
+    before: &'a Rows<usize>,
     lists: &'a ControlLists<'a>,
     modulus: u64,
     ghost some: { 0 < modulus },
@@ -167,14 +167,11 @@ struct NextPlaces<'a> {
 }
 
 impl<'a> Rule for NextPlaces<'a> {
-    ghost keeps = { λ f p. (q : ℕ) → Contains (row_of f.before.now p) q →
+    ghost keeps = { λ f p. (q : ℕ) → Contains (row f.before.now p) q →
         EndsAfter f.tables.now (list_by f.lists.now) f.modulus p q };
 
     fn test(&self, _alloc: Global, i: usize) -> Result<bool, AllocError> {
-        if i >= self.before.len() {
-            return Ok(true);
-        }
-        let controls = &self.before[i];
+        let controls = self.before.row(i);
         Ok(ends_after(self.tables, self.lists, self.modulus, i, controls))
     }
 }

@@ -1,17 +1,13 @@
 -- The places at which signals are written by their writers, and the ranks of processes.
 use Rattle.std.proofs.Common.{◌≡◌, ℕ, zero, suc, ◌+◌, ◌<◌, ◌≤◌, ◌⊎◌, inl, inr, Some, List, [], ◌∷◌, ◌++◌, length, get_or, slice_get, refl, sym, ◌∙◌, ap, subst, arith}
 use Rattle.std.specs.List.{Contains}
-use Rattle.std.specs.declared.vec.Vec.{Vec}
-use Rattle.std.specs.declared.alloc.Global.{Global}
-use Rattle.std.proofs.lemmas.List.{length-map}
 use Rattle.std.proofs.lemmas.List.Elements.{Contains-append_left, Contains-append_right}
 use Rattle.std.proofs.lemmas.Option.{none-some, same_Some, slice_get-get_or, slice_get_within}
 use Rattle.vs_design.specs.declared.range.BitRange.{BitRange}
-use Rattle.vs_design.specs.Tables.{rows}
-use Rattle.vs_claims.specs.vs_maps.specs.Indexes.{all_put}
+use Rattle.vs_graph.specs.Rows.{row, with_all}
+use Rattle.vs_graph.proofs.RowLemmas.{all_has, length_all}
 use Rattle.vs_claims.specs.vs_maps.specs.Ranges.{HasSignal}
 use Rattle.vs_claims.specs.vs_maps.specs.Reaches.{Chart}
-use Rattle.vs_claims.specs.vs_maps.proofs.IndexLemmas.{more_put, put_length}
 use Rattle.vs_maps.specs.Written.{HasGrown, StandsIn}
 use Rattle.vs_claims.specs.Facts.{Case, AreCharts}
 use Rattle.vs_rules_of_signals.specs.Ranks.{AreOwnPlaces}
@@ -22,40 +18,36 @@ below_or i n h = grind (arith, h)
 -- ---- the places of one process
 
 -- those of the first places that are wanted stand in the rows of their signals
-pub record AreThere (base table : List (Vec ℕ Global)) (wanted : ℕ → ℕ → Type 0) (n : ℕ) : Type 0 where
+pub record AreThere (base table : List (List ℕ)) (wanted : ℕ → ℕ → Type 0) (n : ℕ) : Type 0 where
   pub grown : HasGrown base table
   pub there : (p v : ℕ) → p < n → v < length base → wanted p v → StandsIn table v p
 
-pub none_there : (base : List (Vec ℕ Global)) (wanted : ℕ → ℕ → Type 0) → AreThere base base wanted 0
+pub none_there : (base : List (List ℕ)) (wanted : ℕ → ℕ → Type 0) → AreThere base base wanted 0
 none_there base wanted = record {
   grown = (refl, λ v p within h. h);
   there = λ p v h within is. absurd (omega (arith, h));
 }
 
 -- with one place more
-pub one_there : (base old new : List (Vec ℕ Global)) (wanted : ℕ → ℕ → Type 0) (n : ℕ) (signals : List ℕ) → AreThere base old wanted n → rows new ≡ all_put n signals (rows old) →
+pub one_there : (base old new : List (List ℕ)) (wanted : ℕ → ℕ → Type 0) (n : ℕ) (signals : List ℕ) → AreThere base old wanted n → new ≡ with_all signals n old →
     ((v : ℕ) → wanted n v → Contains signals v) → AreThere base new wanted (n + 1)
 one_there base old new wanted n signals before put those = record {
   grown = (same ∙ before.grown.0, λ v p within h. keeps v p within (before.grown.1 v p within h));
   there = λ p v h within is. elim (below_or p n h) [
     | inl l ↦ keeps v p within (before.there p v l within is)
     | inr e ↦ subst (λ (k : ℕ). StandsIn new v k) (sym e)
-        (subst (λ (rs : List (List ℕ)). Contains (row_in rs v) n) (sym put)
-        ((more_put n signals v n (rows old) (inside v within)).1 (inr (refl, those v (subst (λ (k : ℕ). wanted k v) e is)))))
+        (subst (λ (rs : List (List ℕ)). Contains (row rs v) n) (sym put)
+        ((all_has signals n old v n).1 (inr (inside v within, those v (subst (λ (k : ℕ). wanted k v) e is), refl))))
   ];
 } where
-  row_in : List (List ℕ) → ℕ → List ℕ
-  row_in rs v = get_or rs v []
-
   same : length new ≡ length old
-  same = sym (length-map new (λ (row : Vec ℕ Global). row.items)) ∙ ap length put ∙ put_length n signals (rows old) ∙ length-map old (λ (row : Vec ℕ Global). row.items)
+  same = ap length put ∙ length_all signals n old
 
-  inside : (v : ℕ) → v < length base → v < length (rows old)
-  inside v h = subst (λ (k : ℕ). v < k) (sym (length-map old (λ (row : Vec ℕ Global). row.items) ∙ before.grown.0)) h
+  inside : (v : ℕ) → v < length base → v < length old
+  inside v h = subst (λ (k : ℕ). v < k) (sym before.grown.0) h
 
   keeps : (v p : ℕ) → v < length base → StandsIn old v p → StandsIn new v p
-  keeps v p within h =
-      subst (λ (rs : List (List ℕ)). Contains (row_in rs v) p) (sym put) ((more_put n signals v p (rows old) (inside v within)).1 (inl h))
+  keeps v p within h = subst (λ (rs : List (List ℕ)). Contains (row rs v) p) (sym put) ((all_has signals n old v p).1 (inl h))
 
 -- a list has what another has, and the signals of the first ranges that are wanted
 abbrev pub HaveSome : (ℕ → Type 0) → List ℕ → List ℕ → List BitRange → ℕ → Type 0
@@ -113,24 +105,24 @@ of_both own old one both now later a b v is (inr h) = b v (inr (h, is))
 -- ---- those of all processes
 
 -- in a table that has grown they still stand
-grown_own : (f : Case) (i : ℕ) (t : Chart) (old new : List (Vec ℕ Global)) → HasGrown old new → AreOwnPlaces f i t old → AreOwnPlaces f i t new
+grown_own : (f : Case) (i : ℕ) (t : Chart) (old new : List (List ℕ)) → HasGrown old new → AreOwnPlaces f i t old → AreOwnPlaces f i t new
 grown_own f i t old new grown own p v within inside delay writer writes =
     let h = subst (λ (n : ℕ). v < n) grown.0 inside in grown.1 v p h (own p v within h delay writer writes)
 
-abbrev pub AreOwn : Case → ℕ → List (Vec ℕ Global) → Type 0
+abbrev pub AreOwn : Case → ℕ → List (List ℕ) → Type 0
 AreOwn f m table = (i : ℕ) (t : Chart) → i < m → slice_get f.charts i ≡ Some t → AreOwnPlaces f i t table
 
-pub none_own : (f : Case) (table : List (Vec ℕ Global)) → AreOwn f 0 table
+pub none_own : (f : Case) (table : List (List ℕ)) → AreOwn f 0 table
 none_own f table i t h is = absurd (omega (arith, h))
 
-pub one_own : (f : Case) (m : ℕ) (old new : List (Vec ℕ Global)) → AreOwn f m old → HasGrown old new → ((t : Chart) → slice_get f.charts m ≡ Some t → AreOwnPlaces f m t new) →
+pub one_own : (f : Case) (m : ℕ) (old new : List (List ℕ)) → AreOwn f m old → HasGrown old new → ((t : Chart) → slice_get f.charts m ≡ Some t → AreOwnPlaces f m t new) →
     AreOwn f (m + 1) new
 one_own f m old new before grown here i t h is = elim (below_or i m h) [
   | inl l ↦ grown_own f i t old new grown (before i t l is)
   | inr e ↦ subst (λ (k : ℕ). AreOwnPlaces f k t new) (sym e) (here t (subst (λ (k : ℕ). slice_get f.charts k ≡ Some t) e is))
 ]
 
-pub all_own : (f : Case) (m q : ℕ) (table : List (Vec ℕ Global)) → AreCharts f.design f.charts → q ≡ length f.design.processes → q ≤ m → AreOwn f m table →
+pub all_own : (f : Case) (m q : ℕ) (table : List (List ℕ)) → AreCharts f.design f.charts → q ≡ length f.design.processes → q ≤ m → AreOwn f m table →
     (i : ℕ) (t : Chart) → slice_get f.charts i ≡ Some t → AreOwnPlaces f i t table
 all_own f m q table maps processes past so_far i t is =
     so_far i t (let h = slice_get_within f.charts i t is in omega (arith, h, maps.as_many, processes, past)) is

@@ -1,8 +1,6 @@
 -- Ranks of the places of maps, and what they tell of where signals are hot.
 use Rattle.std.specs.Prelude.{ℕ, ◌≡◌, ◌+◌, ◌<◌, ◌≤◌, Some, List, get_or, length, slice_get}
 use Rattle.std.specs.List.{Contains}
-use Rattle.std.specs.declared.vec.Vec.{Vec}
-use Rattle.std.specs.declared.alloc.Global.{Global}
 use Rattle.vs_process.specs.Stops.{stops_tos}
 use Rattle.vs_maps.specs.vs_rules.specs.Claims.{IsDelay, IsWriter}
 use Rattle.vs_claims.specs.vs_maps.specs.declared.along.Along.TheVariants.{ZeroTime}
@@ -46,7 +44,7 @@ abbrev pub ApartAt : Chart → Ranks → List ℕ → ℕ → Type 0
 ApartAt t x row k = GoesUp t x (get_or row k 0) × (k + 1 < length row → IsApart x (get_or row k 0) (get_or row (k + 1) 0))
 
 -- the places of a process, where it is of kind delay and the writer of a signal, that write this stand in a table
-abbrev pub AreOwnPlaces : Case → ℕ → Chart → List (Vec ℕ Global) → Type 0
+abbrev pub AreOwnPlaces : Case → ℕ → Chart → List (List ℕ) → Type 0
 AreOwnPlaces f i t table = (p v : ℕ) → p < places t → v < length table → IsDelay f.design f.claims i → IsWriter f.design f.claims v i →
     WritesAt t p v → StandsIn table v p
 
@@ -59,6 +57,6 @@ abbrev pub AreAllRanks : Case → List Ranks → Type 0
 AreAllRanks f ranks = (i : ℕ) (x : Ranks) → slice_get ranks i ≡ Some x → AreRanksOf f i x
 
 -- what is kept of the writes of signals
-pub record KeepsWrites (f : Case) (table : List (Vec ℕ Global)) (ranks : List Ranks) : Type 0 where
+pub record KeepsWrites (f : Case) (table : List (List ℕ)) (ranks : List Ranks) : Type 0 where
   pub own : (i : ℕ) (t : Chart) → slice_get f.charts i ≡ Some t → AreOwnPlaces f i t table
   pub ranked : AreAllRanks f ranks

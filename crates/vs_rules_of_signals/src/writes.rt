@@ -12,15 +12,16 @@ use crate::ranks::Ranks;
 use std::alloc::{AllocError, Global};
 use std::marker::Model;
 use vs_claims::Facts;
-use vs_claims::vs_maps::{Tables, empty_rows, put_all};
+use vs_claims::vs_maps::Tables;
 use vs_design::BitRange;
+use vs_graph::Rows;
 
 /// For each signal the places at which its writer writes it, where that is of kind delay, and the ranks of the places of such processes. A
 /// contract sees the design, what the certificate claims of it, and the maps of the texts of the processes.
 #[derive(Drop)]
 pub struct Writes<'a> {
     facts: &'a Facts<'a>,
-    places: Vec<Vec<usize>>,
+    places: Rows<usize>,
     ranks: Vec<Ranks>,
 }
 
@@ -37,7 +38,7 @@ impl<'a> Model for Writes<'a> {
 
     ghost view = { λ w. w.facts.now };
 
-    ghost invariant = { λ w. KeepsWrites w.facts.now w.places.items w.ranks.items };
+    ghost invariant = { λ w. KeepsWrites w.facts.now w.places w.ranks.items };
 }
 
 // Whether a process is claimed to be the writer of a signal.
@@ -74,10 +75,10 @@ fn put_places<'a>(
     facts: &Facts,
     tables: &'a Tables<'a>,
     i: usize,
-    table: &mut Vec<Vec<usize>>,
+    table: &mut Rows<usize>,
 ) -> Result<(), AllocError>
-    ensures grown { OnOk result (HasGrown table.old.items table.new.items) }
-    ensures own { OnOk result (AreOwnPlaces facts.now i tables.entry.now table.new.items) }
+    ensures grown { OnOk result (HasGrown table.old table.new) }
+    ensures own { OnOk result (AreOwnPlaces facts.now i tables.entry.now table.new) }
 {
     for p in 0..tables.places() {
         let now = tables.now_at(alloc, p)?;
@@ -85,7 +86,7 @@ fn put_places<'a>(
         let mut signals = Vec::new(alloc);
         push_own(facts, i, &now, &mut signals)?;
         push_own(facts, i, &later, &mut signals)?;
-        put_all(table, p, &signals)?;
+        table.put_all(&signals, p)?;
     }
     Ok(())
 }
@@ -95,11 +96,11 @@ fn put_process<'a>(
     alloc: Global,
     facts: &'a Facts<'a>,
     i: usize,
-    table: &mut Vec<Vec<usize>>,
+    table: &mut Rows<usize>,
 ) -> Result<(), AllocError>
-    ensures grown { OnOk result (HasGrown table.old.items table.new.items) }
+    ensures grown { OnOk result (HasGrown table.old table.new) }
     ensures own { OnOk result ((t : Chart) → slice_get facts.entry.now.charts i ≡ Some t →
-        AreOwnPlaces facts.entry.now i t table.new.items) }
+        AreOwnPlaces facts.entry.now i t table.new) }
 {
     if !facts.is_delay(i) {
         return Ok(());
@@ -111,12 +112,12 @@ fn put_process<'a>(
 }
 
 // For each signal the places at which its writer writes it, where that is of kind delay. It takes as long as the texts are.
-fn own_places<'a>(alloc: Global, facts: &'a Facts<'a>) -> Result<Vec<Vec<usize>>, AllocError>
+fn own_places<'a>(alloc: Global, facts: &'a Facts<'a>) -> Result<Rows<usize>, AllocError>
     ensures { IfOk result (λ table. (i : ℕ) (t : Chart) → slice_get facts.entry.now.charts i ≡ Some t →
-        AreOwnPlaces facts.entry.now i t table.items) }
+        AreOwnPlaces facts.entry.now i t table) }
 {
     facts.maps();
-    let mut table = empty_rows(alloc, facts.design().signals().len())?;
+    let mut table = Rows::empty(alloc, facts.design().signals().len())?;
     for i in 0..facts.design().processes().len() {
         put_process(alloc, &*facts, i, &mut table)?;
     }
@@ -185,7 +186,6 @@ impl<'a> Writes<'a> {
             return false;
         }
         let ranks = &self.ranks[i];
-        let places = &self.places[v];
-        ranks.are_apart(tables, places)
+        ranks.are_apart(tables, self.places.row(v))
     }
 }

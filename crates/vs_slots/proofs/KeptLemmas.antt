@@ -70,8 +70,8 @@ kept_runs kind f runs i t maps all is_kind is p r within = (
   λ y. (both y.0 y.1).0 y.2,
   λ h. let y = there_is runs i (subst (λ (n : ℕ). i < n) (maps.as_many ∙ sym all.long) (slice_get_within f.charts i t is)) in (y.0, y.1, (both y.0 y.1).1 h),
 ) where
-  both : (x : Runs) → slice_get runs i ≡ Some x → (IsOneOf (rows x.ends.items) (row (rows x.before.items) p) r ↔ HasRun f.design f.claims i t p r)
-  both x at = runs_by f.design f.claims i t (rows x.before.items) (rows x.ends.items) (all.each i x at t is_kind is) (inside_of f i t maps is) p r within
+  both : (x : Runs) → slice_get runs i ≡ Some x → (IsOneOf (rows x.ends.items) (row x.before p) r ↔ HasRun f.design f.claims i t p r)
+  both x at = runs_by f.design f.claims i t x.before (rows x.ends.items) (all.each i x at t is_kind is) (inside_of f i t maps is) p r within
 
 -- a process of another kind has no run slots
 no_kind : (d : Parts) (c : Claims) (i : ℕ) (kind : Option Kind) (pause : Pause) (r : ℕ) → (kind ≡ Some edges → ⊥) → ((lists : List (List ℕ)) → kind ≡ Some (delays lists) → ⊥) →
@@ -356,11 +356,6 @@ read_more P (z ∷ xs) x before here (suc k) h = read_more (λ n w. P (suc n) w)
 -- an element at a place
 pub found : {A : Type 0} (xs : List A) (i : ℕ) (x : A) → i < length xs → x ≡ get_or xs i x → slice_get xs i ≡ Some x
 found xs i x h e = slice_get-get_or xs i x h ∙ ap Some (sym e)
-
-pub row_is : (ws : List (Vec ℕ Global)) (v : ℕ) (x : Vec ℕ Global) → v < length ws → row (rows ws) v ≡ (get_or ws v x).items
-row_is [] v x h = absurd (omega (arith, h))
-row_is (w ∷ ws) zero x h = refl
-row_is (w ∷ ws) (suc v) x h = row_is ws v x (omega (arith, h))
 
 -- what holds of an element at a place
 pub at_element : {A : Type 0} (P : A → Type 0) (xs : List A) (i : ℕ) (d : A) → i < length xs → (P (get_or xs i d) ↔ ((x : A) × (slice_get xs i ≡ Some x) × P x))

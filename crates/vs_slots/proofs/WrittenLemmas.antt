@@ -1,12 +1,9 @@
 -- At which places signals are written, process by process.
-use Rattle.std.proofs.Common.{◌≡◌, ℕ, zero, suc, ◌+◌, ◌<◌, ◌≤◌, ◌⊎◌, inl, inr, Some, List, [], ◌∷◌, replicate, length, slice_get, sym, ◌∙◌, ap, subst, arith}
+use Rattle.std.proofs.Common.{◌≡◌, ℕ, zero, suc, ◌+◌, ◌<◌, ◌≤◌, ◌⊎◌, inl, inr, Some, List, [], ◌∷◌, length, slice_get, sym, ◌∙◌, ap, subst, arith}
 use Rattle.std.specs.List.{Contains}
-use Rattle.std.specs.declared.vec.Vec.{Vec}
-use Rattle.std.specs.declared.alloc.Global.{Global}
-use Rattle.std.proofs.lemmas.List.{length-map, length-replicate}
+use Rattle.std.proofs.lemmas.List.{length-replicate}
 use Rattle.std.proofs.lemmas.Option.{slice_get_within}
-use Rattle.vs_design.specs.Tables.{rows}
-use Rattle.vs_claims.specs.vs_maps.specs.Indexes.{row_of}
+use Rattle.vs_graph.specs.Rows.{empty_rows, row}
 use Rattle.vs_claims.specs.vs_maps.specs.Reaches.{Chart, places}
 use Rattle.vs_maps.specs.Written.{HasGrown, IsWrittenAt, StandsIn}
 use Rattle.vs_claims.specs.Facts.{Case, AreCharts}
@@ -16,17 +13,17 @@ below_or : (i n : ℕ) → i < n + 1 → (i < n) ⊎ (i ≡ n)
 below_or i n h = grind (arith, h)
 
 -- the places of the first processes stand in so many rows
-pub record AreThere (charts : List Chart) (m n : ℕ) (table : List (Vec ℕ Global)) : Type 0 where
+pub record AreThere (charts : List Chart) (m n : ℕ) (table : List (List ℕ)) : Type 0 where
   pub long : length table ≡ n
   pub there : (i p v : ℕ) (t : Chart) → i < m → slice_get charts i ≡ Some t → v < n → p < places t → IsWrittenAt t p v → StandsIn table v p
 
-pub none_there : (charts : List Chart) (n : ℕ) (table : List (Vec ℕ Global)) → rows table ≡ replicate n [] → AreThere charts 0 n table
+pub none_there : (charts : List Chart) (n : ℕ) (table : List (List ℕ)) → table ≡ empty_rows n → AreThere charts 0 n table
 none_there charts n table e = record {
-  long = sym (length-map table (λ (row : Vec ℕ Global). row.items)) ∙ ap length e ∙ length-replicate n [];
+  long = ap length e ∙ length-replicate n [];
   there = λ i p v t h is within place written. absurd (omega (arith, h));
 }
 
-pub one_there : (charts : List Chart) (m n : ℕ) (old new : List (Vec ℕ Global)) → AreThere charts m n old → HasGrown old new →
+pub one_there : (charts : List Chart) (m n : ℕ) (old new : List (List ℕ)) → AreThere charts m n old → HasGrown old new →
     ((t : Chart) (p v : ℕ) → slice_get charts m ≡ Some t → p < places t → v < length old → IsWrittenAt t p v → StandsIn new v p) → AreThere charts (m + 1) n new
 one_there charts m n old new before grown here = record {
   long = grown.0 ∙ before.long;
@@ -36,7 +33,7 @@ one_there charts m n old new before grown here = record {
   ];
 }
 
-pub all_there : (f : Case) (m n q : ℕ) (table : List (Vec ℕ Global)) → AreCharts f.design f.charts → n ≡ length f.design.signals → q ≡ length f.design.processes → q ≤ m →
+pub all_there : (f : Case) (m n q : ℕ) (table : List (List ℕ)) → AreCharts f.design f.charts → n ≡ length f.design.signals → q ≡ length f.design.processes → q ≤ m →
     AreThere f.charts m n table → AreWrittenPlaces f table
 all_there f m n q table maps signals processes past so_far i p v t is within place written missing =
     missing (so_far.there i p v t (let h = slice_get_within f.charts i t is in omega (arith, h, maps.as_many, processes, past)) is
@@ -61,5 +58,5 @@ contained (x ∷ xs) p h = elim (same_or x p) [
 ]
 
 -- a place that isn't missing in a row stands there
-pub stands : (table : List (Vec ℕ Global)) (v p : ℕ) → ((StandsIn table v p → ⊥) → ⊥) → StandsIn table v p
-stands table v p h = contained (row_of table v) p h
+pub stands : (table : List (List ℕ)) (v p : ℕ) → ((StandsIn table v p → ⊥) → ⊥) → StandsIn table v p
+stands table v p h = contained (row table v) p h

@@ -26,13 +26,13 @@ use Rattle.vs_slots.specs.Runs.{AreRuns}
 
 -- a place of a process has a run slot, as runs are kept
 abbrev pub IsRunIn : List Runs → ℕ → ℕ → ℕ → Type 0
-IsRunIn runs i p r = (x : Runs) × (slice_get runs i ≡ Some x) × IsOneOf (rows x.ends.items) (row (rows x.before.items) p) r
+IsRunIn runs i p r = (x : Runs) × (slice_get runs i ≡ Some x) × IsOneOf (rows x.ends.items) (row x.before p) r
 
 -- these are the runs of a process, by its number, where it is of a kind
 abbrev pub RunsWhere : (Parts → Claims → ℕ → Type 0) → Case → ℕ → Runs → Type 0
 RunsWhere kind f i x =
     (t : Chart) → kind f.design f.claims i → slice_get f.charts i ≡ Some t →
-    AreRuns f.design f.claims i t (rows x.before.items) (rows x.ends.items)
+    AreRuns f.design f.claims i t x.before (rows x.ends.items)
 
 -- these are those of all processes, in their order
 pub record AreAllRuns (kind : Parts → Claims → ℕ → Type 0) (f : Case) (runs : List Runs) : Type 0 where
@@ -40,9 +40,9 @@ pub record AreAllRuns (kind : Parts → Claims → ℕ → Type 0) (f : Case) (r
   pub each : (i : ℕ) (x : Runs) → slice_get runs i ≡ Some x → RunsWhere kind f i x
 
 -- for each signal, the processes that write it
-abbrev pub AreWriterRows : Parts → List (Vec ℕ Global) → Type 0
+abbrev pub AreWriterRows : Parts → List (List ℕ) → Type 0
 AreWriterRows d table =
-    (length table ≡ length d.signals) × ((v k : ℕ) → v < length d.signals → (Contains (row (rows table) v) k ↔ Writes d k v))
+    (length table ≡ length d.signals) × ((v k : ℕ) → v < length d.signals → (Contains (row table v) k ↔ Writes d k v))
 
 -- this is what a signal is as a clock
 abbrev pub IsClockOf : Case → ℕ → Option Clock → Type 0
@@ -103,7 +103,7 @@ IsKeptRun f waiting fired i p r = (IsEdge f.design f.claims i × IsRunIn fired i
     ⊎ ((IsEdge f.design f.claims i → ⊥) × IsDelay f.design f.claims i × IsRunIn waiting i p r)
 
 -- no place at which a signal is written is missing in the row of the signal
-abbrev pub AreWrittenPlaces : Case → List (Vec ℕ Global) → Type 0
+abbrev pub AreWrittenPlaces : Case → List (List ℕ) → Type 0
 AreWrittenPlaces f table = (i p v : ℕ) (t : Chart) → slice_get f.charts i ≡ Some t → v < length f.design.signals → p < places t →
     IsWrittenAt t p v → (StandsIn table v p → ⊥) → ⊥
 

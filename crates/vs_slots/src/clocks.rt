@@ -7,9 +7,8 @@ ghost use Rattle.vs_slots.specs.Lists.{signals_of};
 
 use std::alloc::{AllocError, Global};
 use vs_claims::Facts;
-use vs_claims::vs_maps::index_of;
 use vs_design::{BitRange, Design};
-use vs_graph::Family;
+use vs_graph::{Family, Rows, index_of};
 use vs_maps::vs_threads::statement_writes;
 use vs_slots_constants::{Clock, clock_of};
 
@@ -43,8 +42,8 @@ impl<'a> Family for Writing<'a> {
 }
 
 // For each signal the processes that write it.
-fn writers_of<'a>(alloc: Global, design: &'a Design) -> Result<Vec<Vec<usize>>, AllocError>
-    ensures { IfOk result (λ table. AreWriterRows design.entry.now table.items) }
+fn writers_of<'a>(alloc: Global, design: &'a Design) -> Result<Rows<usize>, AllocError>
+    ensures { IfOk result (λ table. AreWriterRows design.entry.now table) }
 {
     let writing = Writing { design };
     let table = index_of(
@@ -79,7 +78,7 @@ pub(crate) fn clocks<'a>(
     let writers = writers_of(alloc, facts.design())?;
     let mut all = Vec::new(alloc);
     for v in 0..writers.len() {
-        let clock = clock_by(alloc, &*facts, &writers[v], v)?;
+        let clock = clock_by(alloc, &*facts, writers.row(v), v)?;
         all.push(clock)?;
     }
     Ok(all)

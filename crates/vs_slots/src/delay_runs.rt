@@ -22,7 +22,7 @@ fn listed_runs<'a>(
     lists: &[Vec<u64>],
 ) -> Result<Runs, AllocError>
     ensures { IfOk result (λ x. AreListedRuns tables.entry.now (list_of (controls_in body.now) (map residues_from lists.now))
-        (rows x.before.items) (rows x.ends.items)) }
+        x.before (rows x.ends.items)) }
 {
     let controls = controls(alloc, body)?;
     let lists = ControlLists::new(&controls, lists);

@@ -60,7 +60,7 @@ fn fired_runs<'a>(
 ) -> Result<Runs, AllocError>
     requires { AreFirings facts.now firing.now }
     ensures { IfOk result (λ x. AreFiredRuns facts.entry.now.design facts.entry.now.claims tables.entry.now
-        (rows x.before.items) (rows x.ends.items)) }
+        x.before (rows x.ends.items)) }
 {
     let edges = EdgeEnds {
         facts,

@@ -10,12 +10,13 @@ ghost use Rattle.vs_slots.specs.Kept.{AreWrittenPlaces, IsFiringBy, IsFiringOf, 
 
 use crate::listing::{Listing, union_of};
 use crate::phases::{is_in_phase, write_counts};
-use crate::runs::{Runs, numbers_of, runs_at};
+use crate::runs::{Runs, runs_at};
 use std::alloc::{AllocError, Global};
 use vs_claims::Facts;
 use vs_claims::vs_maps::Tables;
 use vs_design::Statement;
 use vs_design::vs_logic4::{Digit, Edge};
+use vs_graph::Rows;
 use vs_slots_constants::{Bit, Clock, given_by};
 
 // The constant that a statement, where there is one, gives the lowest bit of a signal.
@@ -170,7 +171,7 @@ fn fires_by<'a>(
     clock: Option<Clock>,
     root: usize,
     edge: Edge,
-    written: &'a [Vec<usize>],
+    written: &'a Rows<usize>,
     writer: usize,
 ) -> Result<Vec<u64>, AllocError>
     requires turned { IsTurned clock }
@@ -192,7 +193,7 @@ fn fires_by<'a>(
         edge,
         clock,
         modulus: facts.modulus(),
-        places: numbers_of(written, root),
+        places: written.row(root),
     };
     union_of(alloc, &firing, firing.places.len())
 }
@@ -205,7 +206,7 @@ pub(crate) fn fires_of<'a>(
     clock: Option<Clock>,
     root: usize,
     edge: Edge,
-    written: &'a [Vec<usize>],
+    written: &'a Rows<usize>,
 ) -> Result<Vec<u64>, AllocError>
     requires turned { IsTurned clock }
     requires known { AreWrittenPlaces facts.now written.now }

@@ -15,7 +15,7 @@ use std::alloc::{AllocError, Global};
 use vs_claims::Facts;
 use vs_design::EventTerm;
 use vs_design::vs_logic4::Edge;
-use vs_graph::Gathered;
+use vs_graph::{Gathered, Rows};
 use vs_slots_constants::Clock;
 
 // What a signal is as a clock; one past the end is none.
@@ -32,7 +32,7 @@ struct RootFiring<'a> {
     runs: &'a [Runs],
     clocks: &'a [Option<Clock>],
     edge: Edge,
-    written: &'a [Vec<usize>],
+    written: &'a Rows<usize>,
     ghost turned: { (v : ℕ) → IsTurned (get_or clocks.now v None) },
     ghost known: { AreWrittenPlaces facts.now written.now },
 }
@@ -76,7 +76,7 @@ fn table_for<'a>(
     runs: &'a [Runs],
     clocks: &'a [Option<Clock>],
     edge: Edge,
-    written: &'a [Vec<usize>],
+    written: &'a Rows<usize>,
 ) -> Result<Vec<Vec<u64>>, AllocError>
     requires runs { AreAllRuns IsDelay facts.now runs.now }
     requires clocks { AreClocks facts.now clocks.now }
@@ -101,7 +101,7 @@ impl Firing {
         alloc: Global,
         facts: &'a Facts<'a>,
         runs: &'a [Runs],
-        written: &'a [Vec<usize>],
+        written: &'a Rows<usize>,
     ) -> Result<Firing, AllocError>
         requires runs { AreAllRuns IsDelay facts.now runs.now }
         requires written { AreWrittenPlaces facts.now written.now }

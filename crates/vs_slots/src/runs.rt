@@ -1,5 +1,5 @@
 //! The run slots of the places of a process.
-ghost use Rattle.std.specs.Prelude.{ℕ, ◌↔◌, ◌≡◌, IfOk};
+ghost use Rattle.std.specs.Prelude.{ℕ, ◌↔◌, IfOk};
 ghost use Rattle.std.specs.List.{Contains};
 ghost use Rattle.vs_design.specs.Tables.{rows};
 ghost use Rattle.vs_slots.specs.Lists.{row, IsOneOf};
@@ -7,28 +7,22 @@ ghost use Rattle.vs_slots.specs.Kept.{IsRunIn};
 
 use crate::residues::residues_of;
 use std::alloc::{AllocError, Global};
+use vs_graph::Rows;
 
 /// For each place of a process, the controls before it, and the residues at which its own control can end.
 #[derive(Drop)]
 pub(crate) struct Runs {
     /// The controls from which a walk without further control leads to a place.
-    pub(crate) before: Vec<Vec<usize>>,
+    pub(crate) before: Rows<usize>,
     /// The residues at which the control of a place can end.
     pub(crate) ends: Vec<Vec<u64>>,
-}
-
-/// The numbers in a row of a table; of one past the end, none.
-pub(crate) fn numbers_of(table: &[Vec<usize>], i: usize) -> &[usize]
-    ensures { result.now ≡ row (rows table.now) i }
-{
-    if i < table.len() { &table[i] } else { &[] }
 }
 
 impl Runs {
     /// Those of a process without places.
     pub(crate) fn none(alloc: Global) -> Runs {
         Runs {
-            before: Vec::new(alloc),
+            before: Rows::none(alloc),
             ends: Vec::new(alloc),
         }
     }
@@ -37,9 +31,9 @@ impl Runs {
     /// are.
     pub(crate) fn at(&self, alloc: Global, place: usize) -> Result<Vec<u64>, AllocError>
         ensures { IfOk result (λ all. (r : ℕ) → (Contains all.items r ↔
-            IsOneOf (rows self.now.ends.items) (row (rows self.now.before.items) place) r)) }
+            IsOneOf (rows self.now.ends.items) (row self.now.before place) r)) }
     {
-        residues_of(alloc, &self.ends, numbers_of(&self.before, place))
+        residues_of(alloc, &self.ends, self.before.row(place))
     }
 }
 

@@ -11,13 +11,14 @@ use crate::edge_runs::edge_runs;
 use crate::listing::{Listing, table_of, union_of};
 use crate::residues::row_of;
 use crate::roots::Firing;
-use crate::runs::{Runs, numbers_of, runs_at};
+use crate::runs::{Runs, runs_at};
 use crate::written::written_places;
 use std::alloc::{AllocError, Global};
 use std::marker::Model;
 use vs_claims::Facts;
 use vs_claims::vs_maps::Tables;
 use vs_design::EventTerm;
+use vs_graph::Rows;
 
 // The run slots of a place of a process of kind edge or delay; of another one there are none.
 fn run_slots<'a>(
@@ -95,7 +96,7 @@ struct Variables<'a> {
     facts: &'a Facts<'a>,
     delays: &'a [Runs],
     edges: &'a [Runs],
-    written: &'a [Vec<usize>],
+    written: &'a Rows<usize>,
     ghost known: { AreWrittenPlaces facts.now written.now },
 }
 
@@ -121,7 +122,7 @@ impl<'a> Variables<'a> {
                     edges: self.edges,
                     writer,
                     variable,
-                    places: numbers_of(self.written, variable),
+                    places: self.written.row(variable),
                 };
                 union_of(alloc, &places, places.places.len())
             }
@@ -146,7 +147,7 @@ fn write_slots<'a>(
     facts: &'a Facts<'a>,
     delays: &'a [Runs],
     edges: &'a [Runs],
-    written: &'a [Vec<usize>],
+    written: &'a Rows<usize>,
 ) -> Result<Vec<Vec<u64>>, AllocError>
     requires runs { AreBothRuns facts.now delays.now edges.now }
     requires written { AreWrittenPlaces facts.now written.now }

@@ -6,19 +6,19 @@ ghost use Rattle.vs_slots.specs.Kept.{AreWrittenPlaces};
 
 use std::alloc::{AllocError, Global};
 use vs_claims::Facts;
-use vs_claims::vs_maps::empty_rows;
+use vs_graph::Rows;
 use vs_maps::put_writes;
 
 // Puts the places of a process at the end of the rows of the signals that are written there.
 fn put_process<'a>(
     alloc: Global,
     facts: &'a Facts<'a>,
-    table: &mut Vec<Vec<usize>>,
+    table: &mut Rows<usize>,
     i: usize,
 ) -> Result<(), AllocError>
-    ensures grown { OnOk result (HasGrown table.old.items table.new.items) }
+    ensures grown { OnOk result (HasGrown table.old table.new) }
     ensures there { OnOk result ((t : Chart) (p v : ℕ) → slice_get facts.entry.now.charts i ≡ Some t → p < places t
-        → v < length table.old.items → IsWrittenAt t p v → StandsIn table.new.items v p) }
+        → v < length table.old → IsWrittenAt t p v → StandsIn table.new v p) }
 {
     match facts.tables(i) {
         None => Ok(()),
@@ -30,11 +30,11 @@ fn put_process<'a>(
 pub(crate) fn written_places<'a>(
     alloc: Global,
     facts: &'a Facts<'a>,
-) -> Result<Vec<Vec<usize>>, AllocError>
-    ensures { IfOk result (λ table. AreWrittenPlaces facts.entry.now table.items) }
+) -> Result<Rows<usize>, AllocError>
+    ensures { IfOk result (λ table. AreWrittenPlaces facts.entry.now table) }
 {
     facts.maps();
-    let mut table = empty_rows(alloc, facts.design().signals().len())?;
+    let mut table = Rows::empty(alloc, facts.design().signals().len())?;
     for i in 0..facts.design().processes().len() {
         put_process(alloc, &*facts, &mut table, i)?;
     }

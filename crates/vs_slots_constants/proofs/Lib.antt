@@ -1,5 +1,4 @@
 pub mod ConstantLemmas
-pub mod Nothing
 pub mod OtherLemmas
 pub mod WholeLemmas
 pub mod Cores

@@ -10,7 +10,7 @@ ghost use Rattle.vs_slots_constants.specs.Givings.{bit_view, given_here};
 
 use std::alloc::{AllocError, Global};
 use vs_design::vs_logic4::{Digit, Vec4};
-use vs_design::{Aim, DEFAULT_TIMESCALE, Design, Statement, Store, Target, Typed, reads};
+use vs_design::{Aim, Statement, Store, Target, Typed, reads};
 use vs_eval::cut_value;
 
 /// A bit.
@@ -140,27 +140,12 @@ fn reads_nothing(alloc: Global, e: &Typed) -> Result<bool, AllocError>
     Ok(ranges.is_empty())
 }
 
-// A design without signals.
-fn empty_design(alloc: Global) -> Result<Design, AllocError>
-    ensures { IfOk result (λ d. d.signals ≡ []) }
-{
-    Design::new(
-        alloc,
-        DEFAULT_TIMESCALE,
-        Vec::new(alloc),
-        Vec::new(alloc),
-        Vec::new(alloc),
-        Vec::new(alloc),
-    )
-}
-
 // What a target gets of an expression in a store without signals.
-fn value_alone(alloc: Global, target: &Target, e: &Typed) -> Result<Vec4, AllocError>
-    ensures { IfOk result (λ v. v ≡ target_value target.now e.now [] 0) }
+fn value_alone(alloc: Global, target: &Target, e: &Typed) -> Vec4
+    ensures { result ≡ target_value target.now e.now [] 0 }
 {
-    let design = empty_design(alloc)?;
-    let store = Store::start(alloc, &design)?;
-    Ok(cut_value(target, e, &store, 0))
+    let store = Store::without_signals(alloc);
+    cut_value(target, e, &store, 0)
 }
 
 /// The digit that an assignment of a constant gives a bit, whatever the store: there is none where the right side names a signal, where the index of
@@ -175,7 +160,7 @@ pub fn given(
     ensures { IfOk result (λ o. o ≡ given target.now value.now (bit_view bit)) }
 {
     if reads_nothing(alloc, value)? {
-        let digits = value_alone(alloc, target, value)?;
+        let digits = value_alone(alloc, target, value);
         Ok(places_give(&target.parts, digits, bit))
     } else {
         Ok(None)

@@ -1,6 +1,6 @@
 -- Values that no store changes.
-use Rattle.std.proofs.Common.{◌≡◌, ℕ, ◌-◌, ◌==◌, Bool, true, false, List, [], ◌∷◌, Option, Some, None, length, refl, ap, sym, ◌∙◌, arith, rules}
-use Rattle.std.specs.List.{slice_get, list_any, IsDistinct}
+use Rattle.std.proofs.Common.{◌≡◌, ℕ, ◌-◌, ◌==◌, Bool, true, false, List, [], ◌∷◌, Option, Some, None, length, refl, ap, sym, ◌∙◌, arith}
+use Rattle.std.specs.List.{slice_get, list_any}
 use Rattle.std.proofs.lemmas.Option.{get_or_from_slice_get}
 use denote.Enum.Bare.{sameb}
 use Rattle.vs_design.specs.vs_logic4.specs.contracts.digit.Digit.{the_type}
@@ -8,7 +8,6 @@ use Rattle.vs_design.specs.vs_logic4.specs.declared.digit.Digit.TheVariants.{Zer
 use Rattle.vs_design.specs.vs_logic4.specs.Arithmetic.{known_number}
 use Rattle.vs_design.specs.vs_logic4.specs.Vectors.{same_digit, top_digit}
 use Rattle.vs_width_selects.specs.Constants.{natural_number, where_none}
-use Rattle.std.specs.Str.{bytes_eq}
 use Rattle.std.proofs.lemmas.Bool.{eqb-true, eqb-false}
 use Rattle.std.proofs.Math.Path.{fun_ext}
 use Rattle.vs_design.specs.vs_logic4.specs.declared.digit.Digit.{Digit}
@@ -17,12 +16,6 @@ use Rattle.vs_design.specs.declared.expression.Typed.TheOpen as t
 use Rattle.vs_design.specs.Stores.{Store, is_changed}
 use Rattle.vs_design.specs.declared.range.BitRange.{BitRange}
 use Rattle.vs_design.specs.Uses.{reads}
-use Rattle.vs_design.specs.declared.timescale.Timescale.{Timescale}
-use Rattle.vs_design.specs.declared.signal.Signal.{Signal}
-use Rattle.vs_design.specs.declared.design.Assign.{Assign}
-use Rattle.vs_design.specs.declared.design.Process.{Process}
-use Rattle.vs_design.specs.declared.design.Entry.{Entry}
-use Rattle.vs_design.specs.WellFormed.{WellFormed, share_a_bit, driven}
 use Rattle.vs_eval.specs.Values.{value_of, value_step}
 use Rattle.vs_eval.specs.Laws.{ReadsHold, SizesHold}
 use Rattle.vs_width_selects.specs.declared.faults.WidthReason.TheVariants.{NotConstant}
@@ -106,28 +99,3 @@ stands_alone x y v p n same e =
 
 pub stands_not_alone : (x : Measured) (y : Typed) → IsFitted (sense x.form) x.shape.width x.shape.signed y → (length (reads y) == 0) ≡ false → (sense x.form).reads ≡ [] → ⊥
 stands_not_alone x y p n h = eqb-false (length (reads y)) 0 n (ap length (p.ranges ∙ h))
-
-none_twice : {K : Type 0} (eq : K → K → Bool) → IsDistinct eq []
-unfolding IsDistinct
-none_twice eq = tt
-
-no_drivers : IsDistinct (share_a_bit []) (driven [])
-unfolding IsDistinct
-no_drivers = tt
-
--- a design of nothing
-nothing : (unit : Timescale) → WellFormed (record { timescale = unit; signals = []; assigns = []; processes = []; outline = [] })
-nothing unit = record {
-  processes = search rules;
-  assigns = search rules;
-  drivers = no_drivers;
-  declared = search rules;
-  declared_once = none_twice _;
-  all_declared = λ n h. absurd (omega arith);
-  paths = none_twice bytes_eq;
-  names = none_twice bytes_eq;
-  assign_names = none_twice bytes_eq;
-}
-
-pub nothing_formed : (unit : Timescale) (ss : List Signal) (as' : List Assign) (ps : List Process) (es : List Entry) → ss ≡ [] → as' ≡ [] → ps ≡ [] → es ≡ [] → WellFormed (record { timescale = unit; signals = ss; assigns = as'; processes = ps; outline = es })
-nothing_formed unit ss as' ps es h k l m = rw (h, k, l, m) (nothing unit)

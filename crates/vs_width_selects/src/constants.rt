@@ -12,7 +12,7 @@ use crate::forms::{Measured, Sizable};
 use crate::shape::Shape;
 use std::alloc::{AllocError, Global};
 use vs_design::vs_logic4::{Digit, Vec4};
-use vs_design::{Bounds, DEFAULT_TIMESCALE, Design, Store, Typed, reads};
+use vs_design::{Bounds, Store, Typed, reads};
 use vs_eval::{index_number, reads_hold, sizes_hold, value};
 
 /// The fault that no constant stands where one is wanted, or one out of its range.
@@ -101,7 +101,7 @@ pub fn known(alloc: Global, form: &Sizable, shape: Shape) -> Result<Vec4, WidthF
     if is_constant {
         reads_hold();
         sizes_hold();
-        Ok(value_alone(alloc, &y)?)
+        Ok(value_alone(alloc, &y))
     } else {
         Err(NOT_CONSTANT)
     }
@@ -116,12 +116,11 @@ pub fn reads_nothing(alloc: Global, y: &Typed) -> Result<bool, AllocError>
 }
 
 /// The value of an expression in a store without signals.
-pub fn value_alone(alloc: Global, y: &Typed) -> Result<Vec4, AllocError>
-    ensures { IfOk result (λ v. v ≡ value_of y.now [] 0) }
+pub fn value_alone(alloc: Global, y: &Typed) -> Vec4
+    ensures { result ≡ value_of y.now [] 0 }
 {
-    let design = empty_design(alloc)?;
-    let store = Store::start(alloc, &design)?;
-    Ok(value(y, &store, 0))
+    let store = Store::without_signals(alloc);
+    value(y, &store, 0)
 }
 
 /// A count, as that of a replication or the size of a part-select (IEEE 1364-2005, clauses 5.1.14 and 5.2.1).
@@ -153,18 +152,4 @@ pub fn whole_of(alloc: Global, x: &Measured) -> Result<i128, WidthFault>
         Some(number) => Ok(number),
         None => Err(NOT_CONSTANT),
     }
-}
-
-/// A design without signals.
-fn empty_design(alloc: Global) -> Result<Design, AllocError>
-    ensures { IfOk result (λ d. d.signals ≡ []) }
-{
-    Design::new(
-        alloc,
-        DEFAULT_TIMESCALE,
-        Vec::new(alloc),
-        Vec::new(alloc),
-        Vec::new(alloc),
-        Vec::new(alloc),
-    )
 }

@@ -21,7 +21,7 @@ fn alone(alloc: Global, x: &Measured) -> Result<Option<Vec4>, AllocError>
     let is_constant = reads_nothing(alloc, &y)?;
     if is_constant {
         reads_hold();
-        Ok(Some(value_alone(alloc, &y)?))
+        Ok(Some(value_alone(alloc, &y)))
     } else {
         Ok(None)
     }

@@ -1,8 +1,11 @@
 -- Segments that are put behind others, for private clauses.
-use Rattle.std.specs.Prelude.{ℕ, ◌≡◌, ◌+◌, ◌<◌, ◌≤◌, List, [], ◌∷◌, get_or, length}
+use Rattle.std.specs.Prelude.{ℕ, ◌≡◌, ◌+◌, ◌-◌, ◌<◌, ◌≤◌, List, [], ◌∷◌, None, Some, get_or, length, min, slice_get}
+use Rattle.std.specs.Coded.{×_prop, Unit-prop}
+use Rattle.std.proofs.Props.{props}
 use Rattle.vs_prep_macros.specs.declared.fault.Spot.{Spot}
 use Rattle.vs_preprocess.specs.declared.places.Form.{Form}
 use Rattle.vs_preprocess.specs.declared.places.Form.TheVariants as form
+use Rattle.vs_preprocess.specs.declared.places.Origin.{Origin}
 use Rattle.vs_preprocess.specs.declared.places.Segment.{Segment}
 use Rattle.vs_preprocess.specs.Places.{reach}
 
@@ -24,3 +27,25 @@ pub record IsJoined (last : Segment) (n : ℕ) (spot : Spot) (s : Segment) : Typ
 abbrev pub BeginsBehind : ℕ → List Segment → Type 0
 BeginsBehind offset [] = Unit {0}
 BeginsBehind offset (s ∷ ss) = offset < s.offset
+
+-- segments stand one behind another, from an offset on
+abbrev pub AreInLine : ℕ → List Segment → Type 0
+AreInLine n [] = Unit {0}
+AreInLine n (s ∷ ss) = (s.offset ≡ n) × AreInLine (n + s.size) ss
+
+-- that holds in one way
+pub AreInLine-prop : (n : ℕ) (ss : List Segment) → IsProp (AreInLine n ss)
+AreInLine-prop n [] = Unit-prop
+AreInLine-prop n (s ∷ ss) = ×_prop (Prim.hlevel props) (AreInLine-prop (n + s.size) ss)
+
+-- the segment of a number begins at or before an offset, and the next one behind it
+pub record IsLastAt (offset : ℕ) (ss : List Segment) (k : ℕ) : Type 0 where
+  pub within : k < length ss
+  pub begun : (s : Segment) → slice_get ss k ≡ Some s → s.offset ≤ offset
+  pub next : (s : Segment) → slice_get ss (k + 1) ≡ Some s → offset < s.offset
+
+-- where the byte at an offset comes from that is one of a segment's
+abbrev pub origin_in : Form → ℕ → Segment → Origin
+origin_in form.Copied offset s = record { spot = record { file = s.spot.file; place = s.spot.place + min (offset - s.offset) s.size }; definition = None }
+origin_in form.Made offset s = record { spot = s.spot; definition = None }
+origin_in (form.Expanded number) offset s = record { spot = s.spot; definition = Some number }

@@ -1,6 +1,6 @@
 -- What the orders of a search show.
 use Rattle.vs_design.specs.Parts.{Parts}
-use Rattle.vs_race_shown.specs.Witnesses.{IsLineWitness, IsWitness}
+use Rattle.vs_race.specs.Witnesses.{IsLineWitness, IsWitness}
 use Rattle.vs_race.specs.declared.racing.Sighting.{Sighting}
 use Rattle.vs_race.specs.declared.racing.Sighting.TheVariants.{Shown, ShownLine, Missed}
 

@@ -1,20 +1,15 @@
-use Rattle.std.proofs.Common.{◌≡◌, ◌<◌, ◌≤◌, ℕ, List, length, sym, ◌∙◌, subst, arith}
+use Rattle.std.proofs.Common.{◌<◌, ◌≤◌, ℕ, List, length, sym, subst}
 use Rattle.std.specs.List.{Contains}
 use Rattle.vs_design.specs.declared.design.Assign.{Assign}
 use Rattle.vs_design.specs.declared.signal.Signal.{Signal}
-use Rattle.vs_maps.specs.Indexes.{row_of}
 use Rattle.vs_drivers.proofs.CopyLemmas.{all_sources, one_more}
-use Rattle.vs_drivers.proofs.ListLemmas.{row_at}
 use Rattle.vs_drivers.proofs.copies.sources_of.Goals as goal
 
 pub source_of-requires : goal.source_of-requires
 source_of-requires c j =
-    let x = c.in_ok-drivers.ensures.exact c.loop-v.v j c.loop-v-test.true in
-    let within : c.loop-v.v < length c.in_ok-drivers.drivers.items = omega (arith, c.in_ok-drivers.ensures.len, c.loop-v-test.true) in
-    let e : row_of c.in_ok-drivers.drivers.items c.loop-v.v ≡ c.deref.result.now =
-    row_at c.in_ok-drivers.drivers.items c.loop-v.v c.index.result.now within c.index.ensures ∙ sym c.deref.ensures.value in (
-      λ h. let y = x.0 (subst (λ (l : List ℕ). Contains l j) (sym e) h) in (subst (λ (as' : List Assign). j < length as') c.assigns.ensures y.0, y.1),
-      λ y. subst (λ (l : List ℕ). Contains l j) e (x.1 (subst (λ (as' : List Assign). j < length as') (sym c.assigns.ensures) y.0, y.1)),
+    let x = c.in_ok-drivers.ensures.exact c.loop-v.v j c.loop-v-test.true in (
+      λ h. let y = x.0 (subst (λ (l : List ℕ). Contains l j) c.row.ensures h) in (subst (λ (as' : List Assign). j < length as') c.assigns.ensures y.0, y.1),
+      λ y. subst (λ (l : List ℕ). Contains l j) (sym c.row.ensures) (x.1 (subst (λ (as' : List Assign). j < length as') (sym c.assigns.ensures) y.0, y.1)),
     )
 
 pub loop-v-preserved : goal.loop-v-preserved

@@ -7,9 +7,9 @@ use Rattle.vs_eval.proofs.ValueLemmas.{went_on, went_through}
 use Rattle.vs_eval_resolved.specs.declared.node.Node.{Node}
 use Rattle.vs_eval_resolved.specs.declared.node.Planes.{Planes}
 use Rattle.vs_eval_resolved.specs.declared.node.Size.{Size}
-use Rattle.vs_eval_resolved.specs.declared.node.Node.TheVariants.{rolls-Number, rolls-Word, rolls-Bits, rolls-Element, rolls-Bit, rolls-Unary, rolls-Two, rolls-Chain, rolls-If, rolls-Resized, rolls-Concat, rolls-Repeat, rolls-Other}
+use Rattle.vs_eval_resolved.specs.declared.node.Node.TheVariants.{rolls-Number, rolls-Word, rolls-Bits, rolls-Element, rolls-Bit, rolls-Indexed, rolls-Ranged, rolls-Unary, rolls-Two, rolls-Chain, rolls-If, rolls-Resized, rolls-Concat, rolls-Repeat, rolls-Other}
 use Rattle.vs_eval_resolved.specs.declared.node.Node.TheOpen as layer
-use Rattle.vs_eval_resolved.specs.Nodes.{planes_in, element_planes, bit_planes, unary_planes, combined, chained, chosen, changed_planes, joined, repeated}
+use Rattle.vs_eval_resolved.specs.Nodes.{planes_in, element_planes, bit_planes, indexed_planes, ranged_planes, unary_planes, combined, chained, chosen, changed_planes, joined, repeated}
 use Rattle.vs_eval_resolved.specs.PlanesOf.{digits_of, planes_of}
 use Rattle.vs_eval_resolved.proofs.NodeLemmas.{node_layer}
 use Rattle.vs_eval_resolved.proofs.evaluate.+evaluate.Goals as goal
@@ -47,6 +47,18 @@ pub planes_at-returns-in-Bit : goal.planes_at-returns-in-Bit
 planes_at-returns-in-Bit t c =
     c.bit.ensures ∙ ap (λ p. bit_planes c.in-Bit.array p c.args.store.now) (c.quick_planes-in-Bit.ensures ∙ ap (λ x. planes_in x c.args.store.now c.args.time) c.deref-in-Bit.ensures)
     ∙ sym (node_layer c.args.node.now c.args.store.now c.args.time (layer.Bit c.in-Bit.array c.in-Bit.x) (rolls-Bit c.in-Bit.array c.in-Bit.x ∙ sym c.in-Bit.is))
+
+pub planes_at-returns-in-Indexed : goal.planes_at-returns-in-Indexed
+planes_at-returns-in-Indexed t c =
+    c.indexed.ensures
+    ∙ ap (λ p. indexed_planes c.in-Indexed.array c.in-Indexed.index p c.args.store.now) (c.quick_planes-in-Indexed.ensures ∙ ap (λ x. planes_in x c.args.store.now c.args.time) c.deref-in-Indexed.ensures)
+    ∙ sym (node_layer c.args.node.now c.args.store.now c.args.time (layer.Indexed c.in-Indexed.array c.in-Indexed.index c.in-Indexed.x) (rolls-Indexed c.in-Indexed.array c.in-Indexed.index c.in-Indexed.x ∙ sym c.in-Indexed.is))
+
+pub planes_at-returns-in-Ranged : goal.planes_at-returns-in-Ranged
+planes_at-returns-in-Ranged t c =
+    c.ranged.ensures
+    ∙ ap (λ p. ranged_planes c.in-Ranged.array c.in-Ranged.index c.in-Ranged.size p c.args.store.now) (c.quick_planes-in-Ranged.ensures ∙ ap (λ x. planes_in x c.args.store.now c.args.time) c.deref-in-Ranged.ensures)
+    ∙ sym (node_layer c.args.node.now c.args.store.now c.args.time (layer.Ranged c.in-Ranged.array c.in-Ranged.index c.in-Ranged.size c.in-Ranged.x) (rolls-Ranged c.in-Ranged.array c.in-Ranged.index c.in-Ranged.size c.in-Ranged.x ∙ sym c.in-Ranged.is))
 
 pub planes_at-returns-in-Unary : goal.planes_at-returns-in-Unary
 planes_at-returns-in-Unary t c =

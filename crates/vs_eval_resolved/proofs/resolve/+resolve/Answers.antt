@@ -10,7 +10,7 @@ use Rattle.vs_eval_resolved.proofs.CopyLemmas.{kept_whole}
 use Rattle.vs_eval_resolved.proofs.LayerLemmas.{number_law, signal_law, slice_law, select_law, excerpt_long, unary_meant, chain_meant, choice_meant, concat_meant, repeat_meant, resized_long, resized_meant}
 use Rattle.vs_eval_resolved.proofs.MeantLemmas.{linked_long}
 use Rattle.vs_eval_resolved.proofs.OperandLemmas.{AreJoined, AreLinked, answered, all_linked, all_parts, if_means, link_step, none_chosen, none_joined, none_linked, one_linked, pair_before, pair_means, part_step}
-use Rattle.vs_eval_resolved.proofs.WordLemmas.{bit_means, bits_long, element_means}
+use Rattle.vs_eval_resolved.proofs.WordLemmas.{bits_long, part_of_word, whole_word}
 use Rattle.vs_eval_resolved.proofs.resolve.+resolve.Goals as goal
 
 -- ---- an expression
@@ -102,13 +102,17 @@ resolve-returns-in_ok-other-in-None-6 t c =
 
 pub select-returns-in-Some-2 : goal.select-returns-in-Some-2
 select-returns-in-Some-2 t c = λ law.
-    element_means c.args.design.now.signals c.args.s c.in-Some.array c.args.e.now c.args.word.now c.args.low.now law c.in_ok-new.field-0 c.in-Some-2.x c.in-Some-2.field-0-1.width
-    c.in_ok-new.ensures.ok c.in-Some.ensures (rw c.in-Some-2.is at c.in_ok-x.ensures)
+    let signals = c.args.design.now.signals in
+    let word = c.args.word.now in
+    whole_word signals c.args.s c.in-Some.array c.args.e.now word c.args.low.now law c.in_ok-node.node c.in-Some.ensures
+    (c.in_ok-node.ensures signals c.args.s.signal (λ store time. value_of word store time) c.in-Some.ensures.words (rw c.in-Some-2.is at c.in_ok-x.ensures))
 
 pub select-returns-in-Some-3 : goal.select-returns-in-Some-3
 select-returns-in-Some-3 t c = λ law.
-    bit_means c.args.design.now.signals c.args.s c.in-Some-bit_of.array c.args.e.now c.args.word.now c.args.low.now law c.in_ok-new-2.field-0 c.in-Some-3.x c.in-Some-3.field-0-1.width
-    c.in_ok-new-2.ensures.ok c.in-Some-bit_of.ensures (rw c.in-Some-3.is at c.in_ok-x-2.ensures)
+    let signals = c.args.design.now.signals in
+    let low = c.args.low.now in
+    part_of_word signals c.args.s c.in-Some-bits_of.array c.args.e.now c.args.word.now low law c.in_ok-node-2.node c.in-Some-bits_of.ensures
+    (c.in_ok-node-2.ensures signals c.args.s.signal (λ store time. value_of low store time) c.in-Some-bits_of.ensures.words (rw c.in-Some-3.is at c.in_ok-x-2.ensures))
 
 pub select-returns : goal.select-returns
 select-returns t c =

@@ -4,6 +4,5 @@ pub returns-then-is_lowest : goal.returns-then-is_lowest
 returns-then-is_lowest c = record {
   words = c.in_ok-array.ensures;
   wide = c.if-s-array.false;
-  plain = c.is_plain.ensures c.if-not-is_plain.false;
   lowest = c.is_lowest.ensures c.if-is_lowest.true;
 }

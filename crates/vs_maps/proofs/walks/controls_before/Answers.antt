@@ -1,20 +1,20 @@
 use Rattle.std.proofs.Common.{ℕ, List, ◌↔◌, sym, ◌∙◌, subst, arith}
 use Rattle.std.specs.List.{Contains}
 use Rattle.vs_graph.specs.Clear.{AreClear}
-use Rattle.vs_maps.specs.Indexes.{AreRows}
+use Rattle.vs_graph.specs.Rows.{AreRows}
 use Rattle.vs_maps.specs.Walks.{IsControlBefore}
-use Rattle.vs_maps.proofs.IndexLemmas.{none_yet, one_more, all_done}
+use Rattle.vs_graph.proofs.RowLemmas.{none_yet, one_more, rows_done}
 use Rattle.vs_maps.proofs.walks.controls_before.Goals as goal
 
 pub loop-q-init : goal.loop-q-init
 loop-q-init c = record {
-  rows = none_yet (IsControlBefore c.args.tables.now) c.places-count.result c.in_ok-table.table.items c.in_ok-table.ensures;
+  rows = none_yet (IsControlBefore c.args.tables.now) c.places-count.result c.in_ok-table.table c.in_ok-table.ensures;
   clear = subst (λ (n : ℕ). AreClear n c.in_ok-marks.marks.items) c.places-count.ensures c.in_ok-marks.ensures;
 }
 
 pub loop-q-preserved : goal.loop-q-preserved
 loop-q-preserved c = record {
-  rows = one_more (IsControlBefore c.args.tables.now) c.loop-q.q c.places-count.result c.loop-q.table.items c.put_all.new.table.items c.deref.result.now
+  rows = one_more (IsControlBefore c.args.tables.now) c.loop-q.q c.places-count.result c.loop-q.table c.put_all.new.self c.deref.result.now
       c.loop-q.invariant.rows c.in_ok-put_all.ensures
       (λ p. subst (λ (l : List ℕ). (Contains l p ↔ IsControlBefore c.args.tables.now c.loop-q.q p)) (sym c.deref.ensures.value) (c.in_ok-after.ensures.exact p));
   clear = c.in_ok-after.ensures.clear;
@@ -25,6 +25,6 @@ returns-clause-len c = c.loop-q.invariant.rows.long ∙ c.places-count.ensures
 
 pub returns-clause-exact : goal.returns-clause-exact
 returns-clause-exact c =
-    subst (λ (n : ℕ). AreRows (IsControlBefore c.args.tables.now) n n c.loop-q.table.items) c.places-count.ensures
-    (all_done (IsControlBefore c.args.tables.now) c.loop-q.q c.places-count.result c.places-count.result c.loop-q.table.items
+    subst (λ (n : ℕ). AreRows (IsControlBefore c.args.tables.now) n n c.loop-q.table) c.places-count.ensures
+    (rows_done (IsControlBefore c.args.tables.now) c.loop-q.q c.places-count.result c.places-count.result c.loop-q.table
     (omega (arith, c.loop-q-test.false, c.loop-q.auto.q-end)) c.loop-q.invariant.rows)

@@ -6,13 +6,13 @@ use Rattle.vs_maps.proofs.WrittenLemmas.{none_there, of_both, one_there, all_the
 use Rattle.vs_maps.proofs.written.put_writes.Goals as goal
 
 pub loop-p-init : goal.loop-p-init
-loop-p-init c = none_there c.args.table.now.items c.args.tables.now
+loop-p-init c = none_there c.args.table.now c.args.tables.now
 
 pub loop-p-preserved : goal.loop-p-preserved
 loop-p-preserved c =
     let t = c.args.tables.now in
     let p = c.loop-p.p in
-    one_there c.args.table.now.items c.loop-p.table.items c.put_all.new.table.items t p c.deref-in-loop-p-2.result.now c.loop-p.invariant c.in_ok-put_all.ensures
+    one_there c.args.table.now c.loop-p.table c.put_all.new.self t p c.deref-in-loop-p-2.result.now c.loop-p.invariant c.in_ok-put_all.ensures
     (λ v is. subst (λ (l : List ℕ). Contains l v) (sym c.deref-in-loop-p-2.ensures.value)
     (of_both c.new-signals.result.items c.push_signals.new.out.items c.push_signals-in-loop-p.new.out.items c.deref.result.now c.deref-in-loop-p.result.now c.new-signals.ensures.items
     c.in_ok-push_signals.ensures c.in_ok-push_signals-2.ensures v
@@ -24,4 +24,4 @@ returns-clause-grown c = c.loop-p.invariant.grown
 
 pub returns-clause-there : goal.returns-clause-there
 returns-clause-there c =
-    all_there c.args.table.now.items c.loop-p.table.items c.args.tables.now c.loop-p.p (omega (arith, c.places-p-end.ensures, c.loop-p-test.false)) c.loop-p.invariant
+    all_there c.args.table.now c.loop-p.table c.args.tables.now c.loop-p.p (omega (arith, c.places-p-end.ensures, c.loop-p-test.false)) c.loop-p.invariant

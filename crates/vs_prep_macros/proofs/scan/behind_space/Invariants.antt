@@ -1,8 +1,10 @@
-use Rattle.std.proofs.Common.{◌≤◌, length}
+use Rattle.std.proofs.Common.{◌≡◌, ◌≤◌, length}
+use Rattle.vs_prep_pieces.specs.Parts.{parts_of}
+use Rattle.vs_prep_macros.specs.Spaces.{is_space, behind_those}
 use Rattle.vs_prep_macros.proofs.scan.behind_space.Given as goal
 
 abbrev pub invariant-loop-piece : goal.invariant-loop-piece
-invariant-loop-piece l = length l.rest ≤ length l.bytes
+invariant-loop-piece l = (behind_those is_space (parts_of l.rest) ≡ behind_those is_space (parts_of l.bytes)) × (length l.rest ≤ length l.bytes)
 
 abbrev pub decreases-loop-piece : goal.decreases-loop-piece
 decreases-loop-piece l = length l.rest

@@ -1,9 +1,9 @@
-use Rattle.std.proofs.Common.{◌≡◌, ◌≤◌, ◌-◌, length}
-use Rattle.vs_preprocess.specs.passes.Segments.{BeginsBehind}
+use Rattle.std.proofs.Common.{◌-◌}
+use Rattle.vs_preprocess.proofs.Segments.{Between}
 use Rattle.vs_preprocess.proofs.places.segment_at.Given as goal
 
 abbrev pub invariant-loop-low : goal.invariant-loop-low
-invariant-loop-low l = (l.low ≤ l.high) × (l.high ≤ length l.segments) × (l.high ≡ 0 → BeginsBehind l.offset l.segments)
+invariant-loop-low l = Between l.offset l.segments l.low l.high
 
 abbrev pub decreases-loop-low : goal.decreases-loop-low
 decreases-loop-low l = l.high - l.low

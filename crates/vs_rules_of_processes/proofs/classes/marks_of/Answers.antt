@@ -27,6 +27,7 @@ returns c =
     IfOk-weaker c.reached.result (λ (marks : Vec Bool Global). AreReached (forward users outs) seeds (length users + length outs) marks.items)
     (λ (marks : Vec Bool Global). AreReachedFrom f.design f.claims c.args.class marks.items)
     (λ marks reached. marked f.design f.claims c.args.class users outs (length users) seeds marks.items c.requires refl
-    (λ v. subst (λ (l : List ℕ). (Contains l v ↔ ((i : ℕ) × (i < length users) × (IsWrittenIn f.design f.claims c.args.class i × (i ≡ v))))) (sym c.deref.ensures.value) (c.in_ok-seeds.ensures v))
+    (λ v. subst (λ (n : ℕ). (Contains seeds v ↔ ((i : ℕ) × (i < n) × (IsWrittenIn f.design f.claims c.args.class i × (i ≡ v))))) c.len.ensures.is
+    (subst (λ (l : List ℕ). (Contains l v ↔ ((i : ℕ) × (i < c.len.result) × (IsWrittenIn f.design f.claims c.args.class i × (i ≡ v))))) (sym c.deref.ensures.value) (c.in_ok-seeds.ensures v)))
     reached)
     c.reached.ensures

@@ -8,13 +8,13 @@ use Rattle.vs_rules_of_signals.proofs.WriteLemmas.{none_there, of_both, one_ther
 use Rattle.vs_rules_of_signals.proofs.writes.put_places.Goals as goal
 
 pub loop-p-init : goal.loop-p-init
-loop-p-init c = none_there c.args.table.now.items (λ p v. IsWriter c.args.facts.now.design c.args.facts.now.claims v c.args.i × WritesAt c.args.tables.now p v)
+loop-p-init c = none_there c.args.table.now (λ p v. IsWriter c.args.facts.now.design c.args.facts.now.claims v c.args.i × WritesAt c.args.tables.now p v)
 
 pub loop-p-preserved : goal.loop-p-preserved
 loop-p-preserved c =
     let t = c.args.tables.now in
     let p = c.loop-p.p in
-    one_there c.args.table.now.items c.loop-p.table.items c.put_all.new.table.items (λ p v. IsWriter c.args.facts.now.design c.args.facts.now.claims v c.args.i × WritesAt t p v) p
+    one_there c.args.table.now c.loop-p.table c.put_all.new.self (λ p v. IsWriter c.args.facts.now.design c.args.facts.now.claims v c.args.i × WritesAt t p v) p
     c.deref-in-loop-p-2.result.now c.loop-p.invariant c.in_ok-put_all.ensures
     (λ v is. subst (λ (l : List ℕ). Contains l v) (sym c.deref-in-loop-p-2.ensures.value)
     (of_both (λ v. IsWriter c.args.facts.now.design c.args.facts.now.claims v c.args.i) c.new-signals.result.items c.push_own.new.out.items c.push_own-in-loop-p.new.out.items

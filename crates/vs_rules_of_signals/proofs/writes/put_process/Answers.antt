@@ -14,5 +14,5 @@ returns-in-None-clause-own c t is = absurd (none-some t (c.in-None.ensures ∙ i
 pub returns-in-Some-clause-own : goal.returns-in-Some-clause-own
 returns-in-Some-clause-own c =
     on_ok_weaker c.put_places.result
-    (λ h t is. subst (λ (x : Chart). AreOwnPlaces c.args.facts.now c.args.i x c.put_places.new.table.items) (same_Some c.in-Some.tables.now t (c.in-Some.ensures ∙ is)) h)
+    (λ h t is. subst (λ (x : Chart). AreOwnPlaces c.args.facts.now c.args.i x c.put_places.new.table) (same_Some c.in-Some.tables.now t (c.in-Some.ensures ∙ is)) h)
     c.put_places.ensures.own

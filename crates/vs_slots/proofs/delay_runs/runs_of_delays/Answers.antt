@@ -23,9 +23,9 @@ returns c =
     subst (λ (l : List Process). slice_get l i ≡ Some q) (c.processes-processes.ensures ∙ ap (λ (d : Parts). d.processes) c.design.ensures)
     (slice_get-get_or c.processes-processes.result.now i c.index-processes-i.result (omega (arith, c.if-i-processes.false))) in
     IfOk-weaker c.listed_runs.result
-    (λ x. AreListedRuns c.in-Some.tables.now (list_of (controls_in q.body) lists) (rows x.before.items) (rows x.ends.items))
+    (λ x. AreListedRuns c.in-Some.tables.now (list_of (controls_in q.body) lists) x.before (rows x.ends.items))
     (λ x. RunsWhere IsDelay f i x)
-    (λ x h t kind chart. listed_are f i q t lists (rows x.before.items) (rows x.ends.items) is c.in-Some-lists.ensures
-    (subst (λ (s : Chart). AreListedRuns s (list_of (controls_in q.body) lists) (rows x.before.items) (rows x.ends.items))
+    (λ x h t kind chart. listed_are f i q t lists x.before (rows x.ends.items) is c.in-Some-lists.ensures
+    (subst (λ (s : Chart). AreListedRuns s (list_of (controls_in q.body) lists) x.before (rows x.ends.items))
     (same_Some c.in-Some.tables.now t (c.in-Some.ensures ∙ chart)) h))
     c.listed_runs.ensures

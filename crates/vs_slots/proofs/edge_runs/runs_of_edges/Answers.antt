@@ -13,8 +13,8 @@ pub returns-in-Some : goal.returns-in-Some
 returns-in-Some c =
     let f = c.args.facts.now in
     IfOk-weaker c.fired_runs.result
-    (λ x. AreFiredRuns f.design f.claims c.in-Some.tables.now (rows x.before.items) (rows x.ends.items))
+    (λ x. AreFiredRuns f.design f.claims c.in-Some.tables.now x.before (rows x.ends.items))
     (λ x. RunsWhere IsEdge f c.args.i x)
-    (λ x h t kind chart. fired_are f c.args.i t (rows x.before.items) (rows x.ends.items) kind
-    (subst (λ (s : Chart). AreFiredRuns f.design f.claims s (rows x.before.items) (rows x.ends.items)) (same_Some c.in-Some.tables.now t (c.in-Some.ensures ∙ chart)) h))
+    (λ x h t kind chart. fired_are f c.args.i t x.before (rows x.ends.items) kind
+    (subst (λ (s : Chart). AreFiredRuns f.design f.claims s x.before (rows x.ends.items)) (same_Some c.in-Some.tables.now t (c.in-Some.ensures ∙ chart)) h))
     c.fired_runs.ensures

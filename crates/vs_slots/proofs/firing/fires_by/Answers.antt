@@ -14,7 +14,7 @@ returns c =
     let s = c.in-Some.tables.now in
     let runs = c.args.runs.now in
     let kind = c.if-not-is_delay.ensures.0 refl in
-    let row = c.numbers_of.result.now in
+    let row = c.row.result.now in
     let P = λ (p : ℕ) (r : ℕ). IsPlaceFiring s runs c.args.clock c.modulus.result c.args.root c.args.edge c.args.writer p r in
     IfOk-weaker c.union_of.result
     (λ all. (r : ℕ) → (Contains all.items r ↔ ((j : ℕ) × (j < length row) × ((p : ℕ) × (slice_get row j ≡ Some p) × P p r))))
@@ -30,7 +30,7 @@ returns c =
           (subst (λ (t : Chart). IsPlaceFiring t runs c.args.clock f.claims.modulus c.args.root c.args.edge c.args.writer e.0 r) same e.2) in
           (h r).1 (each.1 (
             e.0,
-            subst (λ (l : List ℕ). Contains l e.0) (sym c.numbers_of.ensures)
+            subst (λ (l : List ℕ). Contains l e.0) (sym c.row.ensures)
                 (stands c.args.written.now c.args.root e.0 (c.requires.known c.args.writer e.0 c.args.root s (sym c.in-Some.ensures) c.requires.root fires.0 fires.2)),
             fires,
           )),

@@ -13,11 +13,11 @@ returns-then-i-runs c =
     let x = c.index-runs-i.result in
     let at = slice_get-get_or c.args.runs.now c.args.i x c.if-i-runs.true ∙ ap Some (sym c.index-runs-i.is) in
     IfOk-weaker c.at.result
-    (λ all. (r : ℕ) → (Contains all.items r ↔ IsOneOf (rows x.ends.items) (row (rows x.before.items) c.args.place) r))
+    (λ all. (r : ℕ) → (Contains all.items r ↔ IsOneOf (rows x.ends.items) (row x.before c.args.place) r))
     (λ all. (r : ℕ) → (Contains all.items r ↔ IsRunIn c.args.runs.now c.args.i c.args.place r))
     (λ all h r. (
       λ a. (x, at, (h r).0 a),
-      λ y. (h r).1 (subst (λ (z : Runs). IsOneOf (rows z.ends.items) (row (rows z.before.items) c.args.place) r) (same_Some y.0 x (sym y.1 ∙ at)) y.2),
+      λ y. (h r).1 (subst (λ (z : Runs). IsOneOf (rows z.ends.items) (row z.before c.args.place) r) (same_Some y.0 x (sym y.1 ∙ at)) y.2),
     ))
     c.at.ensures
 

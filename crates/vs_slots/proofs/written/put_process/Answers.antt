@@ -11,6 +11,6 @@ returns-in-None-clause-there c t p v is = absurd (none-some t (c.in-None.ensures
 pub returns-in-Some-clause-there : goal.returns-in-Some-clause-there
 returns-in-Some-clause-there c =
     on_ok_weaker c.put_writes.result
-    (λ h t p v is. subst (λ (x : Chart). p < places x → v < length c.args.table.now.items → IsWrittenAt x p v → StandsIn c.put_writes.new.table.items v p)
+    (λ h t p v is. subst (λ (x : Chart). p < places x → v < length c.args.table.now → IsWrittenAt x p v → StandsIn c.put_writes.new.table v p)
     (same_Some c.in-Some.tables.now t (c.in-Some.ensures ∙ is)) (h p v))
     c.put_writes.ensures.there

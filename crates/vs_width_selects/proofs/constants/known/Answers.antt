@@ -4,7 +4,7 @@ use Rattle.vs_width_selects.proofs.constants.known.Goals as goal
 
 pub returns-then-is_constant : goal.returns-then-is_constant
 returns-then-is_constant c =
-    is_known c.args.form.now c.args.shape c.in_ok-y.y _ c.requires c.in_ok-y.ensures (sym c.in_ok-is_constant.ensures ∙ c.if-is_constant.true) c.reads_hold.ensures c.sizes_hold.ensures c.in_ok-value_alone.ensures
+    is_known c.args.form.now c.args.shape c.in_ok-y.y _ c.requires c.in_ok-y.ensures (sym c.in_ok-is_constant.ensures ∙ c.if-is_constant.true) c.reads_hold.ensures c.sizes_hold.ensures c.value_alone.ensures
 
 pub returns : goal.returns
 returns c = not_known c.args.form.now c.args.shape c.in_ok-y.y c.in_ok-y.ensures (sym c.in_ok-is_constant.ensures ∙ c.if-is_constant.false)

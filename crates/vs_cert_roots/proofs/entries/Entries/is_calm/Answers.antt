@@ -1,7 +1,6 @@
-use Rattle.std.proofs.Common.{◌<◌, ℕ, List, length, sym, ◌∙◌, subst}
+use Rattle.std.proofs.Common.{ℕ, List, length, sym, subst}
 use Rattle.std.specs.List.{Contains}
 use Rattle.vs_design.specs.declared.statement.EventTerm.{EventTerm}
-use Rattle.vs_drivers.proofs.ListLemmas.{row_at}
 use Rattle.vs_rules_of_signals.specs.vs_claims.specs.Facts.{Case}
 use Rattle.vs_cert_roots.specs.Entries.{KeepsEntries, NamesTerm, WakesAt}
 use Rattle.vs_cert_roots.proofs.FirstRows.{row_exact}
@@ -11,15 +10,14 @@ use Rattle.vs_cert_roots.proofs.entries.Entries.is_calm.Goals as goal
 pub returns : goal.returns
 returns c =
     let K = c.args.self.now in
-    let P = c.self.inside.places.items in
+    let P = c.self.inside.places in
     let T = c.self.inside.terms.items in
-    let E = c.self.inside.edges.items in
+    let E = c.self.inside.edges in
     let inv : KeepsEntries K P T E = subst (λ (k : Case). KeepsEntries k P T E) c.self.view_is c.self.invariant in
     let v = c.args.v in
-    let h : v < length E = subst (λ (n : ℕ). v < n) (sym inv.edges_long) c.requires in
-    let R = c.deref-2.result.now in
+    let R = c.row.result.now in
     let D = c.deref.result.now in
-    let are = row_exact (NamesTerm T) (length T) (length K.design.signals) E v R inv.edges_are (term_within T v) c.requires (row_at E v c.index.result.now h c.index.ensures ∙ sym c.deref-2.ensures.value) in
+    let are = row_exact (NamesTerm T) (length T) (length K.design.signals) E v R inv.edges_are (term_within T v) c.requires (sym c.row.ensures) in
     let l = calm_is K.design T inv.terms_are v c.args.digit R are in
     let e = c.none_wakes.ensures in
     let same = c.deref.ensures.value in (

@@ -1,6 +1,5 @@
-use Rattle.std.proofs.Common.{◌≡◌, ◌<◌, ℕ, length, sym, ap, ◌∙◌, subst, arith}
+use Rattle.std.proofs.Common.{◌≡◌, ◌<◌, ℕ, length, refl, sym, ap, ◌∙◌, subst, arith}
 use Rattle.std.specs.List.{list_any}
-use Rattle.vs_drivers.proofs.ListLemmas.{row_at}
 use Rattle.vs_rules.specs.Rules.{IsEdgeSignal}
 use Rattle.vs_rules_of_signals.specs.vs_claims.specs.Facts.{Case}
 use Rattle.vs_cert_roots.specs.Entries.{AreTerms, KeepsEntries, NamesTerm, is_edge_of}
@@ -19,13 +18,12 @@ returns-then-v-len c =
 pub returns : goal.returns
 returns c =
     let K = c.args.self.now in
-    let P = c.self.inside.places.items in
+    let P = c.self.inside.places in
     let T = c.self.inside.terms.items in
-    let E = c.self.inside.edges.items in
+    let E = c.self.inside.edges in
     let inv : KeepsEntries K P T E = subst (λ (k : Case). KeepsEntries k P T E) c.self.view_is c.self.invariant in
     let v = c.args.v in
-    let row = c.index.result.now in
-    let h : v < length E = omega (arith, c.len.ensures, c.self.inside.edges.ok.0, c.if-v-len.false) in
-    let are = row_exact (NamesTerm T) (length T) (length K.design.signals) E v row.items inv.edges_are (term_within T v) (subst (λ (n : ℕ). v < n) inv.edges_long h) (row_at E v row h c.index.ensures) in
-    row_told (λ k. NamesTerm T k v) (IsEdgeSignal K.design v) row.items row.len c.is_empty.result are (signal_named K.design T inv.terms_are v) (named_signal K.design T inv.terms_are v)
-    (omega (arith, row.ok.0)) c.is_empty.ensures
+    let h : v < length E = omega (arith, c.len.ensures.is, c.if-v-len.false) in
+    let are = row_exact (NamesTerm T) (length T) (length K.design.signals) E v c.row.result.now inv.edges_are (term_within T v) (subst (λ (n : ℕ). v < n) inv.edges_long h) (sym c.row.ensures) in
+    row_told (λ k. NamesTerm T k v) (IsEdgeSignal K.design v) c.row.result.now (length c.row.result.now) c.is_empty.result are (signal_named K.design T inv.terms_are v) (named_signal K.design T inv.terms_are v)
+    refl c.is_empty.ensures

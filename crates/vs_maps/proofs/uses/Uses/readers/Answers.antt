@@ -1,7 +1,7 @@
 use Rattle.std.proofs.Common.{◌≡◌, ◌<◌, ◌↔◌, ℕ, List, length, sym, ◌∙◌, ap, subst}
 use Rattle.std.specs.List.{Contains}
 use Rattle.vs_rules.specs.Paths.{ListsSignal, reads_of}
-use Rattle.vs_maps.specs.Indexes.{row_of}
+use Rattle.vs_graph.specs.Rows.{row}
 use Rattle.vs_maps.specs.Texts.{Texts}
 use Rattle.vs_maps.proofs.SignalLemmas.{texts_with, reads_past}
 use Rattle.vs_maps.proofs.uses.Uses.readers.Goals as goal
@@ -9,9 +9,9 @@ use Rattle.vs_maps.proofs.uses.Uses.readers.Goals as goal
 pub returns : goal.returns
 returns c i =
     let u = c.self.inside in
-    let row : c.row_of.result.now ≡ row_of u.readers.items c.args.v = c.row_of.ensures ∙ ap (λ t. row_of t c.args.v) c.deref.ensures.value in
-    subst (λ (x : Texts). (Contains c.row_of.result.now i ↔ ListsSignal x.design (reads_of x.design i) c.args.v)) c.self.view_is
-    (subst (λ (l : List ℕ). (Contains l i ↔ ListsSignal u.design.now (reads_of u.design.now i) c.args.v)) (sym row)
-    (texts_with u.design.now (reads_of u.design.now) (length u.design.now.processes) i c.args.v (row_of u.readers.items c.args.v)
+    let here : c.row.result.now ≡ row u.readers c.args.v = c.row.ensures in
+    subst (λ (x : Texts). (Contains c.row.result.now i ↔ ListsSignal x.design (reads_of x.design i) c.args.v)) c.self.view_is
+    (subst (λ (l : List ℕ). (Contains l i ↔ ListsSignal u.design.now (reads_of u.design.now i) c.args.v)) (sym here)
+    (texts_with u.design.now (reads_of u.design.now) (length u.design.now.processes) i c.args.v (row u.readers c.args.v)
     (λ past. reads_past u.design.now i past c.args.v)
     (c.self.invariant.readers_are c.args.v i (subst (λ (x : Texts). c.args.v < length x.design.signals) (sym c.self.view_is) c.requires))))

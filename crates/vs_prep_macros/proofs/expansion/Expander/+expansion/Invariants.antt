@@ -17,4 +17,7 @@ abbrev pub decreases-expand_macro : goal.decreases-expand_macro
 decreases-expand_macro l = 5 * l.levels + 2
 
 abbrev pub decreases-expand_bound : goal.decreases-expand_bound
-decreases-expand_bound l = 5 * l.levels + 3
+decreases-expand_bound l = 5 * l.levels + 4
+
+abbrev pub decreases-expand_meaning : goal.decreases-expand_meaning
+decreases-expand_meaning l = 5 * l.levels + 3

@@ -1,11 +1,11 @@
-use Rattle.std.proofs.Common.{◌≡◌, ◌<◌, ◌+◌, ◌-◌, List, ℕ, arith, get_or, length, map, subst}
+use Rattle.std.proofs.Common.{◌≡◌, ◌<◌, ◌+◌, ◌-◌, arith, length, map, subst}
 use Rattle.std.specs.List.{sum_by}
 use Rattle.std.specs.Vec.{vec_len}
 use Rattle.vs_preprocess.specs.declared.places.Form.{Form}
 use Rattle.vs_preprocess.specs.Files.{bytes_of}
 use Rattle.vs_preprocess.specs.Places.{AreFrom, size_of, sources_in}
 use Rattle.vs_preprocess.specs.passes.Segments.{IsReached}
-use Rattle.vs_preprocess.proofs.Segments.{all_inside_set, begins_set, longer_covered, longer_mapped}
+use Rattle.vs_preprocess.proofs.Segments.{all_inside_set, begins_set, line_set, longer_covered, longer_mapped}
 use Rattle.vs_preprocess.proofs.output.Output.put_from.Goals as goal
 
 pub invariant_of-self-in-Some : goal.invariant_of-self-in-Some
@@ -29,6 +29,7 @@ invariant_of-self-in-Some c =
       worked = made.worked;
       inside = all_inside_set files segments place last longer (length bytes) spot c.in-Some.ensures reached made.inside;
       begins = begins_set segments place last longer c.index.ensures less (c.in-Some.ensures).offset made.begins;
+      follow = line_set 0 segments place last longer (length bytes) spot c.index.ensures end c.in-Some.ensures made.follow;
       covered = omega (arith, c.in_ok-extend_from_slice.ensures.len);
       mapped = longer_mapped files segments place last longer spot made.text.items bytes _ c.index.ensures end c.in-Some.ensures c.in_ok-extend_from_slice.ensures.items made.mapped from;
     }

@@ -1,7 +1,6 @@
 use Rattle.std.proofs.Common.{◌≡◌, ◌<◌, ℕ, Some, List, length, slice_get, sym, ◌∙◌, ap, subst, arith}
 use Rattle.std.specs.List.{Contains}
 use Rattle.std.proofs.lemmas.Option.{slice_get-get_or}
-use Rattle.vs_drivers.proofs.ListLemmas.{row_at}
 use Rattle.vs_claims.specs.Facts.{Case}
 use Rattle.vs_rules_of_signals.specs.Ranks.{KeepsWrites}
 use Rattle.vs_rules_of_signals.proofs.RankLemmas.{apart_never_hot}
@@ -10,15 +9,14 @@ use Rattle.vs_rules_of_signals.proofs.writes.Writes.are_apart.Goals as goal
 pub returns : goal.returns
 returns c told =
     let K = c.args.self.now in
-    let W = c.self.inside.places.items in
+    let W = c.self.inside.places in
     let R = c.self.inside.ranks.items in
     let t = c.args.tables.now in
     let x = c.index-ranks.result.now in
     let inv : KeepsWrites K W R = subst (λ (k : Case). KeepsWrites k W R) c.self.view_is c.self.invariant in
     let i_in : c.args.i < length R = omega (arith, c.len.ensures, c.self.inside.ranks.ok.0, c.if-i-len.false) in
-    let v_in : c.args.v < length W = omega (arith, c.len-2.ensures, c.self.inside.places.ok.0, c.if-v-len.false) in
+    let v_in : c.args.v < length W = omega (arith, c.len-2.ensures.is, c.if-v-len.false) in
     let at : slice_get R c.args.i ≡ Some x = slice_get-get_or R c.args.i x i_in ∙ ap Some (sym c.index-ranks.ensures) in
-    let row = row_at W c.args.v c.index-places.result.now v_in c.index-places.ensures in
-    apart_never_hot t x c.args.v c.deref.result.now c.leads_in.ensures.ways c.leads_in.ensures.points (inv.ranked c.args.i x at t c.requires.text)
-    (λ p within writes. subst (λ (l : List ℕ). Contains l p) (row ∙ sym c.deref.ensures.value) (inv.own c.args.i t c.requires.text p c.args.v within v_in c.requires.delay c.requires.writer writes))
+    apart_never_hot t x c.args.v c.row.result.now c.leads_in.ensures.ways c.leads_in.ensures.points (inv.ranked c.args.i x at t c.requires.text)
+    (λ p within writes. subst (λ (l : List ℕ). Contains l p) (sym c.row.ensures) (inv.own c.args.i t c.requires.text p c.args.v within v_in c.requires.delay c.requires.writer writes))
     (c.are_apart.ensures.0 told)

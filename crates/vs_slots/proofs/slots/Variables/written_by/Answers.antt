@@ -15,7 +15,7 @@ returns-in-Some c =
     let t = c.in-Some.tables.now in
     let u = c.args.variable in
     let w = c.args.writer in
-    let row = c.numbers_of.result.now in
+    let row = c.row.result.now in
     let P = λ (p : ℕ) (r : ℕ). IsPlaceWrite f s.delays.now s.edges.now t u w p r in
     IfOk-weaker c.union_of.result
     (λ all. (r : ℕ) → (Contains all.items r ↔ ((j : ℕ) × (j < length row) × ((p : ℕ) × (slice_get row j ≡ Some p) × P p r))))
@@ -27,7 +27,7 @@ returns-in-Some c =
           let write = subst (λ (x : Chart). IsPlaceWrite f s.delays.now s.edges.now x u w e.0 r) same e.2 in
           (h r).1 (each.1 (
             e.0,
-            subst (λ (l : List ℕ). Contains l e.0) (sym c.numbers_of.ensures)
+            subst (λ (l : List ℕ). Contains l e.0) (sym c.row.ensures)
                 (stands s.written.now u e.0 (s.known w e.0 u t (sym c.in-Some.ensures) c.requires write.0 (inl write.2))),
             write,
           )),

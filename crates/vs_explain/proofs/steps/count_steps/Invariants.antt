@@ -1,0 +1,12 @@
+use Rattle.std.proofs.Common.{◌≡◌, true}
+use Rattle.vs_run_moves.specs.Standing.{IsStanding}
+use Rattle.vs_explain.proofs.steps.count_steps.Given as goal
+
+abbrev pub invariant-loop-left : goal.invariant-loop-left
+invariant-loop-left g l = record {
+  run : IsStanding l.run;
+  chooses : l.run.chooses ≡ true;
+}
+
+abbrev pub decreases-loop-left : goal.decreases-loop-left
+decreases-loop-left g l = l.left

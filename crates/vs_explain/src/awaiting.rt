@@ -1,0 +1,92 @@
+//! Which processes wait for a signal, and where.
+
+use std::alloc::{AllocError, Global};
+use vs_design::vs_logic4::Edge;
+use vs_explain_facts::{Facts, TextKind, driven_by, set_mark};
+use vs_explain_races::vs_explain_writers::Site;
+
+/// The first control of a process.
+pub(crate) fn control_in(facts: &Facts, process: usize) -> Option<Site> {
+    let text = facts.texts.get(process)?;
+    for (number, point) in text.points.iter().enumerate() {
+        if point.is_event() {
+            return Some(Site { process, number });
+        }
+    }
+    None
+}
+
+/// The first control of any process that waits for an edge of a signal, or of a net that copies it.
+pub(crate) fn edge_of(facts: &Facts, root: usize, edge: Edge) -> Option<Site> {
+    for (process, text) in facts.texts.iter().enumerate() {
+        for term in &text.terms {
+            if term.term.edge == edge && facts.root(term.term.range.signal) == root {
+                let number = term.number as usize;
+                return Some(Site { process, number });
+            }
+        }
+    }
+    None
+}
+
+/// A combinational block that waits for what hangs on a variable.
+#[derive(Clone, Copy)]
+pub(crate) struct Reached {
+    /// The block.
+    pub(crate) block: usize,
+    /// Whether it waits for the variable itself.
+    pub(crate) is_direct: bool,
+}
+
+/// The first combinational block that waits for a signal.
+fn block_at(facts: &Facts, signal: usize) -> Option<usize> {
+    for process in facts.design.listeners(signal) {
+        if let Some(text) = facts.texts.get(*process) {
+            if text.kind == TextKind::Block {
+                return Some(*process);
+            }
+        }
+    }
+    None
+}
+
+/// Puts a signal at a list's end, where it wasn't passed.
+pub(crate) fn push_new(
+    list: &mut Vec<usize>,
+    passed: &mut [bool],
+    signal: usize,
+) -> Result<(), AllocError> {
+    if set_mark(passed, signal) {
+        list.push(signal)?;
+    }
+    Ok(())
+}
+
+/// The first combinational block to which a change of a variable leads by way of assignments, where it doesn't lead to what was passed before. All calls with
+/// the same marks take as long as the design.
+pub(crate) fn block_behind(
+    alloc: Global,
+    facts: &Facts,
+    from: usize,
+    passed: &mut [bool],
+) -> Result<Option<Reached>, AllocError> {
+    let mut todo = Vec::new(alloc);
+    push_new(&mut todo, passed, from)?;
+    for next in 0..facts.design.signals().len() {
+        let Some(signal) = todo.get(next).copied() else {
+            break;
+        };
+        if let Some(block) = block_at(facts, signal) {
+            let is_direct = signal == from;
+            return Ok(Some(Reached { block, is_direct }));
+        }
+        for reader in facts.design.readers(signal) {
+            if let Some(assign) = facts.design.assigns().get(reader.assign) {
+                for driven in driven_by(alloc, assign)? {
+                    push_new(&mut todo, passed, driven)?;
+                }
+            }
+        }
+    }
+    Ok(None)
+}

@@ -1,4 +1,0 @@
-pub mod RootsPoints
-pub mod Roots
-pub mod LatePoints
-pub mod Late

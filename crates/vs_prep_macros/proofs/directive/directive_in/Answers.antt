@@ -1,0 +1,9 @@
+use Rattle.std.proofs.Common.{sym, ◌∙◌}
+use Rattle.vs_prep_macros.proofs.Tables.{entry_passed, entry_found}
+use Rattle.vs_prep_macros.proofs.directive.directive_in.Goals as goal
+
+pub loop-spelling-preserved : goal.loop-spelling-preserved
+loop-spelling-preserved c = entry_passed (λ entry. (entry.0.now, entry.1)) c.args.table.now c.loop-spelling.spelling-index _ c.args.name.now c.loop-spelling-test.true (sym c.eq.ensures ∙ c.if-eq.false) ∙ c.loop-spelling.invariant
+
+pub returns-then-eq : goal.returns-then-eq
+returns-then-eq c = sym (entry_found (λ entry. (entry.0.now, entry.1)) c.args.table.now c.loop-spelling.spelling-index _ c.args.name.now c.loop-spelling-test.true (sym c.eq.ensures ∙ c.if-eq.true)) ∙ c.loop-spelling.invariant

@@ -1,4 +1,0 @@
-mod DisplayLemmas
-mod RowLemmas
-mod SilentLemmas
-mod StrobeLemmas

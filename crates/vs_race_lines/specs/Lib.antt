@@ -1,3 +1,0 @@
-pub mod Displays
-pub mod Rows
-pub mod Strobes

@@ -1,4 +1,0 @@
-mod GiveLemmas
-mod PrintLemmas
-mod UnequalLemmas
-mod ValueLemmas

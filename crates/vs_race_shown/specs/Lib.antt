@@ -1,3 +1,0 @@
-pub mod Witnesses
-pub mod passes
-pub use Rattle.vs_race_lines
