@@ -316,10 +316,10 @@ fn by_facts<'x>(
     facts.maps();
     let design = facts.design();
     let cones = Cones::new(alloc, design, tables, marks)?;
-    let uses = Uses::new(alloc, design, tables)?;
+    let uses = facts.uses();
     let copies = Copies::of(alloc, design)?;
     let entries = Entries::of(alloc, facts, certificate)?;
-    by_entries(alloc, &*facts, &uses, &cones, &copies, &entries, most)
+    by_entries(alloc, &*facts, uses, &cones, &copies, &entries, most)
 }
 
 // The verdict, by the tables of the processes.

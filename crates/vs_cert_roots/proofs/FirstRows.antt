@@ -19,11 +19,15 @@ use Rattle.vs_drivers.proofs.CopyLemmas.{reached_within}
 use Rattle.vs_drivers.specs.Copies.{IsOnly}
 use Rattle.vs_drivers.specs.vs_maps.specs.declared.along.Along.TheVariants.{ZeroTime}
 use Rattle.vs_drivers.specs.vs_maps.specs.Inside.{along_in}
-use Rattle.vs_drivers.specs.vs_maps.specs.Ranges.{HasSignal, now_at, later_at}
+use Rattle.vs_drivers.specs.vs_maps.specs.Ranges.{HasSignal, later_at}
 use Rattle.vs_drivers.specs.vs_maps.specs.Reaches.{Chart, places, stops_along, InSlot0}
 use Rattle.vs_rules_of_signals.specs.vs_graph.specs.Rows.{AreRows, row as row_of}
 use Rattle.vs_rules_of_signals.specs.vs_claims.specs.Facts.{AreCharts, IsRootAt}
-use Rattle.vs_cert_roots.specs.First.{SiteAt, HasSite, IsSilent, NamesRoot, WakesSignal, WakesEntry, StartsSilently, StartsWellIn, StartsWell}
+use Rattle.vs_drivers.specs.vs_maps.specs.Sites.{UsesAt, site_of}
+use Rattle.vs_drivers.specs.vs_maps.specs.declared.sites.Site.{Site}
+use Rattle.vs_drivers.specs.vs_maps.specs.declared.sites.Use.TheVariants.{Now, Later}
+use Rattle.vs_drivers.specs.vs_maps.proofs.SiteLemmas.{AreSitesOf, slot0_point, written_so}
+use Rattle.vs_cert_roots.specs.First.{SiteAt, HasSite, IsFirst, IsSilent, NamesRoot, WakesSignal, WakesEntry, StartsSilently, StartsWellIn, StartsWell}
 use Rattle.std.proofs.lemmas.Bool.{eqb-true, eqb-false, ne_eqb}
 use Rattle.vs_design.specs.vs_logic4.proofs.Basics.{same_self}
 use Rattle.vs_rules.specs.Rules.{K10_Signal}
@@ -40,9 +44,6 @@ row_exact has m n table v row are within h same i = (
 
 pub root_within : (d : Parts) (edges : List EdgeClaim) (v place : ℕ) → NamesRoot d edges place v → place < length edges
 root_within d edges v place h = slice_get_within edges place h.1.entry h.1.is
-
-pub site_within : (d : Parts) (charts : List Chart) → AreCharts d charts → (v i : ℕ) → HasSite charts i v → i < length d.processes
-site_within d charts are v i h = subst (λ (n : ℕ). i < n) are.as_many (slice_get_within charts i h.0 h.1)
 
 pub past_root : (d : Parts) (c : Claims) (v : ℕ) → length d.signals ≤ v → IsRoot d c v → ⊥
 past_root d c v past h = no_name d v h.1.entry.root past h.1.root_is
@@ -120,37 +121,6 @@ past_claims d edges root past row e place = (
 pub slot0_within : (t : Chart) → LeadsIn (places t) t.stops → t.start < places t → (p : ℕ) → InSlot0 t p → p < places t
 slot0_within t leads start p h = reached_within (stops_along ZeroTime t.stops) (places t) t.start p (along_in ZeroTime (places t) t.stops leads) start h
 
-pub site_pushed : (t : Chart) (p : ℕ) → InSlot0 t p → (old mid new : List ℕ) → ((v : ℕ) → (Contains mid v ↔ (Contains old v ⊎ HasSignal (now_at t p) v))) →
-    ((v : ℕ) → (Contains new v ↔ (Contains mid v ⊎ HasSignal (later_at t p) v))) → (v : ℕ) → (Contains new v ↔ (Contains old v ⊎ SiteAt t v p))
-site_pushed t p early old mid new f g v = (λ h. there ((g v).0 h), λ h. (g v).1 (back h)) where
-  one : Contains old v ⊎ HasSignal (now_at t p) v → Contains old v ⊎ SiteAt t v p
-  one (inl a) = inl a
-  one (inr b) = inr (early, inl b)
-
-  there : Contains mid v ⊎ HasSignal (later_at t p) v → Contains old v ⊎ SiteAt t v p
-  there (inl a) = one ((f v).0 a)
-  there (inr b) = inr (early, inr b)
-
-  back : Contains old v ⊎ SiteAt t v p → Contains mid v ⊎ HasSignal (later_at t p) v
-  back (inl a) = inl ((f v).1 (inl a))
-  back (inr (e, inl b)) = inl ((f v).1 (inr b))
-  back (inr (e, inr b)) = inr b
-
-pub process_pushed : (charts : List Chart) (i : ℕ) (t : Chart) → slice_get charts i ≡ Some t → LeadsIn (places t) t.stops → t.start < places t → (old all new : List ℕ) → new ≡ old ++ all →
-    ((v : ℕ) → (Contains all v ↔ ((p : ℕ) × (p < places t) × ((p < places t) × SiteAt t v p)))) → (v : ℕ) → (Contains new v ↔ (Contains old v ⊎ HasSite charts i v))
-process_pushed charts i t at leads start old all new e f =
-    appended old all new (HasSite charts i) e (λ v. (
-      λ h. let y = (f v).0 h in (t, at, (y.0, y.2.1)),
-      λ h.
-          let same = same_Some h.0 t (sym h.1 ∙ at) in
-          let s = subst (λ (x : Chart). SiteAt x v h.2.0) same h.2.1 in
-          let l = slot0_within t leads start h.2.0 s.0 in
-          (f v).1 (h.2.0, l, (l, s)),
-    ))
-
-pub no_process_site : (charts : List Chart) (i : ℕ) → None ≡ slice_get charts i → (old : List ℕ) (v : ℕ) → (Contains old v ↔ (Contains old v ⊎ HasSite charts i v))
-no_process_site charts i e old = nothing_more old (HasSite charts i) (λ v h. let f : None ≡ Some h.0 = e ∙ h.1 in cc)
-
 pub no_claimed : (d : Parts) (edges : List EdgeClaim) (place : ℕ) → ((root v : ℕ) → (IsRootAt d edges place root v ↔ ◌≡◌ {A = Option (ℕ × ℕ)} None (Some (root, v)))) → (old : List ℕ) (r : ℕ) →
     (Contains old r ↔ (Contains old r ⊎ NamesRoot d edges place r))
 no_claimed d edges place f old = nothing_more old (NamesRoot d edges place) (λ r h. let e : ◌≡◌ {A = Option (ℕ × ℕ)} None (Some (r, h.0)) = (f r h.0).0 h.1 in cc)
@@ -163,13 +133,41 @@ one_claimed d edges place a b f old new e =
       λ h. subst (Contains (a ∷ [])) (ap (λ (x : ℕ × ℕ). x.0) (same_Some (a, b) (r, h.0) ((f r h.0).0 h.1))) (0, omega arith, refl),
     ))
 
--- ---- places that write
+-- ---- sites of the first slot
 
-pub sites_are : (t : Chart) (v : ℕ) → LeadsIn (places t) t.stops → t.start < places t → (sites : List ℕ) → ((q : ℕ) → (Contains sites q ↔ ((p : ℕ) × (p < places t) × ((p < places t) × SiteAt t v p × (p ≡ q))))) →
-    (q : ℕ) → (Contains sites q ↔ SiteAt t v q)
-sites_are t v leads start sites f q = (
-  λ h. let y = (f q).0 h in subst (SiteAt t v) y.2.2 y.2.1,
-  λ s. let l = slot0_within t leads start q s.0 in (f q).1 (q, l, (l, s, refl)),
+-- a place of a process that writes in the first slot has a site
+site_found : (charts : List Chart) (v : ℕ) (sites : List Site) → AreSitesOf charts v sites → (i p : ℕ) (t : Chart) → slice_get charts i ≡ Some t → SiteAt t v p →
+    (s : Site) × Contains sites s × IsFirst charts s × (s.process ≡ i) × (s.place ≡ p)
+site_found charts v sites are i p t at (early, inl (r, h, e)) =
+    let s = site_of i p Now r in
+    (s, (are s).1 (record { chart = t; is = at; point = slot0_point t p early; uses = h }, e), (tt, (t, at, early)), refl, refl)
+site_found charts v sites are i p t at (early, inr (r, h, e)) =
+    let s = site_of i p Later r in
+    (s, (are s).1 (record { chart = t; is = at; point = slot0_point t p early; uses = h }, e), (tt, (t, at, early)), refl, refl)
+
+-- such a site is one of a place that does
+site_writes : (charts : List Chart) (v : ℕ) (sites : List Site) → AreSitesOf charts v sites → (s : Site) (t : Chart) → slice_get charts s.process ≡ Some t → Contains sites s → IsFirst charts s →
+    SiteAt t v s.place
+site_writes charts v sites are s t at has first =
+    let y = (are s).0 has in (
+      subst (λ (x : Chart). InSlot0 x s.place) (same_Some first.1.0 t (sym first.1.1 ∙ at)) first.1.2,
+      written_so t s.place v s.usage s.range first.0 (subst (λ (x : Chart). UsesAt x s.place s.usage s.range) (same_Some y.0.chart t (sym y.0.is ∙ at)) y.0.uses) y.1,
+    )
+
+pub processes_are : (charts : List Chart) (v : ℕ) (sites : List Site) → AreSitesOf charts v sites → (i : ℕ) →
+    (((s : Site) × Contains sites s × IsFirst charts s × (s.process ≡ i)) ↔ HasSite charts i v)
+processes_are charts v sites are i = (
+  λ y.
+      let t = y.2.1.0 in
+      (t, ap (slice_get charts) (sym y.3) ∙ y.2.1.1, (y.0.place, site_writes charts v sites are y.0 t y.2.1.1 y.1 y.2)),
+  λ h. let s = site_found charts v sites are i h.2.0 h.0 h.1 h.2.1 in (s.0, s.1, s.2, s.3),
+)
+
+pub places_are : (charts : List Chart) (v j : ℕ) (sites : List Site) → AreSitesOf charts v sites → (t : Chart) → slice_get charts j ≡ Some t → (p : ℕ) →
+    (((s : Site) × Contains sites s × ((s.process ≡ j) × IsFirst charts s) × (s.place ≡ p)) ↔ SiteAt t v p)
+places_are charts v j sites are t at p = (
+  λ y. subst (SiteAt t v) y.3 (site_writes charts v sites are y.0 t (ap (slice_get charts) y.2.0 ∙ at) y.1 y.2.1),
+  λ h. let s = site_found charts v sites are j p t at h in (s.0, s.1, (s.3, s.2), s.4),
 )
 
 only_same : (P Q : ℕ → Type 0) → ((q : ℕ) → (P q ↔ Q q)) → (x : ℕ) → (IsOnly P x ↔ IsOnly Q x)

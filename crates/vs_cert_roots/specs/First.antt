@@ -17,6 +17,8 @@ use Rattle.vs_drivers.specs.vs_maps.specs.Ranges.{HasSignal, later_at, statement
 use Rattle.vs_drivers.specs.vs_maps.specs.Reaches.{Chart, InSlot0}
 use Rattle.vs_rules_of_signals.specs.vs_claims.specs.Facts.{Case, AreCharts, IsRootAt}
 use Rattle.vs_rules_of_signals.specs.Places.{WritesAt}
+use Rattle.vs_drivers.specs.vs_maps.specs.Sites.{IsWrite}
+use Rattle.vs_drivers.specs.vs_maps.specs.declared.sites.Site.{Site}
 
 -- a place is done in the first slot, and writes the signal
 abbrev pub SiteAt : Chart → ℕ → ℕ → Type 0
@@ -44,9 +46,9 @@ StartsWellIn d c t v = (p : ℕ) × IsOnly (SiteAt t v) p × StartsSilently d c 
 abbrev pub StartsWell : Parts → Claims → List Chart → ℕ → ℕ → Type 0
 StartsWell d c charts j v = (t : Chart) × (slice_get charts j ≡ Some t) × StartsWellIn d c t v
 
--- the processes that write signals in the first slot, by these signals
-abbrev pub AreFirstRows : Case → List (List ℕ) → Type 0
-AreFirstRows k table = AreRows (HasSite k.charts) (length k.design.processes) (length k.design.signals) table
+-- a site is a write at a place that is done in the first slot
+abbrev pub IsFirst : List Chart → Site → Type 0
+IsFirst charts s = IsWrite s.usage × ((t : Chart) × (slice_get charts s.process ≡ Some t) × InSlot0 t s.place)
 
 -- the entry of a place has the root
 abbrev pub NamesRoot : Parts → List EdgeClaim → ℕ → ℕ → Type 0
@@ -57,12 +59,10 @@ abbrev pub AreRootRows : Case → List (List ℕ) → Type 0
 AreRootRows k table = AreRows (NamesRoot k.design k.claims.edges) (length k.claims.edges) (length k.design.signals) table
 
 -- what is kept
-pub record KeepsFirst (k : Case) (claimed writers : List (List ℕ)) : Type 0 where
+pub record KeepsFirst (k : Case) (claimed : List (List ℕ)) : Type 0 where
   pub maps : AreCharts k.design k.charts
   pub roots_long : length claimed ≡ length k.design.signals
   pub roots_are : AreRootRows k claimed
-  pub long : length writers ≡ length k.design.signals
-  pub writers_are : AreFirstRows k writers
 
 -- an edge term of a signal is woken by a change from x to the digit
 pub record WakesSignal (d : Parts) (v : ℕ) (digit : Digit) : Type 0 where

@@ -1,120 +1,93 @@
 //! The rule K10 of signals, on what a root is given in the first slot.
-ghost use Rattle.std.specs.Prelude.{ℕ, ◌≡◌, ◌<◌, ◌↔◌, ◌⊎◌, length, IfOk, OnOk, IsTrue};
+ghost use Rattle.std.specs.Prelude.{ℕ, ◌≡◌, ◌<◌, ◌↔◌, ◌⊎◌, Some, length, slice_get, IfOk, IsTrue};
 ghost use Rattle.std.specs.List.{Contains};
 ghost use Rattle.vs_rules.specs.Claims.{IsRoot};
 ghost use Rattle.vs_rules.specs.Rules.{K10_Signal};
 ghost use Rattle.vs_rules.specs.Constants.{bit_of};
 ghost use Rattle.vs_drivers.specs.vs_slots_constants.specs.Clocks.{known};
 ghost use Rattle.vs_drivers.specs.vs_slots_constants.specs.Givings.{given_here};
-ghost use Rattle.vs_drivers.specs.vs_maps.specs.Ranges.{HasSignal, now_at, later_at, statement_at};
-ghost use Rattle.vs_drivers.specs.vs_maps.specs.Reaches.{places};
-ghost use Rattle.vs_cert_roots.specs.First.{SiteAt, HasSite, IsSilent, StartsSilently, StartsWellIn, StartsWell, NamesRoot, WakesEntry};
+ghost use Rattle.vs_drivers.specs.vs_maps.specs.Ranges.{statement_at};
+ghost use Rattle.vs_drivers.specs.vs_maps.specs.Reaches.{Chart, InSlot0};
+ghost use Rattle.vs_drivers.specs.vs_maps.specs.declared.sites.Site.{Site};
+ghost use Rattle.vs_cert_roots.specs.First.{IsFirst, SiteAt, HasSite, IsSilent, StartsSilently, StartsWellIn, StartsWell, NamesRoot, WakesEntry};
 
 use crate::entries::Entries;
 use std::alloc::{AllocError, Global};
 use std::marker::Model;
 use vs_design::vs_logic4::Digit;
-use vs_drivers::vs_maps::Tables;
+use vs_drivers::only;
+use vs_drivers::vs_maps::{Site, Tables, is_write};
 use vs_drivers::vs_slots_constants::{Bit, given_by};
-use vs_drivers::{only, push_signals};
 use vs_rules_of_signals::vs_claims::Facts;
-use vs_rules_of_signals::vs_graph::{Family, Rows, gather, index_of};
+use vs_rules_of_signals::vs_graph::{Family, Rows, index_of};
 
-// Whether a place is done in the first slot and writes a signal.
-fn is_site(tables: &Tables, v: usize, p: usize) -> bool
-    requires { p < places tables.now }
-    ensures { IsTrue result ↔ SiteAt tables.entry.now v p }
+// Whether a place of a text is done in the first slot.
+fn is_early(tables: &Tables, p: usize) -> bool
+    ensures { IsTrue result ↔ InSlot0 tables.entry.now p }
 {
-    if !tables.is_slot0(p) {
+    tables.leads_in();
+    if p < tables.places() {
+        tables.is_slot0(p)
+    } else {
+        false
+    }
+}
+
+// Whether a site is a write at a place that is done in the first slot.
+fn is_first(facts: &Facts, site: Site) -> bool
+    ensures { IsTrue result ↔ IsFirst facts.now.charts site }
+{
+    if !is_write(site.usage) {
         return false;
     }
-    if tables.writes_now(p, v) {
-        return true;
+    match facts.tables(site.process) {
+        None => false,
+        Some(tables) => is_early(tables, site.place),
     }
-    tables.writes_later(p, v)
 }
 
-// Puts the signals that a place writes by `=` at a list's end.
-fn push_now<'a>(
-    alloc: Global,
-    tables: &'a Tables<'a>,
-    p: usize,
-    out: &mut Vec<usize>,
-) -> Result<(), AllocError>
-    ensures { OnOk result ((v : ℕ) → (Contains out.new.items v ↔ (Contains out.old.items v ⊎ HasSignal (now_at tables.entry.now p) v))) }
+// Whether a site of a process is one.
+fn is_first_of(facts: &Facts, site: Site, process: usize) -> bool
+    ensures { IsTrue result ↔ (site.process ≡ process) × IsFirst facts.now.charts site }
 {
-    let ranges = tables.now_at(alloc, p)?;
-    push_signals(out, &ranges)
-}
-
-// Puts those that it writes by `<=` there.
-fn push_later<'a>(
-    alloc: Global,
-    tables: &'a Tables<'a>,
-    p: usize,
-    out: &mut Vec<usize>,
-) -> Result<(), AllocError>
-    ensures { OnOk result ((v : ℕ) → (Contains out.new.items v ↔ (Contains out.old.items v ⊎ HasSignal (later_at tables.entry.now p) v))) }
-{
-    let ranges = tables.later_at(alloc, p)?;
-    push_signals(out, &ranges)
-}
-
-// Puts the signals that a place writes at a list's end, where it is done in the first slot.
-fn push_site<'a>(
-    alloc: Global,
-    tables: &'a Tables<'a>,
-    p: usize,
-    out: &mut Vec<usize>,
-) -> Result<(), AllocError>
-    requires { p < places tables.now }
-    ensures { OnOk result ((v : ℕ) → (Contains out.new.items v ↔ (Contains out.old.items v ⊎ SiteAt tables.entry.now v p))) }
-{
-    if tables.is_slot0(p) {
-        push_now(alloc, tables, p, out)?;
-        push_later(alloc, tables, p, out)
+    if site.process == process {
+        is_first(facts, site)
     } else {
-        Ok(())
+        false
     }
 }
 
-// The places of a text.
-#[derive(Drop)]
-struct Sites<'a> {
-    tables: &'a Tables<'a>,
-}
-
-impl<'a> Family for Sites<'a> {
-    ghost has = { λ f p v. (p < places f.tables.now) × SiteAt f.tables.now v p };
-
-    fn put(&self, alloc: Global, i: usize, out: &mut Vec<usize>) -> Result<(), AllocError> {
-        if i >= self.tables.places() {
-            return Ok(());
-        }
-        push_site(alloc, self.tables, i, out)
-    }
-}
-
-// The signals that each process writes in the first slot.
-#[derive(Drop)]
-struct Processes<'a> {
-    facts: &'a Facts<'a>,
-}
-
-impl<'a> Family for Processes<'a> {
-    ghost has = { λ f i v. HasSite f.facts.now.charts i v };
-
-    fn put(&self, alloc: Global, i: usize, out: &mut Vec<usize>) -> Result<(), AllocError> {
-        match self.facts.tables(i) {
-            None => Ok(()),
-            Some(tables) => {
-                tables.leads_in();
-                let all = gather(alloc, &Sites { tables }, tables.places())?;
-                out.extend_from_slice(&all)?;
-                Ok(())
-            }
+// The processes of those of some sites that are such.
+fn first_processes(alloc: Global, facts: &Facts, sites: &[Site]) -> Result<Vec<usize>, AllocError>
+    ensures { IfOk result (λ all. (i : ℕ) → (Contains all.items i ↔
+        ((s : Site) × Contains sites.now s × IsFirst facts.now.charts s × (s.process ≡ i)))) }
+{
+    let mut all = Vec::new(alloc);
+    for site in sites {
+        if is_first(facts, *site) {
+            all.push(site.process)?;
         }
     }
+    Ok(all)
+}
+
+// The places of those of some sites that are such ones of a process.
+fn first_places(
+    alloc: Global,
+    facts: &Facts,
+    sites: &[Site],
+    process: usize,
+) -> Result<Vec<usize>, AllocError>
+    ensures { IfOk result (λ all. (p : ℕ) → (Contains all.items p ↔
+        ((s : Site) × Contains sites.now s × ((s.process ≡ process) × IsFirst facts.now.charts s) × (s.place ≡ p)))) }
+{
+    let mut all = Vec::new(alloc);
+    for site in sites {
+        if is_first_of(facts, *site, process) {
+            all.push(site.place)?;
+        }
+    }
+    Ok(all)
 }
 
 // The roots of the entries.
@@ -134,13 +107,12 @@ impl<'a> Family for Claimed<'a> {
     }
 }
 
-/// The entries of a certificate, those of each root, and for each signal the processes that write it in the first slot. A contract sees the design,
-/// what the certificate claims of it, and the maps of the texts of the processes.
+/// The entries of a certificate, and those of each root. A contract sees the design, what the certificate claims of it, and the maps of the texts of
+/// the processes.
 #[derive(Drop)]
 pub struct FirstWrites<'a> {
     entries: &'a Entries<'a>,
     claimed: Rows<usize>,
-    writers: Rows<usize>,
 }
 
 impl<'a> Model for FirstWrites<'a> {
@@ -156,28 +128,7 @@ impl<'a> Model for FirstWrites<'a> {
 
     ghost view = { λ w. w.entries.now };
 
-    ghost invariant = { λ w. KeepsFirst w.entries.now w.claimed w.writers };
-}
-
-// A place of a text, which may write a signal.
-#[derive(Drop)]
-struct Places<'a> {
-    tables: &'a Tables<'a>,
-    signal: usize,
-}
-
-impl<'a> Family for Places<'a> {
-    ghost has = { λ f p q. (p < places f.tables.now) × SiteAt f.tables.now f.signal p × (p ≡ q) };
-
-    fn put(&self, _alloc: Global, i: usize, out: &mut Vec<usize>) -> Result<(), AllocError> {
-        if i >= self.tables.places() {
-            return Ok(());
-        }
-        if is_site(self.tables, self.signal, i) {
-            out.push(i)?;
-        }
-        Ok(())
-    }
+    ghost invariant = { λ w. KeepsFirst w.entries.now w.claimed };
 }
 
 // The digit that is known.
@@ -213,7 +164,7 @@ fn digit_at<'a>(
 }
 
 impl<'a> FirstWrites<'a> {
-    /// What the entries of a certificate say of the first slot. It takes as long as the texts of the processes, and as there are entries.
+    /// What the entries of a certificate say of the first slot. It takes as long as there are entries.
     pub fn of(alloc: Global, entries: &'a Entries<'a>) -> Result<FirstWrites<'a>, AllocError>
         ensures { IfOk result (λ w. w ≡ entries.entry.now) }
     {
@@ -221,13 +172,7 @@ impl<'a> FirstWrites<'a> {
         facts.maps();
         let count = facts.design().signals().len();
         let claimed = index_of(alloc, &Claimed { facts }, facts.edges(), count)?;
-        let processes = facts.design().processes().len();
-        let writers = index_of(alloc, &Processes { facts }, processes, count)?;
-        Ok(FirstWrites {
-            entries,
-            claimed,
-            writers,
-        })
+        Ok(FirstWrites { entries, claimed })
     }
 
     // The places of the entries with a root.
@@ -283,12 +228,25 @@ impl<'a> FirstWrites<'a> {
         self.are_calm(self.claims_of(root), root, digit)
     }
 
-    // The processes that write a signal in the first slot.
-    fn writers(&self, v: usize) -> &[usize]
+    // The processes that write a signal in the first slot. It takes as long as there are sites of the signal.
+    fn writers(&self, alloc: Global, v: usize) -> Result<Vec<usize>, AllocError>
         requires { v < length self.now.design.signals }
-        ensures { (i : ℕ) → (Contains result.now i ↔ HasSite self.now.charts i v) }
+        ensures { IfOk result (λ all. (i : ℕ) → (Contains all.items i ↔ HasSite self.now.charts i v)) }
     {
-        self.writers.row(v)
+        let facts = self.entries.facts();
+        let all = first_processes(alloc, facts, facts.sites().of_signal(v))?;
+        Ok(all)
+    }
+
+    // The places at which a process does. It takes as long.
+    fn places(&self, alloc: Global, process: usize, v: usize) -> Result<Vec<usize>, AllocError>
+        requires { v < length self.now.design.signals }
+        ensures { IfOk result (λ all. (t : Chart) → slice_get self.now.charts process ≡ Some t →
+            (p : ℕ) → (Contains all.items p ↔ SiteAt t v p)) }
+    {
+        let facts = self.entries.facts();
+        let all = first_places(alloc, facts, facts.sites().of_signal(v), process)?;
+        Ok(all)
     }
 }
 
@@ -311,18 +269,20 @@ fn starts_silently<'a>(
     }
 }
 
-// Whether one place alone of a text writes a root in the first slot, and does so.
+// Whether one place alone of the text of a process writes a root in the first slot, and does so.
 fn starts_well_in<'a>(
     alloc: Global,
     first: &FirstWrites,
     tables: &'a Tables<'a>,
+    j: usize,
     v: usize,
 ) -> Result<bool, AllocError>
+    requires text { slice_get first.now.charts j ≡ Some tables.now }
+    requires within { v < length first.now.design.signals }
     ensures { IfOk result (λ b. (IsTrue b ↔ StartsWellIn first.entry.now.design first.entry.now.claims tables.entry.now v)) }
 {
-    tables.leads_in();
-    let sites = gather(alloc, &Places { tables, signal: v }, tables.places())?;
-    match only(&sites) {
+    let places = first.places(alloc, j, v)?;
+    match only(&places) {
         None => Ok(false),
         Some(p) => starts_silently(alloc, first, tables, v, p),
     }
@@ -335,25 +295,26 @@ fn starts_well<'a>(
     j: usize,
     v: usize,
 ) -> Result<bool, AllocError>
+    requires { v < length first.now.design.signals }
     ensures { IfOk result (λ b. (IsTrue b ↔ StartsWell first.entry.now.design first.entry.now.claims first.entry.now.charts j v)) }
 {
     match first.entries.facts().tables(j) {
         None => Ok(false),
-        Some(tables) => starts_well_in(alloc, first, tables, v),
+        Some(tables) => starts_well_in(alloc, first, tables, j, v),
     }
 }
 
 /// Whether a signal keeps the rule K10: where it is a root, one statement at most of all processes writes it in the first slot, by `=`, and gives it
-/// a constant 0 or 1, which from x wakes no edge term of it. It takes as long as the text of the process that writes it, and as it has edge terms.
+/// a constant 0 or 1, which from x wakes no edge term of it. It takes as long as there are sites of the signal, and as it has edge terms.
 pub fn keeps_first_root(alloc: Global, first: &FirstWrites, v: usize) -> Result<bool, AllocError>
     ensures { IfOk result (λ b. (IsTrue b ↔ K10_Signal first.entry.now.design first.entry.now.claims v)) }
 {
-    let _ = &first.writers;
+    let _ = &first.claimed;
     if !first.is_root(v) {
         return Ok(true);
     }
-    let writers = first.writers(v);
-    match only(writers) {
+    let writers = first.writers(alloc, v)?;
+    match only(&writers) {
         Some(j) => starts_well(alloc, first, j, v),
         None => Ok(writers.is_empty()),
     }

@@ -12,11 +12,12 @@ use Rattle.vs_design.specs.declared.design.Assign.{Assign}
 use Rattle.vs_design.specs.declared.design.Process.{Process}
 use Rattle.vs_design.specs.declared.signal.Signal.{Signal}
 use Rattle.vs_design.specs.Parts.{Parts}
-use Rattle.vs_claims.specs.vs_rules.specs.Certificates.{kind_from, name_from, name_unless_empty, edge_claim, process_claim}
+use Rattle.vs_claims.specs.vs_rules.specs.Certificates.{kind_from, name_from, edge_claim, process_claim}
 use Rattle.vs_claims.specs.vs_rules.specs.Certificates as from
 use Rattle.vs_claims.specs.vs_rules.specs.Claims.{Name, Claims, SignalClaim, ProcessClaim, EdgeClaim, times_in, signal_names, process_names, edge_signals, edge_names, names_of_edge, signal_claim, kind_in, claim_of, claim_for, kind_of, kind_for, place_of}
 use Rattle.vs_claims.specs.vs_rules.specs.Claims.{IsSignalNamed, IsProcessNamed, IsAssignNamed, signal_name, process_name, assign_name}
 use Rattle.vs_maps.specs.Reaches.{Chart}
+use Rattle.vs_maps.specs.Texts.{Texts}
 use Rattle.vs_claims.specs.declared.names.Names.{Names}
 use Rattle.vs_claims.specs.Places.{place_in}
 use Rattle.vs_claims.specs.Facts.{Case, case_of}
@@ -139,59 +140,59 @@ times_in_edges (y ∷ ys) name =
     both_times (bytes_eq y.root name) (bytes_eq y.signal name) (times_in name (flat_map names_of_edge ys)) (times_in name (map (λ (y : EdgeClaim). y.root) ys))
     (times_in name (map (λ (y : EdgeClaim). y.signal) ys)) (times_in_edges ys name)
 
-module _ {d : Parts} {c : Certificate} {charts : List Chart} {n : Names} where
-  signal_is : AreFacts d c charts n → (name : Name) (o : Option ℕ) → o ≡ place_in n.design.signals name →
+module _ {d : Parts} {c : Certificate} {charts : List Chart} {u : Texts} {n : Names} where
+  signal_is : AreFacts d c charts u n → (name : Name) (o : Option ℕ) → o ≡ place_in n.design.signals name →
       (v : ℕ) → (IsSignalNamed d v name ↔ o ≡ Some v)
   signal_is h name o is v =
       let at : o ≡ place_in (paths d.signals) name = is ∙ ap (λ (ns : List Name). place_in ns name) h.names.design.signals_are in
       let is_at = named_is (paths d.signals) name v h.well_formed.paths in
       (λ e. at ∙ is_at.0 (sym (path_at d v) ∙ e), λ e. path_at d v ∙ is_at.1 (sym at ∙ e))
 
-  process_is : AreFacts d c charts n → (name : Name) (o : Option ℕ) → o ≡ place_in n.design.processes name →
+  process_is : AreFacts d c charts u n → (name : Name) (o : Option ℕ) → o ≡ place_in n.design.processes name →
       (i : ℕ) → (IsProcessNamed d i name ↔ o ≡ Some i)
   process_is h name o is i =
       let at : o ≡ place_in (named_processes d.processes) name = is ∙ ap (λ (ns : List Name). place_in ns name) h.names.design.processes_are in
       let is_at = named_is (named_processes d.processes) name i h.well_formed.names in
       (λ e. at ∙ is_at.0 (sym (process_at d i) ∙ e), λ e. process_at d i ∙ is_at.1 (sym at ∙ e))
 
-  assign_is : AreFacts d c charts n → (name : Name) (o : Option ℕ) → o ≡ place_in n.design.assigns name →
+  assign_is : AreFacts d c charts u n → (name : Name) (o : Option ℕ) → o ≡ place_in n.design.assigns name →
       (j : ℕ) → (IsAssignNamed d j name ↔ o ≡ Some j)
   assign_is h name o is j =
       let at : o ≡ place_in (named_assigns d.assigns) name = is ∙ ap (λ (ns : List Name). place_in ns name) h.names.design.assigns_are in
       let is_at = named_is (named_assigns d.assigns) name j h.well_formed.assign_names in
       (λ e. at ∙ is_at.0 (sym (assign_at d j) ∙ e), λ e. assign_at d j ∙ is_at.1 (sym at ∙ e))
 
-  pub signal_named_is : AreFacts d c charts n → (x : Case) → case_of d c charts ≡ x → (name : Name) (o : Option ℕ) →
+  pub signal_named_is : AreFacts d c charts u n → (x : Case) → case_of d c charts ≡ x → (name : Name) (o : Option ℕ) →
       o ≡ place_in n.design.signals name → (v : ℕ) → (IsSignalNamed x.design v name ↔ o ≡ Some v)
   signal_named_is h x e name o is v = subst (λ (x : Case). IsSignalNamed x.design v name ↔ o ≡ Some v) e (signal_is h name o is v)
 
-  pub process_named_is : AreFacts d c charts n → (x : Case) → case_of d c charts ≡ x → (name : Name) (o : Option ℕ) →
+  pub process_named_is : AreFacts d c charts u n → (x : Case) → case_of d c charts ≡ x → (name : Name) (o : Option ℕ) →
       o ≡ place_in n.design.processes name → (i : ℕ) → (IsProcessNamed x.design i name ↔ o ≡ Some i)
   process_named_is h x e name o is i = subst (λ (x : Case). IsProcessNamed x.design i name ↔ o ≡ Some i) e (process_is h name o is i)
 
-  pub assign_named_is : AreFacts d c charts n → (x : Case) → case_of d c charts ≡ x → (name : Name) (o : Option ℕ) →
+  pub assign_named_is : AreFacts d c charts u n → (x : Case) → case_of d c charts ≡ x → (name : Name) (o : Option ℕ) →
       o ≡ place_in n.design.assigns name → (j : ℕ) → (IsAssignNamed x.design j name ↔ o ≡ Some j)
   assign_named_is h x e name o is j = subst (λ (x : Case). IsAssignNamed x.design j name ↔ o ≡ Some j) e (assign_is h name o is j)
 
   -- ---- names of entries
 
-  pub signal_names_are : AreFacts d c charts n → (x : Case) → case_of d c charts ≡ x → n.claims.signals ≡ signal_names x.claims
+  pub signal_names_are : AreFacts d c charts u n → (x : Case) → case_of d c charts ≡ x → n.claims.signals ≡ signal_names x.claims
   signal_names_are h x e =
       subst (λ (x : Case). n.claims.signals ≡ signal_names x.claims) e (h.names.claims.signals_are ∙ claimed_signals c.signals.items)
 
-  pub process_names_are : AreFacts d c charts n → (x : Case) → case_of d c charts ≡ x → n.claims.processes ≡ process_names x.claims
+  pub process_names_are : AreFacts d c charts u n → (x : Case) → case_of d c charts ≡ x → n.claims.processes ≡ process_names x.claims
   process_names_are h x e =
       subst (λ (x : Case). n.claims.processes ≡ process_names x.claims) e (h.names.claims.processes_are ∙ claimed_processes c.processes.items)
 
-  pub edge_signals_are : AreFacts d c charts n → (x : Case) → case_of d c charts ≡ x → n.edges.signals ≡ edge_signals x.claims
+  pub edge_signals_are : AreFacts d c charts u n → (x : Case) → case_of d c charts ≡ x → n.edges.signals ≡ edge_signals x.claims
   edge_signals_are h x e =
       subst (λ (x : Case). n.edges.signals ≡ edge_signals x.claims) e (h.names.edges.signals_are ∙ claimed_edge_signals c.edges.items)
 
-  pub edge_roots_are : AreFacts d c charts n → (x : Case) → case_of d c charts ≡ x → n.edges.roots ≡ map (λ (y : EdgeClaim). y.root) x.claims.edges
+  pub edge_roots_are : AreFacts d c charts u n → (x : Case) → case_of d c charts ≡ x → n.edges.roots ≡ map (λ (y : EdgeClaim). y.root) x.claims.edges
   edge_roots_are h x e =
       subst (λ (x : Case). n.edges.roots ≡ map (λ (y : EdgeClaim). y.root) x.claims.edges) e (h.names.edges.roots_are ∙ claimed_edge_roots c.edges.items)
 
-  pub edge_times_are : AreFacts d c charts n → (x : Case) → case_of d c charts ≡ x → (name : Name) →
+  pub edge_times_are : AreFacts d c charts u n → (x : Case) → case_of d c charts ≡ x → (name : Name) →
       times_in name (edge_names x.claims) ≡ times_in name n.edges.roots + times_in name n.edges.signals
   edge_times_are h x e name =
       let sum = times_in_edges x.claims.edges name in
@@ -200,26 +201,26 @@ module _ {d : Parts} {c : Certificate} {charts : List Chart} {n : Names} where
 
   -- ---- entries by number
 
-  pub entry_within : AreFacts d c charts n → (name : Name) (i : ℕ) → place_in n.claims.signals name ≡ Some i → i < length c.signals.items
+  pub entry_within : AreFacts d c charts u n → (name : Name) (i : ℕ) → place_in n.claims.signals name ≡ Some i → i < length c.signals.items
   entry_within h name i is =
       let l = slice_get_within n.claims.signals i name (at_place n.claims.signals name i is) in
       let len = ap length h.names.claims.signals_are ∙ length-map c.signals.items (λ (e : SignalEntry). name_from e.name) in
       omega arith
 
-  pub kind_within : AreFacts d c charts n → (name : Name) (i : ℕ) → place_in n.claims.processes name ≡ Some i → i < length c.processes.items
+  pub kind_within : AreFacts d c charts u n → (name : Name) (i : ℕ) → place_in n.claims.processes name ≡ Some i → i < length c.processes.items
   kind_within h name i is =
       let l = slice_get_within n.claims.processes i name (at_place n.claims.processes name i is) in
       let len = ap length h.names.claims.processes_are ∙ length-map c.processes.items (λ (e : ProcessEntry). name_from e.name) in
       omega arith
 
-  pub no_entry : AreFacts d c charts n → (x : Case) → case_of d c charts ≡ x → (v : ℕ) (s : Signal) →
+  pub no_entry : AreFacts d c charts u n → (x : Case) → case_of d c charts ≡ x → (v : ℕ) (s : Signal) →
       slice_get d.signals v ≡ Some s → place_in n.claims.signals s.path.items ≡ None → None ≡ claim_of x.design x.claims v
   no_entry h x e v s at is =
       subst (λ (x : Case). None ≡ claim_of x.design x.claims v) e
       (sym (ap (claim_for (case_of d c charts).claims) at
       ∙ signal_claim_none c.signals.items s.path.items (ap (λ (ns : List Name). place_in ns s.path.items) (sym h.names.claims.signals_are) ∙ is)))
 
-  pub entry_is : AreFacts d c charts n → (x : Case) → case_of d c charts ≡ x → (v : ℕ) (s : Signal) (i : ℕ) (t : SignalEntry) →
+  pub entry_is : AreFacts d c charts u n → (x : Case) → case_of d c charts ≡ x → (v : ℕ) (s : Signal) (i : ℕ) (t : SignalEntry) →
       slice_get d.signals v ≡ Some s → place_in n.claims.signals s.path.items ≡ Some i → slice_get c.signals.items i ≡ Some t →
       Some (from.signal_claim t) ≡ claim_of x.design x.claims v
   entry_is h x e v s i t at is found =
@@ -227,14 +228,14 @@ module _ {d : Parts} {c : Certificate} {charts : List Chart} {n : Names} where
       (sym (ap (claim_for (case_of d c charts).claims) at
       ∙ signal_claim_some c.signals.items s.path.items i t (ap (λ (ns : List Name). place_in ns s.path.items) (sym h.names.claims.signals_are) ∙ is) found))
 
-  pub no_kind : AreFacts d c charts n → (x : Case) → case_of d c charts ≡ x → (i : ℕ) (p : Process) →
+  pub no_kind : AreFacts d c charts u n → (x : Case) → case_of d c charts ≡ x → (i : ℕ) (p : Process) →
       slice_get d.processes i ≡ Some p → place_in n.claims.processes p.name.items ≡ None → None ≡ kind_of x.design x.claims i
   no_kind h x e i p at is =
       subst (λ (x : Case). None ≡ kind_of x.design x.claims i) e
       (sym (ap (kind_for (case_of d c charts).claims) at
       ∙ kind_in_none c.processes.items p.name.items (ap (λ (ns : List Name). place_in ns p.name.items) (sym h.names.claims.processes_are) ∙ is)))
 
-  pub kind_is : AreFacts d c charts n → (x : Case) → case_of d c charts ≡ x → (i : ℕ) (p : Process) (k : ℕ) (t : ProcessEntry) →
+  pub kind_is : AreFacts d c charts u n → (x : Case) → case_of d c charts ≡ x → (i : ℕ) (p : Process) (k : ℕ) (t : ProcessEntry) →
       slice_get d.processes i ≡ Some p → place_in n.claims.processes p.name.items ≡ Some k → slice_get c.processes.items k ≡ Some t →
       Some (kind_from t.kind) ≡ kind_of x.design x.claims i
   kind_is h x e i p k t at is found =
@@ -244,13 +245,13 @@ module _ {d : Parts} {c : Certificate} {charts : List Chart} {n : Names} where
 
   -- ---- the order
 
-  pub not_in_order : AreFacts d c charts n → (x : Case) → case_of d c charts ≡ x → (name : Name) →
+  pub not_in_order : AreFacts d c charts u n → (x : Case) → case_of d c charts ≡ x → (name : Name) →
       place_in n.claims.order name ≡ None → length c.order.items ≡ place_of name x.claims.order
   not_in_order h x e name is =
       subst (λ (x : Case). length c.order.items ≡ place_of name x.claims.order) e
       (sym (length-map c.order.items name_from) ∙ past_all (map name_from c.order.items) name (ap (λ (ns : List Name). place_in ns name) (sym h.names.claims.order_is) ∙ is))
 
-  pub in_order : AreFacts d c charts n → (x : Case) → case_of d c charts ≡ x → (name : Name) (i : ℕ) →
+  pub in_order : AreFacts d c charts u n → (x : Case) → case_of d c charts ≡ x → (name : Name) (i : ℕ) →
       place_in n.claims.order name ≡ Some i → i ≡ place_of name x.claims.order
   in_order h x e name i is =
       subst (λ (x : Case). i ≡ place_of name x.claims.order) e

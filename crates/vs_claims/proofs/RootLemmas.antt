@@ -12,6 +12,7 @@ use Rattle.vs_design.specs.Parts.{Parts}
 use Rattle.vs_claims.specs.vs_rules.specs.Certificates.{edge_claim, name_from}
 use Rattle.vs_claims.specs.vs_rules.specs.Claims.{Name, Claims, EdgeClaim, signal_name, edge_signals, times_in, IsSignalNamed, IsRootOf, IsRoot}
 use Rattle.vs_maps.specs.Reaches.{Chart}
+use Rattle.vs_maps.specs.Texts.{Texts}
 use Rattle.vs_claims.specs.declared.names.Names.{Names}
 use Rattle.vs_claims.specs.Places.{place_in}
 use Rattle.vs_claims.specs.Facts.{Case, case_of, IsRootAt}
@@ -129,8 +130,8 @@ none_more P i before here k l h = elim (at k l) [ inl below ↦ before k below h
   at k l = grind (arith, l)
 
 -- what the entry of a place names
-pub edge_is : {d : Parts} {c : Certificate} {charts : List Chart} {n : Names} →
-    AreFacts d c charts n → (x : Case) → case_of d c charts ≡ x → (place : ℕ) (t : EdgeSignal) →
+pub edge_is : {d : Parts} {c : Certificate} {charts : List Chart} {u : Texts} {n : Names} →
+    AreFacts d c charts u n → (x : Case) → case_of d c charts ≡ x → (place : ℕ) (t : EdgeSignal) →
     slice_get c.edges.items place ≡ Some t → (o p : Option ℕ) → o ≡ place_in n.design.signals (name_from t.root) → p ≡ place_in n.design.signals (name_from t.signal) →
     (q : Option (ℕ × ℕ)) → q ≡ pair_of o p → (root v : ℕ) → (IsRootAt x.design x.claims.edges place root v ↔ q ≡ Some (root, v))
 edge_is {d} {c} {charts} h x e place t found o p a b =

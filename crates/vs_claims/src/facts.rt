@@ -10,6 +10,7 @@ ghost use Rattle.vs_claims.specs.vs_rules.specs.Limits.{IsCertificate};
 ghost use Rattle.vs_claims.specs.declared.facts.EntriesOf.TheVariants.{One};
 ghost use Rattle.vs_claims.specs.Facts.{AreCharts, AreListsOf, IsRootAt, case_of, seen, kind_seen};
 ghost use Rattle.vs_claims.specs.facts_passes.Kept.{AreEntriesOf, entry_seen};
+ghost use Rattle.vs_maps.specs.Texts.{texts_of};
 
 use crate::names::Names;
 use crate::words::{displays, grain, is_block, is_edge, lists_in, number};
@@ -17,7 +18,7 @@ use std::alloc::{AllocError, Global};
 use std::marker::Model;
 use vs_certificate::{Certificate, ClaimedKind, SignalEntry, SignalMode};
 use vs_design::Design;
-use vs_maps::Tables;
+use vs_maps::{Sites, Tables, Uses};
 use vs_process::Grain;
 
 // The entries of a signal among those of edge terms.
@@ -38,6 +39,7 @@ pub struct Facts<'a> {
     design: &'a Design,
     certificate: &'a Certificate,
     tables: &'a [Tables<'a>],
+    uses: Uses<'a>,
     names: Names<'a>,
 }
 
@@ -54,7 +56,7 @@ impl<'a> Model for Facts<'a> {
 
     ghost view = { λ f. case_of f.design.now f.certificate.now f.tables.now };
 
-    ghost invariant = { λ f. AreFacts f.design.now f.certificate.now f.tables.now f.names };
+    ghost invariant = { λ f. AreFacts f.design.now f.certificate.now f.tables.now f.uses f.names };
 }
 
 impl<'a> Facts<'a> {
@@ -71,10 +73,12 @@ impl<'a> Facts<'a> {
     {
         design.is_well_formed();
         let names = Names::of(alloc, design, certificate)?;
+        let uses = Uses::new(alloc, design, tables)?;
         Ok(Facts {
             design,
             certificate,
             tables,
+            uses,
             names,
         })
     }
@@ -116,6 +120,20 @@ impl<'a> Facts<'a> {
             return None;
         }
         Some(&tables[i])
+    }
+
+    /// The uses of the signals of the design.
+    pub fn uses(&self) -> &Uses<'a>
+        ensures { result.now ≡ texts_of self.now.design self.now.charts }
+    {
+        &self.uses
+    }
+
+    /// The sites of the design.
+    pub fn sites(&self) -> &Sites<'a>
+        ensures { result.now ≡ texts_of self.now.design self.now.charts }
+    {
+        self.uses.sites()
     }
 
     /// The number of the signal of this name, where there is one.

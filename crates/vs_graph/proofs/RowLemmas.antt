@@ -1,10 +1,10 @@
 -- Rows of things, and what is put into them.
-use Rattle.std.proofs.Common.{◌≡◌, ℕ, zero, suc, ◌+◌, ◌<◌, ◌≤◌, ◌⊎◌, ◌↔◌, inl, inr, Some, None, List, [], ◌∷◌, ◌++◌, length, replicate, drop, get_or, slice_get, refl, sym, ◌∙◌, ap, subst, arith}
+use Rattle.std.proofs.Common.{◌≡◌, ℕ, zero, suc, ◌+◌, ◌<◌, ◌≤◌, ◌⊎◌, ◌↔◌, inl, inr, Some, None, List, [], ◌∷◌, ◌++◌, length, drop, get_or, slice_get, refl, sym, ◌∙◌, ap, subst, arith}
 use Rattle.std.specs.Prelude.{slice_set}
 use Rattle.std.specs.List.{Contains}
 use Rattle.std.specs.declared.vec.Vec.{Vec}
 use Rattle.std.specs.declared.alloc.Global.{Global}
-use Rattle.std.proofs.lemmas.List.{at_drop_more, drop_all, length-map, length-replicate, map-append, replicate_more}
+use Rattle.std.proofs.lemmas.List.{at_drop_more, drop_all, length-replicate, map-append, replicate_more}
 use Rattle.std.proofs.lemmas.List.Elements.{Contains-append_left, Contains-append_right, Contains-append_cases}
 use Rattle.std.proofs.lemmas.Option.{none-some, same_Some}
 use Rattle.vs_graph.specs.Rows.{AreRows, empty_rows, row, rows, with_all, with_one}
@@ -29,6 +29,10 @@ pub row_pushed : {A : Type 0} (table more : List (Vec A Global)) (new : Vec A Gl
     rows more ≡ empty_rows (n + 1)
 row_pushed table more new n made empty so_far =
     ap rows made ∙ map-append (λ row. row.items) table (new ∷ []) ∙ ap (λ ys. ys ++ new.items ∷ []) so_far ∙ ap (λ y. empty_rows n ++ y ∷ []) empty ∙ replicate_more n []
+
+-- a row more, at the end
+pub row_more : {A : Type 0} (table more : List (Vec A Global)) (new : Vec A Global) → more ≡ table ++ new ∷ [] → rows more ≡ rows table ++ new.items ∷ []
+row_more table more new made = ap rows made ∙ map-append (λ row. row.items) table (new ∷ [])
 
 -- the row of a number
 pub row_here : {A : Type 0} (i : ℕ) (table : List (Vec A Global)) (here : Vec A Global) → slice_get table i ≡ Some here → here.items ≡ row (rows table) i

@@ -1,5 +1,5 @@
 //! Rows of things: a list for each number below a bound.
-ghost use Rattle.std.specs.Prelude.{◌≡◌, ◌<◌, ◌^◌, [], length, IfOk, OnOk};
+ghost use Rattle.std.specs.Prelude.{◌≡◌, ◌<◌, ◌^◌, [], ◌∷◌, ◌++◌, length, IfOk, OnOk};
 ghost use Rattle.vs_graph.specs.Rows.{empty_rows, row, rows, with_all, with_one, AreRows};
 
 use crate::families::Family;
@@ -65,6 +65,14 @@ impl<T: Drop> Rows<T> {
     {
         let all = empty_table(alloc, count)?;
         Ok(Rows { all })
+    }
+
+    /// Puts a row at the end.
+    pub fn push(&mut self, row: Vec<T>) -> Result<(), AllocError>
+        ensures { OnOk result (self.new ≡ self.old ++ row.items ∷ []) }
+    {
+        self.all.push(row)?;
+        Ok(())
     }
 
     /// How many rows there are.

@@ -12,4 +12,3 @@ pub mod EachWalk
 pub mod SignalLemmas
 pub mod SiteLemmas
 pub mod LateLemmas
-pub mod WrittenLemmas

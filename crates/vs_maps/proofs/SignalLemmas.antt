@@ -14,17 +14,16 @@ use Rattle.vs_maps.specs.Ranges.{HasSignal, HasTermAt}
 use Rattle.vs_maps.specs.Reaches.{Chart}
 use Rattle.vs_graph.specs.Rows.{AreRows}
 use Rattle.vs_maps.proofs.RangeLemmas.{first_in, later_in, in_either, lists_signal}
-use Rattle.vs_maps.specs.declared.sites.Site.{Site}
 use Rattle.vs_maps.specs.Texts.{WaitsFor}
 
-image_in : {A : Type 0} (f : A → ℕ) (xs : List A) (v : ℕ) → Contains (map f xs) v → (x : A) × Contains xs x × (f x ≡ v)
+image_in : {A B : Type 0} (f : A → B) (xs : List A) (v : B) → Contains (map f xs) v → (x : A) × Contains xs x × (f x ≡ v)
 image_in f [] v h = absurd (omega (arith, h.1))
 image_in f (x ∷ xs) v h = elim (in_either (f x) (map f xs) v h) [
   | inl e ↦ (x, first_in x xs, e)
   | inr m ↦ let y = image_in f xs v m in (y.0, later_in x xs y.0 y.1, y.2)
 ]
 
-in_image : {A : Type 0} (f : A → ℕ) (xs : List A) (v : ℕ) (x : A) → Contains xs x → f x ≡ v → Contains (map f xs) v
+in_image : {A B : Type 0} (f : A → B) (xs : List A) (v : B) (x : A) → Contains xs x → f x ≡ v → Contains (map f xs) v
 in_image f [] v x h e = absurd (omega (arith, h.1))
 in_image f (y ∷ xs) v x h e = elim (in_either y xs x h) [
   | inl s ↦ subst (Contains (f y ∷ map f xs)) (ap f s ∙ e) (first_in (f y) (map f xs))
@@ -32,7 +31,7 @@ in_image f (y ∷ xs) v x h e = elim (in_either y xs x h) [
 ]
 
 -- images put at the end of a list
-pub images_put : {A : Type 0} (f : A → ℕ) (old new : List ℕ) (xs : List A) → new ≡ old ++ map f xs → (v : ℕ) →
+pub images_put : {A B : Type 0} (f : A → B) (old new : List B) (xs : List A) → new ≡ old ++ map f xs → (v : B) →
     (Contains new v ↔ (Contains old v ⊎ ((x : A) × Contains xs x × (f x ≡ v))))
 images_put f old new xs made v = (
   λ c. elim (Contains-append_cases old (map f xs) v (subst (λ l. Contains l v) made c)) [ inl a ↦ inl a | inr b ↦ inr (image_in f xs v b) ],
@@ -99,23 +98,6 @@ waits_here charts i t terms less told v = (
   λ y. let e : y.0 ≡ get_or charts i t = same_Some y.0 (get_or charts i t) (sym y.1 ∙ slice_get-get_or charts i t less) in
       (y.2.0, (told y.2.0).1 (subst (λ (c : Chart). HasTermAt c y.2.0) e y.2.1), y.2.2),
 )
-
--- what is written at a point of a number
-pub sort_here : (ranges : Chart → ℕ → List BitRange) (charts : List Chart) (sites : List Site) (k : ℕ) (s : Site) (t : Chart) (rs : List BitRange) → slice_get sites k ≡ Some s →
-    s.process < length charts → rs ≡ ranges (get_or charts s.process t) s.place → (v : ℕ) →
-    (HasSignal rs v ↔ ((x : Site) × (slice_get sites k ≡ Some x) × ((c : Chart) × (slice_get charts x.process ≡ Some c) × HasSignal (ranges c x.place) v)))
-sort_here ranges charts sites k s t rs is less e v = (
-  λ h. (s, is, (get_or charts s.process t, slice_get-get_or charts s.process t less, subst (λ l. HasSignal l v) e h)),
-  λ y. let same : y.0 ≡ s = same_Some y.0 s (sym y.1 ∙ is) in
-      let chart : y.2.0 ≡ get_or charts s.process t =
-      same_Some y.2.0 (get_or charts s.process t) (sym y.2.1 ∙ ap (λ (x : Site). slice_get charts x.process) same ∙ slice_get-get_or charts s.process t less) in
-      subst (λ l. HasSignal l v) (sym e) (subst (λ (c : Chart). HasSignal (ranges c s.place) v) chart (subst (λ (x : Site). HasSignal (ranges y.2.0 x.place) v) same y.2.2)),
-)
-
-pub no_sort : (ranges : Chart → ℕ → List BitRange) (charts : List Chart) (sites : List Site) (k : ℕ) (s : Site) → slice_get sites k ≡ Some s → length charts ≤ s.process → (v : ℕ) →
-    ((x : Site) × (slice_get sites k ≡ Some x) × ((c : Chart) × (slice_get charts x.process ≡ Some c) × HasSignal (ranges c x.place) v)) → ⊥
-no_sort ranges charts sites k s is past v y =
-    none-some y.2.0 (sym (slice_get_past charts s.process past) ∙ ap (λ (x : Site). slice_get charts x.process) (same_Some s y.0 (sym is ∙ y.1)) ∙ y.2.1)
 
 pub waits_past : (charts : List Chart) (i : ℕ) → length charts ≤ i → (v : ℕ) → WaitsFor charts i v → ⊥
 waits_past charts i past v y = none-some y.0 (sym (slice_get_past charts i past) ∙ y.1)

@@ -1,134 +1,363 @@
--- The points of all maps.
-use Rattle.std.proofs.Common.{◌≡◌, ℕ, zero, suc, ◌+◌, ◌<◌, ◌≤◌, ◌⊎◌, ◌↔◌, inl, inr, Bool, true, false, IsTrue, List, [], ◌∷◌, ◌++◌, Some, length, slice_get, get_or, refl, sym, ◌∙◌, ap, ap₂, subst, arith}
+-- The table of sites.
+use Rattle.std.proofs.Common.{◌≡◌, ℕ, zero, suc, ◌+◌, ◌<◌, ◌≤◌, ◌⊎◌, ◌↔◌, inl, inr, Bool, true, false, IsTrue, List, [], ◌∷◌, ◌++◌, Some, length, map, slice_get, get_or, if◌then◌else◌, refl, sym, ◌∙◌, ap, subst, arith}
 use Rattle.std.specs.List.{Contains}
+use Rattle.std.proofs.lemmas.List.{length-append, length-replicate}
 use Rattle.std.proofs.lemmas.List.Elements.{Contains-append_left, Contains-append_right, Contains-append_cases}
-use Rattle.std.proofs.lemmas.Option.{slice_get-get_or, slice_get_within, same_Some}
+use Rattle.std.proofs.lemmas.Option.{get_or_from_slice_get, slice_get-get_or, slice_get_within, same_Some}
 use Rattle.std.proofs.lemmas.Bool.{false≢true}
-use Rattle.vs_rules.specs.vs_threads.proofs.Lists.{contains_at}
-use Rattle.vs_maps.specs.Reaches.{Chart, IsPlace}
-use Rattle.vs_maps.proofs.RangeLemmas.{first_in, in_either}
+use Rattle.vs_design.specs.declared.range.BitRange.{BitRange}
+use Rattle.vs_design.specs.declared.statement.EventTerm.{EventTerm}
+use Rattle.vs_graph.specs.Rows.{empty_rows, row, with_one}
+use Rattle.vs_graph.proofs.RowLemmas.{in_either, none_in, head_in, tail_in, length_one, one_has, row_empty}
+use Rattle.vs_maps.specs.Ranges.{HasSignal, now_at, later_at, reads_at, shows_at, pause_terms}
+use Rattle.vs_process.specs.Stops.{stop_at, stop_statement, stops_behind, stops_tos}
+use Rattle.vs_graph.specs.Reached.{Reached}
+use Rattle.vs_maps.specs.declared.along.Along.TheVariants.{ZeroTime}
+use Rattle.vs_maps.specs.Reaches.{Chart, InSlot0, IsPlace, pause_at, statement_passes}
+use Rattle.vs_maps.specs.Sites.{AreSites, IsSite, IsWrite, UsesAt, all_filed, site_of, waiting_of}
+use Rattle.vs_maps.specs.Texts.{Texts, AllNow, AllLater}
 use Rattle.vs_maps.specs.declared.sites.Site.{Site}
-use Rattle.vs_maps.specs.Texts.{AreSites, IsSite}
+use Rattle.vs_maps.specs.declared.sites.Use.{Use}
+use Rattle.vs_maps.specs.declared.sites.Use.TheVariants.{Now, Later, Reads, Shows, Waits}
+use Rattle.vs_maps.proofs.SignalLemmas.{images_put}
 
 below_or : (i n : ℕ) → i < n + 1 → (i < n) ⊎ (i ≡ n)
 below_or i n h = grind (arith, h)
 
--- a list with the points of a map below a place
-abbrev pub HasSites : List Site → List Site → ℕ → Chart → ℕ → Type 0
-HasSites old new i t n = (s : Site) → (Contains new s ↔ (Contains old s ⊎ ((s.process ≡ i) × (s.place < n) × IsPlace t s.place)))
+-- ---- of one place
 
-pub no_site_yet : (old : List Site) (i : ℕ) (t : Chart) → HasSites old old i t 0
-no_site_yet old i t s = (λ c. inl c, λ y. elim y [ inl a ↦ a | inr b ↦ absurd (omega (arith, b.1)) ])
+site_is : (s : Site) (i p : ℕ) (u : Use) → s.process ≡ i → s.place ≡ p → s.usage ≡ u → site_of i p u s.range ≡ s
+site_is s i p u e f g =
+    subst (λ (x : ℕ). site_of x p u s.range ≡ s) e
+    (subst (λ (x : ℕ). site_of s.process x u s.range ≡ s) f (subst (λ (x : Use). site_of s.process s.place x s.range ≡ s) g refl))
 
-site_is : (s : Site) (i p : ℕ) → s.process ≡ i → s.place ≡ p → s ≡ record { process = i; place = p }
-site_is s i p e f = ap₂ (λ (a b : ℕ). let x : Site = record { process = a; place = b } in x) e f
+-- what a place uses so
+used : (t : Chart) (i p : ℕ) (u : Use) (s : Site) → (r : BitRange) × UsesAt t p u r × (site_of i p u r ≡ s) → (s.process ≡ i) × (s.place ≡ p) × UsesAt t p s.usage s.range
+used t i p u s y =
+    (sym (ap (λ (x : Site). x.process) y.2), sym (ap (λ (x : Site). x.place) y.2), subst (λ (x : Site). UsesAt t p x.usage x.range) y.2 y.1)
 
-pub one_site : (old now new : List Site) (i p : ℕ) (t : Chart) → HasSites old now i t p → IsPlace t p → new ≡ now ++ (record { process = i; place = p }) ∷ [] → HasSites old new i t (p + 1)
-one_site old now new i p t so_far is made s = (
-  λ c. elim (Contains-append_cases now ((record { process = i; place = p }) ∷ []) s (subst (λ l. Contains l s) made c)) [
-    | inl a ↦ elim ((so_far s).0 a) [ inl b ↦ inl b | inr y ↦ inr (y.0, omega (arith, y.1), y.2) ]
-    | inr b ↦ elim (in_either (record { process = i; place = p }) [] s b) [
-      | inl e ↦ inr (sym (ap (λ (x : Site). x.process) e), omega (arith, ap (λ (x : Site). x.place) e), subst (λ (x : Site). IsPlace t x.place) e is)
-      | inr none ↦ absurd (omega (arith, none.1))
+awaited : (t : Chart) (i p : ℕ) (s : Site) → (term : EventTerm) × Contains (pause_terms (pause_at t p)) term × (waiting_of i p term ≡ s) →
+    (s.process ≡ i) × (s.place ≡ p) × UsesAt t p s.usage s.range
+awaited t i p s y =
+    (sym (ap (λ (x : Site). x.process) y.2), sym (ap (λ (x : Site). x.place) y.2), subst (λ (x : Site). UsesAt t p x.usage x.range) y.2 y.1)
+
+-- the five lists of a place, put one after another
+pub placed : (t : Chart) (i p : ℕ) (old a b c d e : List Site) → a ≡ old ++ map (site_of i p Now) (now_at t p) → b ≡ a ++ map (site_of i p Later) (later_at t p) →
+    c ≡ b ++ map (site_of i p Reads) (reads_at t p) → d ≡ c ++ map (site_of i p Shows) (shows_at t p) → e ≡ d ++ map (waiting_of i p) (pause_terms (pause_at t p)) → (s : Site) →
+    (Contains e s ↔ (Contains old s ⊎ ((s.process ≡ i) × (s.place ≡ p) × UsesAt t p s.usage s.range)))
+placed t i p old a b c d e ea eb ec ed ee s = (there, back) where
+  at_a : Contains a s ↔ (Contains old s ⊎ ((r : BitRange) × Contains (now_at t p) r × (site_of i p Now r ≡ s)))
+  at_a = images_put (site_of i p Now) old a (now_at t p) ea s
+
+  at_b : Contains b s ↔ (Contains a s ⊎ ((r : BitRange) × Contains (later_at t p) r × (site_of i p Later r ≡ s)))
+  at_b = images_put (site_of i p Later) a b (later_at t p) eb s
+
+  at_c : Contains c s ↔ (Contains b s ⊎ ((r : BitRange) × Contains (reads_at t p) r × (site_of i p Reads r ≡ s)))
+  at_c = images_put (site_of i p Reads) b c (reads_at t p) ec s
+
+  at_d : Contains d s ↔ (Contains c s ⊎ ((r : BitRange) × Contains (shows_at t p) r × (site_of i p Shows r ≡ s)))
+  at_d = images_put (site_of i p Shows) c d (shows_at t p) ed s
+
+  at_e : Contains e s ↔ (Contains d s ⊎ ((term : EventTerm) × Contains (pause_terms (pause_at t p)) term × (waiting_of i p term ≡ s)))
+  at_e = images_put (waiting_of i p) d e (pause_terms (pause_at t p)) ee s
+
+  there : Contains e s → Contains old s ⊎ ((s.process ≡ i) × (s.place ≡ p) × UsesAt t p s.usage s.range)
+  there h = elim (at_e.0 h) [
+    | inr w ↦ inr (awaited t i p s w)
+    | inl f ↦ elim (at_d.0 f) [
+      | inr w ↦ inr (used t i p Shows s w)
+      | inl g ↦ elim (at_c.0 g) [
+        | inr w ↦ inr (used t i p Reads s w)
+        | inl k ↦ elim (at_b.0 k) [
+          | inr w ↦ inr (used t i p Later s w)
+          | inl l ↦ elim (at_a.0 l) [ inl o ↦ inl o | inr w ↦ inr (used t i p Now s w) ]
+        ]
+      ]
     ]
+  ]
+
+  from_a : Contains a s → Contains e s
+  from_a h = at_e.1 (inl (at_d.1 (inl (at_c.1 (inl (at_b.1 (inl h)))))))
+
+  by_use : (u : Use) → s.process ≡ i → s.place ≡ p → s.usage ≡ u → UsesAt t p u s.range → Contains e s
+  by_use Now x y z h = from_a (at_a.1 (inr (s.range, h, site_is s i p Now x y z)))
+  by_use Later x y z h = at_e.1 (inl (at_d.1 (inl (at_c.1 (inl (at_b.1 (inr (s.range, h, site_is s i p Later x y z))))))))
+  by_use Reads x y z h = at_e.1 (inl (at_d.1 (inl (at_c.1 (inr (s.range, h, site_is s i p Reads x y z))))))
+  by_use Shows x y z h = at_e.1 (inl (at_d.1 (inr (s.range, h, site_is s i p Shows x y z))))
+  by_use (Waits edge) x y z h =
+      let term : EventTerm = record { range = s.range; edge = edge } in
+      at_e.1 (inr (term, h, site_is s i p (Waits edge) x y z))
+
+  back : Contains old s ⊎ ((s.process ≡ i) × (s.place ≡ p) × UsesAt t p s.usage s.range) → Contains e s
+  back (inl o) = from_a (at_a.1 (inl o))
+  back (inr y) = by_use s.usage y.0 y.1 refl y.2
+
+-- ---- of one text
+
+-- a list with the sites of the points below a place
+abbrev pub HaveSites : List Site → ℕ → Chart → ℕ → Type 0
+HaveSites all i t n = (s : Site) → (Contains all s ↔ ((s.process ≡ i) × (s.place < n) × IsPlace t s.place × UsesAt t s.place s.usage s.range))
+
+pub no_site_yet : (all : List Site) (i : ℕ) (t : Chart) → all ≡ [] → HaveSites all i t 0
+no_site_yet all i t e s = (λ c. absurd (none_in s (subst (λ (l : List Site). Contains l s) e c)), λ y. absurd (omega (arith, y.1)))
+
+pub one_place : (old new : List Site) (i p : ℕ) (t : Chart) → HaveSites old i t p → IsPlace t p →
+    ((s : Site) → (Contains new s ↔ (Contains old s ⊎ ((s.process ≡ i) × (s.place ≡ p) × UsesAt t p s.usage s.range)))) → HaveSites new i t (p + 1)
+one_place old new i p t so_far is put s = (
+  λ c. elim ((put s).0 c) [
+    | inl o ↦ let y = (so_far s).0 o in (y.0, omega (arith, y.1), y.2, y.3)
+    | inr y ↦ (y.0, omega (arith, y.1), subst (IsPlace t) (sym y.1) is, subst (λ (q : ℕ). UsesAt t q s.usage s.range) (sym y.1) y.2)
   ],
-  λ y. subst (λ l. Contains l s) (sym made) (elim y [
-    | inl a ↦ Contains-append_left now ((record { process = i; place = p }) ∷ []) s ((so_far s).1 (inl a))
-    | inr b ↦ elim (below_or s.place p b.1) [
-      | inl l ↦ Contains-append_left now ((record { process = i; place = p }) ∷ []) s ((so_far s).1 (inr (b.0, l, b.2)))
-      | inr e ↦ Contains-append_right now ((record { process = i; place = p }) ∷ []) s
-          (subst (Contains ((record { process = i; place = p }) ∷ [])) (sym (site_is s i p b.0 e)) (first_in (record { process = i; place = p }) []))
-    ]
+  λ y. (put s).1 (elim (below_or s.place p y.1) [
+    | inl l ↦ inl ((so_far s).1 (y.0, l, y.2, y.3))
+    | inr e ↦ inr (y.0, e, subst (λ (q : ℕ). UsesAt t q s.usage s.range) e y.3)
   ]),
 )
 
-pub no_site : (old now : List Site) (i p : ℕ) (t : Chart) → HasSites old now i t p → (IsPlace t p → ⊥) → HasSites old now i t (p + 1)
-no_site old now i p t so_far not s = (
-  λ c. elim ((so_far s).0 c) [ inl b ↦ inl b | inr y ↦ inr (y.0, omega (arith, y.1), y.2) ],
-  λ y. elim y [
-    | inl a ↦ (so_far s).1 (inl a)
-    | inr b ↦ elim (below_or s.place p b.1) [
-      | inl l ↦ (so_far s).1 (inr (b.0, l, b.2))
-      | inr e ↦ absurd (not (subst (IsPlace t) e b.2))
+pub no_place : (old : List Site) (i p : ℕ) (t : Chart) → HaveSites old i t p → (IsPlace t p → ⊥) → HaveSites old i t (p + 1)
+no_place old i p t so_far not s = (
+  λ c. let y = (so_far s).0 c in (y.0, omega (arith, y.1), y.2, y.3),
+  λ y. elim (below_or s.place p y.1) [
+    | inl l ↦ (so_far s).1 (y.0, l, y.2, y.3)
+    | inr e ↦ absurd (not (subst (IsPlace t) e y.2))
+  ],
+)
+
+pub all_places : (all : List Site) (i n : ℕ) (t : Chart) → ((p : ℕ) → IsPlace t p → p < n) → HaveSites all i t n → (s : Site) →
+    (Contains all s ↔ ((s.process ≡ i) × IsPlace t s.place × UsesAt t s.place s.usage s.range))
+all_places all i n t within have s = (λ c. let y = (have s).0 c in (y.0, y.2, y.3), λ y. (have s).1 (y.0, within s.place y.1, y.1, y.2))
+
+-- ---- rows of signals
+
+pub length_filed : (sites : List Site) (table : List (List Site)) → length (all_filed sites table) ≡ length table
+length_filed [] table = refl
+length_filed (s ∷ sites) table = length_filed sites (with_one s.range.signal s table) ∙ length_one s.range.signal s table
+
+pub filed_has : (sites : List Site) (table : List (List Site)) (v : ℕ) (s : Site) →
+    (Contains (row (all_filed sites table) v) s ↔ (Contains (row table v) s ⊎ ((v < length table) × (s.range.signal ≡ v) × Contains sites s)))
+filed_has [] table v s = (inl, λ h. elim h [ inl a ↦ a | inr b ↦ absurd (none_in s b.2) ])
+filed_has (x ∷ sites) table v s =
+    let rest = filed_has sites (with_one x.range.signal x table) v s in
+    let one = one_has x.range.signal x table v s in
+    let long : length (with_one x.range.signal x table) ≡ length table = length_one x.range.signal x table in (
+      λ h. elim (rest.0 h) [
+        | inl a ↦ elim (one.0 a) [
+          | inl o ↦ inl o
+          | inr y ↦ inr (y.0, sym (y.1 ∙ ap (λ (z : Site). z.range.signal) y.2), subst (Contains (x ∷ sites)) y.2 (head_in x sites))
+        ]
+        | inr y ↦ inr (subst (λ (n : ℕ). v < n) long y.0, y.1, tail_in x s sites y.2)
+      ],
+      λ h. elim h [
+        | inl o ↦ rest.1 (inl (one.1 (inl o)))
+        | inr y ↦ elim (in_either x s sites y.2) [
+          | inl e ↦ rest.1 (inl (one.1 (inr (y.0, sym y.1 ∙ ap (λ (z : Site). z.range.signal) (sym e), e))))
+          | inr m ↦ rest.1 (inr (subst (λ (n : ℕ). v < n) (sym long) y.0, y.1, m))
+        ]
+      ],
+    )
+
+-- ---- rows of processes
+
+-- a row more, at the end
+pub row_before : {A : Type 0} (table : List (List A)) (own : List A) (k : ℕ) → k < length table → row (table ++ own ∷ []) k ≡ row table k
+row_before [] own k h = absurd (omega (arith, h))
+row_before (x ∷ xs) own zero h = refl
+row_before (x ∷ xs) own (suc k) h = row_before xs own k (omega (arith, h))
+
+pub row_last : {A : Type 0} (table : List (List A)) (own : List A) → row (table ++ own ∷ []) (length table) ≡ own
+row_last [] own = refl
+row_last (x ∷ xs) own = row_last xs own
+
+row_past : (table : List (List Site)) (k : ℕ) → length table ≤ k → row table k ≡ []
+row_past [] k h = refl
+row_past (x ∷ xs) zero h = absurd (omega (arith, h))
+row_past (x ∷ xs) (suc k) h = row_past xs k (omega (arith, h))
+
+-- ---- of all texts
+
+-- the sites of the first texts
+pub record SitesBelow (charts : List Chart) (m n : ℕ) (signals processes : List (List Site)) : Type 0 where
+  pub long : length signals ≡ m
+  pub many : length processes ≡ n
+  pub of_signals : (v : ℕ) (s : Site) → v < m → (Contains (row signals v) s ↔ ((s.process < n) × IsSite charts s × (s.range.signal ≡ v)))
+  pub of_processes : (i : ℕ) (s : Site) → i < n → (Contains (row processes i) s ↔ (IsSite charts s × (s.process ≡ i)))
+
+pub none_below : (charts : List Chart) (m : ℕ) (signals processes : List (List Site)) → signals ≡ empty_rows m → processes ≡ [] → SitesBelow charts m 0 signals processes
+none_below charts m signals processes e f = record {
+  long = ap length e ∙ length-replicate m [];
+  many = ap length f;
+  of_signals = λ v s h. (
+    λ c. absurd (none_in s (subst (λ (l : List Site). Contains l s) (ap (λ (t : List (List Site)). row t v) e ∙ row_empty m v) c)),
+    λ y. absurd (omega (arith, y.0)),
+  );
+  of_processes = λ i s h. absurd (omega (arith, h));
+}
+
+-- the sites of a text are those of its process
+own_sites : (charts : List Chart) (i : ℕ) (t : Chart) (own : List Site) → slice_get charts i ≡ Some t →
+    ((s : Site) → (Contains own s ↔ ((s.process ≡ i) × IsPlace t s.place × UsesAt t s.place s.usage s.range))) → (s : Site) → (Contains own s ↔ (IsSite charts s × (s.process ≡ i)))
+own_sites charts i t own is those s = (
+  λ c. let y = (those s).0 c in
+      (record { chart = t; is = ap (slice_get charts) y.0 ∙ is; point = y.1; uses = y.2 }, y.0),
+  λ y. let same : y.0.chart ≡ t = same_Some y.0.chart t (sym y.0.is ∙ ap (slice_get charts) y.1 ∙ is) in
+      (those s).1 (
+        y.1,
+        subst (λ (c : Chart). IsPlace c s.place) same y.0.point,
+        subst (λ (c : Chart). UsesAt c s.place s.usage s.range) same y.0.uses,
+      ),
+)
+
+pub one_below : (charts : List Chart) (m n : ℕ) (t : Chart) (signals processes more_signals more_processes : List (List Site)) (own : List Site) → SitesBelow charts m n signals processes →
+    n < length charts → t ≡ get_or charts n t →
+    ((s : Site) → (Contains own s ↔ ((s.process ≡ n) × IsPlace t s.place × UsesAt t s.place s.usage s.range))) → more_signals ≡ all_filed own signals → more_processes ≡ processes ++ own ∷ [] →
+    SitesBelow charts m (n + 1) more_signals more_processes
+one_below charts m n t signals processes more_signals more_processes own before less told those filed pushed = record {
+  long = ap length filed ∙ length_filed own signals ∙ before.long;
+  many = ap length pushed ∙ length-append processes (own ∷ []) ∙ ap (λ (k : ℕ). k + 1) before.many;
+  of_signals = λ v s h. (there v s h, back v s h);
+  of_processes = λ i s h. subst (λ (l : List Site). (Contains l s ↔ (IsSite charts s × (s.process ≡ i)))) (sym (ap (λ (x : List (List Site)). row x i) pushed)) (elim (below_or i n h) [
+    | inl l ↦ subst (λ (x : List Site). (Contains x s ↔ (IsSite charts s × (s.process ≡ i)))) (sym (row_before processes own i (omega (arith, l, before.many)))) (before.of_processes i s l)
+    | inr e ↦ subst (λ (k : ℕ). (Contains (row (processes ++ own ∷ []) k) s ↔ (IsSite charts s × (s.process ≡ k)))) (sym e)
+        (subst (λ (x : List Site). (Contains x s ↔ (IsSite charts s × (s.process ≡ n)))) (sym (ap (row (processes ++ own ∷ [])) (sym before.many) ∙ row_last processes own)) (mine s))
+  ]);
+} where
+  mine : (s : Site) → (Contains own s ↔ (IsSite charts s × (s.process ≡ n)))
+  mine = own_sites charts n t own (slice_get-get_or charts n t less ∙ ap Some (sym told)) those
+
+  there : (v : ℕ) (s : Site) → v < m → Contains (row more_signals v) s → (s.process < n + 1) × IsSite charts s × (s.range.signal ≡ v)
+  there v s h c = elim ((filed_has own signals v s).0 (subst (λ (x : List (List Site)). Contains (row x v) s) filed c)) [
+    | inl o ↦ let y = (before.of_signals v s h).0 o in (omega (arith, y.0), y.1, y.2)
+    | inr y ↦ let z = (mine s).0 y.2 in (omega (arith, z.1), z.0, y.1)
+  ]
+
+  back : (v : ℕ) (s : Site) → v < m → (s.process < n + 1) × IsSite charts s × (s.range.signal ≡ v) → Contains (row more_signals v) s
+  back v s h y = subst (λ (x : List (List Site)). Contains (row x v) s) (sym filed) ((filed_has own signals v s).1 (elim (below_or s.process n y.0) [
+    | inl l ↦ inl ((before.of_signals v s h).1 (l, y.1, y.2))
+    | inr e ↦ inr (subst (λ (k : ℕ). v < k) (sym before.long) h, y.2, (mine s).1 (y.1, e))
+  ]))
+
+pub all_below : (x : Texts) (m n : ℕ) (signals processes : List (List Site)) → m ≡ length x.design.signals → length x.charts ≤ n → SitesBelow x.charts m n signals processes →
+    AreSites x signals processes
+all_below x m n signals processes e past have = record {
+  long = have.long ∙ e;
+  of_signals = λ v s h. let both = have.of_signals v s (subst (λ (k : ℕ). v < k) (sym e) h) in (
+    λ c. let y = both.0 c in (y.1, y.2),
+    λ y. let l = slice_get_within x.charts s.process y.0.chart y.0.is in both.1 (omega (arith, l, past), y.0, y.1),
+  );
+  of_processes = λ i s. elim (cases i) [
+    | inl l ↦ have.of_processes i s l
+    | inr g ↦ (
+      λ c. absurd (none_in s (subst (λ (l : List Site). Contains l s) (row_past processes i (omega (arith, g, have.many))) c)),
+      λ y. let l = slice_get_within x.charts s.process y.0.chart y.0.is in absurd (omega (arith, l, past, g, y.1)),
+    )
+  ];
+} where
+  cases : (i : ℕ) → (i < n) ⊎ (n ≤ i)
+  cases i = grind arith
+
+-- ---- of one signal
+
+-- a list has the sites of a signal
+abbrev pub AreSitesOf : List Chart → ℕ → List Site → Type 0
+AreSitesOf charts v sites = (s : Site) → (Contains sites s ↔ (IsSite charts s × (s.range.signal ≡ v)))
+
+-- a write of a place writes its signal there
+pub written_so : (t : Chart) (p v : ℕ) (u : Use) (r : BitRange) → IsWrite u → UsesAt t p u r → r.signal ≡ v → HasSignal (now_at t p) v ⊎ HasSignal (later_at t p) v
+written_so t p v Now r w h e = inl (r, h, e)
+written_so t p v Later r w h e = inr (r, h, e)
+written_so t p v Reads r w h e = absurd w
+written_so t p v Shows r w h e = absurd w
+written_so t p v (Waits edge) r w h e = absurd w
+
+-- ---- rules of sites
+
+-- all of the first sites keep a rule, and one more
+pub keep_more : (P : Site → Type 0) (sites : List Site) (i : ℕ) (d : Site) → ((k : ℕ) (s : Site) → k < i → slice_get sites k ≡ Some s → P s) → i < length sites → P (get_or sites i d) →
+    (k : ℕ) (s : Site) → k < i + 1 → slice_get sites k ≡ Some s → P s
+keep_more P sites i d before within here k s h is = elim (below_or k i h) [
+  | inl l ↦ before k s l is
+  | inr e ↦ subst P (same_Some (get_or sites i d) s (sym (slice_get-get_or sites i d within) ∙ ap (slice_get sites) (sym e) ∙ is)) here
+]
+
+pub keep_all : (P : Site → Type 0) (sites : List Site) (i : ℕ) → length sites ≤ i → ((k : ℕ) (s : Site) → k < i → slice_get sites k ≡ Some s → P s) →
+    (IsTrue true ↔ ((s : Site) → Contains sites s → P s))
+keep_all P sites i past all =
+    (λ h s c. all c.0 s (omega (arith, past, c.1)) (slice_get-get_or sites c.0 s c.1 ∙ ap Some c.2), λ f. refl)
+
+pub keep_not : (P : Site → Type 0) (sites : List Site) (i : ℕ) (d : Site) → i < length sites → (P (get_or sites i d) → ⊥) → (IsTrue false ↔ ((s : Site) → Contains sites s → P s))
+keep_not P sites i d within not = (λ h. absurd (false≢true h), λ all. absurd (not (all (get_or sites i d) (i, within, same_read sites i (get_or sites i d) d within)))) where
+  same_read : (xs : List Site) (k : ℕ) (a b : Site) → k < length xs → get_or xs k a ≡ get_or xs k b
+  same_read [] k a b h = absurd (omega (arith, h))
+  same_read (x ∷ xs) zero a b h = refl
+  same_read (x ∷ xs) (suc k) a b h = same_read xs k a b (omega (arith, h))
+
+-- sites of a signal that are writes by `=` keep a rule of their places
+pub now_kept : (x : Texts) (v : ℕ) (keeps : ℕ → ℕ → Type 0) (sites : List Site) → AreSitesOf x.charts v sites →
+    (((s : Site) → Contains sites s → s.usage ≡ Now → keeps s.process s.place) ↔ AllNow x v keeps)
+now_kept x v keeps sites are = (
+  λ all i p t is point h. all (site_of i p Now h.0) ((are (site_of i p Now h.0)).1 (record { chart = t; is = is; point = point; uses = h.1 }, h.2)) refl,
+  λ all s c e. let y = (are s).0 c in all s.process s.place y.0.chart y.0.is y.0.point (s.range, subst (λ (u : Use). UsesAt y.0.chart s.place u s.range) e y.0.uses, y.1),
+)
+
+-- those that are writes by `<=` do
+pub later_kept : (x : Texts) (v : ℕ) (keeps : ℕ → ℕ → Type 0) (sites : List Site) → AreSitesOf x.charts v sites →
+    (((s : Site) → Contains sites s → s.usage ≡ Later → keeps s.process s.place) ↔ AllLater x v keeps)
+later_kept x v keeps sites are = (
+  λ all i p t is point h. all (site_of i p Later h.0) ((are (site_of i p Later h.0)).1 (record { chart = t; is = is; point = point; uses = h.1 }, h.2)) refl,
+  λ all s c e. let y = (are s).0 c in all s.process s.place y.0.chart y.0.is y.0.point (s.range, subst (λ (u : Use). UsesAt y.0.chart s.place u s.range) e y.0.uses, y.1),
+)
+
+-- ---- sites picked
+
+-- a list has the images of those of the first sites that are picked
+abbrev pub PickedBelow : (Site → Type 0) → (Site → ℕ) → List Site → ℕ → List ℕ → Type 0
+PickedBelow P f sites n all = (x : ℕ) → (Contains all x ↔ ((k : ℕ) × (s : Site) × (k < n) × (slice_get sites k ≡ Some s) × P s × (f s ≡ x)))
+
+pub none_picked : (P : Site → Type 0) (f : Site → ℕ) (sites : List Site) (all : List ℕ) → all ≡ [] → PickedBelow P f sites 0 all
+none_picked P f sites all e x = (λ c. absurd (none_in x (subst (λ (l : List ℕ). Contains l x) e c)), λ y. absurd (omega (arith, y.2)))
+
+pub one_picked : (P : Site → Type 0) (f : Site → ℕ) (sites : List Site) (n : ℕ) (d : Site) (all more : List ℕ) → PickedBelow P f sites n all → n < length sites → P (get_or sites n d) →
+    more ≡ all ++ f (get_or sites n d) ∷ [] → PickedBelow P f sites (n + 1) more
+one_picked P f sites n d all more before within is put x = (
+  λ c. elim (Contains-append_cases all (f (get_or sites n d) ∷ []) x (subst (λ (l : List ℕ). Contains l x) put c)) [
+    | inl a ↦ let y = (before x).0 a in (y.0, y.1, omega (arith, y.2), y.3, y.4, y.5)
+    | inr b ↦ elim (in_either (f (get_or sites n d)) x [] b) [
+      | inl e ↦ (n, get_or sites n d, omega arith, slice_get-get_or sites n d within, is, e)
+      | inr z ↦ absurd (none_in x z)
     ]
   ],
-)
-
-pub map_sites : (old new : List Site) (i n : ℕ) (t : Chart) → ((p : ℕ) → IsPlace t p → p < n) → HasSites old new i t n → (s : Site) →
-    (Contains new s ↔ (Contains old s ⊎ ((s.process ≡ i) × IsPlace t s.place)))
-map_sites old new i n t within all s = (
-  λ c. elim ((all s).0 c) [ inl a ↦ inl a | inr b ↦ inr (b.0, b.2) ],
-  λ y. (all s).1 (elim y [ inl a ↦ inl a | inr b ↦ inr (b.0, within s.place b.1, b.1) ]),
-)
-
--- ---- of all maps
-
--- a list with the points of the first maps
-abbrev pub HasSitesTo : List Chart → List Site → ℕ → Type 0
-HasSitesTo charts sites n = (s : Site) → (Contains sites s ↔ ((s.process < n) × IsSite charts s))
-
-pub no_map_yet : (charts : List Chart) (sites : List Site) → sites ≡ [] → HasSitesTo charts sites 0
-no_map_yet charts sites e s = (λ c. absurd (let none : Contains [] s = subst (λ l. Contains l s) e c in omega (arith, none.1)), λ y. absurd (omega (arith, y.0)))
-
-pub one_map : (charts : List Chart) (old new : List Site) (i : ℕ) (t : Chart) → HasSitesTo charts old i → i < length charts → t ≡ get_or charts i t →
-    ((s : Site) → (Contains new s ↔ (Contains old s ⊎ ((s.process ≡ i) × IsPlace t s.place)))) → HasSitesTo charts new (i + 1)
-one_map charts old new i t so_far less is more s = (
-  λ c. elim ((more s).0 c) [
-    | inl a ↦ let y = (so_far s).0 a in (omega (arith, y.0), y.1)
-    | inr b ↦ (omega (arith, b.0), (t, subst (λ k. slice_get charts k ≡ Some t) (sym b.0) here, b.1))
-  ],
-  λ y. (more s).1 (elim (below_or s.process i y.0) [
-    | inl l ↦ inl ((so_far s).1 (l, y.1))
-    | inr e ↦ inr (e, subst (λ (x : Chart). IsPlace x s.place) (same_Some y.1.0 t (sym y.1.1 ∙ ap (slice_get charts) e ∙ here)) y.1.2)
+  λ y. subst (λ (l : List ℕ). Contains l x) (sym put) (elim (below_or y.0 n y.2) [
+    | inl l ↦ Contains-append_left all (f (get_or sites n d) ∷ []) x ((before x).1 (y.0, y.1, l, y.3, y.4, y.5))
+    | inr e ↦
+        let same : get_or sites n d ≡ y.1 = same_Some (get_or sites n d) y.1 (sym (slice_get-get_or sites n d within) ∙ ap (slice_get sites) (sym e) ∙ y.3) in
+        Contains-append_right all (f (get_or sites n d) ∷ []) x (subst (Contains (f (get_or sites n d) ∷ [])) (ap f same ∙ y.5) (head_in (f (get_or sites n d)) []))
   ]),
-) where
-  here : slice_get charts i ≡ Some t
-  here = slice_get-get_or charts i t less ∙ ap Some (sym is)
-
-pub all_maps : (charts : List Chart) (sites : List Site) (n : ℕ) → length charts ≤ n → HasSitesTo charts sites n → AreSites charts sites
-all_maps charts sites n past all s = (
-  λ c. ((all s).0 c).1,
-  λ y. (all s).1 (omega (arith, past, slice_get_within charts s.process y.0 y.1), y),
 )
 
--- ---- rules of points
+pub one_passed : (P : Site → Type 0) (f : Site → ℕ) (sites : List Site) (n : ℕ) (d : Site) (all : List ℕ) → PickedBelow P f sites n all → n < length sites → (P (get_or sites n d) → ⊥) →
+    PickedBelow P f sites (n + 1) all
+one_passed P f sites n d all before within not x = (
+  λ c. let y = (before x).0 c in (y.0, y.1, omega (arith, y.2), y.3, y.4, y.5),
+  λ y. elim (below_or y.0 n y.2) [
+    | inl l ↦ (before x).1 (y.0, y.1, l, y.3, y.4, y.5)
+    | inr e ↦ absurd (not (subst P (same_Some y.1 (get_or sites n d) (sym y.3 ∙ ap (slice_get sites) e ∙ slice_get-get_or sites n d within)) y.4))
+  ],
+)
 
--- what holds of the first elements and of the next
-pub further : (P : ℕ → Type 0) (xs : List ℕ) (i : ℕ) → ((k : ℕ) → k < i → P (get_or xs k 0)) → P (get_or xs i 0) → (k : ℕ) → k < i + 1 → P (get_or xs k 0)
-further P xs i before here k h = elim (below_or k i h) [ inl l ↦ before k l | inr e ↦ subst (λ (n : ℕ). P (get_or xs n 0)) (sym e) here ]
+pub all_picked : (P : Site → Type 0) (f : Site → ℕ) (sites : List Site) (n : ℕ) (all : List ℕ) → length sites ≤ n → PickedBelow P f sites n all → (x : ℕ) →
+    (Contains all x ↔ ((s : Site) × Contains sites s × P s × (f s ≡ x)))
+all_picked P f sites n all past have x = (
+  λ c. let y = (have x).0 c in (y.1, (y.0, slice_get_within sites y.0 y.1 y.3, get_or_from_slice_get sites y.0 y.1 y.1 y.3), y.4, y.5),
+  λ y. (have x).1 (y.1.0, y.0, omega (arith, y.1.1, past), slice_get-get_or sites y.1.0 y.0 y.1.1 ∙ ap Some y.1.2, y.2, y.3),
+)
 
-same_read : (xs : List ℕ) (k d e : ℕ) → k < length xs → get_or xs k d ≡ get_or xs k e
-same_read [] k d e h = absurd (omega (arith, h))
-same_read (x ∷ xs) zero d e h = refl
-same_read (x ∷ xs) (suc k) d e h = same_read xs k d e (omega (arith, h))
+-- ---- points of the first slot
 
-pub all_do : (P : ℕ → Type 0) (xs : List ℕ) (i : ℕ) → length xs ≤ i → ((k : ℕ) → k < i → P (get_or xs k 0)) → (IsTrue true ↔ ((x : ℕ) → Contains xs x → P x))
-all_do P xs i past all = (λ h x c. subst P (same_read xs c.0 0 x c.1 ∙ c.2) (all c.0 (omega (arith, past, c.1))), λ f. refl)
+chosen_in : (chosen : Bool) (xs : List ℕ) (b : ℕ) → Contains (if chosen then xs else []) b → Contains xs b
+chosen_in true xs b c = c
+chosen_in false xs b c = absurd (none_in b c)
 
-pub one_not : (P : ℕ → Type 0) (xs : List ℕ) (i : ℕ) → i < length xs → (P (get_or xs i 0) → IsTrue false) → (IsTrue false ↔ ((x : ℕ) → Contains xs x → P x))
-one_not P xs i less not = (λ h. absurd (false≢true h), λ all. not (all (get_or xs i 0) (i, less, same_read xs i (get_or xs i 0) 0 less)))
-
--- points with something, by their numbers in a row
-abbrev pub AreThere : (Chart → ℕ → Type 0) → List Chart → List Site → List ℕ → Type 0
-AreThere has charts sites row =
-    (k : ℕ) → (Contains row k ↔ ((k < length sites) × ((s : Site) × (slice_get sites k ≡ Some s) × ((t : Chart) × (slice_get charts s.process ≡ Some t) × has t s.place))))
-
--- a rule of the points of a row is one of all points with that
-pub all_there : (has : Chart → ℕ → Type 0) (keeps : ℕ → ℕ → Type 0) (charts : List Chart) (sites : List Site) (row : List ℕ) → AreSites charts sites → AreThere has charts sites row →
-    (b : Bool) → (IsTrue b ↔ ((k : ℕ) → Contains row k → (s : Site) → slice_get sites k ≡ Some s → keeps s.process s.place)) →
-    (IsTrue b ↔ ((i p : ℕ) (t : Chart) → slice_get charts i ≡ Some t → IsPlace t p → has t p → keeps i p))
-all_there has keeps charts sites row sites_are rows_are b f = (there, back) where
-  there : IsTrue b → (i p : ℕ) (t : Chart) → slice_get charts i ≡ Some t → IsPlace t p → has t p → keeps i p
-  there h i p t at place w =
-      let s : Site = record { process = i; place = p } in
-      let c = (sites_are s).1 (t, at, place) in
-      let is : slice_get sites c.0 ≡ Some s = slice_get-get_or sites c.0 s c.1 ∙ ap Some c.2 in
-      f.0 h c.0 ((rows_are c.0).1 (c.1, (s, is, (t, at, w)))) s is
-
-  back : ((i p : ℕ) (t : Chart) → slice_get charts i ≡ Some t → IsPlace t p → has t p → keeps i p) → IsTrue b
-  back all = f.1 (λ k in_row s is.
-      let y = ((rows_are k).0 in_row).1 in
-      let e : y.0 ≡ s = same_Some y.0 s (sym y.1 ∙ is) in
-      let z = (sites_are s).0 (contains_at sites k s is) in
-      let same : y.2.0 ≡ z.0 = same_Some y.2.0 z.0 (sym y.2.1 ∙ ap (λ (x : Site). slice_get charts x.process) e ∙ z.1) in
-      all s.process s.place z.0 z.1 z.2 (subst (λ (t : Chart). has t s.place) same (subst (λ (x : Site). has y.2.0 x.place) e y.2.2)))
+pub slot0_point : (t : Chart) (p : ℕ) → InSlot0 t p → IsPlace t p
+slot0_point t _ (Reached.begins a c) = Reached.begins a c
+slot0_point t _ (Reached.goes_on a b h c) =
+    Reached.goes_on a b (slot0_point t a h) (tail_in (stops_behind t.stops a) b (stops_tos t.stops a) (chosen_in (statement_passes ZeroTime (stop_statement (stop_at t.stops a))) (stops_tos t.stops a) b c))

@@ -6,5 +6,5 @@ pub mod Ranges
 pub mod Walks
 pub use Rattle.vs_graph
 pub mod Texts
-pub mod Written
+pub mod Sites
 pub use Rattle.vs_rules

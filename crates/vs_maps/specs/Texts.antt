@@ -1,6 +1,5 @@
 -- Which texts write, read and wait for a signal, and at which of their points.
-use Rattle.std.specs.Prelude.{ℕ, ◌≡◌, ◌<◌, ◌↔◌, Bool, Some, List, [], get_or, length, slice_get}
-use Rattle.std.specs.List.{Contains}
+use Rattle.std.specs.Prelude.{ℕ, ◌≡◌, ◌<◌, Bool, Some, List, [], get_or, length, slice_get}
 use Rattle.std.specs.declared.vec.Vec.{Vec}
 use Rattle.std.specs.declared.alloc.Global.{Global}
 use Rattle.vs_design.specs.declared.statement.EventTerm.{EventTerm}
@@ -11,7 +10,6 @@ use Rattle.vs_graph.specs.Rows.{AreRows}
 use Rattle.vs_maps.specs.Ranges.{HasSignal, HasTermAt, now_at, later_at}
 use Rattle.vs_maps.specs.Reaches.{Chart, IsPlace, places}
 use Rattle.vs_maps.specs.Walks.{AreMarked, InLate}
-use Rattle.vs_maps.specs.declared.sites.Site.{Site}
 
 -- a design, and the maps of the texts of its processes
 pub record Texts : Type 0 where
@@ -21,29 +19,10 @@ pub record Texts : Type 0 where
 abbrev pub texts_of : Parts → List Chart → Texts
 texts_of d charts = record { design = d; charts = charts }
 
--- a place of a process's map that is a point
-abbrev pub IsSite : List Chart → Site → Type 0
-IsSite charts s = (t : Chart) × (slice_get charts s.process ≡ Some t) × IsPlace t s.place
-
--- the statement there writes the signal by `=`, or by `<=`
-abbrev pub WritesNowThere : List Chart → Site → ℕ → Type 0
-WritesNowThere charts s v = (t : Chart) × (slice_get charts s.process ≡ Some t) × HasSignal (now_at t s.place) v
-
-abbrev pub WritesLaterThere : List Chart → Site → ℕ → Type 0
-WritesLaterThere charts s v = (t : Chart) × (slice_get charts s.process ≡ Some t) × HasSignal (later_at t s.place) v
-
 -- an event control of a process's text names the signal
 abbrev pub WaitsFor : List Chart → ℕ → ℕ → Type 0
 WaitsFor charts i v =
     (t : Chart) × (slice_get charts i ≡ Some t) × ((term : EventTerm) × HasTermAt t term × (term.range.signal ≡ v))
-
--- the one of this number has this sort
-abbrev pub IsSort : (Site → ℕ → Type 0) → List Site → ℕ → ℕ → Type 0
-IsSort sort sites k v = (s : Site) × (slice_get sites k ≡ Some s) × sort s v
-
--- a list has the points of all maps, and no others
-abbrev pub AreSites : List Chart → List Site → Type 0
-AreSites charts sites = (s : Site) → (Contains sites s ↔ IsSite charts s)
 
 -- the marks of a process
 abbrev pub marks_of : List (Vec Bool Global) → ℕ → List Bool
@@ -54,20 +33,14 @@ abbrev pub AreLate : List Chart → List (Vec Bool Global) → ℕ → Type 0
 AreLate charts table n =
     (i : ℕ) (t : Chart) → i < n → slice_get charts i ≡ Some t → AreMarked (InLate t) (places t) (marks_of table i)
 
--- the processes whose texts write, read and wait for each signal, the points with a write of it by `=` and by `<=`, by their numbers among all, and
--- the late places of each map
-pub record AreUses (x : Texts) (sites : List Site) (writers readers waiters now later : List (List ℕ)) (late : List (Vec Bool Global)) :
-    Type 0 where
-  pub sites_are : AreSites x.charts sites
+-- the processes whose texts write, read and wait for each signal, and the late places of each map
+pub record AreUses (x : Texts) (writers readers waiters : List (List ℕ)) (late : List (Vec Bool Global)) : Type 0 where
   pub late_are : AreLate x.charts late (length x.charts)
   pub rows : (length writers ≡ length x.design.signals) × (length readers ≡ length x.design.signals) ×
       (length waiters ≡ length x.design.signals)
-  pub site_rows : (length now ≡ length x.design.signals) × (length later ≡ length x.design.signals)
   pub writers_are : AreRows (λ i v. HasSignal (writes_of x.design i) v) (length x.design.processes) (length x.design.signals) writers
   pub readers_are : AreRows (λ i v. HasSignal (reads_of x.design i) v) (length x.design.processes) (length x.design.signals) readers
   pub waiters_are : AreRows (WaitsFor x.charts) (length x.charts) (length x.design.signals) waiters
-  pub now_are : AreRows (IsSort (WritesNowThere x.charts) sites) (length sites) (length x.design.signals) now
-  pub later_are : AreRows (IsSort (WritesLaterThere x.charts) sites) (length sites) (length x.design.signals) later
 
 -- all points with a write of the signal, of the one sort, keep a rule
 abbrev pub AllNow : Texts → ℕ → (ℕ → ℕ → Type 0) → Type 0

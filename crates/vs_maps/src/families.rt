@@ -1,12 +1,11 @@
 //! The signals of each text, and of each of its points.
-ghost use Rattle.std.specs.Prelude.{ℕ, ◌≡◌, ◌↔◌, ◌⊎◌, OnOk, slice_get};
+ghost use Rattle.std.specs.Prelude.{ℕ, ◌≡◌, ◌↔◌, ◌⊎◌, OnOk};
 ghost use Rattle.std.specs.List.{Contains};
 ghost use Rattle.vs_rules.specs.Paths.{reads_of, writes_of};
 ghost use Rattle.vs_maps.specs.Ranges.{HasSignal};
 ghost use Rattle.vs_design.specs.declared.statement.EventTerm.{EventTerm};
-ghost use Rattle.vs_maps.specs.Texts.{IsSort, WaitsFor, WritesNowThere, WritesLaterThere};
+ghost use Rattle.vs_maps.specs.Texts.{WaitsFor};
 
-use crate::sites::Site;
 use crate::vs_graph::Family;
 use crate::{Tables, terms, text_reads};
 use std::alloc::{AllocError, Global};
@@ -87,49 +86,5 @@ impl<'a> Family for Waiting<'a> {
         }
         let terms = terms(alloc, &self.tables[i])?;
         push_term_signals(out, &terms)
-    }
-}
-
-/// The signals that are written by `=` at each point.
-#[derive(Drop)]
-pub(crate) struct WritingNow<'a> {
-    pub(crate) tables: &'a [Tables<'a>],
-    pub(crate) sites: &'a [Site],
-}
-
-impl<'a> Family for WritingNow<'a> {
-    ghost has = { λ f k v. IsSort (WritesNowThere f.tables.now) f.sites.now k v };
-
-    fn put(&self, alloc: Global, i: usize, out: &mut Vec<usize>) -> Result<(), AllocError> {
-        let Some(site) = self.sites.get(i) else {
-            return Ok(());
-        };
-        if site.process >= self.tables.len() {
-            return Ok(());
-        }
-        let ranges = self.tables[site.process].now_at(alloc, site.place)?;
-        push_signals(out, &ranges)
-    }
-}
-
-/// The signals that are written by `<=` at each point.
-#[derive(Drop)]
-pub(crate) struct WritingLater<'a> {
-    pub(crate) tables: &'a [Tables<'a>],
-    pub(crate) sites: &'a [Site],
-}
-
-impl<'a> Family for WritingLater<'a> {
-    ghost has = { λ f k v. IsSort (WritesLaterThere f.tables.now) f.sites.now k v };
-
-    fn put(&self, alloc: Global, i: usize, out: &mut Vec<usize>) -> Result<(), AllocError> {
-        let Some(site) = self.sites.get(i) else {
-            return Ok(());
-        };
-        if site.process >= self.tables.len() {
-            return Ok(());
-        }
-        let ranges = self.tables[site.process].later_at(alloc, site.place)?;
-        push_signals(out, &ranges)
     }
 }

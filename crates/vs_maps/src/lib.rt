@@ -14,17 +14,17 @@ mod sites;
 mod tables;
 mod uses;
 mod walks;
-mod written;
 
 pub use along::Along;
 pub use delays::controls;
 pub use laws::{maps_are_exact, texts_are_exact};
 pub use pauses::Pause;
 pub use readings::text_reads;
-pub use sites::{Site, SiteRule};
+pub use sites::{
+    Site, SiteRule, Sites, Use, is_later, is_now, is_write, is_write_of, places_written,
+};
 pub use tables::Tables;
 pub use uses::Uses;
 pub use vs_graph;
 pub use vs_threads;
 pub use walks::{controls_before, hot, late, marks_of, terms, walks_from};
-pub use written::put_writes;

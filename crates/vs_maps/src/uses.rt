@@ -2,14 +2,13 @@
 ghost use Rattle.std.specs.Prelude.{ℕ, ◌≡◌, ◌<◌, ◌↔◌, Some, length, slice_get, IfOk, IsTrue};
 ghost use Rattle.std.specs.List.{Contains};
 ghost use Rattle.vs_rules.specs.Paths.{ListsSignal, Writes, reads_of};
-ghost use Rattle.vs_maps.specs.declared.sites.Site.{Site};
 ghost use Rattle.vs_maps.specs.Texts.{AllNow, AllLater, WaitsFor, marks_of, texts_of};
 ghost use Rattle.vs_maps.specs.Reaches.{Chart, places};
 ghost use Rattle.vs_maps.specs.Walks.{AreMarked, InLate};
 
 use crate::Tables;
-use crate::families::{Reading, Waiting, Writing, WritingLater, WritingNow};
-use crate::sites::{Site, SiteRule, late_marks, sites};
+use crate::families::{Reading, Waiting, Writing};
+use crate::sites::{SiteRule, Sites, all_keep_later, all_keep_now, late_marks};
 use std::alloc::{AllocError, Global};
 use std::marker::Model;
 use vs_design::Design;
@@ -18,14 +17,10 @@ use vs_graph::{Rows, index_of};
 /// The uses of the signals of a design, with the tables of its processes. A contract sees the design and the maps.
 #[derive(Drop)]
 pub struct Uses<'a> {
-    design: &'a Design,
-    tables: &'a [Tables<'a>],
-    sites: Vec<Site>,
+    sites: Sites<'a>,
     writers: Rows<usize>,
     readers: Rows<usize>,
     waiters: Rows<usize>,
-    blocking: Rows<usize>,
-    nonblocking: Rows<usize>,
     late: Vec<Vec<bool>>,
 }
 
@@ -33,17 +28,15 @@ impl<'a> Model for Uses<'a> {
     ghost use Rattle.std.specs.Coded.{codes};
     ghost use Rattle.vs_design.specs.contracts.expression.Typed as expression;
     ghost use Rattle.vs_design.specs.contracts.statement.Statement as statement;
-    ghost use Rattle.vs_maps.specs.Texts.{Texts, AreUses, texts_of};
+    ghost use Rattle.vs_maps.specs.Texts.{Texts, AreUses};
 
     ghost Value = { Texts };
 
     ghost coded = { Prim.hlevel (codes, statement.the_row.coded, expression.the_row.coded) };
 
-    ghost view = { λ u. texts_of u.design.now u.tables.now };
+    ghost view = { λ u. u.sites };
 
-    ghost invariant = { λ u.
-        AreUses (texts_of u.design.now u.tables.now) u.sites.items u.writers u.readers u.waiters u.blocking u.nonblocking
-        u.late.items };
+    ghost invariant = { λ u. AreUses u.sites u.writers u.readers u.waiters u.late.items };
 }
 
 // The marks of a number.
@@ -54,29 +47,6 @@ fn marks_of(table: &[Vec<bool>], i: usize) -> &[bool]
         return &[];
     }
     &table[i]
-}
-
-// Whether the point of a number keeps a rule, where there is one.
-fn keeps_at<R: SiteRule>(sites: &[Site], k: usize, rule: &R) -> bool
-    ensures { IsTrue result ↔ ((s : Site) → slice_get sites.now k ≡ Some s → R.keeps rule.now s.process s.place) }
-{
-    match sites.get(k) {
-        None => true,
-        Some(site) => rule.test(site.process, site.place),
-    }
-}
-
-// Whether those of some points that have these numbers keep a rule.
-fn all_keep<R: SiteRule>(sites: &[Site], row: &[usize], rule: &R) -> bool
-    ensures { IsTrue result ↔ ((k : ℕ) → Contains row.now k →
-        (s : Site) → slice_get sites.now k ≡ Some s → R.keeps rule.now s.process s.place) }
-{
-    for k in row {
-        if !keeps_at(sites, *k, rule) {
-            return false;
-        }
-    }
-    true
 }
 
 impl<'a> Uses<'a> {
@@ -90,40 +60,25 @@ impl<'a> Uses<'a> {
     {
         let signals = design.signals().len();
         let processes = design.processes().len();
-        let sites = sites(alloc, tables)?;
         let writers = index_of(alloc, &Writing { design: &*design }, processes, signals)?;
         let readers = index_of(alloc, &Reading { design: &*design }, processes, signals)?;
         let waiters = index_of(alloc, &Waiting { tables: &*tables }, tables.len(), signals)?;
-        let blocking = index_of(
-            alloc,
-            &WritingNow {
-                tables: &*tables,
-                sites: &sites,
-            },
-            sites.len(),
-            signals,
-        )?;
-        let nonblocking = index_of(
-            alloc,
-            &WritingLater {
-                tables: &*tables,
-                sites: &sites,
-            },
-            sites.len(),
-            signals,
-        )?;
-        let late = late_marks(alloc, tables)?;
+        let late = late_marks(alloc, &*tables)?;
+        let sites = Sites::new(alloc, design, tables)?;
         Ok(Uses {
-            design,
-            tables,
             sites,
             writers,
             readers,
             waiters,
-            blocking,
-            nonblocking,
             late,
         })
+    }
+
+    /// The sites of the design.
+    pub fn sites(&self) -> &Sites<'a>
+        ensures { result.now ≡ self.now }
+    {
+        &self.sites
     }
 
     /// The processes whose texts write a signal.
@@ -162,7 +117,7 @@ impl<'a> Uses<'a> {
         requires { v < length self.now.design.signals }
         ensures { IsTrue result ↔ AllNow self.now v (R.keeps rule.now) }
     {
-        all_keep(&self.sites, self.blocking.row(v), rule)
+        all_keep_now(self.sites.of_signal(v), rule)
     }
 
     /// Whether all points of the maps with a write of the signal by `<=` keep a rule.
@@ -170,6 +125,6 @@ impl<'a> Uses<'a> {
         requires { v < length self.now.design.signals }
         ensures { IsTrue result ↔ AllLater self.now v (R.keeps rule.now) }
     {
-        all_keep(&self.sites, self.nonblocking.row(v), rule)
+        all_keep_later(self.sites.of_signal(v), rule)
     }
 }

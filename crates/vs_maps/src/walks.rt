@@ -39,8 +39,8 @@ fn is_control(pause: Pause) -> bool
     }
 }
 
-// The terms for one of which a pause waits.
-fn pause_terms<'a>(pause: Pause<'a>) -> &'a [EventTerm]
+/// The terms for one of which a pause waits.
+pub(crate) fn pause_terms<'a>(pause: Pause<'a>) -> &'a [EventTerm]
     ensures { result.now ≡ pause_terms (pause_view pause.entry) }
 {
     match pause {

@@ -60,11 +60,11 @@ apart_from x t row i j from to p all inside inside' is is' a b c d = elim (eithe
 ]
 
 -- a signal is hot at none of the places that write it, where these are apart
-pub apart_never_hot : (t : Chart) (x : Ranks) (v : ℕ) (row : List ℕ) → LeadsIn (places t) t.stops → ((p : ℕ) → IsPlace t p → p < places t) → AreRanks t x →
-    ((p : ℕ) → p < places t → WritesAt t p v → Contains row p) → ((k : ℕ) → k < length row → ApartAt t x row k) → NeverHotIn t v
-apart_never_hot t x v row leads within ranks those all p place writes heat =
-    let a = those heat.from (within heat.from heat.is_place) (inl heat.starts) in
-    let b = those p (within p place) writes in
+pub apart_never_hot : (t : Chart) (x : Ranks) (v : ℕ) (row : List ℕ) → LeadsIn (places t) t.stops → AreRanks t x →
+    ((p : ℕ) → IsPlace t p → WritesAt t p v → Contains row p) → ((k : ℕ) → k < length row → ApartAt t x row k) → NeverHotIn t v
+apart_never_hot t x v row leads ranks those all p place writes heat =
+    let a = those heat.from heat.is_place (inl heat.starts) in
+    let b = those p place writes in
     let is : get_or row a.0 0 ≡ heat.from = same_read row a.0 0 heat.from a.1 ∙ a.2 in
     let is' : get_or row b.0 0 ≡ p = same_read row b.0 0 p b.1 ∙ b.2 in
     let inside = leads.ways heat.from heat.to heat.leads in

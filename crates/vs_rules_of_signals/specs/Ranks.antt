@@ -2,11 +2,11 @@
 use Rattle.std.specs.Prelude.{ℕ, ◌≡◌, ◌+◌, ◌<◌, ◌≤◌, Some, List, get_or, length, slice_get}
 use Rattle.std.specs.List.{Contains}
 use Rattle.vs_process.specs.Stops.{stops_tos}
-use Rattle.vs_maps.specs.vs_rules.specs.Claims.{IsDelay, IsWriter}
+use Rattle.vs_maps.specs.vs_rules.specs.Claims.{IsWriter}
 use Rattle.vs_claims.specs.vs_maps.specs.declared.along.Along.TheVariants.{ZeroTime}
-use Rattle.vs_claims.specs.vs_maps.specs.Reaches.{Chart, places, stops_along}
-use Rattle.vs_maps.specs.Written.{StandsIn}
+use Rattle.vs_claims.specs.vs_maps.specs.Reaches.{Chart, IsPlace, places, stops_along}
 use Rattle.vs_claims.specs.Facts.{Case}
+use Rattle.vs_graph.specs.Rows.{row}
 use Rattle.vs_rules_of_signals.specs.declared.ranks.Ranks.{Ranks}
 use Rattle.vs_rules_of_signals.specs.Places.{WritesAt}
 
@@ -43,10 +43,14 @@ IsApart x p q =
 abbrev pub ApartAt : Chart → Ranks → List ℕ → ℕ → Type 0
 ApartAt t x row k = GoesUp t x (get_or row k 0) × (k + 1 < length row → IsApart x (get_or row k 0) (get_or row (k + 1) 0))
 
--- the places of a process, where it is of kind delay and the writer of a signal, that write this stand in a table
-abbrev pub AreOwnPlaces : Case → ℕ → Chart → List (List ℕ) → Type 0
-AreOwnPlaces f i t table = (p v : ℕ) → p < places t → v < length table → IsDelay f.design f.claims i → IsWriter f.design f.claims v i →
-    WritesAt t p v → StandsIn table v p
+-- a list has the points of its writer's text at which a signal is written
+abbrev pub ArePlacesOf : Case → ℕ → List ℕ → Type 0
+ArePlacesOf f v row = (i : ℕ) (t : Chart) → slice_get f.charts i ≡ Some t → IsWriter f.design f.claims v i →
+    (p : ℕ) → IsPlace t p → WritesAt t p v → Contains row p
+
+-- rows are such lists of the signals, in their order
+abbrev pub AreAllPlaces : Case → List (List ℕ) → Type 0
+AreAllPlaces f table = (v : ℕ) → v < length table → ArePlacesOf f v (row table v)
 
 -- these are the ranks of a process, by its number
 abbrev pub AreRanksOf : Case → ℕ → Ranks → Type 0
@@ -58,5 +62,5 @@ AreAllRanks f ranks = (i : ℕ) (x : Ranks) → slice_get ranks i ≡ Some x →
 
 -- what is kept of the writes of signals
 pub record KeepsWrites (f : Case) (table : List (List ℕ)) (ranks : List Ranks) : Type 0 where
-  pub own : (i : ℕ) (t : Chart) → slice_get f.charts i ≡ Some t → AreOwnPlaces f i t table
+  pub own : AreAllPlaces f table
   pub ranked : AreAllRanks f ranks

@@ -1,23 +1,18 @@
 //! The places at which signals are written by their writers.
-ghost use Rattle.std.specs.Prelude.{ℕ, ◌≡◌, ◌<◌, ◌↔◌, ◌⊎◌, Some, length, slice_get, IfOk, OnOk, IsTrue};
-ghost use Rattle.std.specs.List.{Contains};
+ghost use Rattle.std.specs.Prelude.{◌≡◌, ◌<◌, Some, length, slice_get, IfOk, IsTrue};
 ghost use Rattle.vs_maps.specs.vs_rules.specs.Claims.{IsDelay, IsWriter};
-ghost use Rattle.vs_claims.specs.vs_maps.specs.Ranges.{HasSignal};
-ghost use Rattle.vs_claims.specs.vs_maps.specs.Reaches.{Chart, places};
-ghost use Rattle.vs_maps.specs.Written.{HasGrown, StandsIn};
-ghost use Rattle.vs_rules_of_signals.specs.Ranks.{AreAllRanks, AreOwnPlaces, AreRanksOf};
-ghost use Rattle.vs_rules_of_signals.specs.Places.{NeverHotIn, WritesAt};
+ghost use Rattle.vs_rules_of_signals.specs.Ranks.{AreAllPlaces, AreAllRanks, ArePlacesOf, AreRanksOf};
+ghost use Rattle.vs_rules_of_signals.specs.Places.{NeverHotIn};
 
 use crate::ranks::Ranks;
 use std::alloc::{AllocError, Global};
 use std::marker::Model;
 use vs_claims::Facts;
-use vs_claims::vs_maps::Tables;
-use vs_design::BitRange;
+use vs_claims::vs_maps::{Tables, places_written};
 use vs_graph::Rows;
 
-/// For each signal the places at which its writer writes it, where that is of kind delay, and the ranks of the places of such processes. A
-/// contract sees the design, what the certificate claims of it, and the maps of the texts of the processes.
+/// For each signal the places at which its writer writes it, and the ranks of the places of processes of kind delay. A contract sees the design,
+/// what the certificate claims of it, and the maps of the texts of the processes.
 #[derive(Drop)]
 pub struct Writes<'a> {
     facts: &'a Facts<'a>,
@@ -41,85 +36,25 @@ impl<'a> Model for Writes<'a> {
     ghost invariant = { λ w. KeepsWrites w.facts.now w.places w.ranks.items };
 }
 
-// Whether a process is claimed to be the writer of a signal.
-fn is_writer(facts: &Facts, i: usize, v: usize) -> bool
-    ensures { IsTrue result ↔ IsWriter facts.now.design facts.now.claims v i }
+// The places at which its writer writes a signal. It takes as long as there are sites of the signal.
+fn places_of(alloc: Global, facts: &Facts, v: usize) -> Result<Vec<usize>, AllocError>
+    requires { v < length facts.now.design.signals }
+    ensures { IfOk result (λ places. ArePlacesOf facts.now v places.items) }
 {
     match facts.writer(v) {
-        None => false,
-        Some(writer) => writer == i,
+        None => Ok(Vec::new(alloc)),
+        Some(i) => places_written(alloc, facts.sites().of_signal(v), i),
     }
 }
 
-// Puts the signals of ranges whose writer is a process at a list's end.
-fn push_own(
-    facts: &Facts,
-    i: usize,
-    ranges: &[BitRange],
-    out: &mut Vec<usize>,
-) -> Result<(), AllocError>
-    ensures { OnOk result ((v : ℕ) →
-        Contains out.old.items v ⊎ (HasSignal ranges.now v × IsWriter facts.now.design facts.now.claims v i) → Contains out.new.items v) }
+// Those of all signals, in their order. It takes as long as there are sites.
+fn all_places(alloc: Global, facts: &Facts) -> Result<Rows<usize>, AllocError>
+    ensures { IfOk result (λ table. AreAllPlaces facts.now table) }
 {
-    for r in ranges {
-        if is_writer(facts, i, r.signal) {
-            out.push(r.signal)?;
-        }
-    }
-    Ok(())
-}
-
-// Puts the places of the text of a process at the end of the rows of the signals that it writes there as their writer.
-fn put_places<'a>(
-    alloc: Global,
-    facts: &Facts,
-    tables: &'a Tables<'a>,
-    i: usize,
-    table: &mut Rows<usize>,
-) -> Result<(), AllocError>
-    ensures grown { OnOk result (HasGrown table.old table.new) }
-    ensures own { OnOk result (AreOwnPlaces facts.now i tables.entry.now table.new) }
-{
-    for p in 0..tables.places() {
-        let now = tables.now_at(alloc, p)?;
-        let later = tables.later_at(alloc, p)?;
-        let mut signals = Vec::new(alloc);
-        push_own(facts, i, &now, &mut signals)?;
-        push_own(facts, i, &later, &mut signals)?;
-        table.put_all(&signals, p)?;
-    }
-    Ok(())
-}
-
-// Puts the places of a process there, where it is of kind delay.
-fn put_process<'a>(
-    alloc: Global,
-    facts: &'a Facts<'a>,
-    i: usize,
-    table: &mut Rows<usize>,
-) -> Result<(), AllocError>
-    ensures grown { OnOk result (HasGrown table.old table.new) }
-    ensures own { OnOk result ((t : Chart) → slice_get facts.entry.now.charts i ≡ Some t →
-        AreOwnPlaces facts.entry.now i t table.new) }
-{
-    if !facts.is_delay(i) {
-        return Ok(());
-    }
-    match facts.tables(i) {
-        None => Ok(()),
-        Some(tables) => put_places(alloc, facts, tables, i, table),
-    }
-}
-
-// For each signal the places at which its writer writes it, where that is of kind delay. It takes as long as the texts are.
-fn own_places<'a>(alloc: Global, facts: &'a Facts<'a>) -> Result<Rows<usize>, AllocError>
-    ensures { IfOk result (λ table. (i : ℕ) (t : Chart) → slice_get facts.entry.now.charts i ≡ Some t →
-        AreOwnPlaces facts.entry.now i t table) }
-{
-    facts.maps();
-    let mut table = Rows::empty(alloc, facts.design().signals().len())?;
-    for i in 0..facts.design().processes().len() {
-        put_process(alloc, &*facts, i, &mut table)?;
+    let mut table = Rows::none(alloc);
+    for v in 0..facts.design().signals().len() {
+        let places = places_of(alloc, facts, v)?;
+        table.push(places)?;
     }
     Ok(table)
 }
@@ -154,7 +89,7 @@ impl<'a> Writes<'a> {
     pub fn of(alloc: Global, facts: &'a Facts<'a>) -> Result<Writes<'a>, AllocError>
         ensures { IfOk result (λ w. w ≡ facts.entry.now) }
     {
-        let places = own_places(alloc, facts)?;
+        let places = all_places(alloc, &*facts)?;
         let ranks = all_ranks(alloc, facts)?;
         Ok(Writes {
             facts,

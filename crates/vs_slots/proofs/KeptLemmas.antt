@@ -1,10 +1,12 @@
 -- What is kept of run slots, and run slots of places.
 use Rattle.std.proofs.Common.{◌≡◌, ℕ, zero, suc, ◌+◌, ◌<◌, ◌≤◌, ◌⊎◌, ◌↔◌, inl, inr, true, Option, Some, None, List, [], ◌∷◌, ◌++◌, length, get_or, slice_get, refl, sym, ◌∙◌, ap, subst, arith}
+use Rattle.std.specs.Prelude.{Result, IfOk}
 use Rattle.std.specs.List.{Contains}
 use Rattle.std.specs.declared.vec.Vec.{Vec}
 use Rattle.std.specs.declared.alloc.Global.{Global}
 use Rattle.std.proofs.lemmas.Bool.{false≢true}
 use Rattle.std.proofs.lemmas.Option.{none-some, same_Some, slice_get_within, slice_get-get_or}
+use Rattle.std.proofs.lemmas.Result.{IfOk-weaker}
 use Rattle.vs_design.specs.vs_logic4.specs.declared.digit.Digit.{Digit}
 use Rattle.vs_design.specs.vs_logic4.specs.declared.edge.Edge.{Edge}
 use Rattle.vs_design.specs.vs_logic4.specs.declared.edge.Edge.TheVariants.{Any, Posedge, Negedge}
@@ -363,6 +365,13 @@ at_element P xs i d h = (
   λ p. (get_or xs i d, slice_get-get_or xs i d h, p),
   λ y. subst P (same_Some y.0 (get_or xs i d) (sym y.1 ∙ slice_get-get_or xs i d h)) y.2,
 )
+
+-- a list of what an element at a place has
+pub listed_at : {A E : Type 0} (P : A → ℕ → Type 0) (xs : List A) (i : ℕ) (d : A) (o : Result (Vec ℕ Global) E) → i < length xs →
+    IfOk o (λ list. (r : ℕ) → (Contains list.items r ↔ P (get_or xs i d) r)) → IfOk o (λ list. (r : ℕ) → (Contains list.items r ↔ ((x : A) × (slice_get xs i ≡ Some x) × P x r)))
+listed_at {A} P xs i d o within told =
+    IfOk-weaker o (λ list. (r : ℕ) → (Contains list.items r ↔ P (get_or xs i d) r)) (λ list. (r : ℕ) → (Contains list.items r ↔ ((x : A) × (slice_get xs i ≡ Some x) × P x r)))
+    (λ list h r. let both = at_element (λ x. P x r) xs i d within in (λ x. both.0 ((h r).0 x), λ y. (h r).1 (both.1 y))) told
 
 -- what holds of one of the elements
 pub each_element : {A : Type 0} (P : A → Type 0) (xs : List A) →

@@ -4,5 +4,4 @@ pub mod FiringLemmas
 pub mod ListLemmas
 pub mod TableLemmas
 pub mod KeptLemmas
-pub mod SignalLemmas
-pub mod WrittenLemmas
+pub mod SiteLemmas

@@ -11,12 +11,13 @@ use Rattle.vs_design.specs.Parts.{Parts}
 use Rattle.vs_design.specs.Tables.{rows}
 use Rattle.vs_maps.specs.vs_rules.specs.Claims.{Claims, IsDelay, IsEdge, IsRoot, IsRootOf, IsWriter}
 use Rattle.vs_maps.specs.vs_rules.specs.Constants.{IsClock}
-use Rattle.vs_maps.specs.vs_rules.specs.Paths.{Writes}
 use Rattle.vs_maps.specs.vs_rules.specs.Slots.{HasWriteSlot}
 use Rattle.vs_slots_constants.specs.declared.clocks.Clock.{Clock}
 use Rattle.vs_claims.specs.vs_maps.specs.Ranges.{HasSignal, now_at}
 use Rattle.vs_claims.specs.vs_maps.specs.Reaches.{Chart, IsPlace, places}
-use Rattle.vs_maps.specs.Written.{IsWrittenAt, StandsIn}
+use Rattle.vs_maps.specs.Sites.{IsWrite}
+use Rattle.vs_maps.specs.declared.sites.Site.{Site}
+use Rattle.vs_maps.specs.declared.sites.Use.TheVariants.{Now}
 use Rattle.vs_claims.specs.Facts.{Case, AreCharts}
 use Rattle.vs_slots.specs.declared.roots.Firing.{Firing}
 use Rattle.vs_slots.specs.declared.runs.Runs.{Runs}
@@ -39,11 +40,6 @@ pub record AreAllRuns (kind : Parts → Claims → ℕ → Type 0) (f : Case) (r
   pub long : length runs ≡ length f.design.processes
   pub each : (i : ℕ) (x : Runs) → slice_get runs i ≡ Some x → RunsWhere kind f i x
 
--- for each signal, the processes that write it
-abbrev pub AreWriterRows : Parts → List (List ℕ) → Type 0
-AreWriterRows d table =
-    (length table ≡ length d.signals) × ((v k : ℕ) → v < length d.signals → (Contains (row table v) k ↔ Writes d k v))
-
 -- this is what a signal is as a clock
 abbrev pub IsClockOf : Case → ℕ → Option Clock → Type 0
 IsClockOf f v o = (digit : Digit) (offset half : ℕ) →
@@ -61,6 +57,11 @@ IsTurned o = (x : Clock) → o ≡ Some x → 0 < x.half
 abbrev pub IsPlaceFiring : Chart → List Runs → Option Clock → ℕ → ℕ → Edge → ℕ → ℕ → ℕ → Type 0
 IsPlaceFiring t runs clock modulus root edge writer p r = (p < places t) × IsPlace t p × WritesAt t p root × CountsAt t p root edge
     × IsRunIn runs writer p r × InPhaseOf clock edge modulus r
+
+-- at a site of its writer an edge of a root can fire, as runs are kept
+abbrev pub IsSiteFiring : Chart → List Runs → Option Clock → ℕ → ℕ → Edge → ℕ → Site → ℕ → Type 0
+IsSiteFiring t runs clock modulus root edge writer s r = (s.process ≡ writer) × IsWrite s.usage × CountsAt t s.place root edge
+    × IsRunIn runs writer s.place r × InPhaseOf clock edge modulus r
 
 -- at one of the places of a process of kind delay it can
 abbrev pub IsFiringBy : Case → List Runs → Option Clock → ℕ → Edge → ℕ → ℕ → Type 0
@@ -102,14 +103,13 @@ abbrev pub IsKeptRun : Case → List Runs → List Runs → ℕ → ℕ → ℕ 
 IsKeptRun f waiting fired i p r = (IsEdge f.design f.claims i × IsRunIn fired i p r)
     ⊎ ((IsEdge f.design f.claims i → ⊥) × IsDelay f.design f.claims i × IsRunIn waiting i p r)
 
--- no place at which a signal is written is missing in the row of the signal
-abbrev pub AreWrittenPlaces : Case → List (List ℕ) → Type 0
-AreWrittenPlaces f table = (i p v : ℕ) (t : Chart) → slice_get f.charts i ≡ Some t → v < length f.design.signals → p < places t →
-    IsWrittenAt t p v → (StandsIn table v p → ⊥) → ⊥
-
 -- at a place of a process a variable is written at a residue
 abbrev pub IsPlaceWrite : Case → List Runs → List Runs → Chart → ℕ → ℕ → ℕ → ℕ → Type 0
 IsPlaceWrite f waiting fired t u i p r = (p < places t) × IsPlace t p × HasSignal (now_at t p) u × IsKeptRun f waiting fired i p r
+
+-- at a site of its writer a variable is written by `=` at a residue
+abbrev pub IsSiteWrite : Case → List Runs → List Runs → ℕ → Site → ℕ → Type 0
+IsSiteWrite f waiting fired writer s r = (s.process ≡ writer) × (s.usage ≡ Now) × IsKeptRun f waiting fired writer s.place r
 
 -- at one of the places of a process it is
 abbrev pub IsWriteBy : Case → List Runs → List Runs → ℕ → ℕ → ℕ → Type 0

@@ -1,11 +1,6 @@
 -- Lists by numbers.
-use Rattle.std.specs.Prelude.{ℕ, List, [], get_or, map}
+use Rattle.std.specs.Prelude.{ℕ, List, [], get_or}
 use Rattle.std.specs.List.{Contains}
-use Rattle.vs_design.specs.declared.range.BitRange.{BitRange}
-
--- the signals of ranges
-abbrev pub signals_of : List BitRange → List ℕ
-signals_of ranges = map (λ (r : BitRange). r.signal) ranges
 
 -- the list of a number; of one past the end, none
 abbrev pub row : List (List ℕ) → ℕ → List ℕ

@@ -5,8 +5,10 @@ ghost use Rattle.vs_process.specs.Stops.{statement_view};
 ghost use Rattle.vs_maps.specs.vs_rules.specs.Constants.{bit_of};
 ghost use Rattle.vs_slots_constants.specs.Givings.{given_here};
 ghost use Rattle.vs_claims.specs.vs_maps.specs.Ranges.{statement_at};
-ghost use Rattle.vs_slots.specs.Firing.{CountsAt, InPhaseOf, WritesAt};
-ghost use Rattle.vs_slots.specs.Kept.{AreWrittenPlaces, IsFiringBy, IsFiringOf, IsPlaceFiring, IsTurned};
+ghost use Rattle.vs_slots.specs.Firing.{CountsAt, InPhaseOf};
+ghost use Rattle.vs_maps.specs.Sites.{IsWrite};
+ghost use Rattle.vs_maps.specs.declared.sites.Site.{Site};
+ghost use Rattle.vs_slots.specs.Kept.{IsFiringBy, IsFiringOf, IsSiteFiring, IsTurned};
 
 use crate::listing::{Listing, union_of};
 use crate::phases::{is_in_phase, write_counts};
@@ -16,7 +18,7 @@ use vs_claims::Facts;
 use vs_claims::vs_maps::Tables;
 use vs_design::Statement;
 use vs_design::vs_logic4::{Digit, Edge};
-use vs_graph::Rows;
+use vs_maps::{Site, is_write_of};
 use vs_slots_constants::{Bit, Clock, given_by};
 
 // The constant that a statement, where there is one, gives the lowest bit of a signal.
@@ -46,16 +48,6 @@ fn given_at<'a>(
         None => Ok(None),
         Some(stop) => given_of(alloc, stop.statement, signal),
     }
-}
-
-// Whether the statement at a place writes a signal.
-fn writes_at(tables: &Tables, place: usize, signal: usize) -> bool
-    ensures { IsTrue result ↔ WritesAt tables.now place signal }
-{
-    if tables.writes_now(place, signal) {
-        return true;
-    }
-    tables.writes_later(place, signal)
 }
 
 // Whether an edge of a signal, which may be a clock, can fire at a residue.
@@ -115,51 +107,45 @@ struct PlaceFiring<'a> {
     edge: Edge,
     clock: Option<Clock>,
     modulus: u64,
-    places: &'a [usize],
+    sites: &'a [Site],
     ghost turned: { IsTurned clock },
 }
 
 impl<'a> PlaceFiring<'a> {
-    // Whether the statement at a place writes the root, by no constant that doesn't count.
-    fn writes(&self, alloc: Global, place: usize) -> Result<bool, AllocError>
-        ensures { IfOk result (λ b. (IsTrue b ↔ (WritesAt self.now.tables.now place self.now.root
-            × CountsAt self.now.tables.now place self.now.root self.now.edge))) }
+    // Whether a site is a write of the writer, by no constant that doesn't count.
+    fn writes(&self, alloc: Global, site: Site) -> Result<bool, AllocError>
+        ensures { IfOk result (λ b. (IsTrue b ↔ ((site.process ≡ self.now.writer) × IsWrite site.usage
+            × CountsAt self.now.tables.now site.place self.now.root self.now.edge))) }
     {
-        if !writes_at(self.tables, place, self.root) {
+        if !is_write_of(site, self.writer) {
             return Ok(false);
         }
-        let given = given_at(alloc, self.tables, place, self.root)?;
+        let given = given_at(alloc, self.tables, site.place, self.root)?;
         Ok(write_counts(self.edge, given))
     }
 
-    // The residues at which an edge of the root can fire at a place.
-    fn at(&self, alloc: Global, place: usize) -> Result<Vec<u64>, AllocError>
-        ensures { IfOk result (λ list. (r : ℕ) → (Contains list.items r ↔ IsPlaceFiring self.now.tables.now self.now.runs.now self.now.clock
-            self.now.modulus self.now.root self.now.edge self.now.writer place r)) }
+    // The residues at which an edge of the root can fire at a site.
+    fn at(&self, alloc: Global, site: Site) -> Result<Vec<u64>, AllocError>
+        ensures { IfOk result (λ list. (r : ℕ) → (Contains list.items r ↔ IsSiteFiring self.now.tables.now self.now.runs.now self.now.clock
+            self.now.modulus self.now.root self.now.edge self.now.writer site r)) }
     {
-        if place >= self.tables.places() {
+        if !self.writes(alloc, site)? {
             return Ok(Vec::new(alloc));
         }
-        if !self.tables.is_point(place) {
-            return Ok(Vec::new(alloc));
-        }
-        if !self.writes(alloc, place)? {
-            return Ok(Vec::new(alloc));
-        }
-        let runs = runs_at(alloc, self.runs, self.writer, place)?;
+        let runs = runs_at(alloc, self.runs, self.writer, site.place)?;
         phased(alloc, &runs, self.clock, self.edge, self.modulus)
     }
 }
 
 impl<'a> Listing for PlaceFiring<'a> {
-    ghost has = { λ f i r. (p : ℕ) × (slice_get f.places.now i ≡ Some p)
-        × IsPlaceFiring f.tables.now f.runs.now f.clock f.modulus f.root f.edge f.writer p r };
+    ghost has = { λ f i r. (s : Site) × (slice_get f.sites.now i ≡ Some s)
+        × IsSiteFiring f.tables.now f.runs.now f.clock f.modulus f.root f.edge f.writer s r };
 
     fn list(&self, alloc: Global, i: usize) -> Result<Vec<u64>, AllocError> {
-        if i >= self.places.len() {
+        if i >= self.sites.len() {
             return Ok(Vec::new(alloc));
         }
-        self.at(alloc, self.places[i])
+        self.at(alloc, self.sites[i])
     }
 }
 
@@ -171,11 +157,9 @@ fn fires_by<'a>(
     clock: Option<Clock>,
     root: usize,
     edge: Edge,
-    written: &'a Rows<usize>,
     writer: usize,
 ) -> Result<Vec<u64>, AllocError>
     requires turned { IsTurned clock }
-    requires known { AreWrittenPlaces facts.now written.now }
     requires root { root < length facts.now.design.signals }
     ensures { IfOk result (λ all. (r : ℕ) → (Contains all.items r ↔ IsFiringBy facts.entry.now runs.entry.now clock root edge writer r)) }
 {
@@ -185,6 +169,7 @@ fn fires_by<'a>(
     let Some(tables) = facts.tables(writer) else {
         return Ok(Vec::new(alloc));
     };
+    tables.leads_in();
     let firing = PlaceFiring {
         tables,
         runs,
@@ -193,9 +178,9 @@ fn fires_by<'a>(
         edge,
         clock,
         modulus: facts.modulus(),
-        places: written.row(root),
+        sites: facts.sites().of_signal(root),
     };
-    union_of(alloc, &firing, firing.places.len())
+    union_of(alloc, &firing, firing.sites.len())
 }
 
 /// The residues at which an edge of a signal can fire, which may be a clock, by the runs of the processes of kind delay.
@@ -206,14 +191,12 @@ pub(crate) fn fires_of<'a>(
     clock: Option<Clock>,
     root: usize,
     edge: Edge,
-    written: &'a Rows<usize>,
 ) -> Result<Vec<u64>, AllocError>
     requires turned { IsTurned clock }
-    requires known { AreWrittenPlaces facts.now written.now }
     ensures { IfOk result (λ all. (r : ℕ) → (Contains all.items r ↔ IsFiringOf facts.entry.now runs.entry.now clock root edge r)) }
 {
     match facts.writer(root) {
         None => Ok(Vec::new(alloc)),
-        Some(writer) => fires_by(alloc, facts, runs, clock, root, edge, written, writer),
+        Some(writer) => fires_by(alloc, facts, runs, clock, root, edge, writer),
     }
 }

@@ -13,7 +13,6 @@ mod residues;
 mod roots;
 mod runs;
 mod slots;
-mod written;
 
 pub use controls::ControlLists;
 pub use laws::{firing_is_exact, runs_are_exact};

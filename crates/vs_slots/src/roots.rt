@@ -3,7 +3,7 @@ ghost use Rattle.std.specs.Prelude.{ℕ, ◌≡◌, ◌↔◌, ◌⊎◌, None, 
 ghost use Rattle.std.specs.List.{Contains};
 ghost use Rattle.vs_design.specs.Tables.{rows};
 ghost use Rattle.vs_maps.specs.vs_rules.specs.Claims.{IsDelay, IsRoot};
-ghost use Rattle.vs_slots.specs.Kept.{AreAllRuns, AreClocks, AreFirings, AreTermsIn, AreWrittenPlaces, IsFiring, IsFiringOf, IsTermIn, IsTurned, table_by};
+ghost use Rattle.vs_slots.specs.Kept.{AreAllRuns, AreClocks, AreFirings, AreTermsIn, IsFiring, IsFiringOf, IsTermIn, IsTurned, table_by};
 ghost use Rattle.vs_slots.specs.Lists.{row, IsOneOf};
 
 use crate::clocks::clocks;
@@ -15,7 +15,7 @@ use std::alloc::{AllocError, Global};
 use vs_claims::Facts;
 use vs_design::EventTerm;
 use vs_design::vs_logic4::Edge;
-use vs_graph::{Gathered, Rows};
+use vs_graph::Gathered;
 use vs_slots_constants::Clock;
 
 // What a signal is as a clock; one past the end is none.
@@ -32,9 +32,7 @@ struct RootFiring<'a> {
     runs: &'a [Runs],
     clocks: &'a [Option<Clock>],
     edge: Edge,
-    written: &'a Rows<usize>,
     ghost turned: { (v : ℕ) → IsTurned (get_or clocks.now v None) },
-    ghost known: { AreWrittenPlaces facts.now written.now },
 }
 
 impl<'a> Listing for RootFiring<'a> {
@@ -46,15 +44,7 @@ impl<'a> Listing for RootFiring<'a> {
             return Ok(Vec::new(alloc));
         }
         let clock = clock_at(self.clocks, i);
-        fires_of(
-            alloc,
-            self.facts,
-            self.runs,
-            clock,
-            i,
-            self.edge,
-            self.written,
-        )
+        fires_of(alloc, self.facts, self.runs, clock, i, self.edge)
     }
 }
 
@@ -76,11 +66,9 @@ fn table_for<'a>(
     runs: &'a [Runs],
     clocks: &'a [Option<Clock>],
     edge: Edge,
-    written: &'a Rows<usize>,
 ) -> Result<Vec<Vec<u64>>, AllocError>
     requires runs { AreAllRuns IsDelay facts.now runs.now }
     requires clocks { AreClocks facts.now clocks.now }
-    requires written { AreWrittenPlaces facts.now written.now }
     ensures { IfOk result (λ table. IsFiring facts.entry.now edge (rows table.items)) }
 {
     facts.maps();
@@ -89,28 +77,25 @@ fn table_for<'a>(
         runs,
         clocks,
         edge,
-        written,
     };
     let table = table_of(alloc, &roots, facts.design().signals().len())?;
     Ok(table)
 }
 
 impl Firing {
-    /// When edges of the roots can fire, by the runs of the processes of kind delay, and the places at which each signal is written.
+    /// When edges of the roots can fire, by the runs of the processes of kind delay.
     pub(crate) fn of<'a>(
         alloc: Global,
         facts: &'a Facts<'a>,
         runs: &'a [Runs],
-        written: &'a Rows<usize>,
     ) -> Result<Firing, AllocError>
-        requires runs { AreAllRuns IsDelay facts.now runs.now }
-        requires written { AreWrittenPlaces facts.now written.now }
+        requires { AreAllRuns IsDelay facts.now runs.now }
         ensures { IfOk result (λ x. AreFirings facts.entry.now x) }
     {
         let clocks = clocks(alloc, &*facts)?;
-        let any = table_for(alloc, &*facts, &*runs, &clocks, Edge::Any, &*written)?;
-        let posedge = table_for(alloc, &*facts, &*runs, &clocks, Edge::Posedge, &*written)?;
-        let negedge = table_for(alloc, &*facts, &*runs, &clocks, Edge::Negedge, &*written)?;
+        let any = table_for(alloc, &*facts, &*runs, &clocks, Edge::Any)?;
+        let posedge = table_for(alloc, &*facts, &*runs, &clocks, Edge::Posedge)?;
+        let negedge = table_for(alloc, &*facts, &*runs, &clocks, Edge::Negedge)?;
         Ok(Firing {
             any,
             posedge,

@@ -2,7 +2,8 @@
 ghost use Rattle.std.specs.Prelude.{ℕ, ◌≡◌, ◌<◌, ◌↔◌, Some, length, slice_get, IfOk};
 ghost use Rattle.std.specs.List.{Contains};
 ghost use Rattle.vs_maps.specs.vs_rules.specs.Slots.{HasWriteSlot};
-ghost use Rattle.vs_slots.specs.Kept.{AreBothRuns, AreWriteSlots, AreWrittenPlaces, IsKeptRun, IsPlaceWrite, IsWriteBy, IsWriteIn};
+ghost use Rattle.vs_slots.specs.Kept.{AreBothRuns, AreWriteSlots, IsKeptRun, IsSiteWrite, IsWriteBy, IsWriteIn};
+ghost use Rattle.vs_maps.specs.declared.sites.Site.{Site};
 ghost use Rattle.vs_slots.specs.Places.{RunsOf};
 ghost use Rattle.vs_slots.specs.Terms.{TermsFire};
 
@@ -12,13 +13,11 @@ use crate::listing::{Listing, table_of, union_of};
 use crate::residues::row_of;
 use crate::roots::Firing;
 use crate::runs::{Runs, runs_at};
-use crate::written::written_places;
 use std::alloc::{AllocError, Global};
 use std::marker::Model;
 use vs_claims::Facts;
-use vs_claims::vs_maps::Tables;
 use vs_design::EventTerm;
-use vs_graph::Rows;
+use vs_maps::{Site, is_now};
 
 // The run slots of a place of a process of kind edge or delay; of another one there are none.
 fn run_slots<'a>(
@@ -40,31 +39,26 @@ fn run_slots<'a>(
     Ok(Vec::new(alloc))
 }
 
-// The writer of a variable, and places at which it may write that.
+// The sites of a variable, of which some may be writes of its writer.
 #[derive(Drop)]
 struct PlaceWrites<'a> {
     facts: &'a Facts<'a>,
-    tables: &'a Tables<'a>,
     delays: &'a [Runs],
     edges: &'a [Runs],
     writer: usize,
-    variable: usize,
-    places: &'a [usize],
+    sites: &'a [Site],
 }
 
 impl<'a> PlaceWrites<'a> {
-    // The residues at which the variable is written at a place.
-    fn at(&self, alloc: Global, place: usize) -> Result<Vec<u64>, AllocError>
-        ensures { IfOk result (λ list. (r : ℕ) → (Contains list.items r ↔ IsPlaceWrite self.now.facts.now self.now.delays.now
-            self.now.edges.now self.now.tables.now self.now.variable self.now.writer place r)) }
+    // The residues at which the variable is written at a site.
+    fn at(&self, alloc: Global, site: Site) -> Result<Vec<u64>, AllocError>
+        ensures { IfOk result (λ list. (r : ℕ) → (Contains list.items r ↔ IsSiteWrite self.now.facts.now self.now.delays.now
+            self.now.edges.now self.now.writer site r)) }
     {
-        if place >= self.tables.places() {
+        if site.process != self.writer {
             return Ok(Vec::new(alloc));
         }
-        if !self.tables.is_point(place) {
-            return Ok(Vec::new(alloc));
-        }
-        if !self.tables.writes_now(place, self.variable) {
+        if !is_now(site.usage) {
             return Ok(Vec::new(alloc));
         }
         run_slots(
@@ -73,31 +67,29 @@ impl<'a> PlaceWrites<'a> {
             self.delays,
             self.edges,
             self.writer,
-            place,
+            site.place,
         )
     }
 }
 
 impl<'a> Listing for PlaceWrites<'a> {
-    ghost has = { λ f i r. (p : ℕ) × (slice_get f.places.now i ≡ Some p)
-        × IsPlaceWrite f.facts.now f.delays.now f.edges.now f.tables.now f.variable f.writer p r };
+    ghost has = { λ f i r. (s : Site) × (slice_get f.sites.now i ≡ Some s)
+        × IsSiteWrite f.facts.now f.delays.now f.edges.now f.writer s r };
 
     fn list(&self, alloc: Global, i: usize) -> Result<Vec<u64>, AllocError> {
-        if i >= self.places.len() {
+        if i >= self.sites.len() {
             return Ok(Vec::new(alloc));
         }
-        self.at(alloc, self.places[i])
+        self.at(alloc, self.sites[i])
     }
 }
 
-// The variables of a design, and at which places each is written.
+// The variables of a design.
 #[derive(Drop)]
 struct Variables<'a> {
     facts: &'a Facts<'a>,
     delays: &'a [Runs],
     edges: &'a [Runs],
-    written: &'a Rows<usize>,
-    ghost known: { AreWrittenPlaces facts.now written.now },
 }
 
 impl<'a> Variables<'a> {
@@ -115,16 +107,15 @@ impl<'a> Variables<'a> {
         match self.facts.tables(writer) {
             None => Ok(Vec::new(alloc)),
             Some(tables) => {
+                tables.leads_in();
                 let places = PlaceWrites {
                     facts: self.facts,
-                    tables,
                     delays: self.delays,
                     edges: self.edges,
                     writer,
-                    variable,
-                    places: self.written.row(variable),
+                    sites: self.facts.sites().of_signal(variable),
                 };
-                union_of(alloc, &places, places.places.len())
+                union_of(alloc, &places, places.sites.len())
             }
         }
     }
@@ -147,10 +138,8 @@ fn write_slots<'a>(
     facts: &'a Facts<'a>,
     delays: &'a [Runs],
     edges: &'a [Runs],
-    written: &'a Rows<usize>,
 ) -> Result<Vec<Vec<u64>>, AllocError>
-    requires runs { AreBothRuns facts.now delays.now edges.now }
-    requires written { AreWrittenPlaces facts.now written.now }
+    requires { AreBothRuns facts.now delays.now edges.now }
     ensures { IfOk result (λ table. AreWriteSlots facts.entry.now table.items) }
 {
     facts.maps();
@@ -158,7 +147,6 @@ fn write_slots<'a>(
         facts,
         delays,
         edges,
-        written,
     };
     let table = table_of(alloc, &variables, facts.design().signals().len())?;
     Ok(table)
@@ -198,10 +186,9 @@ impl<'a> Slots<'a> {
     {
         facts.maps();
         let delays = delay_runs(alloc, &*facts)?;
-        let written = written_places(alloc, &*facts)?;
-        let firing = Firing::of(alloc, &*facts, &delays, &written)?;
+        let firing = Firing::of(alloc, &*facts, &delays)?;
         let edges = edge_runs(alloc, &*facts, &firing)?;
-        let writes = write_slots(alloc, &*facts, &delays, &edges, &written)?;
+        let writes = write_slots(alloc, &*facts, &delays, &edges)?;
         Ok(Slots {
             facts,
             firing,

@@ -15,6 +15,7 @@ use Rattle.vs_claims.specs.vs_rules.specs.Certificates.{claims_of, name_from, re
 use Rattle.vs_claims.specs.vs_rules.specs.Claims.{Name, SignalClaim, EdgeClaim, Kind, Start, block, delays}
 use Rattle.vs_claims.specs.vs_rules.specs.Limits.{IsCertificate}
 use Rattle.vs_maps.specs.Reaches.{Chart}
+use Rattle.vs_maps.specs.Texts.{Texts, texts_of}
 use Rattle.vs_claims.specs.declared.facts.EntriesOf.{EntriesOf}
 use Rattle.vs_claims.specs.declared.facts.EntriesOf.TheVariants as entries
 use Rattle.vs_claims.specs.declared.names.ClaimedNames.{ClaimedNames}
@@ -90,8 +91,9 @@ pub record AreNames (d : Parts) (c : Certificate) (n : Names) : Type 0 where
   pub edges : AreEdgeNames c.edges.items n.edges
 
 -- what is kept of a design and a certificate
-pub record AreFacts (d : Parts) (c : Certificate) (charts : List Chart) (n : Names) : Type 0 where
+pub record AreFacts (d : Parts) (c : Certificate) (charts : List Chart) (u : Texts) (n : Names) : Type 0 where
   pub well_formed : WellFormed d
   pub certificate : IsCertificate (claims_of c)
   pub maps : AreCharts d charts
+  pub uses : u ≡ texts_of d charts
   pub names : AreNames d c n

@@ -11,6 +11,9 @@ returns-in-None c = (
   λ w. let e : None ≡ Some w.0 = c.in-None.ensures ∙ ap (λ (k : Case). slice_get k.charts c.args.j) (c.facts.ensures ∙ c.first.view_is) ∙ w.1 in cc,
 )
 
+pub starts_well_in-requires-clause-text : goal.starts_well_in-requires-clause-text
+starts_well_in-requires-clause-text c = sym (c.in-Some.ensures ∙ ap (λ (k : Case). slice_get k.charts c.args.j) (c.facts.ensures ∙ c.first.view_is))
+
 pub returns-in-Some : goal.returns-in-Some
 returns-in-Some c =
     let K = c.args.first.now in

@@ -1,8 +1,8 @@
-use Rattle.std.proofs.Common.{◌<◌, ◌↔◌, ℕ, List, Bool, IsTrue, sym, subst}
+use Rattle.std.proofs.Common.{◌↔◌, ℕ, List, Bool, IsTrue, sym, subst}
 use Rattle.std.specs.List.{Contains}
 use Rattle.std.proofs.lemmas.Result.{IfOk-weaker}
 use Rattle.vs_cert_roots.specs.First.{SiteAt, StartsSilently}
-use Rattle.vs_cert_roots.proofs.FirstRows.{sites_are, no_place, one_site}
+use Rattle.vs_cert_roots.proofs.FirstRows.{no_place, one_site}
 use Rattle.vs_cert_roots.proofs.first.starts_well_in.Goals as goal
 
 pub returns-in-None : goal.returns-in-None
@@ -10,28 +10,14 @@ returns-in-None c =
     let K = c.args.first.now in
     let t = c.args.tables.now in
     let v = c.args.v in
-    let f = c.in_ok-sites.ensures in
-    let are = sites_are t v c.leads_in.ensures.ways c.leads_in.ensures.start c.in_ok-sites.sites.items
-    (λ q. let y = f q in (
-      λ h. let z = y.0 h in (z.0, subst (λ (m : ℕ). z.0 < m) c.places.ensures z.1, z.2),
-      λ z. y.1 (z.0, subst (λ (m : ℕ). z.0 < m) (sym c.places.ensures) z.1, z.2),
-    )) in
-    let D = c.deref.result.now in
-    let there = subst (λ (l : List ℕ). (q : ℕ) → (Contains l q ↔ SiteAt t v q)) (sym c.deref.ensures.value) are in
-    (λ h. cc, λ w. absurd (no_place K.design K.claims t v D there (λ x. c.in-None.ensures x) w))
+    let there = subst (λ (l : List ℕ). (q : ℕ) → (Contains l q ↔ SiteAt t v q)) (sym c.deref.ensures.value) (c.in_ok-places.ensures t c.requires.text) in
+    (λ h. cc, λ w. absurd (no_place K.design K.claims t v c.deref.result.now there (λ x. c.in-None.ensures x) w))
 
 pub returns : goal.returns
 returns c =
     let K = c.args.first.now in
     let t = c.args.tables.now in
     let v = c.args.v in
-    let f = c.in_ok-sites.ensures in
-    let are = sites_are t v c.leads_in.ensures.ways c.leads_in.ensures.start c.in_ok-sites.sites.items
-    (λ q. let y = f q in (
-      λ h. let z = y.0 h in (z.0, subst (λ (m : ℕ). z.0 < m) c.places.ensures z.1, z.2),
-      λ z. y.1 (z.0, subst (λ (m : ℕ). z.0 < m) (sym c.places.ensures) z.1, z.2),
-    )) in
-    let D = c.deref.result.now in
-    let there = subst (λ (l : List ℕ). (q : ℕ) → (Contains l q ↔ SiteAt t v q)) (sym c.deref.ensures.value) are in
-    let l = one_site K.design K.claims t v c.in-Some.p D there (λ x. c.in-Some.ensures x) in
+    let there = subst (λ (l : List ℕ). (q : ℕ) → (Contains l q ↔ SiteAt t v q)) (sym c.deref.ensures.value) (c.in_ok-places.ensures t c.requires.text) in
+    let l = one_site K.design K.claims t v c.in-Some.p c.deref.result.now there (λ x. c.in-Some.ensures x) in
     IfOk-weaker _ (λ (b : Bool). (IsTrue b ↔ StartsSilently K.design K.claims t v c.in-Some.p)) _ (λ b e. (λ h. l.0 (e.0 h), λ w. e.1 (l.1 w))) c.starts_silently.ensures

@@ -1,5 +1,5 @@
 use Rattle.std.proofs.Common.{◌≡◌}
-use Rattle.vs_maps.proofs.SiteLemmas.{further, all_do, one_not}
+use Rattle.vs_rules_of_signals.proofs.ListLemmas.{further, all_do, one_not}
 use Rattle.vs_rules_of_signals.proofs.modes.are_all.Goals as goal
 
 pub returns-then-j-one : goal.returns-then-j-one

@@ -2,11 +2,20 @@ use Rattle.std.proofs.Common.{◌≡◌, ℕ, ◌+◌, ◌<◌, ◌↔◌, Optio
 use Rattle.std.specs.List.{Contains}
 use Rattle.std.proofs.lemmas.List.{length-append}
 use Rattle.vs_design.specs.Parts.{Parts}
+use Rattle.vs_maps.specs.Texts.{Texts}
 use Rattle.vs_maps.specs.vs_rules.specs.Paths.{Writes}
 use Rattle.vs_slots_constants.specs.declared.clocks.Clock.{Clock}
-use Rattle.vs_slots.specs.Kept.{AreWriterRows, IsClockOf}
+use Rattle.vs_slots.specs.Kept.{IsClockOf}
 use Rattle.vs_slots.proofs.KeptLemmas.{read_more}
 use Rattle.vs_slots.proofs.clocks.clocks.Goals as goal
+
+pub writers-requires : goal.writers-requires
+writers-requires c =
+    let told : length c.signals-v-end.result.now ≡ length c.args.facts.now.design.signals = ap length (c.signals-v-end.ensures ∙ ap (λ (d : Parts). d.signals) c.design.ensures) in
+    subst (λ (x : Texts). c.loop-v.v < length x.design.signals) (sym c.uses-uses.ensures) (omega (arith, c.loop-v-test.true, told))
+
+pub clock_by-requires : goal.clock_by-requires
+clock_by-requires c k = subst (λ (x : Texts). (Contains c.writers.result.now k ↔ Writes x.design k c.loop-v.v)) c.uses-uses.ensures (c.writers.ensures k)
 
 pub loop-v-preserved : goal.loop-v-preserved
 loop-v-preserved c =
@@ -23,18 +32,6 @@ loop-v-preserved c =
 
 pub returns : goal.returns
 returns c =
-    let ws = c.in_ok-writers.writers in
-    let many : length ws ≡ length c.design.result.now.signals = c.in_ok-writers.ensures.0 in
-    let at : c.loop-v.v ≡ length ws = omega (arith, c.loop-v-test.false, c.loop-v.auto.v-end, c.len-v-end.ensures.is) in (
-      c.loop-v.invariant.0 ∙ at ∙ many ∙ ap (λ (d : Parts). length d.signals) c.design.ensures,
-      c.loop-v.invariant.1,
-    )
-
-pub clock_by-requires : goal.clock_by-requires
-clock_by-requires c k =
-    let ws = c.in_ok-writers.writers in
-    let within : c.loop-v.v < length ws = omega (arith, c.loop-v-test.true, c.len-v-end.ensures.is) in
-    let told = subst (λ (d : Parts). AreWriterRows d ws) c.design.ensures c.in_ok-writers.ensures in
-    let both = told.1 c.loop-v.v k (subst (λ (n : ℕ). c.loop-v.v < n) told.0 within) in
-    subst (λ (l : List ℕ). (Contains l k ↔ Writes c.args.facts.now.design k c.loop-v.v))
-    (sym c.row.ensures) both
+    let told : length c.signals-v-end.result.now ≡ length c.args.facts.now.design.signals = ap length (c.signals-v-end.ensures ∙ ap (λ (d : Parts). d.signals) c.design.ensures) in
+    let at : c.loop-v.v ≡ length c.signals-v-end.result.now = omega (arith, c.loop-v-test.false, c.loop-v.auto.v-end) in
+    (c.loop-v.invariant.0 ∙ at ∙ told, c.loop-v.invariant.1)

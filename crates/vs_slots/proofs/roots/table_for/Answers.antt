@@ -14,4 +14,4 @@ returns c root r within =
     (λ x. let y = both.0 x in (y.0, are.0 y.1), λ y. both.1 (y.0, are.1 y.1))
 
 pub invariant_of-roots : goal.invariant_of-roots
-invariant_of-roots c = record { turned = all_turned c.args.facts.now c.args.clocks.now c.requires.clocks; known = c.requires.written }
+invariant_of-roots c = record { turned = all_turned c.args.facts.now c.args.clocks.now c.requires.clocks }

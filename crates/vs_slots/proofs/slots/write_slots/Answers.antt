@@ -10,9 +10,6 @@ returns c =
       c.in_ok-table.ensures.len ∙ told,
       λ u r within.
           let both = c.in_ok-table.ensures.exact u r (subst (λ (n : ℕ). u < n) (sym told) within) in
-          let are = writes_are f c.args.delays.now c.args.edges.now u r c.maps.ensures c.requires.runs in
+          let are = writes_are f c.args.delays.now c.args.edges.now u r c.maps.ensures c.requires in
           (λ x. are.0 (both.0 x), λ y. both.1 (are.1 y)),
     )
-
-pub invariant_of-variables : goal.invariant_of-variables
-invariant_of-variables c = record { known = c.requires.written }

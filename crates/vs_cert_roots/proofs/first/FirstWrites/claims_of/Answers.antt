@@ -8,8 +8,7 @@ pub returns-then-root-len : goal.returns-then-root-len
 returns-then-root-len c =
     let K = c.args.self.now in
     let C = c.self.inside.claimed in
-    let W = c.self.inside.writers in
-    let inv : KeepsFirst K C W = subst (λ (k : Case). KeepsFirst k C W) c.self.view_is c.self.invariant in
+    let inv : KeepsFirst K C = subst (λ (k : Case). KeepsFirst k C) c.self.view_is c.self.invariant in
     let v = c.args.root in
     let h : v < length C = omega (arith, c.len.ensures.is, c.if-root-len.true) in
     row_exact (NamesRoot K.design K.claims.edges) (length K.claims.edges) (length K.design.signals) C v c.row.result.now inv.roots_are (root_within K.design K.claims.edges v)
@@ -19,7 +18,6 @@ pub returns-else-root-len : goal.returns-else-root-len
 returns-else-root-len c =
     let K = c.args.self.now in
     let C = c.self.inside.claimed in
-    let W = c.self.inside.writers in
-    let inv : KeepsFirst K C W = subst (λ (k : Case). KeepsFirst k C W) c.self.view_is c.self.invariant in
+    let inv : KeepsFirst K C = subst (λ (k : Case). KeepsFirst k C) c.self.view_is c.self.invariant in
     let h : length C ≤ c.args.root = omega (arith, c.len.ensures.is, c.if-root-len.false) in
     past_claims K.design K.claims.edges c.args.root (subst (λ (n : ℕ). n ≤ c.args.root) inv.roots_long h) [] refl

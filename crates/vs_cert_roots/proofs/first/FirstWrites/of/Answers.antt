@@ -2,24 +2,18 @@ use Rattle.std.proofs.Common.{◌≡◌, ℕ, length, ap, ◌∙◌, subst}
 use Rattle.vs_design.specs.Parts.{Parts}
 use Rattle.vs_rules_of_signals.specs.vs_graph.specs.Rows.{AreRows}
 use Rattle.vs_rules_of_signals.specs.vs_claims.specs.Facts.{Case}
-use Rattle.vs_cert_roots.specs.First.{HasSite, KeepsFirst, NamesRoot}
+use Rattle.vs_cert_roots.specs.First.{KeepsFirst, NamesRoot}
 use Rattle.vs_cert_roots.proofs.first.FirstWrites.of.Goals as goal
 
 pub invariant_of-result : goal.invariant_of-result
 invariant_of-result c =
     let F = c.facts-facts.result.now in
     let C = c.in_ok-claimed.claimed in
-    let W = c.in_ok-writers.writers in
     let n : length c.signals-count.result.now ≡ length F.design.signals = ap length (c.signals-count.ensures ∙ ap (λ (d : Parts). d.signals) c.design.ensures) in
-    let m : length c.processes-processes.result.now ≡ length F.design.processes = ap length (c.processes-processes.ensures ∙ ap (λ (d : Parts). d.processes) c.design-2.ensures) in
-    subst (λ (k : Case). KeepsFirst k C W) c.facts-facts.ensures (record {
+    subst (λ (k : Case). KeepsFirst k C) c.facts-facts.ensures (record {
       maps = c.maps.ensures;
       roots_long = c.in_ok-claimed.ensures.len ∙ n;
       roots_are =
           subst (λ (k : ℕ). AreRows (NamesRoot F.design F.claims.edges) (length F.claims.edges) k C) n
           (subst (λ (k : ℕ). AreRows (NamesRoot F.design F.claims.edges) k (length c.signals-count.result.now) C) c.edges.ensures c.in_ok-claimed.ensures.exact);
-      long = c.in_ok-writers.ensures.len ∙ n;
-      writers_are =
-          subst (λ (k : ℕ). AreRows (HasSite F.charts) (length F.design.processes) k W) n
-          (subst (λ (k : ℕ). AreRows (HasSite F.charts) k (length c.signals-count.result.now) W) m c.in_ok-writers.ensures.exact);
     })

@@ -1,15 +1,22 @@
-use Rattle.std.proofs.Common.{length, sym, subst}
+use Rattle.std.proofs.Common.{◌≡◌, ◌<◌, ◌↔◌, length, sym, ◌∙◌, subst}
+use Rattle.std.specs.List.{Contains}
+use Rattle.vs_drivers.specs.vs_maps.specs.Texts.{Texts}
+use Rattle.vs_drivers.specs.vs_maps.proofs.SiteLemmas.{AreSitesOf}
 use Rattle.vs_rules_of_signals.specs.vs_claims.specs.Facts.{Case}
-use Rattle.vs_cert_roots.specs.First.{HasSite, KeepsFirst}
-use Rattle.vs_cert_roots.proofs.FirstRows.{row_exact, site_within}
+use Rattle.vs_cert_roots.specs.First.{HasSite}
+use Rattle.vs_cert_roots.proofs.FirstRows.{processes_are}
 use Rattle.vs_cert_roots.proofs.first.FirstWrites.writers.Goals as goal
 
+pub of_signal-requires : goal.of_signal-requires
+of_signal-requires c =
+    let F : c.facts-facts.result.now ≡ c.args.self.now = c.facts-facts.ensures ∙ c.self.view_is in
+    subst (λ (x : Texts). c.args.v < length x.design.signals) (sym c.sites.ensures) (subst (λ (k : Case). c.args.v < length k.design.signals) (sym F) c.requires)
+
 pub returns : goal.returns
-returns c =
-    let K = c.args.self.now in
-    let C = c.self.inside.claimed in
-    let W = c.self.inside.writers in
-    let inv : KeepsFirst K C W = subst (λ (k : Case). KeepsFirst k C W) c.self.view_is c.self.invariant in
-    let v = c.args.v in
-    row_exact (HasSite K.charts) (length K.design.processes) (length K.design.signals) W v c.row.result.now inv.writers_are (site_within K.design K.charts inv.maps v) c.requires
-    (sym c.row.ensures)
+returns c i =
+    let G = c.facts-facts.result.now in
+    let F : G ≡ c.args.self.now = c.facts-facts.ensures ∙ c.self.view_is in
+    let sites = subst (λ (x : Texts). AreSitesOf x.charts c.args.v c.of_signal.result.now) c.sites.ensures c.of_signal.ensures in
+    let l = processes_are G.charts c.args.v c.of_signal.result.now sites i in
+    let e = c.in_ok-all.ensures i in
+    subst (λ (k : Case). (Contains c.in_ok-all.all.items i ↔ HasSite k.charts i c.args.v)) F (λ h. l.0 (e.0 h), λ h. e.1 (l.1 h))

@@ -1,25 +1,20 @@
-use Rattle.std.proofs.Common.{ℕ, ◌<◌, ◌↔◌, List, refl, sym, subst, arith}
+use Rattle.std.proofs.Common.{ℕ, ◌↔◌, List, sym, subst}
 use Rattle.std.specs.List.{Contains}
 use Rattle.std.proofs.lemmas.Result.{IfOk-weaker}
-use Rattle.vs_claims.specs.vs_maps.specs.Reaches.{IsPlace, places}
 use Rattle.vs_slots.specs.Firing.{InPhaseOf}
-use Rattle.vs_slots.specs.Kept.{IsPlaceFiring}
+use Rattle.vs_slots.specs.Kept.{IsSiteFiring}
 use Rattle.vs_slots.proofs.firing.PlaceFiring.at.Goals as goal
 
 pub returns : goal.returns
 returns c =
     let s = c.args.self.now in
-    let t = s.tables.now in
-    let i = c.args.place in
-    let within : i < places t = subst (λ (n : ℕ). i < n) c.places.ensures (omega (arith, c.if-place-places.false)) in
-    let place : IsPlace t i = c.if-not-is_point.ensures.0 refl in
     let writes = c.in_ok-writes.ensures.0 c.if-not-branch.false in
     IfOk-weaker c.phased.result
     (λ list. (r : ℕ) → (Contains list.items r ↔ (Contains c.deref.result.now r × InPhaseOf s.clock s.edge s.modulus r)))
-    (λ list. (r : ℕ) → (Contains list.items r ↔ IsPlaceFiring t s.runs.now s.clock s.modulus s.root s.edge s.writer i r))
+    (λ list. (r : ℕ) → (Contains list.items r ↔ IsSiteFiring s.tables.now s.runs.now s.clock s.modulus s.root s.edge s.writer c.args.site r))
     (λ list h r. (
       λ x. let y = (h r).0 x in
-          (within, place, writes.0, writes.1, (c.in_ok-runs.ensures r).0 (subst (λ (l : List ℕ). Contains l r) c.deref.ensures.value y.0), y.1),
-      λ y. (h r).1 (subst (λ (l : List ℕ). Contains l r) (sym c.deref.ensures.value) ((c.in_ok-runs.ensures r).1 y.4), y.5),
+          (writes.0, writes.1, writes.2, (c.in_ok-runs.ensures r).0 (subst (λ (l : List ℕ). Contains l r) c.deref.ensures.value y.0), y.1),
+      λ y. (h r).1 (subst (λ (l : List ℕ). Contains l r) (sym c.deref.ensures.value) ((c.in_ok-runs.ensures r).1 y.3), y.4),
     ))
     c.phased.ensures
