@@ -3,7 +3,7 @@
 use std::alloc::{AllocError, Global};
 use vs_explain_certificate::vs_certificate::CertFault;
 use vs_explain_certificate::{Stands, explain_malformed};
-use vs_explain_text::vs_explain_outline::{Explanation, Page};
+use vs_explain_outline::{Explanation, Page};
 
 /// Where and why bytes are no certificate, which stand on the first line of an input or alone.
 pub fn explain_certificate(

@@ -17,16 +17,12 @@ mod sources;
 mod starts;
 mod steps;
 
-pub use broken::explain_broken;
 pub use certificates::explain_certificate;
-pub use limit::{Taken, explain_steps};
 pub use rules::{Further, Offender, explain_rule};
 pub use runs::{explain_limit, explain_pair};
 pub use sources::{explain, explain_after};
-pub use steps::{LastSteps, last_steps};
 pub use vs_explain_certificate::{Stands, vs_certificate};
-pub use vs_explain_outline;
-pub use vs_explain_text::vs_explain_outline::{
+pub use vs_explain_outline::{
     Explanation, PlaceForm, Placed, PlacedIn, Spot, push_marked, push_place, push_shown, spot_of,
 };
 pub use vs_race_pair::Asked;

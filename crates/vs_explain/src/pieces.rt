@@ -2,7 +2,7 @@
 
 use std::alloc::{AllocError, Global};
 use vs_explain_elaboration::vs_scopes::Reason;
-use vs_explain_text::vs_explain_outline::{Piece, PieceKind, SourceText, is_marked};
+use vs_explain_outline::{Piece, PieceKind, SourceText, is_marked};
 use vs_explain_text::vs_parser::{ParseFault, parse};
 use vs_simulate::vs_elaborate::{ElabFault, elaborate};
 use vs_syntax::vs_lexer::{Kind, Mark, Token, Word, lex};

@@ -1,8 +1,7 @@
 //! Designs that break rules of certificates.
 
-use crate::explain_broken;
+use crate::broken::explain_broken;
 use crate::scopes::put_scope;
-use crate::vs_explain_outline::put_named;
 use std::alloc::{AllocError, Global};
 use vs_cert_check::{Broken, check_all};
 use vs_design::Design;
@@ -10,7 +9,7 @@ use vs_explain_certificate::vs_certificate::{
     CertFault, Certificate, ClaimedGrain, Version, from_json,
 };
 use vs_explain_certificate::{put_name_in, put_named_in};
-use vs_explain_text::vs_explain_outline::{Explanation, Page, SourceText};
+use vs_explain_outline::{Explanation, Page, SourceText, put_named};
 use vs_simulate::design_of;
 
 /// How many further subjects are told.

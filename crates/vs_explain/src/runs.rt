@@ -1,9 +1,10 @@
 //! Runs that take too many steps, and the events whose order makes two runs differ.
 
+use crate::limit::{Taken, explain_steps};
 use crate::scopes::put_scope;
-use crate::{Taken, explain_steps, last_steps};
+use crate::steps::last_steps;
 use std::alloc::{AllocError, Global};
-use vs_explain_text::vs_explain_outline::{Explanation, Page, SourceText};
+use vs_explain_outline::{Explanation, Page, SourceText};
 use vs_race_pair::{Asked, put_pair};
 use vs_simulate::design_of;
 

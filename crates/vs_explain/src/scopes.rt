@@ -1,7 +1,7 @@
 //! The place of what has no better one: the scope in which it is.
 
 use std::alloc::{AllocError, Global};
-use vs_explain_text::vs_explain_outline::{Page, SourceText, scope_of};
+use vs_explain_outline::{Page, SourceText, scope_of};
 
 /// Where the first marked region begins.
 fn first_place(text: &SourceText, marked: &[bool]) -> Option<usize> {

@@ -7,7 +7,7 @@ use vs_explain_certificate::put_forgotten;
 use vs_explain_elaboration::explain_design;
 use vs_explain_elaboration::vs_scopes::vs_width_selects::WidthReason;
 use vs_explain_elaboration::vs_scopes::{ElabFault, Reason};
-use vs_explain_text::vs_explain_outline::{Explanation, Page, SourceText};
+use vs_explain_outline::{Explanation, Page, SourceText};
 use vs_explain_text::vs_parser::ParseFault;
 use vs_explain_text::{explain_grammar, explain_tokens};
 use vs_simulate::SimFault;

@@ -1,5 +1,5 @@
 //! What a search for a race answers.
-use crate::{LineWitness, Witness};
+use crate::witness::{LineWitness, Witness};
 use vs_propose::Proposal;
 use vs_propose::vs_certificate::Certificate;
 

@@ -3,13 +3,13 @@ ghost use Rattle.std.specs.Prelude.{◌≡◌, ◌<◌, ◌^◌, true, IfErr, On
 ghost use Rattle.vs_certified.specs.vs_simulate.specs.Honesty.{SimulationFails, is_refusal};
 ghost use Rattle.vs_race.specs.Dumps.{AreDumps};
 
-use crate::run_to;
-use crate::vs_race_orders::{Planned, Span};
+use crate::runs::run_to;
 use std::alloc::Global;
 use vs_certified::vs_kernel::Fifo;
 use vs_certified::vs_kernel::vs_run_steps::Dropped;
 use vs_certified::vs_simulate::{SimFault, design_of};
 use vs_certified::vs_vcd_writing::Sink;
+use vs_race_orders::{Planned, Span};
 
 /// Writes the value change dumps of two runs, to a moment in ticks, of the design that a source and the name of a top module define: that of the first
 /// order, and that of an order that makes the choices of spans, which rise (IEEE 1364-2005, clause 18).

@@ -17,18 +17,10 @@ mod values;
 mod witness;
 
 pub use answer::{Missed, Race};
-pub use displays::prints_at_once;
 pub use dumps::write_dumps;
 pub use laws::{all_lines_are_strobed, same_traces_print_rows_as_often};
-pub use lines::line_witness_of;
 pub use racing::race;
-pub use rows::times_of;
-pub use runs::run_to;
-pub use shown::witness_of;
-pub use uneven::{Uneven, first_uneven};
 pub use vs_certified::vs_simulate;
 pub use vs_propose;
-pub use vs_race_orders;
 pub use vs_race_orders::{Planned, Search, Span, Unwatched, Watch, choices_of};
-pub use vs_read_back;
 pub use witness::{LineWitness, Witness};

@@ -4,9 +4,10 @@ ghost use Rattle.vs_race.specs.Displays.{prints_at_once};
 ghost use Rattle.vs_race.specs.Witnesses.{IsLineWitness};
 ghost use Rattle.vs_race.specs.passes.Printed.{Print};
 
+use crate::laws::all_lines_are_strobed;
 use crate::runs::{Unshown, is_whole, run_to};
+use crate::uneven::{Uneven, first_uneven};
 use crate::witness::LineWitness;
-use crate::{Uneven, all_lines_are_strobed, first_uneven};
 use std::alloc::{AllocError, Global};
 use vs_design::Design;
 use vs_kernel::vs_run_steps::Dropped;

@@ -7,18 +7,19 @@ ghost use Rattle.vs_race.specs.Races.{IsAnswer};
 ghost use Rattle.vs_race.specs.passes.Sightings.{IsSighting};
 
 use crate::answer::{Missed, Race};
-use crate::vs_race_orders::{Difference, Search, Sought, Watch, find};
-use crate::vs_read_back::outline_is_in_order;
-use crate::{
-    LineWitness, Witness, line_witness_of, prints_at_once, same_traces_print_rows_as_often,
-    witness_of,
-};
+use crate::displays::prints_at_once;
+use crate::laws::same_traces_print_rows_as_often;
+use crate::lines::line_witness_of;
+use crate::shown::witness_of;
+use crate::witness::{LineWitness, Witness};
 use std::alloc::{AllocError, Global};
 use vs_certified::vs_simulate::{SimFault, design_of, names_of_one_line};
 use vs_design::Design;
 use vs_law_rules::rules_make_independent;
 use vs_propose::vs_certificate::ClaimedGrain;
 use vs_propose::{Proposal, propose};
+use vs_race_orders::{Difference, Search, Sought, Watch, find};
+use vs_read_back::outline_is_in_order;
 use vs_vcd_reader::vs_vcd_writing::shows_one_value;
 
 /// What the orders of a search show.
