@@ -15,5 +15,6 @@ mod timescales;
 pub use contents::Contents;
 pub use marks::{mark_ranges, no_marks};
 pub use source::elaborate;
+pub use timescales::{span_exponent, timescale_of};
 pub use vs_elab_statements::vs_scopes;
 pub use vs_elab_statements::vs_scopes::{ElabFault, Reason, fault_text};

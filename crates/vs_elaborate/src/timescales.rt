@@ -45,7 +45,7 @@ fn span_of(time: Time) -> TimeSpan
 }
 
 /// The power of ten that a span of time is in femtoseconds.
-fn span_exponent(span: TimeSpan) -> u32
+pub fn span_exponent(span: TimeSpan) -> u32
     ensures value { result ≡ span_exponent span }
     ensures small { result ≤ 17 }
 {

@@ -1,6 +1,5 @@
 //! Certificates that a call makes.
 ghost use Rattle.std.specs.Prelude.{◌≡◌, ◌⊎◌, ℕ, List, [], IfOk, IfErr, true};
-ghost use Rattle.std.specs.Io.KnownBytes.{Appends, append_known};
 ghost use Rattle.vs_certified.specs.Certified.{is_before_run};
 ghost use Rattle.vs_program.specs.Ends.{MakingFails, done_status, held_of};
 ghost use Rattle.vs_program.specs.passes.Proposing.{HasProposed, WroteLine};
@@ -8,14 +7,13 @@ ghost use Rattle.vs_program.specs.passes.Proposing.{HasProposed, WroteLine};
 use crate::command::Writers;
 use crate::doing::Done;
 use crate::input::Kept;
-use crate::telling::{tell, tell_done};
+use crate::telling::{tell, tell_done, write_whole};
 use crate::texts::{FAILED, is_too_long, proposal_line};
 use crate::writing::{Place, tell_write};
 use std::alloc::Global;
 use std::io::Write;
 use vs_certified::CertifiedFault;
 use vs_certified::vs_simulate::design_of;
-use vs_certified::vs_vcd_writing::{Counted, WriteFault, write_all};
 use vs_outputs::{Late, OutputFile};
 use vs_program_words::Call;
 use vs_program_words::vs_certificate::{CertFault, ClaimedGrain, written_reads_back};
@@ -50,18 +48,6 @@ pub(crate) fn proposed<'s>(
     Ok(ProposalLine { proposal, line })
 }
 
-// Writes a line, and answers whether all of it is written.
-fn write_line<W: Write>(out: W, line: &[u8]) -> (bool, W)
-    ensures { (lost : List ℕ) × (result.0 ≡ true → lost ≡ [])
-        × Appends (W.contents out) (append_known (W.contents result.1) lost) line.now }
-{
-    let mut shown = Counted::new(out);
-    match write_all(&mut shown, line) {
-        Ok(()) => (true, shown.into_inner()),
-        Err(WriteFault) => (false, shown.into_inner()),
-    }
-}
-
 /// Writes the line of what is proposed, and answers whether all of it is written: a certificate to the file of a name, and why none is made to
 /// standard output. Then the file isn't opened.
 pub(crate) fn write_proposed<O: Write + Drop, F: OutputFile + Drop>(
@@ -73,35 +59,15 @@ pub(crate) fn write_proposed<O: Write + Drop, F: OutputFile + Drop>(
         × WroteLine proposed.now.proposal proposed.now.line.items lost (held_of O.contents F.bytes writers)
         (held_of O.contents F.bytes result.1) }
 {
-    let Writers {
-        out,
-        is_terminal,
-        text,
-        dump,
-        other,
-    } = writers;
     match &proposed.proposal {
         Proposal::Made(_) => {
-            let (whole, file) = write_line(Late::new(text, name), &proposed.line);
-            let writers = Writers {
-                out,
-                is_terminal,
-                text: file.into_inner(),
-                dump,
-                other,
-            };
-            (whole, writers)
+            let (whole, file) = write_whole(Late::new(writers.text, name), &proposed.line);
+            let text = file.into_inner();
+            (whole, Writers { text, ..writers })
         }
         Proposal::NotMade(_) => {
-            let (whole, out) = write_line(out, &proposed.line);
-            let writers = Writers {
-                out,
-                is_terminal,
-                text,
-                dump,
-                other,
-            };
-            (whole, writers)
+            let (whole, out) = write_whole(writers.out, &proposed.line);
+            (whole, Writers { out, ..writers })
         }
     }
 }

@@ -468,9 +468,9 @@ fn tell_call<E: Write>(
         return tell_write(call, place, err);
     }
     if is_open_at_cut(&kept.source, fault) {
-        return tell_fault(alloc, &*call, &*kept, &too_long(), err);
+        return tell_fault(alloc, call, kept, &too_long(), err);
     }
-    tell_fault(alloc, &*call, &*kept, fault, err)
+    tell_fault(alloc, call, kept, fault, err)
 }
 
 // Tells of a fault. What is gathered is written, unless a write has failed.

@@ -288,28 +288,15 @@ pub(crate) fn do_call<'s, S: Sink, V: Sink, W: Watch>(
     match call.subcommand {
         Subcommand::Run(request) => {
             let texts = texts_of(request, &call.outputs);
-            let outcome = run_source(
-                alloc,
-                request,
-                texts,
-                &call.choices,
-                source,
-                shown,
-                &mut dumps.first,
-            )?;
+            let choices = &call.choices;
+            let dump = &mut dumps.first;
+            let outcome = run_source(alloc, request, texts, choices, source, shown, dump)?;
             Ok(Done::Ran(outcome))
         }
         Subcommand::RunCertified(request) => {
             let texts = texts_of(request, &call.outputs);
-            let outcome = run_certified(
-                alloc,
-                request,
-                texts,
-                source,
-                certificate,
-                shown,
-                &mut dumps.first,
-            )?;
+            let dump = &mut dumps.first;
+            let outcome = run_certified(alloc, request, texts, source, certificate, shown, dump)?;
             Ok(Done::Ran(outcome))
         }
         Subcommand::Check(top) => {

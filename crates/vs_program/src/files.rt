@@ -1,5 +1,6 @@
 //! Files as the source of a call.
-ghost use Rattle.std.specs.Prelude.{IfOk};
+ghost use Rattle.std.specs.Prelude.{◌≤◌, IfOk, vec_len};
+ghost use Rattle.vs_preprocess.specs.Limits.{text_limit};
 ghost use Rattle.vs_program.specs.Inputs.{IsCertificateFor};
 ghost use Rattle.vs_program.specs.passes.Kept.{HasText};
 
@@ -19,6 +20,37 @@ pub(crate) enum FilesRead {
     Text(Kept),
     /// They are refused.
     Refused(Places, Refusal),
+}
+
+/// A library that keeps the name of a file whose reading failed.
+#[derive(Drop)]
+struct WithFailure<L> {
+    library: L,
+    failed: Option<Vec<u8>>,
+}
+
+impl<L: Library> Library for WithFailure<L> {
+    fn read(
+        &mut self,
+        alloc: Global,
+        name: &[u8],
+        limit: usize,
+    ) -> Result<Option<Vec<u8>>, Failure> {
+        let found = self.library.read(alloc, name, limit);
+        if let Err(Failure::Read) = &found {
+            self.failed = Some(Vec::from_slice(alloc, name)?);
+        }
+        found
+    }
+}
+
+// Why files weren't read.
+fn fault_of(failure: Failure, failed: Option<Vec<u8>>) -> InputFault {
+    match (failure, failed) {
+        (Failure::Memory, _) => InputFault::Memory,
+        (Failure::Read, Some(name)) => InputFault::File(name),
+        (Failure::Read, None) => InputFault::Read,
+    }
 }
 
 // Whether standard input is one of the files.
@@ -92,6 +124,30 @@ fn read_input<L: Library, R: Read + Drop>(
     }
 }
 
+// What the files of a call become, one of which may be standard input.
+fn preprocessed<L: Library>(
+    alloc: Global,
+    library: &mut L,
+    own: Option<Vec<u8>>,
+    asked: &FilesCall,
+) -> Result<Preprocessed, InputFault>
+    ensures { IfOk result (λ made. IfOk made.outcome (λ text. vec_len text ≤ text_limit)) }
+{
+    let mut files = WithFailure {
+        library: WithInput {
+            library,
+            input: own,
+        },
+        failed: None,
+    };
+    let done = preprocess(alloc, &mut files, asked);
+    let WithFailure { library: _, failed } = files;
+    match done {
+        Ok(text) => Ok(text),
+        Err(failure) => Err(fault_of(failure, failed)),
+    }
+}
+
 /// Reads the files of a call, and its certificate where it takes one.
 pub(crate) fn read_files<L: Library, R: Read + Drop>(
     alloc: Global,
@@ -110,11 +166,7 @@ pub(crate) fn read_files<L: Library, R: Read + Drop>(
         defines: &defines,
         folders: &folders,
     };
-    let mut both = WithInput {
-        library,
-        input: own,
-    };
-    let Preprocessed { places, outcome } = preprocess(alloc, &mut both, &asked)?;
+    let Preprocessed { places, outcome } = preprocessed(alloc, library, own, &asked)?;
     match outcome {
         Ok(text) => Ok(FilesRead::Text(Kept::of_files(certificate, text, places))),
         Err(refusal) => Ok(FilesRead::Refused(places, refusal)),

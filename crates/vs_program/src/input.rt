@@ -5,7 +5,7 @@ ghost use Rattle.vs_program.specs.passes.Reading.{HasKept};
 
 use std::alloc::{AllocError, Global};
 use std::io::{self, BufReader, ErrorKind, Read};
-use vs_preprocess::{Failure, Places};
+use vs_preprocess::Places;
 
 /// How many bytes of a source are kept at most: more than twice as many as a source may have (4 MiB), so that what begins within these is kept whole,
 /// unless it is as long itself.
@@ -15,7 +15,7 @@ pub(crate) const SOURCE_LIMIT: u64 = 8388609;
 pub(crate) const CERTIFICATE_LIMIT: u64 = 16777217;
 
 /// Why no input was read.
-#[derive(Clone, Copy, PartialEq, Eq)]
+#[derive(Drop)]
 pub(crate) enum InputFault {
     /// A growth of memory was refused.
     Memory,
@@ -23,6 +23,8 @@ pub(crate) enum InputFault {
     Read,
     /// The file of the certificate isn't there, or can't be read.
     Certificate,
+    /// The file of this name was there, and reading it failed.
+    File(Vec<u8>),
 }
 
 impl From<io::Error> for InputFault {
@@ -38,15 +40,6 @@ impl From<io::Error> for InputFault {
 impl From<AllocError> for InputFault {
     fn from(_error: AllocError) -> InputFault {
         InputFault::Memory
-    }
-}
-
-impl From<Failure> for InputFault {
-    fn from(failure: Failure) -> InputFault {
-        match failure {
-            Failure::Memory => InputFault::Memory,
-            Failure::Read => InputFault::Read,
-        }
     }
 }
 

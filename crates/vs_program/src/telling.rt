@@ -1,6 +1,6 @@
 //! What is told the user on standard error, and help on standard output.
-ghost use Rattle.std.specs.Prelude.{◌≡◌, ◌⊎◌};
-ghost use Rattle.std.specs.Io.KnownBytes.{Keeps};
+ghost use Rattle.std.specs.Prelude.{◌≡◌, ◌⊎◌, ℕ, List, [], true};
+ghost use Rattle.std.specs.Io.KnownBytes.{Appends, Keeps, append_known};
 ghost use Rattle.std.specs.IoError.{error_kind};
 ghost use Rattle.clap.specs.Words.{kind_of};
 ghost use Rattle.vs_program.specs.Ends.{done_status};
@@ -30,6 +30,7 @@ use vs_program_words::vs_certificate::to_json;
 use vs_program_words::{Call, Order, Request, Sources, Subcommand, WordsFault};
 use vs_race::vs_propose::{Proposal, Refusal as Unproved};
 use vs_race::{Race, Unwatched};
+use vs_targets::top_of;
 
 /// One line on standard error, and the exit status that goes with it.
 pub(crate) fn tell<E: Write>(err: &mut E, text: &[u8], status: u8) -> u8
@@ -50,6 +51,24 @@ pub fn refuse_start<E: Write + Drop>(error: &io::Error, mut err: E) -> u8
     }
 }
 
+/// What a value of `--until` may be where files are named.
+const UNTILS: &str = ": it is a number of ticks, or of s, ms, us, ns, ps or fs, as 10us";
+
+/// What a value of `--policy` may be where files are named.
+const ORDERS: &str =
+    "\n  [possible values: fifo, lifo, list:ITEMS, with items as 0,2,1 or as 17..22=1,30=2]";
+
+// Tells, as `clap` does, that the value of an option is none.
+fn tell_value<E: Write>(err: &mut E, option: &str, value: &str, values: &str) -> u8
+    ensures { result ≡ 64 }
+{
+    let _ = write!(
+        err,
+        "error: invalid value '{value}' for '--{option}'{values}\n\nFor more information, try '--help'.\n"
+    );
+    MISUSED
+}
+
 /// Tells why the words of a call ask for nothing.
 pub(crate) fn tell_words<O: Write, E: Write>(
     alloc: Global,
@@ -61,6 +80,12 @@ pub(crate) fn tell_words<O: Write, E: Write>(
 {
     match fault {
         WordsFault::Refused(error) => tell_refused(alloc, error, out, err),
+        WordsFault::Misused(error) => {
+            let _ = write!(err, "{error}");
+            (MISUSED, out)
+        }
+        WordsFault::NoUntil(text) => (tell_value(err, "until <N>", text, UNTILS), out),
+        WordsFault::NoOrder(text) => (tell_value(err, "policy <policy>", text, ORDERS), out),
         WordsFault::OrderOfCertified => (
             tell(err, b"--cert runs by --policy fifo alone", MISUSED),
             out,
@@ -93,6 +118,18 @@ fn tell_refused<O: Write, E: Write>(alloc: Global, error: &Error, out: O, err: &
     (status, out)
 }
 
+/// Writes a text, and answers whether all of it is written.
+pub(crate) fn write_whole<W: Write>(out: W, text: &[u8]) -> (bool, W)
+    ensures { (lost : List ℕ) × (result.0 ≡ true → lost ≡ [])
+        × Appends (W.contents out) (append_known (W.contents result.1) lost) text.now }
+{
+    let mut shown = Counted::new(out);
+    match write_all(&mut shown, text) {
+        Ok(()) => (true, shown.into_inner()),
+        Err(WriteFault) => (false, shown.into_inner()),
+    }
+}
+
 // Prints help, or the version.
 fn tell_help<O: Write, E: Write>(alloc: Global, error: &Error, out: O, err: &mut E) -> (u8, O)
     ensures { (result.0 ≡ 3) ⊎ (result.0 ≡ 0) }
@@ -100,10 +137,9 @@ fn tell_help<O: Write, E: Write>(alloc: Global, error: &Error, out: O, err: &mut
     let Ok(text) = error.to_string(alloc) else {
         return (tell(err, b"memory", FAILED), out);
     };
-    let mut shown = Counted::new(out);
-    match write_all(&mut shown, text.as_bytes()) {
-        Ok(()) => (DONE, shown.into_inner()),
-        Err(WriteFault) => (tell(err, b"write", FAILED), shown.into_inner()),
+    match write_whole(out, text.as_bytes()) {
+        (true, out) => (DONE, out),
+        (false, out) => (tell(err, b"write", FAILED), out),
     }
 }
 
@@ -113,19 +149,6 @@ fn extent_of(call: &Call, has_files: bool) -> Extent {
         Extent::Explained
     } else {
         Extent::Line
-    }
-}
-
-// The top that a call asks for.
-fn top_of<'a>(asked: Subcommand<'a>) -> &'a str {
-    match asked {
-        Subcommand::Run(request) => request.top,
-        Subcommand::RunCertified(request) => request.top,
-        Subcommand::Check(top) => top,
-        Subcommand::Certify(top, _) => top,
-        Subcommand::Race(hunt) => hunt.top,
-        Subcommand::Elab(top) => top,
-        Subcommand::Preprocess => "",
     }
 }
 
@@ -216,11 +239,6 @@ fn tell_no<'g, E: Write>(
     tell_offender(alloc, given, offender, Further::Told, err);
 }
 
-// The text of the certificate that is best and not accepted.
-fn certificate_text(alloc: Global, refusal: &Unproved) -> Result<Vec<u8>, AllocError> {
-    to_json(alloc, &refusal.certificate)
-}
-
 // Which further subjects are told where no certificate was made. One that claims nothing lacks each name, so there none is.
 fn further_of(refusal: &Unproved) -> Further {
     if refusal.number == 1 {
@@ -230,15 +248,33 @@ fn further_of(refusal: &Unproved) -> Further {
     }
 }
 
-// Tells what it means that no certificate was made.
-fn tell_not_made<E: Write>(alloc: Global, given: &Given, refusal: &Unproved, err: &mut E) {
-    if let Ok(certificate) = certificate_text(alloc, refusal) {
-        let offender = Offender {
-            certificate: &certificate,
-            number: refusal.number,
-            place: &refusal.place,
-        };
-        tell_offender(alloc, given, offender, further_of(refusal), err);
+/// What a call asked for whose design has no certificate.
+#[derive(Clone, Copy)]
+enum Asked {
+    Certificate,
+    Race,
+}
+
+// Tells what it means that no certificate was made: that which is best, and is not accepted, breaks a rule.
+fn tell_not_made<E: Write>(
+    alloc: Global,
+    given: &Given,
+    asked: Asked,
+    refusal: &Unproved,
+    err: &mut E,
+) {
+    let Ok(certificate) = to_json(alloc, &refusal.certificate) else {
+        return;
+    };
+    let offender = Offender {
+        certificate: &certificate,
+        number: refusal.number,
+        place: &refusal.place,
+    };
+    let further = further_of(refusal);
+    match asked {
+        Asked::Certificate => tell_offender(alloc, given, offender, further, err),
+        Asked::Race => tell_unproved(alloc, given, offender, further, err),
     }
 }
 
@@ -259,16 +295,8 @@ fn explain_race<E: Write>(alloc: Global, given: &Given, race: &Race, err: &mut E
         Race::FoundLine(_, proposal) => proposal,
         Race::NotFound(_, proposal) => proposal,
     };
-    let Proposal::NotMade(refusal) = proposal else {
-        return;
-    };
-    if let Ok(certificate) = certificate_text(alloc, refusal) {
-        let offender = Offender {
-            certificate: &certificate,
-            number: refusal.number,
-            place: &refusal.place,
-        };
-        tell_unproved(alloc, given, offender, further_of(refusal), err);
+    if let Proposal::NotMade(refusal) = proposal {
+        tell_not_made(alloc, given, Asked::Race, refusal, err);
     }
 }
 
@@ -297,13 +325,7 @@ fn explain_steps<E: Write>(
 }
 
 // Tells what a no means, or that no certificate was made; where it is asked for also what the step limit means, and why no race can be left out.
-fn explain_done<'g, E: Write>(
-    alloc: Global,
-    call: &'g Call,
-    kept: &'g Kept,
-    done: &Done,
-    err: &mut E,
-) {
+fn explain_done<E: Write>(alloc: Global, call: &Call, kept: &Kept, done: &Done, err: &mut E) {
     let Ok(files) = files_of(alloc, &call.sources) else {
         return;
     };
@@ -312,7 +334,9 @@ fn explain_done<'g, E: Write>(
     let given = given_of(call, top, name, kept, &files);
     match done {
         Done::Judged(Verdict::No(number, place)) => tell_no(alloc, &given, *number, place, err),
-        Done::Proposed(Proposal::NotMade(refusal)) => tell_not_made(alloc, &given, refusal, err),
+        Done::Proposed(Proposal::NotMade(refusal)) => {
+            tell_not_made(alloc, &given, Asked::Certificate, refusal, err);
+        }
         Done::Ran(Outcome::StepLimit(time)) if call.explains => {
             explain_steps(alloc, &given, call.subcommand, *time, err);
         }
@@ -324,7 +348,7 @@ fn explain_done<'g, E: Write>(
 // The same where anything is to be told, and the race that is sought where no certificate was made.
 fn tell_more<E: Write>(alloc: Global, call: &Call, kept: &Kept, done: &Done, err: &mut E) {
     if kept.places.is_some() || call.explains || call.seeks_race {
-        explain_done(alloc, &*call, &*kept, done, err);
+        explain_done(alloc, call, kept, done, err);
     }
     if call.seeks_race && matches!(done, Done::Proposed(Proposal::NotMade(_))) {
         tell_sought(alloc, call, kept, err);
@@ -376,10 +400,10 @@ fn explain_fault<E: Write>(
 }
 
 /// What a fault tells the user, at its place in a file where the source is the text of files; where there is no memory for its text, that is told.
-pub(crate) fn tell_fault<'g, E: Write>(
+pub(crate) fn tell_fault<E: Write>(
     alloc: Global,
-    call: &'g Call,
-    kept: &'g Kept,
+    call: &Call,
+    kept: &Kept,
     fault: &CertifiedFault,
     err: &mut E,
 ) -> u8

@@ -242,8 +242,8 @@ pub(crate) fn dump_names<'a>(outputs: &Outputs<'a>) -> (&'a str, &'a str) {
 }
 
 // Writes the name of a file, without bytes that a terminal might obey.
-fn write_name<E: Write>(err: &mut E, name: &str) {
-    for byte in name.as_bytes() {
+fn write_name<E: Write>(err: &mut E, name: &[u8]) {
+    for byte in name {
         let byte = *byte;
         let shown = if byte < 32 || byte == 127 { b'?' } else { byte };
         let _ = err.write_all(&[shown]);
@@ -251,7 +251,7 @@ fn write_name<E: Write>(err: &mut E, name: &str) {
 }
 
 // Tells of the file of a name.
-fn tell_file<E: Write>(err: &mut E, name: &str, what: &str) -> u8
+fn tell_file<E: Write>(err: &mut E, name: &[u8], what: &str) -> u8
     ensures { result ≡ 3 }
 {
     let _ = err.write_all(b"vsim: ");
@@ -266,10 +266,10 @@ pub(crate) fn tell_write<E: Write>(call: &Call, place: Place, err: &mut E) -> u8
 {
     let (first, other) = dump_names(&call.outputs);
     match place {
-        Place::First => tell_file(err, first, "write"),
-        Place::Other => tell_file(err, other, "write"),
+        Place::First => tell_file(err, first.as_bytes(), "write"),
+        Place::Other => tell_file(err, other.as_bytes(), "write"),
         Place::Text => match call.outputs.text {
-            Some(name) => tell_file(err, name, "write"),
+            Some(name) => tell_file(err, name.as_bytes(), "write"),
             None => tell(err, b"write", FAILED),
         },
     }
@@ -281,7 +281,8 @@ pub(crate) fn tell_input<E: Write>(call: &Call, fault: InputFault, err: &mut E) 
 {
     match (fault, call.certificate) {
         (InputFault::Memory, _) => tell(err, b"memory", FAILED),
-        (InputFault::Certificate, Some(name)) => tell_file(err, name, "read"),
+        (InputFault::File(name), _) => tell_file(err, &name, "read"),
+        (InputFault::Certificate, Some(name)) => tell_file(err, name.as_bytes(), "read"),
         _ => tell(err, b"read", FAILED),
     }
 }

@@ -3,3 +3,4 @@ mod Given
 mod MomentLemmas
 mod Rows
 mod Tables
+pub mod VainLemmas

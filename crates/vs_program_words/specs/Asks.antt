@@ -9,6 +9,7 @@ use Rattle.vs_certificate.specs.declared.members.ClaimedGrain.{ClaimedGrain}
 use Rattle.vs_certificate.specs.declared.members.ClaimedGrain.TheVariants.{Block, Statement}
 use Rattle.vs_program_words.specs.Choices.{is_choices}
 use Rattle.vs_design.specs.declared.timescale.TimeUnit.{TimeUnit}
+use Rattle.vs_program_words.specs.FileWords.{names_file}
 use Rattle.vs_program_words.specs.Moments.{IsNoMoment, IsNumber, IsUntil}
 use Rattle.vs_program_words.specs.Options.{AreOptions}
 use Rattle.vs_program_words.specs.declared.words.Hunt.{Hunt}
@@ -180,6 +181,13 @@ pub data AreUnread (name : Name) (words : Values) (all : Lists) : Type 0 where
   by_lack : unwrap_or (all (codes "files")) [] ≡ [] → (count : ℕ) (unit : Option TimeUnit) → IsUntil (words (codes "until")) count unit →
       (lacks_top name words || not (has_ticks name words unit)) ≡ true → AreUnread name words all
 
+-- a text stands where the moment does, and is none; and where the order does
+abbrev pub GivesNoUntil : List ℕ → Values → Type 0
+GivesNoUntil text words = (words (codes "until") ≡ Some text) × IsNoMoment text
+
+abbrev pub GivesNoOrder : List ℕ → Values → Type 0
+GivesNoOrder text words = (words (codes "policy") ≡ Some text) × IsNoPolicy (Some text)
+
 -- the values of a subcommand's options ask for nothing, with this fault
 abbrev pub AskInVain : WordsFault → Name → Values → Values → Type 0
 AskInVain fault.OrderOfCertified run words values = AsksForBoth words values
@@ -189,6 +197,8 @@ AskInVain _ _ words values = ⊥
 -- the same, where the files and the moment were to be read too
 abbrev pub CallFails : WordsFault → Name → Values → Values → Lists → Type 0
 CallFails fault.Unread name words values all = AreUnread name words all
+CallFails (fault.NoUntil text) name words values all = GivesNoUntil text.now words
+CallFails (fault.NoOrder text) name words values all = GivesNoOrder text.now words
 CallFails fault.Memory name words values all = Unit {0}
 CallFails f name words values all = AskInVain f name words values
 
@@ -262,6 +272,11 @@ pub record WordsUnread (words : List (List ℕ)) : Type 0 where
   pub taken : AreTaken words
   pub unread : AreUnread (name_of taken.name) (words_of taken) (lists_of taken)
 
+-- the words, which have no fault by the table of options, have such values
+pub record WordsGive (words : List (List ℕ)) (Gives : Values → Type 0) : Type 0 where
+  pub taken : AreTaken words
+  pub gives : Gives (words_of taken)
+
 -- the words have a fault by the table in which the top and the moment may be left out
 pub record HaveLooseFault (words : List (List ℕ)) : Type 0 where
   pub app : App
@@ -280,9 +295,20 @@ pub record HaveFault (words : List (List ℕ)) (k : ErrorKind) : Type 0 where
   pub kind : IsAmong k (fault_of app words)
   pub loose : LooseFails words
 
--- what a fault of the words says of them
+-- they have a fault of this kind by that table
+abbrev pub HaveLooseKind : List (List ℕ) → ErrorKind → Type 0
+HaveLooseKind words k = (f : HaveLooseFault words) × (f.kind ≡ k)
+
+-- words that name files, and of which something holds
+abbrev pub WithFiles : List (List ℕ) → Type 0 → Type 0
+WithFiles words Holds = (names_file 2 words ≡ true) × Holds
+
+-- what a fault of the words says of them; that of a call which names files is one by the table in which the top and the moment may be left out
 abbrev pub WordsFail : List (List ℕ) → WordsFault → Type 0
 WordsFail words (fault.Refused e) = (kind_of e ≡ OutOfMemory) ⊎ HaveFault words (kind_of e)
+WordsFail words (fault.Misused e) = WithFiles words (HaveLooseKind words (kind_of e))
+WordsFail words (fault.NoUntil text) = WithFiles words (WordsGive words (GivesNoUntil text.now))
+WordsFail words (fault.NoOrder text) = WithFiles words (WordsGive words (GivesNoOrder text.now))
 WordsFail words fault.OrderOfCertified = WordsAskInVain words fault.OrderOfCertified
 WordsFail words fault.TwoDumps = WordsAskInVain words fault.TwoDumps
 WordsFail words fault.Unread = LooseFails words
@@ -290,6 +316,8 @@ WordsFail words fault.Memory = Unit {0}
 
 -- what a fault says of words that are read by the table in which the top and the moment may be left out
 abbrev pub IsInVain : List (List ℕ) → WordsFault → Type 0
-IsInVain words (fault.Refused e) = (kind_of e ≡ OutOfMemory) ⊎ HaveLooseFault words
+IsInVain words (fault.Refused e) = (kind_of e ≡ OutOfMemory) ⊎ HaveLooseKind words (kind_of e)
+IsInVain words (fault.NoUntil text) = WordsGive words (GivesNoUntil text.now)
+IsInVain words (fault.NoOrder text) = WordsGive words (GivesNoOrder text.now)
 IsInVain words fault.Unread = WordsUnread words
 IsInVain words f = WordsFail words f

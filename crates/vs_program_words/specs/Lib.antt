@@ -1,5 +1,6 @@
 pub mod Asks
 pub mod Choices
+pub mod FileWords
 pub mod Given
 pub mod Moments
 pub mod Options

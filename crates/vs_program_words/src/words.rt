@@ -2,13 +2,14 @@
 ghost use Rattle.std.specs.Prelude.{◌≡◌, ◌++◌, ◌&&◌, ◌||◌, not, ℕ, List, [], IfErr, IfOk, IsErrAnd, MatchOption, Some, codes, false, is_some, map, option_map, true, unwrap_or};
 ghost use Rattle.clap.specs.Words.{first_value, found_of, matched_of, one_text, raw_values};
 ghost use Rattle.vs_program_words.specs.Asks.{AskInVain, Asks, AsksAs, AsksFor, AsksRace, NamesFiles, NamesOutputs, WordsAsk, WordsFail, is_dump};
-ghost use Rattle.vs_program_words.specs.Asks.{CallFails, IsInVain, IsNoUntil, IsPolicy, IsPolicyIn, LooseFails, flag_named, grain_named, has_certificate};
+ghost use Rattle.vs_program_words.specs.Asks.{CallFails, IsInVain, IsPolicy, IsPolicyIn, LooseFails, flag_named, grain_named, has_certificate};
 ghost use Rattle.vs_program_words.specs.Asks.{has_moment, has_ticks, has_top, lacks_top, name_of, run};
+ghost use Rattle.vs_program_words.specs.FileWords.{due_behind, is_file, is_named, names_file, values_behind};
 ghost use Rattle.vs_program_words.specs.Choices.{is_choices};
-ghost use Rattle.vs_program_words.specs.passes.Policies.{PolicyFails};
+ghost use Rattle.vs_program_words.specs.passes.Policies.{PolicyFails, UntilFails};
 ghost use Rattle.vs_program_words.specs.Moments.{IsNumber, IsUntil};
 ghost use Rattle.vs_program_words.specs.Given.{AreAllGiven, AreGiven, AreGivenAs, AreGivenToRace, IsCount, IsFlag};
-ghost use Rattle.vs_program_words.specs.declared.words.WordsFault.TheVariants.{Memory, Refused, Unread};
+ghost use Rattle.vs_program_words.specs.declared.words.WordsFault.TheVariants.{Memory, Refused};
 
 use crate::choices::{Choice, choices_of};
 use crate::moments::{GREATEST, Moment, moment_of};
@@ -139,31 +140,37 @@ pub struct Call<'a> {
 
 /// Why the words of a call ask for nothing.
 #[derive(Drop)]
-pub enum WordsFault {
+pub enum WordsFault<'a> {
     /// `clap` refuses them, or they call for help or for the version.
     Refused(Error),
+    /// They name files, and `clap` refuses them by the table of calls with files.
+    Misused(Error),
+    /// They name files, and this is no moment.
+    NoUntil(&'a str),
+    /// They name files, and this is no order of events.
+    NoOrder(&'a str),
     /// They ask for a certified run in another order than the first one.
     OrderOfCertified,
     /// They ask for the dump on standard output, and in a file too.
     TwoDumps,
-    /// The time, the order, the top or the files are none.
+    /// The top or the files are none.
     Unread,
     /// A growth of memory was refused.
     Memory,
 }
 
-impl From<Error> for WordsFault {
+impl<'a> From<Error> for WordsFault<'a> {
     ghost from_gives = { λ cause fault. fault ≡ Refused cause };
 
-    fn from(cause: Error) -> WordsFault {
+    fn from(cause: Error) -> WordsFault<'a> {
         WordsFault::Refused(cause)
     }
 }
 
-impl From<AllocError> for WordsFault {
+impl<'a> From<AllocError> for WordsFault<'a> {
     ghost from_gives = { λ _ fault. fault ≡ Memory };
 
-    fn from(_cause: AllocError) -> WordsFault {
+    fn from(_cause: AllocError) -> WordsFault<'a> {
         WordsFault::Memory
     }
 }
@@ -187,8 +194,8 @@ fn has_flag(matches: &ArgMatches, name: &str) -> bool
 }
 
 // The moment that the matches ask for.
-fn until_of(matches: &ArgMatches) -> Result<Moment, WordsFault>
-    ensures err { IfErr result (λ fault. (fault ≡ Unread) × IsNoUntil (first_value (found_of matches.now) (codes "until"))) }
+fn until_of<'a>(matches: &ArgMatches<'a>) -> Result<Moment, WordsFault<'a>>
+    ensures err { IfErr result (UntilFails (first_value (found_of matches.now) (codes "until"))) }
     ensures ok { IfOk result (λ m. IsUntil (first_value (found_of matches.now) (codes "until")) m.count.count m.unit) }
 {
     match matches.get_str("until") {
@@ -198,7 +205,7 @@ fn until_of(matches: &ArgMatches) -> Result<Moment, WordsFault>
         }),
         Some(text) => match moment_of(text) {
             Some(moment) => Ok(moment),
-            None => Err(WordsFault::Unread),
+            None => Err(WordsFault::NoUntil(text)),
         },
     }
 }
@@ -222,9 +229,9 @@ fn list_of(alloc: Global, word: &str) -> Result<Option<Vec<Choice>>, AllocError>
 }
 
 // An order that a word names: `fifo`, `lifo`, or choices behind `list:`.
-fn order_of(alloc: Global, word: &str) -> Result<Policy, WordsFault>
-    ensures ok { IfOk result (λ p. IsPolicy word.now p.order) }
-    ensures err { IfErr result (PolicyFails (Some word.now)) }
+fn order_of<'a>(alloc: Global, word: &'a str) -> Result<Policy, WordsFault<'a>>
+    ensures ok { IfOk result (λ p. IsPolicy word.entry.now p.order) }
+    ensures err { IfErr result (PolicyFails (Some word.entry.now)) }
 {
     match word {
         "fifo" => Ok(Policy {
@@ -240,13 +247,13 @@ fn order_of(alloc: Global, word: &str) -> Result<Policy, WordsFault>
                 order: Order::Listed,
                 choices,
             }),
-            None => Err(WordsFault::Unread),
+            None => Err(WordsFault::NoOrder(word)),
         },
     }
 }
 
 // The order of events that the matches ask for, in a subcommand that has one.
-fn policy_of(alloc: Global, matches: &ArgMatches) -> Result<Policy, WordsFault>
+fn policy_of<'a>(alloc: Global, matches: &ArgMatches<'a>) -> Result<Policy, WordsFault<'a>>
     ensures ok { IfOk result (λ p. IsPolicyIn (first_value (found_of matches.now) (codes "policy")) p.order) }
     ensures err { IfErr result (PolicyFails (first_value (found_of matches.now) (codes "policy"))) }
 {
@@ -307,7 +314,7 @@ fn run_of<'a>(
     matches: &ArgMatches<'a>,
     until: Ticks,
     order: Order,
-) -> Result<Subcommand<'a>, WordsFault>
+) -> Result<Subcommand<'a>, WordsFault<'a>>
     requires given { AreGiven (first_value (found_of matches.now)) (one_text (found_of matches.now)) }
     requires policy { IsPolicyIn (first_value (found_of matches.now) (codes "policy")) order }
     ensures ok { IfOk result (AsksAs run (first_value (found_of matches.now)) (one_text (found_of matches.now)) until.count order) }
@@ -358,7 +365,7 @@ fn subcommand_of<'a>(
     matches: &ArgMatches<'a>,
     until: Ticks,
     order: Order,
-) -> Result<Subcommand<'a>, WordsFault>
+) -> Result<Subcommand<'a>, WordsFault<'a>>
     requires given { AreGivenAs (name_of name.now) (first_value (found_of matches.now)) (one_text (found_of matches.now)) }
     requires policy { IsPolicyIn (first_value (found_of matches.now) (codes "policy")) order }
     ensures ok { IfOk result (
@@ -466,7 +473,11 @@ fn wants_files(lacks_top: bool, has_ticks: bool) -> bool
 }
 
 // What the matches of a subcommand ask for. Without files the top and the moment can't be left out.
-fn call_of<'a>(alloc: Global, name: &str, matches: &ArgMatches<'a>) -> Result<Call<'a>, WordsFault>
+fn call_of<'a>(
+    alloc: Global,
+    name: &str,
+    matches: &ArgMatches<'a>,
+) -> Result<Call<'a>, WordsFault<'a>>
     requires { AreAllGiven (name_of name.now) (first_value (found_of matches.now)) (one_text (found_of matches.now)) }
     ensures ok { IfOk result (AsksFor (name_of name.now) (first_value (found_of matches.now)) (one_text (found_of matches.now))
         (λ option. option_map raw_values (matched_of (found_of matches.now) option))) }
@@ -499,8 +510,74 @@ fn call_of<'a>(alloc: Global, name: &str, matches: &ArgMatches<'a>) -> Result<Ca
     }
 }
 
+// How many words behind a word are values of it, as an option.
+fn values_behind(word: &str) -> usize
+    ensures { result ≡ values_behind word.now }
+{
+    match word {
+        "--vcd-pair" => 2,
+        "-o" => 1,
+        "-D" => 1,
+        "-I" => 1,
+        "--top" => 1,
+        "--until" => 1,
+        "--steps" => 1,
+        "--policy" => 1,
+        "--out" => 1,
+        "--vcd" => 1,
+        "--certificate" => 1,
+        "--grain" => 1,
+        "--tries" => 1,
+        "--seed" => 1,
+        "--from" => 1,
+        _ => 0,
+    }
+}
+
+// Whether a word that is no option's value is a file's name: `-` is one, and what doesn't begin so.
+fn is_file(word: &str) -> bool
+    ensures { result ≡ is_file word.now }
+{
+    match word.as_bytes() {
+        [first, _, ..] => *first != b'-',
+        _ => true,
+    }
+}
+
+// Whether a word names a file, where so many words name none.
+fn is_named(due: usize, word: &str) -> bool
+    ensures { result ≡ is_named due word.now }
+{
+    if due > 0 { false } else { is_file(word) }
+}
+
+// How many words behind a word name no file, where so many name none with it.
+fn due_behind(due: usize, word: &str) -> usize
+    ensures { result ≡ due_behind due word.now }
+{
+    if due > 0 {
+        due - 1
+    } else {
+        values_behind(word)
+    }
+}
+
+// Whether the words of a call name a file, though they have a fault. The program's name and the subcommand name none.
+fn names_file(words: &[&str]) -> bool
+    ensures { result ≡ names_file 2 (map (λ w. w.now) words.now) }
+{
+    let mut due = 2;
+    for word in words {
+        if is_named(due, word) {
+            return true;
+        }
+        due = due_behind(due, word);
+    }
+    false
+}
+
 // What the words that ask for nothing are refused for: what `clap` says of them by the strict table.
-fn refused<'a>(alloc: Global, words: &'a [&'a str]) -> Result<Call<'a>, WordsFault>
+fn refused<'a>(alloc: Global, words: &'a [&'a str]) -> Result<Call<'a>, WordsFault<'a>>
     requires { LooseFails (map (λ w. w.now) words.now) }
     ensures { IsErrAnd result (λ fault. WordsFail (map (λ w. w.now) words.entry.now) fault) }
 {
@@ -509,7 +586,7 @@ fn refused<'a>(alloc: Global, words: &'a [&'a str]) -> Result<Call<'a>, WordsFau
 }
 
 // What the words ask for by the table in which the top and the moment may be left out.
-fn read_loose<'a>(alloc: Global, words: &'a [&'a str]) -> Result<Call<'a>, WordsFault>
+fn read_loose<'a>(alloc: Global, words: &'a [&'a str]) -> Result<Call<'a>, WordsFault<'a>>
     ensures ok { IfOk result (λ call. WordsAsk (map (λ w. w.now) words.entry.now) call) }
     ensures err { IfErr result (λ fault. IsInVain (map (λ w. w.now) words.entry.now) fault) }
 {
@@ -521,19 +598,59 @@ fn read_loose<'a>(alloc: Global, words: &'a [&'a str]) -> Result<Call<'a>, Words
     }
 }
 
+// What words that name files are refused for: what that table says of them.
+fn refused_files<'a>(
+    alloc: Global,
+    words: &'a [&'a str],
+    fault: WordsFault<'a>,
+) -> Result<Call<'a>, WordsFault<'a>>
+    requires names { names_file 2 (map (λ w. w.now) words.now) ≡ true }
+    requires vain { IsInVain (map (λ w. w.now) words.now) fault }
+    ensures { IsErrAnd result (λ f. WordsFail (map (λ w. w.now) words.entry.now) f) }
+{
+    match fault {
+        WordsFault::Refused(error) => match error.kind() {
+            ErrorKind::OutOfMemory => Err(WordsFault::Refused(error)),
+            ErrorKind::DisplayHelp => refused(alloc, words),
+            ErrorKind::DisplayVersion => refused(alloc, words),
+            _ => Err(WordsFault::Misused(error)),
+        },
+        WordsFault::Unread => refused(alloc, words),
+        other => Err(other),
+    }
+}
+
+// What words that name none are refused for.
+#[tactic(auto, using(crate::proofs::VainLemmas::no_until, crate::proofs::VainLemmas::no_order))]
+fn refused_input<'a>(
+    alloc: Global,
+    words: &'a [&'a str],
+    fault: WordsFault<'a>,
+) -> Result<Call<'a>, WordsFault<'a>>
+    requires { IsInVain (map (λ w. w.now) words.now) fault }
+    ensures { IsErrAnd result (λ f. WordsFail (map (λ w. w.now) words.entry.now) f) }
+{
+    match fault {
+        WordsFault::Refused(error) => match error.kind() {
+            ErrorKind::OutOfMemory => Err(WordsFault::Refused(error)),
+            _ => refused(alloc, words),
+        },
+        WordsFault::NoUntil(_) => refused(alloc, words),
+        WordsFault::NoOrder(_) => refused(alloc, words),
+        WordsFault::Unread => refused(alloc, words),
+        other => Err(other),
+    }
+}
+
 /// What the words ask for, which is always something where they have no fault; they begin with the program's own name. A fault of the words, and a
-/// call for help, is `clap`'s error, whose text is to be printed. Without files the top and the moment can't be left out.
-pub fn read_words<'a>(alloc: Global, words: &'a [&'a str]) -> Result<Call<'a>, WordsFault>
+/// call for help, is mostly `clap`'s error, whose text is to be printed. Without files the top and the moment can't be left out.
+pub fn read_words<'a>(alloc: Global, words: &'a [&'a str]) -> Result<Call<'a>, WordsFault<'a>>
     ensures ok { IfOk result (λ call. WordsAsk (map (λ w. w.now) words.entry.now) call) }
     ensures err { IfErr result (λ fault. WordsFail (map (λ w. w.now) words.entry.now) fault) }
 {
     match read_loose(alloc, words) {
         Ok(call) => Ok(call),
-        Err(WordsFault::Refused(error)) => match error.kind() {
-            ErrorKind::OutOfMemory => Err(WordsFault::Refused(error)),
-            _ => refused(alloc, words),
-        },
-        Err(WordsFault::Unread) => refused(alloc, words),
-        Err(fault) => Err(fault),
+        Err(fault) if names_file(words) => refused_files(alloc, words, fault),
+        Err(fault) => refused_input(alloc, words, fault),
     }
 }

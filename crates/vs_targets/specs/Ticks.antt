@@ -1,14 +1,8 @@
 -- What a tick of a source stands for.
-use Rattle.std.specs.Prelude.{ℕ, ◌≡◌, ◌-◌, ◌*◌, ◌^◌, List, [], ◌∷◌, Option, Some, None}
+use Rattle.std.specs.Prelude.{ℕ, ◌≡◌, ◌-◌, ◌*◌, ◌^◌}
 use Rattle.vs_design.specs.declared.timescale.TimeUnit.{TimeUnit}
-use Rattle.vs_design.specs.declared.timescale.Timescale.{Timescale}
 use Rattle.vs_syntax.specs.declared.tree.Source.{Source}
 use Rattle.vs_elaborate.specs.Timescales.{span_exponent, timescale_of, unit_exponent}
-
--- the power of ten that the precision of the first of time scales is in femtoseconds, where there is one
-abbrev pub first_precision : List Timescale → Option ℕ
-first_precision [] = None
-first_precision (s ∷ ss) = Some (span_exponent s.precision)
 
 -- the power of ten that a tick of a source is in femtoseconds (clause 19.8)
 abbrev pub tick_exponent : Source → ℕ

@@ -5,6 +5,6 @@ mod reading;
 mod target;
 mod ticks;
 
-pub use target::{Target, TargetFault, target_of, with_target};
+pub use target::{Target, TargetFault, target_of, top_of, with_target};
 pub use ticks::{Tick, told_tick};
 pub use vs_program_words;

@@ -43,8 +43,8 @@ impl From<AllocError> for TargetFault {
     }
 }
 
-// The top that a subcommand names.
-fn top_of<'a>(subcommand: Subcommand<'a>) -> &'a str
+/// The top that a subcommand names; nothing where it is left out.
+pub fn top_of<'a>(subcommand: Subcommand<'a>) -> &'a str
     ensures { result.now ≡ top_of subcommand.entry }
 {
     match subcommand {

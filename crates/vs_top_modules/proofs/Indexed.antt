@@ -1,5 +1,5 @@
 -- Lemmas on names in order.
-use Rattle.std.proofs.Common.{◌≡◌, ◌∙◌, ℕ, ◌+◌, ◌<◌, ◌≤◌, ◌||◌, Bool, cond, true, false, List, [], ◌∷◌, ◌++◌, length, get_or, take, Some, is_some, refl, ap, sym, subst}
+use Rattle.std.proofs.Common.{◌≡◌, ◌∙◌, ℕ, ◌+◌, ◌<◌, ◌≤◌, ◌||◌, Bool, cond, true, false, List, [], ◌∷◌, ◌++◌, length, get_or, take, None, Some, is_some, refl, ap, sym, subst}
 use Rattle.std.specs.Borrow.{Bor}
 use Rattle.std.specs.List.{list_any}
 use Rattle.std.specs.Str.{bytes_eq}
@@ -21,7 +21,7 @@ both_ways x y = go (bytes_eq x y) (bytes_eq y x) refl refl
     go false true e f = sym e ∙ (bytes_eq-Decides x y).1 (sym ((bytes_eq-Decides y x).0 f))
 
 -- a name more
-more : (names : List (List ℕ)) (old new : List (List ℕ × Bool)) (n : List ℕ) → AreIndexed names old → Binds old new n true → AreIndexed (names ++ n ∷ []) new
+pub more : (names : List (List ℕ)) (old new : List (List ℕ × Bool)) (n : List ℕ) → AreIndexed names old → Binds old new n true → AreIndexed (names ++ n ∷ []) new
 more names old new n all binds k = ap is_some (binds k) ∙ go (bytes_eq n k) refl
   where
     go : (b : Bool) → bytes_eq n k ≡ b → is_some (cond b (Some true) (meaning_of old k)) ≡ list_any (bytes_eq k) (names ++ n ∷ [])
@@ -44,3 +44,10 @@ one_indexed names i n old new within here all binds =
 pub all_indexed : (names : List (Bor (List ℕ))) (i : ℕ) (index : List (List ℕ × Bool)) → length names ≤ i → AreIndexed (read_names (take i names)) index
     → AreIndexed (read_names names) index
 all_indexed names i index end all = subst (λ l. AreIndexed (read_names l) index) (take_all i names end) all
+
+-- a name that has no meaning is none of them, and one that has a meaning is one of them
+pub no_name : (names : List (List ℕ)) (index : List (List ℕ × Bool)) (n : List ℕ) → AreIndexed names index → meaning_of index n ≡ None → list_any (bytes_eq n) names ≡ false
+no_name names index n all none = sym (all n) ∙ ap is_some none
+
+pub some_name : (names : List (List ℕ)) (index : List (List ℕ × Bool)) (n : List ℕ) (b : Bool) → AreIndexed names index → meaning_of index n ≡ Some b → list_any (bytes_eq n) names ≡ true
+some_name names index n b all some = sym (all n) ∙ ap is_some some

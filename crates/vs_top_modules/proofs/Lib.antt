@@ -1,2 +1,3 @@
 mod Indexed
+mod TopsLemmas
 mod UsesLemmas

@@ -49,6 +49,11 @@ used_by ms = flat_map (λ (m : Module). used_among m.items.items) ms
 abbrev pub own_top : List (List ℕ) → Module → List (List ℕ)
 own_top names m = if list_any (bytes_eq m.name.items) names then [] else m.name.items ∷ []
 
--- the names of the modules that no module of a source instantiates, in the order of the text (clause 12.1.1)
+-- the names of modules that are none of these, each once, in their order
+abbrev pub tops_among : List (List ℕ) → List Module → List (List ℕ)
+tops_among names [] = []
+tops_among names (m ∷ ms) = own_top names m ++ tops_among (names ++ own_top names m) ms
+
+-- the names of the modules that no module of a source instantiates, each once, in the order of the text (clause 12.1.1)
 abbrev pub top_modules : Source → List (List ℕ)
-top_modules s = flat_map (own_top (used_by s.modules.items)) s.modules.items
+top_modules s = tops_among (used_by s.modules.items) s.modules.items

@@ -1,8 +1,7 @@
 //! The modules of a source that no module of it instantiates.
 ghost use Rattle.std.specs.Prelude.{◌≡◌, ◌++◌, ℕ, List, IfOk, OnOk};
-ghost use Rattle.std.specs.List.{flat_map};
 ghost use Rattle.vs_elab_pieces.specs.Reads.{read_names};
-ghost use Rattle.vs_top_modules.specs.Tops.{item_uses, else_uses, own_top, top_modules, used_among, used_by, used_in};
+ghost use Rattle.vs_top_modules.specs.Tops.{item_uses, else_uses, own_top, top_modules, tops_among, used_among, used_by, used_in};
 ghost use Rattle.vs_top_modules.specs.passes.Names.{AreIndexed};
 
 use std::alloc::{AllocError, AllocFailed, Global};
@@ -89,39 +88,45 @@ fn index_of<'s>(
     Ok(index)
 }
 
-// Adds the name of a module, unless it is one of these.
+// Adds the name of a module, unless it is one of these; then it is one of them.
 fn add_top<'s>(
     tops: &mut Vec<&'s [u8]>,
-    index: &Names<'s, bool>,
-    module: &'s Module,
+    index: &mut Names<'s, bool>,
+    defined: &'s Module,
 ) -> Result<(), AllocError>
-    ensures { (names : List (List ℕ)) → AreIndexed names index.now →
-        OnOk result (read_names tops.new.items ≡ read_names tops.old.items ++ own_top names module.entry.now) }
+    ensures top { (names : List (List ℕ)) → AreIndexed names index.old →
+        OnOk result (read_names tops.new.items ≡ read_names tops.old.items ++ own_top names defined.entry.now) }
+    ensures index { (names : List (List ℕ)) → AreIndexed names index.old →
+        OnOk result (AreIndexed (names ++ own_top names defined.entry.now) index.new) }
 {
-    if index.find(&module.name).is_none() {
-        tops.push(&module.name)?;
+    if index.find(&defined.name).is_none() {
+        let Ok(()) = index.bind(&defined.name, true) else {
+            return Err(AllocError);
+        };
+        tops.push(&defined.name)?;
     }
     Ok(())
 }
 
-// Those of modules whose names are none of these.
+// The names of modules that are none of these, each once.
 fn others_than<'s>(
     alloc: Global,
-    index: &Names<'s, bool>,
+    index: Names<'s, bool>,
     modules: &'s [Module],
 ) -> Result<Vec<&'s [u8]>, AllocError>
-    ensures { (names : List (List ℕ)) → AreIndexed names index.now →
-        IfOk result (λ tops. read_names tops.items ≡ flat_map (own_top names) modules.entry.now) }
+    ensures { (names : List (List ℕ)) → AreIndexed names index.entry →
+        IfOk result (λ tops. read_names tops.items ≡ tops_among names modules.entry.now) }
 {
+    let mut left = index;
     let mut tops = Vec::new(alloc);
     for module in modules {
-        add_top(&mut tops, index, module)?;
+        add_top(&mut tops, &mut left, module)?;
     }
     Ok(tops)
 }
 
-/// The names of the modules that no module of a source instantiates, itself among them, in the order of the text (IEEE 1364-2005, clause 12.1.1).
-/// What a generate construct may generate counts, whether it does or not.
+/// The names of the modules that no module of a source instantiates, itself among them, each once, in the order of the text (IEEE 1364-2005, clause
+/// 12.1.1). What a generate construct may generate counts, whether it does or not.
 pub fn top_modules<'s>(alloc: Global, source: &'s Source) -> Result<Vec<&'s [u8]>, AllocError>
     ensures { IfOk result (λ tops. read_names tops.items ≡ top_modules source.entry.now) }
 {
@@ -129,5 +134,5 @@ pub fn top_modules<'s>(alloc: Global, source: &'s Source) -> Result<Vec<&'s [u8]
     let Ok(index) = index_of(alloc, &names) else {
         return Err(AllocError);
     };
-    others_than(alloc, &index, &source.modules)
+    others_than(alloc, index, &source.modules)
 }

@@ -12,7 +12,8 @@ use Rattle.vs_program_words.specs.Asks.{HaveFault, WordsFail}
 use Rattle.vs_program.specs.Ends.{EndsWords, by_kind, by_dumps, by_order, by_words, by_memory, by_help, with_call, without_call}
 use Rattle.vs_program.specs.passes.Telling.{TellsWords}
 use Rattle.vs_program_words.specs.declared.words.WordsFault.{WordsFault}
-use Rattle.vs_program_words.specs.declared.words.WordsFault.TheVariants.{Memory, OrderOfCertified, Refused, TwoDumps, Unread}
+use Rattle.vs_program_words.specs.declared.words.WordsFault.TheVariants.{Memory, Misused, NoOrder, NoUntil, OrderOfCertified, Refused, TwoDumps, Unread}
+use Rattle.vs_program_words.proofs.VainLemmas.{no_order, no_until}
 use Rattle.vs_program.proofs.command.program_on.Goals as goal
 
 -- want of memory is no help
@@ -41,6 +42,9 @@ told_error words e old new status (inr fault) (inr is) kept = by_kind (kind_of e
 -- what is told of a fault of the words
 told_fault : (words : List (List ℕ)) (f : WordsFault) (old new : Option (List ℕ)) (status : ℕ) → WordsFail words f → TellsWords f old new status → EndsWords words old new status
 told_fault words (Refused e) old new status fails told = told_error words e old new status fails told.0 told.1
+told_fault words (Misused e) old new status fails told = by_words (inl fails.1.0) told.0 told.1
+told_fault words (NoUntil text) old new status fails told = by_words (no_until words text.now fails.1) told.0 told.1
+told_fault words (NoOrder text) old new status fails told = by_words (no_order words text.now fails.1) told.0 told.1
 told_fault words OrderOfCertified old new status fails told = by_order fails told.0 told.1
 told_fault words TwoDumps old new status fails told = by_dumps fails told.0 told.1
 told_fault words Unread old new status fails told = by_words fails told.0 told.1

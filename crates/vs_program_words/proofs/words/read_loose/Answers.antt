@@ -14,7 +14,7 @@ use Rattle.vs_program_words.proofs.Tables.{are_simple, are_simple_and_free}
 use Rattle.vs_program_words.specs.Given.{AreAllGiven}
 use Rattle.vs_program_words.specs.Asks.{AreTaken, AsksFor, CallFails, IsInVain, Lists, Values, lists_of, name_of, values_of, words_of}
 use Rattle.vs_program_words.specs.declared.words.WordsFault.{WordsFault}
-use Rattle.vs_program_words.specs.declared.words.WordsFault.TheVariants.{Memory, OrderOfCertified, Refused, TwoDumps, Unread}
+use Rattle.vs_program_words.specs.declared.words.WordsFault.TheVariants.{Memory, Misused, NoOrder, NoUntil, OrderOfCertified, Refused, TwoDumps, Unread}
 use Rattle.vs_program_words.proofs.words.read_loose.Goals as goal
 
 -- a pair, by its parts
@@ -47,13 +47,16 @@ in_vain : (words : List Text) (t : AreTaken words) (f : WordsFault) → CallFail
 in_vain words t OrderOfCertified h = record { taken = t; vain = h }
 in_vain words t TwoDumps h = record { taken = t; vain = h }
 in_vain words t (Refused e) h = absurd h
+in_vain words t (Misused e) h = absurd h
+in_vain words t (NoUntil text) h = record { taken = t; gives = h }
+in_vain words t (NoOrder text) h = record { taken = t; gives = h }
 in_vain words t Unread h = record { taken = t; unread = h }
 in_vain words t Memory h = tt
 
 -- the words have a fault by the table
 failed : (a : App) → AreOptions false a → (words : List Text) (e : Error) → HasKind (fault_of a words) e → IsInVain words (Refused e)
 failed a o words e (inl memory) = inl memory
-failed a o words e (inr kind) = inr (record { app = a; options = o; kind = kind_of e; among = kind })
+failed a o words e (inr kind) = inr (record { app = a; options = o; kind = kind_of e; among = kind }, refl)
 
 pub call_of-requires : goal.call_of-requires
 call_of-requires c =
