@@ -1,7 +1,8 @@
 -- The entries for signals of edge terms.
-use Rattle.std.proofs.Common.{◌≡◌, ℕ, zero, suc, ◌<◌, ◌≤◌, ◌⊎◌, ◌↔◌, ◌++◌, Bool, true, false, is_some, if◌then◌else◌, Option, Some, None, List, [], ◌∷◌, length, map, get_or, option_map, slice_get, refl, sym, ◌∙◌, ap, subst, arith}
+use Rattle.std.proofs.Common.{◌≡◌, ℕ, zero, suc, ◌<◌, ◌≤◌, ◌⊎◌, ◌↔◌, inl, inr, ◌++◌, Bool, true, false, is_some, if◌then◌else◌, Option, Some, None, List, [], ◌∷◌, length, map, get_or, option_map, slice_get, refl, sym, ◌∙◌, ap, subst, arith}
 use Rattle.std.specs.List.{Contains}
 use Rattle.std.specs.Str.{bytes_eq}
+use Rattle.std.proofs.lemmas.List.{get_or_past}
 use Rattle.std.proofs.lemmas.Option.{same_Some, slice_get-map, slice_get_within, slice_get_past}
 use Rattle.std.proofs.lemmas.Slice.Eq.{bytes_eq-Decides}
 use Rattle.vs_design.specs.vs_logic4.proofs.Basics.{there}
@@ -49,18 +50,29 @@ past_named d edges place past old = nothing_more old (NamesEntry d edges place) 
 
 -- ---- rows
 
-pub row_is : (d : Parts) (edges : List EdgeClaim) (m n : ℕ) (table : List (List ℕ)) (v : ℕ) (row : List ℕ) → AreRows (NamesEntry d edges) m n table → m ≡ length edges → v < n → row_of table v ≡ row →
+row_is : (d : Parts) (edges : List EdgeClaim) (m n : ℕ) (table : List (List ℕ)) (v : ℕ) (row : List ℕ) → AreRows (NamesEntry d edges) m n table → m ≡ length edges → v < n → row_of table v ≡ row →
     (place : ℕ) → (Contains row place ↔ NamesEntry d edges place v)
 row_is d edges m n table v row are e h same place = (
   λ c. ((are v place h).0 (subst (λ (l : List ℕ). Contains l place) (sym same) c)).1,
   λ y. subst (λ (l : List ℕ). Contains l place) same ((are v place h).1 (subst (λ (k : ℕ). place < k) (sym e) (slice_get_within edges place y.0 y.1), y)),
 )
 
-pub past_row : (d : Parts) (edges : List EdgeClaim) (v : ℕ) (row : List ℕ) → length d.signals ≤ v → row ≡ [] → (place : ℕ) → (Contains row place ↔ NamesEntry d edges place v)
+past_row : (d : Parts) (edges : List EdgeClaim) (v : ℕ) (row : List ℕ) → length d.signals ≤ v → row ≡ [] → (place : ℕ) → (Contains row place ↔ NamesEntry d edges place v)
 past_row d edges v row past e place = (
   λ c. absurd (omega (arith, (subst (λ (l : List ℕ). Contains l place) e c).1)),
   λ y. let f : None ≡ Some y.0.signal = ap signal_name (sym (slice_get_past d.signals v past)) ∙ y.2 in cc,
 )
+
+-- the row of any number, also of one past the end
+pub any_row : (d : Parts) (edges : List EdgeClaim) (table : List (List ℕ)) (v : ℕ) (row : List ℕ) → length table ≡ length d.signals → AreRows (NamesEntry d edges) (length edges) (length d.signals) table → row ≡ row_of table v →
+    (place : ℕ) → (Contains row place ↔ NamesEntry d edges place v)
+any_row d edges table v row long are same = by (side v (length d.signals)) where
+  side : (a b : ℕ) → (a < b) ⊎ (b ≤ a)
+  side a b = grind arith
+
+  by : (v < length d.signals) ⊎ (length d.signals ≤ v) → (place : ℕ) → (Contains row place ↔ NamesEntry d edges place v)
+  by (inl h) = row_is d edges (length edges) (length d.signals) table v row are refl h (sym same)
+  by (inr g) = past_row d edges v row g (same ∙ get_or_past table v [] (subst (λ (n : ℕ). n ≤ v) (sym long) g))
 
 pub no_name : (d : Parts) (v : ℕ) (name : Name) → length d.signals ≤ v → IsSignalNamed d v name → ⊥
 no_name d v name past h = let f : None ≡ Some name = ap signal_name (sym (slice_get_past d.signals v past)) ∙ h in cc

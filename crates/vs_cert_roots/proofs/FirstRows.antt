@@ -1,6 +1,7 @@
 -- Rows of roots and of what writes in the first slot.
 use Rattle.std.proofs.Common.{◌≡◌, ℕ, ◌<◌, ◌≤◌, ◌⊎◌, ◌↔◌, ◌==◌, ◌∷◌, [], ◌++◌, inl, inr, Bool, true, false, not, IsTrue, Option, Some, None, List, length, get_or, slice_get, refl, sym, ◌∙◌, ap, subst, arith}
 use Rattle.std.specs.List.{Contains}
+use Rattle.std.proofs.lemmas.List.{get_or_past}
 use Rattle.std.proofs.lemmas.Option.{same_Some, slice_get_within}
 use Rattle.vs_design.specs.vs_logic4.specs.declared.digit.Digit.{Digit}
 use Rattle.vs_design.specs.vs_logic4.specs.declared.digit.Digit.TheVariants.{Zero, One, X, Z}
@@ -42,7 +43,7 @@ row_exact has m n table v row are within h same i = (
   λ y. subst (λ (l : List ℕ). Contains l i) same ((are v i h).1 (within i y, y)),
 )
 
-pub root_within : (d : Parts) (edges : List EdgeClaim) (v place : ℕ) → NamesRoot d edges place v → place < length edges
+root_within : (d : Parts) (edges : List EdgeClaim) (v place : ℕ) → NamesRoot d edges place v → place < length edges
 root_within d edges v place h = slice_get_within edges place h.1.entry h.1.is
 
 pub past_root : (d : Parts) (c : Claims) (v : ℕ) → length d.signals ≤ v → IsRoot d c v → ⊥
@@ -110,11 +111,22 @@ entry_within d edges place root v h = by (cases v (length d.signals)) where
   by (inl l) = l
   by (inr g) = absurd (no_name d v h.entry.signal g h.signal)
 
-pub past_claims : (d : Parts) (edges : List EdgeClaim) (root : ℕ) → length d.signals ≤ root → (row : List ℕ) → row ≡ [] → (place : ℕ) → (Contains row place ↔ NamesRoot d edges place root)
+past_claims : (d : Parts) (edges : List EdgeClaim) (root : ℕ) → length d.signals ≤ root → (row : List ℕ) → row ≡ [] → (place : ℕ) → (Contains row place ↔ NamesRoot d edges place root)
 past_claims d edges root past row e place = (
   λ c. absurd (omega (arith, (subst (λ (l : List ℕ). Contains l place) e c).1)),
   λ h. absurd (no_name d root h.1.entry.root past h.1.root_is),
 )
+
+-- the entries of any number, also of one past the end
+pub any_claims : (d : Parts) (edges : List EdgeClaim) (table : List (List ℕ)) (root : ℕ) (row : List ℕ) → length table ≡ length d.signals → AreRows (NamesRoot d edges) (length edges) (length d.signals) table →
+    row ≡ row_of table root → (place : ℕ) → (Contains row place ↔ NamesRoot d edges place root)
+any_claims d edges table root row long are same = by (side root (length d.signals)) where
+  side : (a b : ℕ) → (a < b) ⊎ (b ≤ a)
+  side a b = grind arith
+
+  by : (root < length d.signals) ⊎ (length d.signals ≤ root) → (place : ℕ) → (Contains row place ↔ NamesRoot d edges place root)
+  by (inl h) = row_exact (NamesRoot d edges) (length edges) (length d.signals) table root row are (root_within d edges root) h (sym same)
+  by (inr g) = past_claims d edges root g row (same ∙ get_or_past table root [] (subst (λ (n : ℕ). n ≤ root) (sym long) g))
 
 -- ---- what is put
 

@@ -284,11 +284,7 @@ impl<'a> Entries<'a> {
     fn places(&self, v: usize) -> &[usize]
         ensures { (place : ℕ) → (Contains result.now place ↔ NamesEntry self.now.design self.now.claims.edges place v) }
     {
-        if v < self.places.len() {
-            self.places.row(v)
-        } else {
-            &[]
-        }
+        self.places.row(v)
     }
 
     /// The variables that a signal is claimed to copy.

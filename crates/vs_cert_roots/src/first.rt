@@ -179,11 +179,7 @@ impl<'a> FirstWrites<'a> {
     fn claims_of(&self, root: usize) -> &[usize]
         ensures { (place : ℕ) → (Contains result.now place ↔ NamesRoot self.now.design self.now.claims.edges place root) }
     {
-        if root < self.claimed.len() {
-            self.claimed.row(root)
-        } else {
-            &[]
-        }
+        self.claimed.row(root)
     }
 
     // Whether a signal is the root of an entry.
