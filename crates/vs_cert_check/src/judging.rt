@@ -10,11 +10,11 @@ ghost use Rattle.vs_rules_of_signals.specs.vs_claims.specs.Facts.{AreCharts, bod
 ghost use Rattle.vs_claims.specs.Subjects.{subject_view};
 ghost use Rattle.vs_rules_of_signals.specs.Writers.{texts_in};
 ghost use Rattle.vs_claims.specs.vs_certificate.specs.JsonValue.{value_of};
-ghost use Rattle.vs_claims.specs.vs_certificate.specs.Reading.{IsSound};
+ghost use Rattle.vs_claims.specs.vs_certificate.specs.Reading.{IsSound, IsSoundWide};
 ghost use Rattle.vs_rules_of_signals.specs.vs_graph.specs.Verdicts.{IsFirst, IsLeast};
 ghost use Rattle.vs_rules_of_starts.specs.vs_rules.specs.Blocks.{K5};
 ghost use Rattle.vs_rules_of_starts.specs.vs_rules.specs.Certificates.{claims_of};
-ghost use Rattle.vs_rules_of_starts.specs.vs_rules.specs.Limits.{IsCertificate};
+ghost use Rattle.vs_rules_of_starts.specs.vs_rules.specs.Limits.{IsWideCertificate};
 ghost use Rattle.vs_rules_of_starts.specs.vs_rules.specs.Verdict.{IsVerdict, numbers, subjects};
 ghost use Rattle.vs_rules_of_processes.specs.vs_drivers.specs.Wires.{wiring};
 ghost use Rattle.vs_rules_of_signals.specs.vs_maps.specs.Reaches.{chart_of};
@@ -38,7 +38,7 @@ use vs_rules_of_processes::{FirstSlot, WriteClasses};
 use vs_rules_of_signals::vs_claims::{Facts, codes, tables, texts};
 use vs_rules_of_signals::vs_graph::{Book, Rule, first_broken, judge};
 use vs_rules_of_signals::vs_maps::Tables;
-use vs_rules_of_starts::vs_rules::tested_are_certificates;
+use vs_rules_of_starts::vs_rules::tested_are_wide_certificates;
 use vs_rules_of_starts::{Beginning, Starts, in_order};
 
 /// How many rules there are before the last one.
@@ -331,7 +331,7 @@ fn by_processes<'x>(
     most: usize,
 ) -> Result<Told, AllocError>
     requires maps { AreCharts design.now tables.now }
-    requires certificate { IsCertificate (claims_of certificate.now) }
+    requires certificate { IsWideCertificate (claims_of certificate.now) }
     ensures { IfOk result (λ t. AreTold design.entry.now (claims_of certificate.entry.now) most t) }
 {
     let facts = Facts::new(alloc, design, certificate, tables)?;
@@ -348,7 +348,7 @@ fn by_texts<'x>(
     most: usize,
 ) -> Result<Told, AllocError>
     requires maps { AreCharts design.now (map chart_of texts.now) }
-    requires certificate { IsCertificate (claims_of certificate.now) }
+    requires certificate { IsWideCertificate (claims_of certificate.now) }
     ensures { IfOk result (λ t. AreTold design.entry.now (claims_of certificate.entry.now) most t) }
 {
     let tables = tables(alloc, design, texts)?;
@@ -364,7 +364,7 @@ fn by_codes<'x>(
     most: usize,
 ) -> Result<Told, AllocError>
     requires codes { codes.now ≡ bodies design.now.processes }
-    requires certificate { IsCertificate (claims_of certificate.now) }
+    requires certificate { IsWideCertificate (claims_of certificate.now) }
     ensures { IfOk result (λ t. AreTold design.entry.now (claims_of certificate.entry.now) most t) }
 {
     let texts = texts(alloc, design, codes)?;
@@ -380,7 +380,7 @@ fn by_lent_codes(
     most: usize,
 ) -> Result<Told, AllocError>
     requires codes { codes.now ≡ bodies design.now.processes }
-    requires certificate { IsCertificate (claims_of certificate.now) }
+    requires certificate { IsWideCertificate (claims_of certificate.now) }
     ensures { IfOk result (λ t. AreTold design.entry.now (claims_of certificate.entry.now) most t) }
 {
     by_codes(alloc, design, certificate, &*codes, most)
@@ -393,7 +393,7 @@ fn by_design(
     certificate: &Certificate,
     most: usize,
 ) -> Result<Told, AllocError>
-    requires certificate { IsCertificate (claims_of certificate.now) }
+    requires certificate { IsWideCertificate (claims_of certificate.now) }
     ensures { IfOk result (λ t. AreTold design.entry.now (claims_of certificate.entry.now) most t) }
 {
     let codes = codes(alloc, design)?;
@@ -412,11 +412,28 @@ fn tell_meaning(design: &Design, certificate: &Certificate, verdict: &Verdict)
     let _ = verdict;
 }
 
-/// The verdict on a certificate of a design: `Yes` exactly where the design keeps all rules K1 to K11; else the least rule that it breaks, and the
-/// first subject that breaks it: signals, continuous assignments and processes, each in design order, and then the names of the certificate's
-/// lists. No test of the certificate's form and limits may fail (C2 to C4), which its reader answers for. Where the verdict is `Yes`, the traces
-/// of the design's executions at the certificate's grain do not depend on the order of their steps (IEEE 1364-2005, clause 11.4.2). It runs no
-/// schedule, and of a block of start `cold` at most 10,000 steps of that block alone.
+/// The verdict on a certificate of a design, of version 3 too: `Yes` exactly where the design keeps all rules K1 to K11; else the least rule that it
+/// breaks, and the first subject that breaks it: signals, continuous assignments and processes, each in design order, and then the names of the
+/// certificate's lists. No test of the certificate's form and limits may fail (C2 to C4), which its reader answers for. Where the verdict is `Yes`,
+/// the traces of the design's executions at the certificate's grain do not depend on the order of their steps (IEEE 1364-2005, clause 11.4.2). It
+/// runs no schedule, and of a block of start `cold` at most 10,000 steps of that block alone.
+pub fn check_wide(
+    alloc: Global,
+    design: &Design,
+    certificate: &Certificate,
+) -> Result<Verdict, AllocError>
+    requires sound { IsSoundWide (value_of certificate.now) }
+    ensures exact { IfOk result (λ v. IsVerdict design.entry.now (claims_of certificate.entry.now) (verdict_view v)) }
+    ensures numbered { IfOk result (λ v. HasNumber v) }
+    ensures meaning { IfOk result (λ v. Means design.entry.now (claims_of certificate.entry.now) v) }
+{
+    tested_are_wide_certificates();
+    let Told { verdict, broken: _ } = by_design(alloc, design, certificate, 0)?;
+    tell_meaning(design, certificate, &verdict);
+    Ok(verdict)
+}
+
+/// The same, of a certificate of version 1 or 2.
 pub fn check(
     alloc: Global,
     design: &Design,
@@ -427,14 +444,27 @@ pub fn check(
     ensures numbered { IfOk result (λ v. HasNumber v) }
     ensures meaning { IfOk result (λ v. Means design.entry.now (claims_of certificate.entry.now) v) }
 {
-    tested_are_certificates();
-    let Told { verdict, broken: _ } = by_design(alloc, design, certificate, 0)?;
-    tell_meaning(design, certificate, &verdict);
-    Ok(verdict)
+    check_wide(alloc, design, certificate)
 }
 
-/// The verdict on a certificate of a design, as `check` gives it, and the first subjects that break rules, at most so many: by the rules, and then in the
-/// order of subjects. The rule K11 is asked where no other one is broken. It takes as long as a `Yes`.
+/// The verdict on a certificate of a design, as `check_wide` gives it, and the first subjects that break rules, at most so many: by the rules, and then
+/// in the order of subjects. The rule K11 is asked where no other one is broken. It takes as long as a `Yes`.
+pub fn check_all_wide(
+    alloc: Global,
+    design: &Design,
+    certificate: &Certificate,
+    most: usize,
+) -> Result<Told, AllocError>
+    requires sound { IsSoundWide (value_of certificate.now) }
+    ensures exact { IfOk result (λ t. IsVerdict design.entry.now (claims_of certificate.entry.now) (verdict_view t.verdict)) }
+    ensures numbered { IfOk result (λ t. HasNumber t.verdict) }
+    ensures broken { IfOk result (λ t. IsListed design.entry.now (claims_of certificate.entry.now) most t.broken.items) }
+{
+    tested_are_wide_certificates();
+    by_design(alloc, design, certificate, most)
+}
+
+/// The same, of a certificate of version 1 or 2.
 pub fn check_all(
     alloc: Global,
     design: &Design,
@@ -446,6 +476,5 @@ pub fn check_all(
     ensures numbered { IfOk result (λ t. HasNumber t.verdict) }
     ensures broken { IfOk result (λ t. IsListed design.entry.now (claims_of certificate.entry.now) most t.broken.items) }
 {
-    tested_are_certificates();
-    by_design(alloc, design, certificate, most)
+    check_all_wide(alloc, design, certificate, most)
 }

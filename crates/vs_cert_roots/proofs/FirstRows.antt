@@ -27,7 +27,8 @@ use Rattle.vs_rules_of_signals.specs.vs_claims.specs.Facts.{AreCharts, IsRootAt}
 use Rattle.vs_drivers.specs.vs_maps.specs.Sites.{UsesAt, site_of}
 use Rattle.vs_drivers.specs.vs_maps.specs.declared.sites.Site.{Site}
 use Rattle.vs_drivers.specs.vs_maps.specs.declared.sites.Use.TheVariants.{Now, Later}
-use Rattle.vs_drivers.specs.vs_maps.proofs.SiteLemmas.{AreSitesOf, slot0_point, written_so}
+use Rattle.vs_drivers.specs.vs_maps.proofs.SiteLemmas.{AreSitesOf, written_so}
+use Rattle.vs_drivers.specs.vs_maps.proofs.WalkLemmas.{start_walked}
 use Rattle.vs_cert_roots.specs.First.{SiteAt, HasSite, IsFirst, IsSilent, NamesRoot, WakesSignal, WakesEntry, StartsSilently, StartsWellIn, StartsWell}
 use Rattle.std.proofs.lemmas.Bool.{eqb-true, eqb-false, ne_eqb}
 use Rattle.vs_design.specs.vs_logic4.proofs.Basics.{same_self}
@@ -73,17 +74,17 @@ pub silent_is : (d : Parts) (c : Claims) (root : ℕ) (digit : Digit) (row : Lis
     (((p : ℕ) → Contains row p → WakesEntry d c p root digit → ⊥) ↔ IsSilent d c root digit)
 silent_is d c root digit row are = (into, back) where
   into : ((p : ℕ) → Contains row p → WakesEntry d c p root digit → ⊥) → IsSilent d c root digit
-  into none j t has edge of =
+  into none j t has heard edge of =
       let v = t.range.signal in
       let at : IsRootAt d c.edges of.place root v = record { entry = of.entry; is = of.is; signal = of.signal; root_is = of.root_is } in
       not_false (is_edge t.edge X digit)
-      (λ e. none of.place ((are of.place).1 (v, at)) (v, at, record { process = j; term = t; has = has; edge = edge; of = refl; wakes = e }))
+      (λ e. none of.place ((are of.place).1 (v, at)) (v, at, record { process = j; term = t; has = has; heard = heard; edge = edge; of = refl; wakes = e }))
 
   back : IsSilent d c root digit → (p : ℕ) → Contains row p → WakesEntry d c p root digit → ⊥
   back silent p m w =
       let y = w.2 in
       let here : IsRootOf d c root w.0 = record { place = p; entry = w.1.entry; is = w.1.is; signal = w.1.signal; root_is = w.1.root_is } in
-      let e : false ≡ true = sym (silent y.process y.term y.has y.edge (subst (IsRootOf d c root) (sym y.of) here)) ∙ y.wakes in
+      let e : false ≡ true = sym (silent y.process y.term y.has y.heard y.edge (subst (IsRootOf d c root) (sym y.of) here)) ∙ y.wakes in
       cc
 
 -- an entry of a place whose root and signal are told
@@ -96,9 +97,9 @@ pub other_root_calm : (d : Parts) (c : Claims) (place root of v : ℕ) (digit : 
 other_root_calm d c place root of v digit f other w = other (ap (λ (x : ℕ × ℕ). x.0) (same_Some (of, v) (root, w.0) ((f root w.0).0 w.1)))
 
 pub entry_calm : (d : Parts) (c : Claims) (place root of v : ℕ) (digit : Digit) → ((r u : ℕ) → (IsRootAt d c.edges place r u ↔ ◌≡◌ {A = Option (ℕ × ℕ)} (Some (of, v)) (Some (r, u)))) →
-    of ≡ root → ((WakesSignal d v digit → ⊥) ↔ (WakesEntry d c place root digit → ⊥))
+    of ≡ root → ((WakesSignal d c v digit → ⊥) ↔ (WakesEntry d c place root digit → ⊥))
 entry_calm d c place root of v digit f same = (
-  λ none w. none (subst (λ (u : ℕ). WakesSignal d u digit) (sym (ap (λ (x : ℕ × ℕ). x.1) (same_Some (of, v) (root, w.0) ((f root w.0).0 w.1)))) w.2),
+  λ none w. none (subst (λ (u : ℕ). WakesSignal d c u digit) (sym (ap (λ (x : ℕ × ℕ). x.1) (same_Some (of, v) (root, w.0) ((f root w.0).0 w.1)))) w.2),
   λ none w. none (v, (f root v).1 (ap (λ (x : ℕ). Some (x, v)) same), w),
 )
 
@@ -152,10 +153,10 @@ site_found : (charts : List Chart) (v : ℕ) (sites : List Site) → AreSitesOf 
     (s : Site) × Contains sites s × IsFirst charts s × (s.process ≡ i) × (s.place ≡ p)
 site_found charts v sites are i p t at (early, inl (r, h, e)) =
     let s = site_of i p Now r in
-    (s, (are s).1 (record { chart = t; is = at; point = slot0_point t p early; uses = h }, e), (tt, (t, at, early)), refl, refl)
+    (s, (are s).1 (record { chart = t; is = at; point = start_walked t ZeroTime p early; uses = h }, e), (tt, (t, at, early)), refl, refl)
 site_found charts v sites are i p t at (early, inr (r, h, e)) =
     let s = site_of i p Later r in
-    (s, (are s).1 (record { chart = t; is = at; point = slot0_point t p early; uses = h }, e), (tt, (t, at, early)), refl, refl)
+    (s, (are s).1 (record { chart = t; is = at; point = start_walked t ZeroTime p early; uses = h }, e), (tt, (t, at, early)), refl, refl)
 
 -- such a site is one of a place that does
 site_writes : (charts : List Chart) (v : ℕ) (sites : List Site) → AreSitesOf charts v sites → (s : Site) (t : Chart) → slice_get charts s.process ≡ Some t → Contains sites s → IsFirst charts s →

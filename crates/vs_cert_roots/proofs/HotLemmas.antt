@@ -94,6 +94,7 @@ mode_is (Some modes.Combinational) = (λ h. cc, λ h. let e = same_Some (mode_fr
 mode_is (Some modes.Nonblocking) = (λ h. cc, λ h. let e = same_Some (mode_from modes.Nonblocking) blocking h in cc)
 mode_is (Some modes.Blocking) = (λ h. refl, λ h. refl)
 mode_is (Some modes.Private) = (λ h. cc, λ h. let e = same_Some (mode_from modes.Private) blocking h in cc)
+mode_is (Some modes.Both) = (λ h. cc, λ h. let e = same_Some (mode_from modes.Both) blocking h in cc)
 
 pub written_is : (d : Parts) (c : Claims) (root i : ℕ) → ((k : ℕ) → (IsWriter d c root k ↔ Some i ≡ Some k)) → IsDelay d c i → (NeverHot d i root ↔ IsSoundlyWritten d c root)
 written_is d c root i writer delay = (

@@ -1,20 +1,8 @@
 -- Lists, and what all their elements do.
-use Rattle.std.proofs.Common.{◌≡◌, ℕ, ◌+◌, ◌<◌, ◌≤◌, ◌⊎◌, ◌↔◌, ◌++◌, ◌||◌, inl, inr, Bool, true, false, IsTrue, List, [], ◌∷◌, length, get_or, refl, sym, ◌∙◌, ap, subst, arith}
-use Rattle.std.specs.List.{Contains, list_any}
+use Rattle.std.proofs.Common.{◌≡◌, ◌⊎◌, ◌↔◌, ◌++◌, inl, inr, List, [], ◌∷◌, sym, subst, arith}
+use Rattle.std.specs.List.{Contains}
 use Rattle.std.proofs.lemmas.List.Elements.{Contains-append_left, Contains-append_right, Contains-append_cases}
 use Rattle.vs_drivers.specs.vs_maps.proofs.RangeLemmas.{in_either}
-
-or_true : (a b : Bool) → b ≡ true → a || b ≡ true
-or_true true b h = refl
-or_true false b h = h
-
-or_first : (a b : Bool) → a ≡ true → a || b ≡ true
-or_first a b h = ap (λ (x : Bool). x || b) h
-
-pub any_in : {A : Type 0} (p : A → Bool) (xs : List A) (x : A) → Contains xs x → p x ≡ true → list_any p xs ≡ true
-any_in p [] x c h = absurd (omega (arith, c.1))
-any_in {A = A} p (y ∷ ys) x c h = elim (in_either y ys x c) as (λ (e : (y ≡ x) ⊎ Contains ys x). p y || list_any p ys ≡ true)
-    [ inl e ↦ or_first (p y) (list_any p ys) (ap p e ∙ h) | inr d ↦ or_true (p y) (list_any p ys) (any_in p ys x d h) ]
 
 -- a list with more at its end has what both have
 pub appended : {A : Type 0} (old more new : List A) (P : A → Type 0) → new ≡ old ++ more → ((x : A) → (Contains more x ↔ P x)) → (x : A) → (Contains new x ↔ (Contains old x ⊎ P x))

@@ -1,27 +1,41 @@
--- The terms of processes.
-use Rattle.std.proofs.Common.{◌≡◌, ℕ, ◌+◌, ◌<◌, ◌≤◌, ◌⊎◌, ◌↔◌, ◌==◌, not, inl, inr, Bool, true, false, Some, None, List, [], length, get_or, ◌∷◌, ◌++◌, slice_get, refl, sym, ◌∙◌, ap, subst, arith}
+-- The event terms of processes, and the sites that wait for them.
+use Rattle.std.proofs.Common.{◌≡◌, ℕ, ◌<◌, ◌≤◌, ◌⊎◌, ◌↔◌, not, inl, inr, Bool, IsTrue, true, false, Some, None, List, length, slice_get, refl, sym, ◌∙◌, ap, subst, arith}
 use Rattle.std.specs.List.{Contains, list_any}
-use Rattle.std.proofs.lemmas.Bool.{and_parts, and_from, eqb-true}
-use Rattle.std.proofs.lemmas.Option.{same_Some, slice_get_within, slice_get-get_or, get_or_from_slice_get}
-use Rattle.vs_design.specs.vs_logic4.proofs.Basics.{element_of, same_self, there}
+use Rattle.std.proofs.lemmas.Bool.{and_parts, and_from, false≢true}
+use Rattle.std.proofs.lemmas.List.Folds.{Any-from_list_any, list_any-from_Any}
+use Rattle.std.proofs.lemmas.Option.{same_Some, slice_get_within}
+use Rattle.vs_design.specs.vs_logic4.proofs.Basics.{there}
 use Rattle.vs_design.specs.declared.design.Process.{Process}
 use Rattle.vs_design.specs.declared.statement.EventTerm.{EventTerm}
 use Rattle.vs_design.specs.Parts.{Parts}
+use Rattle.vs_process.specs.Places.{Todo}
 use Rattle.vs_process.specs.Steps.{wait}
-use Rattle.vs_process.specs.Stops.{IsText}
-use Rattle.vs_process.specs.Executions.{is_level}
-use Rattle.vs_rules.specs.Paths.{HasTerm}
+use Rattle.vs_process.specs.Ways as ways
+use Rattle.vs_process.specs.Ways.{Pause, next_by}
+use Rattle.vs_process.specs.Stops.{IsText, Stop, stop_at, stop_statement, stops_tos}
+use Rattle.vs_process.specs.Executions.{is_any, is_level}
+use Rattle.vs_rules.specs.Claims.{IsWide}
+use Rattle.vs_rules.specs.Paths.{HasTerm, IsHeardAtStart, IsSlot0}
+use Rattle.vs_rules.specs.Points.{Goes}
 use Rattle.vs_rules.specs.Rules.{IsEdgeSignal}
-use Rattle.vs_drivers.specs.vs_maps.specs.Reaches.{Chart}
-use Rattle.vs_drivers.specs.vs_maps.specs.Ranges.{HasTermAt}
+use Rattle.vs_drivers.specs.vs_maps.specs.declared.along.Along.TheVariants.{ZeroTime}
+use Rattle.vs_drivers.specs.vs_maps.specs.Reaches.{Chart, InSlot0, pause_at, pause_of}
+use Rattle.vs_drivers.specs.vs_maps.proofs.WalkLemmas.{start_walked}
+use Rattle.vs_drivers.specs.vs_maps.specs.Ranges.{HasTermAt, pause_terms}
+use Rattle.vs_drivers.specs.vs_maps.specs.Sites.{IsSite, UsesAt, waiting_of}
+use Rattle.vs_drivers.specs.vs_maps.specs.declared.sites.Site.{Site}
+use Rattle.vs_drivers.specs.vs_maps.specs.declared.sites.Use.{Use}
+use Rattle.vs_drivers.specs.vs_maps.specs.declared.sites.Use.TheVariants.{Now, Later, Reads, Shows, Waits}
 use Rattle.vs_drivers.specs.vs_maps.proofs.EachWalk.{terms_exact}
-use Rattle.vs_rules_of_signals.specs.vs_claims.specs.Facts.{AreCharts}
+use Rattle.vs_drivers.specs.vs_maps.proofs.SiteLemmas.{AreSitesOf}
+use Rattle.vs_drivers.specs.vs_maps.proofs.Texts.{control_on, from_back, from_on, step_back, step_on}
+use Rattle.vs_rules_of_signals.specs.vs_claims.specs.Facts.{AreCharts, Case}
 use Rattle.vs_design.specs.vs_logic4.specs.declared.digit.Digit.{Digit}
 use Rattle.vs_design.specs.vs_logic4.specs.declared.digit.Digit.TheVariants.{X}
+use Rattle.vs_design.specs.vs_logic4.specs.declared.edge.Edge.{Edge}
 use Rattle.vs_design.specs.vs_logic4.specs.Edges.{is_edge}
-use Rattle.vs_cert_roots.specs.Entries.{AreTerms, NamesTerm, WakesAt, is_edge_of}
-use Rattle.vs_cert_roots.specs.First.{WakesSignal}
-use Rattle.vs_cert_roots.proofs.ListLemmas.{any_in, appended, in_one, nothing_more}
+use Rattle.vs_cert_roots.specs.Entries.{is_from_x, is_proper, waits_by}
+use Rattle.vs_cert_roots.specs.First.{IsAtStart, WakesSignal, WakesSite}
 use Rattle.vs_rules.proofs.Past.{past_points, end_next}
 
 -- the process of a chart
@@ -57,136 +71,160 @@ no_terms d i past term h =
     let e = end_next h.control (wait h.number h.terms h.behind) (past_points d i h.control past h.point) h.goes in
     cc
 
--- those of the processes below a number
-abbrev pub HaveTerms : Parts → ℕ → List EventTerm → Type 0
-HaveTerms d n terms = (t : EventTerm) → (Contains terms t ↔ ((j : ℕ) × (j < n) × HasTerm d j t))
+-- ---- sites that wait
 
-pub none_yet : (d : Parts) (terms : List EventTerm) → terms ≡ [] → HaveTerms d 0 terms
-none_yet d terms e t = (λ h. absurd (omega (arith, (subst (λ (l : List EventTerm). Contains l t) e h).1)), λ h. absurd (omega (arith, h.1)))
+-- a term of a process that is of the signal and passes a test
+record HasTermSo (d : Parts) (v : ℕ) (test : Edge → Bool) : Type 0 where
+  process : ℕ
+  term : EventTerm
+  has : HasTerm d process term
+  of : term.range.signal ≡ v
+  passes : test term.edge ≡ true
 
-pub terms_more : (d : Parts) (n : ℕ) (old new : List EventTerm) → HaveTerms d n old → ((t : EventTerm) → (Contains new t ↔ (Contains old t ⊎ HasTerm d n t))) → HaveTerms d (n + 1) new
-terms_more d n old new so more t = (λ h. into ((more t).0 h), λ h. (more t).1 (back h (cases h.0 h.1))) where
-  cases : (j : ℕ) → j < n + 1 → (j < n) ⊎ (j ≡ n)
-  cases j h = grind (arith, h)
+-- what a site waits for is one
+waits_so : (d : Parts) (charts : List Chart) → AreCharts d charts → (v : ℕ) (test : Edge → Bool) (s : Site) (u : Use) → s.usage ≡ u → IsSite charts s → s.range.signal ≡ v → waits_by test u ≡ true →
+    HasTermSo d v test
+waits_so d charts maps v test s (Waits edge) e is of h =
+    let x : EventTerm = record { range = s.range; edge = edge } in
+    let uses = subst (λ (u : Use). UsesAt is.chart s.place u s.range) e is.uses in
+    record { process = s.process; term = x; has = (terms_at d charts maps s.process is.chart is.is x).0 (s.place, is.point, uses); of = of; passes = h }
+waits_so d charts maps v test s Now e is of h = absurd (false≢true h)
+waits_so d charts maps v test s Later e is of h = absurd (false≢true h)
+waits_so d charts maps v test s Reads e is of h = absurd (false≢true h)
+waits_so d charts maps v test s Shows e is of h = absurd (false≢true h)
 
-  into : Contains old t ⊎ HasTerm d n t → (j : ℕ) × (j < n + 1) × HasTerm d j t
-  into (inl c) = let y = (so t).0 c in (y.0, omega (arith, y.1), y.2)
-  into (inr h) = (n, omega arith, h)
-
-  back : (h : (j : ℕ) × (j < n + 1) × HasTerm d j t) → (h.0 < n) ⊎ (h.0 ≡ n) → Contains old t ⊎ HasTerm d n t
-  back h (inl l) = inl ((so t).1 (h.0, l, h.2))
-  back h (inr e) = inr (subst (λ (j : ℕ). HasTerm d j t) e h.2)
-
-pub terms_all : (d : Parts) (n : ℕ) (terms : List EventTerm) → length d.processes ≤ n → HaveTerms d n terms → AreTerms d terms
-terms_all d n terms long so t = (λ h. let y = (so t).0 h in (y.0, y.2), λ y. (so t).1 (y.0, below y (cases y.0 n), y.1)) where
+-- there is such a term where one of the sites of the signal waits so
+terms_so : (d : Parts) (charts : List Chart) → AreCharts d charts → (v : ℕ) (sites : List Site) → AreSitesOf charts v sites → (test : Edge → Bool) →
+    (list_any (λ (s : Site). waits_by test s.usage) sites ≡ true ↔ HasTermSo d v test)
+terms_so d charts maps v sites are test = (
+  λ h.
+      let y = Any-from_list_any (λ (s : Site). waits_by test s.usage) sites h in
+      let c = (are y.1).0 (y.0, y.2, y.3) in
+      waits_so d charts maps v test y.1 y.1.usage refl c.0 c.1 y.4,
+  λ h. back h (cases h.process (length d.processes)),
+) where
   cases : (a b : ℕ) → (a < b) ⊎ (b ≤ a)
   cases a b = grind arith
 
-  below : (y : (j : ℕ) × HasTerm d j t) → (y.0 < n) ⊎ (n ≤ y.0) → y.0 < n
-  below y (inl l) = l
-  below y (inr g) = absurd (no_terms d y.0 (omega (arith, long, g)) t y.1)
-
--- ---- signals of edge terms
+  back : (h : HasTermSo d v test) → (h.process < length d.processes) ⊎ (length d.processes ≤ h.process) → list_any (λ (s : Site). waits_by test s.usage) sites ≡ true
+  back h (inl l) =
+      let t = there charts h.process (subst (λ (n : ℕ). h.process < n) (sym maps.as_many) l) in
+      let y = (terms_at d charts maps h.process t.0 t.1 h.term).1 h.has in
+      let site = waiting_of h.process y.0 h.term in
+      let c = (are site).1 (record { chart = t.0; is = t.1; point = y.1; uses = y.2 }, h.of) in
+      list_any-from_Any (λ (s : Site). waits_by test s.usage) sites (c.0, site, c.1, c.2, h.passes)
+  back h (inr past) = absurd (no_terms d h.process past h.term h.has)
 
 not_level : (b : Bool) → not b ≡ true → b ≡ false
 not_level true h = cc
 not_level false h = refl
 
-pub edge_signal_is : (d : Parts) (terms : List EventTerm) → AreTerms d terms → (v : ℕ) → (list_any (is_edge_of v) terms ≡ true ↔ IsEdgeSignal d v)
-edge_signal_is d terms are v = (there_is, back) where
-  there_is : list_any (is_edge_of v) terms ≡ true → IsEdgeSignal d v
-  there_is h =
-      let y = element_of (is_edge_of v) terms h in
-      let both = and_parts (not (is_level y.1)) (y.1.range.signal == v) y.3 in
-      let p = (are y.1).0 (y.0, slice_get_within terms y.0 y.1 y.2, get_or_from_slice_get terms y.0 y.1 y.1 y.2) in
-      record { process = p.0; term = y.1; has = p.1; edge = not_level (is_level y.1) both.0; of = eqb-true y.1.range.signal v both.1 }
+pub edge_signal : (d : Parts) (charts : List Chart) → AreCharts d charts → (v : ℕ) (sites : List Site) → AreSitesOf charts v sites →
+    (list_any (λ (s : Site). waits_by is_proper s.usage) sites ≡ true ↔ IsEdgeSignal d v)
+edge_signal d charts maps v sites are =
+    let f = terms_so d charts maps v sites are is_proper in (
+      λ h. let y = f.0 h in record { process = y.process; term = y.term; has = y.has; edge = not_level (is_level y.term) y.passes; of = y.of },
+      λ h. f.1 (record { process = h.process; term = h.term; has = h.has; of = h.of; passes = ap not h.edge }),
+    )
 
-  back : IsEdgeSignal d v → list_any (is_edge_of v) terms ≡ true
-  back h =
-      any_in (is_edge_of v) terms h.term ((are h.term).1 (h.process, h.has))
-      (and_from (not (is_level h.term)) (h.term.range.signal == v) (ap not h.edge) (same_self h.term.range.signal v h.of))
+-- ---- the first slot
 
--- ---- edge terms by their signals
+wait_in : (pause : Pause) (l : Todo) (number : ℕ) (terms : List EventTerm) (behind : Todo) (term : EventTerm) → next_by pause l ≡ wait number terms behind → Contains terms term →
+    Contains (pause_terms pause) term
+wait_in ways.none l number terms behind term e h = absurd (cc)
+wait_in (ways.delay n ticks) l number terms behind term e h = absurd (cc)
+wait_in (ways.event n ts) l number terms behind term e h = subst (λ (x : List EventTerm). Contains x term) (sym (cc)) h
 
-pub past_term : (terms : List EventTerm) (k : ℕ) → length terms ≤ k → (old : List ℕ) (v : ℕ) → (Contains old v ↔ (Contains old v ⊎ NamesTerm terms k v))
-past_term terms k past old = nothing_more old (NamesTerm terms k) (λ v h. absurd (omega (arith, past, slice_get_within terms k h.0 h.1)))
+wait_out : (d : Parts) (i : ℕ) (k l : Todo) (pause : Pause) (term : EventTerm) → IsSlot0 d i k → Goes k (next_by pause l) → Contains (pause_terms pause) term → IsHeardAtStart d i term
+wait_out d i k l ways.none term first goes h = absurd (omega (arith, h.1))
+wait_out d i k l (ways.delay n ticks) term first goes h = absurd (omega (arith, h.1))
+wait_out d i k l (ways.event n terms) term first goes h = record { control = k; number = n; terms = terms; behind = l; slot0 = first; goes = goes; is = h }
 
--- a term that waits for any change names none
-pub level_named : (terms : List EventTerm) (k : ℕ) (x : EventTerm) → slice_get terms k ≡ Some x → is_level x ≡ true → (old : List ℕ) (v : ℕ) → (Contains old v ↔ (Contains old v ⊎ NamesTerm terms k v))
-level_named terms k x at level old = nothing_more old (NamesTerm terms k) none where
-  none : (v : ℕ) → NamesTerm terms k v → ⊥
-  none v h =
-      let edge : is_level h.0 ≡ false = not_level (is_level h.0) (and_parts (not (is_level h.0)) (h.0.range.signal == v) h.2).0 in
-      let same : x ≡ h.0 = same_Some x h.0 (sym at ∙ h.1) in
-      let f : true ≡ false = sym level ∙ ap is_level same ∙ edge in
-      cc
+wait_way : (q : Process) (stops : List Stop) (start : ℕ) (t : IsText q.body stops start) (p : ℕ) (pause : Pause) (term : EventTerm) → pause_of (stop_statement (stop_at stops p)) ≡ pause →
+    Contains (pause_terms pause) term → (to : ℕ) × Contains (stops_tos stops p) to
+wait_way q stops start t p ways.none term e h = absurd (omega (arith, h.1))
+wait_way q stops start t p (ways.delay n ticks) term e h = absurd (omega (arith, h.1))
+wait_way q stops start t p (ways.event n terms) term e h = control_on q.body stops start t p (ways.event n terms) e refl
 
--- another one names its signal
-pub edge_named : (terms : List EventTerm) (k : ℕ) (x : EventTerm) → slice_get terms k ≡ Some x → is_level x ≡ false → (old new : List ℕ) → new ≡ old ++ x.range.signal ∷ [] → (v : ℕ) →
-    (Contains new v ↔ (Contains old v ⊎ NamesTerm terms k v))
-edge_named terms k x at edge old new e = appended old (x.range.signal ∷ []) new (NamesTerm terms k) e (λ v. (into v, back v)) where
-  into : (v : ℕ) → Contains (x.range.signal ∷ []) v → NamesTerm terms k v
-  into v c = (x, at, and_from (not (is_level x)) (x.range.signal == v) (ap not edge) (same_self x.range.signal v (in_one x.range.signal v c)))
+-- a term at a place of the first slot is heard there
+heard_back : (d : Parts) (i : ℕ) (t : Chart) → HasChart d i t → (p : ℕ) (term : EventTerm) → InSlot0 t p → Contains (pause_terms (pause_at t p)) term → IsHeardAtStart d i term
+heard_back d i t h p term first has =
+    let w = wait_way h.process t.stops t.start h.text p (pause_at t p) term refl has in
+    wait_out d i (h.text.at p) (h.text.at w.0) (pause_at t p) term (from_back d i h.process t.stops t.start h.text h.is ZeroTime p first)
+    (step_back h.process.body t.stops t.start h.text p w.0 w.1) has
 
-  back : (v : ℕ) → NamesTerm terms k v → Contains (x.range.signal ∷ []) v
-  back v h =
-      let same : x ≡ h.0 = same_Some x h.0 (sym at ∙ h.1) in
-      let of : h.0.range.signal ≡ v = eqb-true h.0.range.signal v (and_parts (not (is_level h.0)) (h.0.range.signal == v) h.2).1 in
-      subst (Contains (x.range.signal ∷ [])) (ap (λ (t : EventTerm). t.range.signal) same ∙ of) (0, omega arith, refl)
+heard_on : (d : Parts) (i : ℕ) (t : Chart) → HasChart d i t → (term : EventTerm) → IsHeardAtStart d i term → (p : ℕ) × InSlot0 t p × Contains (pause_terms (pause_at t p)) term
+heard_on d i t h term heard =
+    let y = from_on d i h.process t.stops t.start h.text h.is ZeroTime heard.control heard.slot0 in
+    let next = wait heard.number heard.terms heard.behind in
+    let g = step_on h.process.body t.stops t.start h.text y.0 next (subst (λ (z : Todo). Goes z next) (sym y.2) heard.goes) in
+    (y.0, y.1, wait_in (pause_at t y.0) (h.text.at g.0) heard.number heard.terms heard.behind term g.2 heard.is)
 
--- the same of a term as it is read
-pub level_read : (terms : List EventTerm) (k : ℕ) (x : EventTerm) → k < length terms → is_level (get_or terms k x) ≡ true → (old : List ℕ) (v : ℕ) → (Contains old v ↔ (Contains old v ⊎ NamesTerm terms k v))
-level_read terms k x h level old = level_named terms k (get_or terms k x) (slice_get-get_or terms k x h) level old
+-- a site of the first slot that waits is heard there
+site_heard : (d : Parts) (charts : List Chart) → AreCharts d charts → (s : Site) (edge : Edge) → s.usage ≡ Waits edge → IsSite charts s → IsAtStart charts s →
+    IsHeardAtStart d s.process (record { range = s.range; edge = edge })
+site_heard d charts maps s edge e is first =
+    let same : is.chart ≡ first.0 = same_Some is.chart first.0 (sym is.is ∙ first.1) in
+    heard_back d s.process is.chart (chart_is d charts maps s.process is.chart is.is) s.place (record { range = s.range; edge = edge })
+    (subst (λ (t : Chart). InSlot0 t s.place) (sym same) first.2) (subst (λ (u : Use). UsesAt is.chart s.place u s.range) e is.uses)
 
-pub edge_read : (terms : List EventTerm) (k : ℕ) (x : EventTerm) → k < length terms → is_level (get_or terms k x) ≡ false → (old new : List ℕ) → new ≡ old ++ (get_or terms k x).range.signal ∷ [] → (v : ℕ) →
-    (Contains new v ↔ (Contains old v ⊎ NamesTerm terms k v))
-edge_read terms k x h edge old new e = edge_named terms k (get_or terms k x) (slice_get-get_or terms k x h) edge old new e
+-- ---- sites that a first value wakes
 
-pub wakes_read : (terms : List EventTerm) (k : ℕ) (x : EventTerm) (digit : Digit) (b : Bool) → k < length terms → b ≡ is_edge (get_or terms k x).edge X digit → (b ≡ true ↔ WakesAt terms k digit)
-wakes_read terms k x digit b h told = (
-  λ t. (get_or terms k x, slice_get-get_or terms k x h, sym told ∙ t),
-  λ w. told ∙ ap (λ (t : EventTerm). is_edge t.edge X digit) (same_Some (get_or terms k x) w.0 (sym (slice_get-get_or terms k x h) ∙ w.1)) ∙ w.2,
+-- none of some sites is woken by it
+abbrev pub IsNone : Case → Digit → List Site → Bool → Type 0
+IsNone k digit sites b = IsTrue b ↔ ((s : Site) → Contains sites s → WakesSite k digit s → ⊥)
+
+-- what waits so is an edge term that is woken
+woken_so : (k : Case) → AreCharts k.design k.charts → (v : ℕ) (digit : Digit) (s : Site) (u : Use) → s.usage ≡ u → IsSite k.charts s → s.range.signal ≡ v → waits_by (is_from_x digit) u ≡ true →
+    (IsWide k.claims → IsAtStart k.charts s) → WakesSignal k.design k.claims v digit
+woken_so k maps v digit s (Waits edge) e is of h first =
+    let x : EventTerm = record { range = s.range; edge = edge } in
+    let uses = subst (λ (u : Use). UsesAt is.chart s.place u s.range) e is.uses in
+    let both = and_parts (not (is_any edge)) (is_edge edge X digit) h in
+    record {
+      process = s.process;
+      term = x;
+      has = (terms_at k.design k.charts maps s.process is.chart is.is x).0 (s.place, is.point, uses);
+      heard = λ wide. site_heard k.design k.charts maps s edge e is (first wide);
+      edge = not_level (is_any edge) both.0;
+      of = of;
+      wakes = both.1;
+    }
+woken_so k maps v digit s Now e is of h first = absurd (false≢true h)
+woken_so k maps v digit s Later e is of h first = absurd (false≢true h)
+woken_so k maps v digit s Reads e is of h first = absurd (false≢true h)
+woken_so k maps v digit s Shows e is of h first = absurd (false≢true h)
+
+-- an edge term that is woken has such a site
+site_so : (k : Case) → AreCharts k.design k.charts → (v : ℕ) (digit : Digit) (sites : List Site) → AreSitesOf k.charts v sites → WakesSignal k.design k.claims v digit →
+    (s : Site) × Contains sites s × WakesSite k digit s
+site_so k maps v digit sites are h = by (below h.process (length k.design.processes)) (wide k.claims.version) where
+  below : (a b : ℕ) → (a < b) ⊎ (b ≤ a)
+  below a b = grind arith
+
+  wide : (n : ℕ) → (n ≡ 3) ⊎ (n ≡ 3 → ⊥)
+  wide n = grind arith
+
+  woken : waits_by (is_from_x digit) (Waits h.term.edge) ≡ true
+  woken = and_from (not (is_level h.term)) (is_edge h.term.edge X digit) (ap not h.edge) h.wakes
+
+  by : (h.process < length k.design.processes) ⊎ (length k.design.processes ≤ h.process) → (k.claims.version ≡ 3) ⊎ (k.claims.version ≡ 3 → ⊥) → (s : Site) × Contains sites s × WakesSite k digit s
+  by (inr past) any = absurd (no_terms k.design h.process past h.term h.has)
+  by (inl l) (inl three) =
+      let t = there k.charts h.process (subst (λ (n : ℕ). h.process < n) (sym maps.as_many) l) in
+      let y = heard_on k.design h.process t.0 (chart_is k.design k.charts maps h.process t.0 t.1) h.term (h.heard three) in
+      let site = waiting_of h.process y.0 h.term in
+      (site, (are site).1 (record { chart = t.0; is = t.1; point = start_walked t.0 ZeroTime y.0 y.1; uses = y.2 }, h.of), (woken, λ w. (t.0, t.1, y.1)))
+  by (inl l) (inr narrow) =
+      let t = there k.charts h.process (subst (λ (n : ℕ). h.process < n) (sym maps.as_many) l) in
+      let y = (terms_at k.design k.charts maps h.process t.0 t.1 h.term).1 h.has in
+      let site = waiting_of h.process y.0 h.term in
+      (site, (are site).1 (record { chart = t.0; is = t.1; point = y.1; uses = y.2 }, h.of), (woken, λ w. absurd (narrow w)))
+
+-- no edge term of a signal is woken where none of its sites is
+pub calm_is : (k : Case) → AreCharts k.design k.charts → (v : ℕ) (digit : Digit) (sites : List Site) → AreSitesOf k.charts v sites → (b : Bool) → IsNone k digit sites b →
+    (IsTrue b ↔ (WakesSignal k.design k.claims v digit → ⊥))
+calm_is k maps v digit sites are b told = (
+  λ t h. let y = site_so k maps v digit sites are h in told.0 t y.0 y.1 y.2,
+  λ none. told.1 (λ s has w. let is = (are s).0 has in none (woken_so k maps v digit s s.usage refl is.0 is.1 w.0 w.1)),
 )
-
-pub past_wakes : (terms : List EventTerm) (k : ℕ) (digit : Digit) → length terms ≤ k → (false ≡ true ↔ WakesAt terms k digit)
-past_wakes terms k digit past = (λ t. cc, λ w. absurd (omega (arith, past, slice_get_within terms k w.0 w.1)))
-
-pub term_within : (terms : List EventTerm) (v k : ℕ) → NamesTerm terms k v → k < length terms
-term_within terms v k h = slice_get_within terms k h.0 h.1
-
-pub signal_named : (d : Parts) (terms : List EventTerm) → AreTerms d terms → (v k : ℕ) → NamesTerm terms k v → IsEdgeSignal d v
-signal_named d terms are v k h =
-    let both = and_parts (not (is_level h.0)) (h.0.range.signal == v) h.2 in
-    let p = (are h.0).0 (k, slice_get_within terms k h.0 h.1, get_or_from_slice_get terms k h.0 h.0 h.1) in
-    record { process = p.0; term = h.0; has = p.1; edge = not_level (is_level h.0) both.0; of = eqb-true h.0.range.signal v both.1 }
-
-pub named_signal : (d : Parts) (terms : List EventTerm) → AreTerms d terms → (v : ℕ) → IsEdgeSignal d v → (k : ℕ) × NamesTerm terms k v
-named_signal d terms are v h =
-    let m = (are h.term).1 (h.process, h.has) in
-    (m.0, (h.term, slice_get-get_or terms m.0 h.term m.1 ∙ ap Some m.2, and_from (not (is_level h.term)) (h.term.range.signal == v) (ap not h.edge) (same_self h.term.range.signal v h.of)))
-
--- no edge term of a signal is woken where none of those numbers is
-pub calm_is : (d : Parts) (terms : List EventTerm) → AreTerms d terms → (v : ℕ) (digit : Digit) (row : List ℕ) → ((k : ℕ) → (Contains row k ↔ NamesTerm terms k v)) →
-    (((k : ℕ) → Contains row k → WakesAt terms k digit → ⊥) ↔ (WakesSignal d v digit → ⊥))
-calm_is d terms are v digit row rows = (into, back) where
-  into : ((k : ℕ) → Contains row k → WakesAt terms k digit → ⊥) → WakesSignal d v digit → ⊥
-  into none w =
-      let m = (are w.term).1 (w.process, w.has) in
-      let at : slice_get terms m.0 ≡ Some w.term = slice_get-get_or terms m.0 w.term m.1 ∙ ap Some m.2 in
-      let named = and_from (not (is_level w.term)) (w.term.range.signal == v) (ap not w.edge) (same_self w.term.range.signal v w.of) in
-      none m.0 ((rows m.0).1 (w.term, at, named)) (w.term, at, w.wakes)
-
-  back : (WakesSignal d v digit → ⊥) → (k : ℕ) → Contains row k → WakesAt terms k digit → ⊥
-  back none k c w =
-      let h = (rows k).0 c in
-      let both = and_parts (not (is_level h.0)) (h.0.range.signal == v) h.2 in
-      let p = (are h.0).0 (k, slice_get_within terms k h.0 h.1, get_or_from_slice_get terms k h.0 h.0 h.1) in
-      let same : w.0 ≡ h.0 = same_Some w.0 h.0 (sym w.1 ∙ h.1) in
-      none (record {
-        process = p.0;
-        term = h.0;
-        has = p.1;
-        edge = not_level (is_level h.0) both.0;
-        of = eqb-true h.0.range.signal v both.1;
-        wakes = sym (ap (λ (t : EventTerm). is_edge t.edge X digit) same) ∙ w.2;
-      })

@@ -6,9 +6,9 @@ use Rattle.vs_design.specs.vs_logic4.specs.Edges.{is_edge}
 use Rattle.vs_design.specs.declared.statement.EventTerm.{EventTerm}
 use Rattle.vs_design.specs.Parts.{Parts}
 use Rattle.vs_process.specs.Executions.{is_level}
-use Rattle.vs_rules.specs.Claims.{Claims, EdgeClaim, IsRoot, IsRootOf}
+use Rattle.vs_rules.specs.Claims.{Claims, EdgeClaim, IsRoot, IsRootOf, IsWide}
 use Rattle.vs_rules.specs.Constants.{bit_of, IsKnown}
-use Rattle.vs_rules.specs.Paths.{HasTerm}
+use Rattle.vs_rules.specs.Paths.{HasTerm, IsHeardAtStart}
 use Rattle.vs_rules.specs.Rules.{K10_Signal}
 use Rattle.vs_drivers.specs.vs_slots_constants.specs.Givings.{given_here}
 use Rattle.vs_drivers.specs.Copies.{IsOnly}
@@ -17,6 +17,7 @@ use Rattle.vs_drivers.specs.vs_maps.specs.Ranges.{HasSignal, later_at, statement
 use Rattle.vs_drivers.specs.vs_maps.specs.Reaches.{Chart, InSlot0}
 use Rattle.vs_rules_of_signals.specs.vs_claims.specs.Facts.{Case, AreCharts, IsRootAt}
 use Rattle.vs_rules_of_signals.specs.Places.{WritesAt}
+use Rattle.vs_cert_roots.specs.Entries.{is_from_x, waits_by}
 use Rattle.vs_drivers.specs.vs_maps.specs.Sites.{IsWrite}
 use Rattle.vs_drivers.specs.vs_maps.specs.declared.sites.Site.{Site}
 
@@ -28,10 +29,11 @@ SiteAt t v p = InSlot0 t p × WritesAt t p v
 abbrev pub HasSite : List Chart → ℕ → ℕ → Type 0
 HasSite charts i v = (t : Chart) × (slice_get charts i ≡ Some t) × ((p : ℕ) × SiteAt t v p)
 
--- no edge term of a root is woken by a change from x to the digit
+-- no edge term of a root is woken by a change from x to the digit, in version 3 none of an event control of the first slot
 abbrev pub IsSilent : Parts → Claims → ℕ → Digit → Type 0
 IsSilent d c root digit =
-    (j : ℕ) (t : EventTerm) → HasTerm d j t → is_level t ≡ false → IsRootOf d c root t.range.signal → is_edge t.edge X digit ≡ false
+    (j : ℕ) (t : EventTerm) → HasTerm d j t → (IsWide c → IsHeardAtStart d j t) → is_level t ≡ false → IsRootOf d c root t.range.signal →
+    is_edge t.edge X digit ≡ false
 
 -- a place doesn't write a root by `<=`, and gives it a constant 0 or 1 that wakes no edge term of it
 abbrev pub StartsSilently : Parts → Claims → Chart → ℕ → ℕ → Type 0
@@ -46,9 +48,17 @@ StartsWellIn d c t v = (p : ℕ) × IsOnly (SiteAt t v) p × StartsSilently d c 
 abbrev pub StartsWell : Parts → Claims → List Chart → ℕ → ℕ → Type 0
 StartsWell d c charts j v = (t : Chart) × (slice_get charts j ≡ Some t) × StartsWellIn d c t v
 
--- a site is a write at a place that is done in the first slot
+-- a site is at a place that is done in the first slot
+abbrev pub IsAtStart : List Chart → Site → Type 0
+IsAtStart charts s = (t : Chart) × (slice_get charts s.process ≡ Some t) × InSlot0 t s.place
+
+-- such a site is a write
 abbrev pub IsFirst : List Chart → Site → Type 0
-IsFirst charts s = IsWrite s.usage × ((t : Chart) × (slice_get charts s.process ≡ Some t) × InSlot0 t s.place)
+IsFirst charts s = IsWrite s.usage × IsAtStart charts s
+
+-- a site waits for an edge that a change from x to the digit is, in version 3 in the first slot
+abbrev pub WakesSite : Case → Digit → Site → Type 0
+WakesSite k digit s = (waits_by (is_from_x digit) s.usage ≡ true) × (IsWide k.claims → IsAtStart k.charts s)
 
 -- the entry of a place has the root
 abbrev pub NamesRoot : Parts → List EdgeClaim → ℕ → ℕ → Type 0
@@ -64,18 +74,19 @@ pub record KeepsFirst (k : Case) (claimed : List (List ℕ)) : Type 0 where
   pub roots_long : length claimed ≡ length k.design.signals
   pub roots_are : AreRootRows k claimed
 
--- an edge term of a signal is woken by a change from x to the digit
-pub record WakesSignal (d : Parts) (v : ℕ) (digit : Digit) : Type 0 where
+-- an edge term of a signal is woken by a change from x to the digit; in version 3 one of an event control of the first slot
+pub record WakesSignal (d : Parts) (c : Claims) (v : ℕ) (digit : Digit) : Type 0 where
   pub process : ℕ
   pub term : EventTerm
   pub has : HasTerm d process term
+  pub heard : IsWide c → IsHeardAtStart d process term
   pub edge : is_level term ≡ false
   pub of : term.range.signal ≡ v
   pub wakes : is_edge term.edge X digit ≡ true
 
 -- the entry of a place has the root, and an edge term of its signal is so woken
 abbrev pub WakesEntry : Parts → Claims → ℕ → ℕ → Digit → Type 0
-WakesEntry d c place root digit = (v : ℕ) × IsRootAt d c.edges place root v × WakesSignal d v digit
+WakesEntry d c place root digit = (v : ℕ) × IsRootAt d c.edges place root v × WakesSignal d c v digit
 
 -- the rule on what a root is given in the first slot is one of the places of maps
 pub record FirstByPlaces : Type 0 where

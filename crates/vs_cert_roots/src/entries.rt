@@ -1,24 +1,20 @@
-//! The entries of a certificate for the signals of edge terms, and the terms of the processes.
+//! The entries of a certificate for the signals of edge terms, and which sites wait for edges.
 ghost use Rattle.std.specs.Prelude.{ℕ, ◌≡◌, ◌<◌, ◌↔◌, ◌⊎◌, length, slice_index, IfOk, OnOk, IsTrue};
 ghost use Rattle.std.specs.List.{Contains, list_any};
-ghost use Rattle.vs_design.specs.declared.statement.EventTerm.{EventTerm};
-ghost use Rattle.vs_design.specs.vs_logic4.specs.declared.digit.Digit.TheVariants.{X};
-ghost use Rattle.vs_design.specs.vs_logic4.specs.Edges.{is_edge};
-ghost use Rattle.vs_process.specs.Executions.{is_level};
 ghost use Rattle.vs_rules.specs.Certificates.{claims_of};
 ghost use Rattle.vs_rules.specs.Claims.{IsRootOf};
-ghost use Rattle.vs_rules.specs.Paths.{HasTerm};
 ghost use Rattle.vs_rules.specs.Rules.{IsEdgeSignal};
 ghost use Rattle.vs_rules_of_signals.specs.vs_claims.specs.Facts.{IsRootAt};
-ghost use Rattle.vs_cert_roots.specs.First.{WakesSignal};
-ghost use Rattle.vs_cert_roots.specs.Entries.{NamesEntry, NamesTerm, WakesAt, AreTerms, HasEntries, is_edge_of};
+ghost use Rattle.vs_drivers.specs.vs_maps.specs.declared.sites.Site.{Site};
+ghost use Rattle.vs_cert_roots.specs.First.{WakesSignal, WakesSite};
+ghost use Rattle.vs_cert_roots.specs.Entries.{NamesEntry, HasEntries, is_from_x, is_proper, waits_by};
 
+use crate::early::is_at_start;
 use std::alloc::{AllocError, Global};
 use std::marker::Model;
-use vs_design::EventTerm;
 use vs_design::vs_logic4::{Digit, Edge};
 use vs_drivers::only;
-use vs_drivers::vs_maps::terms;
+use vs_drivers::vs_maps::{Site, Use};
 use vs_rules::vs_certificate::Certificate;
 use vs_rules_of_signals::Writes;
 use vs_rules_of_signals::vs_claims::Facts;
@@ -50,118 +46,57 @@ impl<'a> Family for Signals<'a> {
     }
 }
 
-// Whether a term waits for any change.
-fn is_level(term: EventTerm) -> bool
-    ensures { result ≡ is_level term }
+// Whether a use waits for an edge.
+fn is_edge_use(usage: Use) -> bool
+    ensures { result ≡ waits_by is_proper usage }
 {
-    match term.edge {
-        Edge::Any => true,
-        _ => false,
+    match usage {
+        Use::Waits(edge) => edge != Edge::Any,
+        Use::Now | Use::Later | Use::Reads | Use::Shows => false,
     }
 }
 
-// Whether a term waits for an edge of a signal.
-fn is_edge_of(term: EventTerm, v: usize) -> bool
-    ensures { result ≡ is_edge_of v term }
+// Whether it waits for an edge that a change from x to a digit is.
+fn is_woken(usage: Use, digit: Digit) -> bool
+    ensures { result ≡ waits_by (is_from_x digit) usage }
 {
-    !is_level(term) && term.range.signal == v
-}
-
-// Whether one of some terms does.
-fn any_edge_of(terms: &[EventTerm], v: usize) -> bool
-    ensures { result ≡ list_any (is_edge_of v) terms.now }
-{
-    for term in terms {
-        if is_edge_of(*term, v) {
-            return true;
-        }
-    }
-    false
-}
-
-// Whether a change from x to a digit is an edge of this sort.
-fn is_edge_from_x(edge: Edge, digit: Digit) -> bool
-    ensures { result ≡ is_edge edge X digit }
-{
-    match edge {
-        Edge::Any => digit != Digit::X,
-        Edge::Posedge => digit == Digit::One,
-        Edge::Negedge => digit == Digit::Zero,
+    match usage {
+        Use::Waits(Edge::Posedge) => digit == Digit::One,
+        Use::Waits(Edge::Negedge) => digit == Digit::Zero,
+        Use::Waits(Edge::Any) | Use::Now | Use::Later | Use::Reads | Use::Shows => false,
     }
 }
 
-// Whether a change from x to a digit is an edge for which the term of a number waits.
-fn wakes(terms: &[EventTerm], k: usize, digit: Digit) -> bool
-    ensures { IsTrue result ↔ WakesAt terms.now k digit }
+// Whether one of some sites waits for an edge.
+fn any_waits(sites: &[Site]) -> bool
+    ensures { result ≡ list_any (λ s. waits_by is_proper s.usage) sites.now }
 {
-    if k >= terms.len() {
+    sites.iter().any(|site| is_edge_use(site.usage))
+}
+
+// Whether a site waits for an edge that a change from x to a digit is, in version 3 in the first slot.
+fn wakes(facts: &Facts, site: Site, digit: Digit) -> bool
+    ensures { IsTrue result ↔ WakesSite facts.now digit site }
+{
+    if !is_woken(site.usage, digit) {
         return false;
     }
-    is_edge_from_x(terms[k].edge, digit)
+    if facts.version() != 3 {
+        return true;
+    }
+    is_at_start(facts, site)
 }
 
-// Whether it is one for which none of some terms by their numbers waits.
-fn none_wakes(terms: &[EventTerm], numbers: &[usize], digit: Digit) -> bool
-    ensures { IsTrue result ↔ ((k : ℕ) → Contains numbers.now k → WakesAt terms.now k digit → ⊥) }
+// Whether none of some sites does.
+fn none_wakes(facts: &Facts, sites: &[Site], digit: Digit) -> bool
+    ensures { IsTrue result ↔ ((s : Site) → Contains sites.now s → WakesSite facts.now digit s → ⊥) }
 {
-    for k in numbers {
-        if wakes(terms, *k, digit) {
+    for site in sites {
+        if wakes(facts, *site, digit) {
             return false;
         }
     }
     true
-}
-
-// Puts the terms of a process at a list's end.
-fn push_terms<'a>(
-    alloc: Global,
-    facts: &'a Facts<'a>,
-    i: usize,
-    out: &mut Vec<EventTerm>,
-) -> Result<(), AllocError>
-    ensures { OnOk result ((t : EventTerm) → (Contains out.new.items t ↔ (Contains out.old.items t ⊎ HasTerm facts.entry.now.design i t))) }
-{
-    facts.maps();
-    match facts.tables(i) {
-        None => Ok(()),
-        Some(tables) => {
-            let more = terms(alloc, tables)?;
-            out.extend_from_slice(&more)?;
-            Ok(())
-        }
-    }
-}
-
-// The terms of all processes.
-fn terms_of<'a>(alloc: Global, facts: &'a Facts<'a>) -> Result<Vec<EventTerm>, AllocError>
-    ensures { IfOk result (λ all. AreTerms facts.entry.now.design all.items) }
-{
-    let mut all = Vec::new(alloc);
-    for i in 0..facts.design().processes().len() {
-        push_terms(alloc, facts, i, &mut all)?;
-    }
-    Ok(all)
-}
-
-// The terms of all processes, and the signals for edges of which they wait.
-#[derive(Drop)]
-struct EdgeTerms<'a> {
-    terms: &'a [EventTerm],
-}
-
-impl<'a> Family for EdgeTerms<'a> {
-    ghost has = { λ f k v. NamesTerm f.terms.now k v };
-
-    fn put(&self, _alloc: Global, i: usize, out: &mut Vec<usize>) -> Result<(), AllocError> {
-        if i >= self.terms.len() {
-            return Ok(());
-        }
-        if is_level(self.terms[i]) {
-            return Ok(());
-        }
-        out.push(self.terms[i].range.signal)?;
-        Ok(())
-    }
 }
 
 // The places of some entries, and a signal of which they may be.
@@ -197,15 +132,12 @@ fn put_root(facts: &Facts, place: usize, v: usize, out: &mut Vec<usize>) -> Resu
     Ok(())
 }
 
-/// The entries of a certificate for the signals of edge terms, by the number of the signal, the terms of all processes, and where their writers write
-/// signals. A contract sees the design, what the certificate claims of it, and the maps of the texts of the processes.
+/// The entries of a certificate for the signals of edge terms, by the number of the signal, and where their writers write signals. A contract sees
+/// the design, what the certificate claims of it, and the maps of the texts of the processes.
 #[derive(Drop)]
 pub struct Entries<'a> {
     writes: Writes<'a>,
     places: Rows<usize>,
-    terms: Vec<EventTerm>,
-    // For each signal the numbers of its edge terms.
-    edges: Rows<usize>,
 }
 
 impl<'a> Model for Entries<'a> {
@@ -221,7 +153,7 @@ impl<'a> Model for Entries<'a> {
 
     ghost view = { λ e. e.writes };
 
-    ghost invariant = { λ e. KeepsEntries e.writes e.places e.terms.items e.edges };
+    ghost invariant = { λ e. KeepsEntries e.writes e.places };
 }
 
 impl<'a> Entries<'a> {
@@ -237,15 +169,8 @@ impl<'a> Entries<'a> {
         let signals = Signals { facts, certificate };
         let count = facts.design().signals().len();
         let places = index_of(alloc, &signals, certificate.edges.len(), count)?;
-        let terms = terms_of(alloc, facts)?;
-        let edges = index_of(alloc, &EdgeTerms { terms: &terms }, terms.len(), count)?;
         let writes = Writes::of(alloc, facts)?;
-        Ok(Entries {
-            writes,
-            places,
-            terms,
-            edges,
-        })
+        Ok(Entries { writes, places })
     }
 
     /// The facts of which they are.
@@ -262,22 +187,25 @@ impl<'a> Entries<'a> {
         &self.writes
     }
 
-    /// Whether an edge term names a signal. For one past the last of the design it takes as long as there are terms.
-    pub fn is_edge_signal(&self, v: usize) -> bool
+    // Whether an edge term names a signal. It takes as long as there are sites of the signal.
+    fn is_edge_signal(&self, v: usize) -> bool
+        requires { v < length self.now.design.signals }
         ensures { IsTrue result ↔ IsEdgeSignal self.now.design v }
     {
-        if v >= self.edges.len() {
-            return any_edge_of(&self.terms, v);
-        }
-        !self.edges.row(v).is_empty()
+        let facts = self.facts();
+        facts.maps();
+        any_waits(facts.sites().of_signal(v))
     }
 
-    /// Whether a change of a signal from x to a digit wakes no edge term of it. It takes as long as the signal has edge terms.
+    /// Whether a change of a signal from x to a digit wakes no edge term of it, in version 3 none of an event control of the first slot. It takes as long
+    /// as there are sites of the signal.
     pub(crate) fn is_calm(&self, v: usize, digit: Digit) -> bool
         requires { v < length self.now.design.signals }
-        ensures { IsTrue result ↔ (WakesSignal self.now.design v digit → ⊥) }
+        ensures { IsTrue result ↔ (WakesSignal self.now.design self.now.claims v digit → ⊥) }
     {
-        none_wakes(&self.terms, self.edges.row(v), digit)
+        let facts = self.facts();
+        facts.maps();
+        none_wakes(facts, facts.sites().of_signal(v), digit)
     }
 
     // The places of the entries of a signal.

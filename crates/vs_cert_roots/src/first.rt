@@ -7,10 +7,11 @@ ghost use Rattle.vs_rules.specs.Constants.{bit_of};
 ghost use Rattle.vs_drivers.specs.vs_slots_constants.specs.Clocks.{known};
 ghost use Rattle.vs_drivers.specs.vs_slots_constants.specs.Givings.{given_here};
 ghost use Rattle.vs_drivers.specs.vs_maps.specs.Ranges.{statement_at};
-ghost use Rattle.vs_drivers.specs.vs_maps.specs.Reaches.{Chart, InSlot0};
+ghost use Rattle.vs_drivers.specs.vs_maps.specs.Reaches.{Chart};
 ghost use Rattle.vs_drivers.specs.vs_maps.specs.declared.sites.Site.{Site};
 ghost use Rattle.vs_cert_roots.specs.First.{IsFirst, SiteAt, HasSite, IsSilent, StartsSilently, StartsWellIn, StartsWell, NamesRoot, WakesEntry};
 
+use crate::early::is_at_start;
 use crate::entries::Entries;
 use std::alloc::{AllocError, Global};
 use std::marker::Model;
@@ -21,18 +22,6 @@ use vs_drivers::vs_slots_constants::{Bit, given_by};
 use vs_rules_of_signals::vs_claims::Facts;
 use vs_rules_of_signals::vs_graph::{Family, Rows, index_of};
 
-// Whether a place of a text is done in the first slot.
-fn is_early(tables: &Tables, p: usize) -> bool
-    ensures { IsTrue result ↔ InSlot0 tables.entry.now p }
-{
-    tables.leads_in();
-    if p < tables.places() {
-        tables.is_slot0(p)
-    } else {
-        false
-    }
-}
-
 // Whether a site is a write at a place that is done in the first slot.
 fn is_first(facts: &Facts, site: Site) -> bool
     ensures { IsTrue result ↔ IsFirst facts.now.charts site }
@@ -40,10 +29,7 @@ fn is_first(facts: &Facts, site: Site) -> bool
     if !is_write(site.usage) {
         return false;
     }
-    match facts.tables(site.process) {
-        None => false,
-        Some(tables) => is_early(tables, site.place),
-    }
+    is_at_start(facts, site)
 }
 
 // Whether a site of a process is one.
@@ -217,7 +203,8 @@ impl<'a> FirstWrites<'a> {
         true
     }
 
-    /// Whether no edge term of a root is woken by a change from x to a digit. It takes as long as the signals that copy the root have edge terms.
+    /// Whether no edge term of a root is woken by a change from x to a digit, in version 3 none of an event control of the first slot. It takes as long as
+    /// the signals that copy the root have edge terms.
     pub fn is_silent(&self, root: usize, digit: Digit) -> bool
         ensures { IsTrue result ↔ IsSilent self.now.design self.now.claims root digit }
     {

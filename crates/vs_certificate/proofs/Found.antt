@@ -1,11 +1,11 @@
 -- What is found under a name, where it passes a test.
-use Rattle.std.proofs.Common.{◌≡◌, ℕ, Bool, true, false, ◌||◌, List, ◌∷◌, Option, Some, None, codes, true≢false, refl, ap, sym}
-use Rattle.std.proofs.lemmas.Bool.{and_parts, eqb-true}
+use Rattle.std.proofs.Common.{◌≡◌, inl, inr, ℕ, Bool, true, false, ◌||◌, List, ◌∷◌, Option, Some, None, codes, true≢false, refl, ap, sym}
+use Rattle.std.proofs.lemmas.Bool.{and_parts, eqb-true, or_cases}
 use Rattle.std.proofs.lemmas.Slice.Eq.{bytes_eq-Decides}
 use Rattle.std.specs.Option.{option_map_or}
 use Rattle.serde_json.specs.Data.{Data, unsigned, negative, float, null, boolean, number, string, array, object, no_items, item}
 use Rattle.serde_json.specs.Find.{get}
-use Rattle.vs_certificate.specs.Shape.{is_word, is_empty_list, is_list, is_text, is_number, is_flag, is_grain, is_start, passes_at, has_names, names_of_one, is_edge_signal, is_signal_entry, is_process_entry, is_combinational, is_edge_process, is_delay_process, is_version_one, is_version_two, is_certificate}
+use Rattle.vs_certificate.specs.Shape.{is_word, is_empty_list, is_list, is_text, is_number, is_flag, is_grain, is_start, passes_at, has_names, names_of_one, is_edge_signal, is_signal_entry, is_process_entry, is_combinational, is_edge_process, is_delay_process, is_version_one, is_of_later, is_version_two, is_version_three, is_certificate}
 
 word_found : (o : Option Data) (word : List ℕ) → option_map_or (is_word word) o false ≡ true → o ≡ Some (string word)
 word_found None word h = absurd (true≢false (sym h))
@@ -57,6 +57,11 @@ third true b c h p q = absurd (true≢false p)
 third false true c h p q = absurd (true≢false q)
 third false false c h p q = h
 
+-- one of the last two of three, where not the first
+pub later : (a b c : Bool) → (a || b || c) ≡ true → a ≡ false → (b || c) ≡ true
+later true b c h p = absurd (true≢false p)
+later false b c h p = h
+
 -- ---- the parts of a form
 
 pub record CombinationalParts (d : Data) : Type 0 where
@@ -98,19 +103,32 @@ pub record VersionOneParts (d : Data) : Type 0 where
 
 pub version_one_parts : (d : Data) → is_version_one d ≡ true → VersionOneParts d
 version_one_parts d h =
-    let a = and_parts _ _ (and_parts _ _ h).0 in
+    let a = and_parts _ _ (and_parts _ _ (and_parts _ _ h).0).0 in
     record { names = a.0; version = get-is_number (codes "version") 1 d a.1 }
 
-pub record VersionTwoParts (d : Data) : Type 0 where
+pub record LaterParts (version : ℕ) (d : Data) : Type 0 where
   pub names : has_names (codes "displays" ∷ names_of_one) d ≡ true
-  pub version : get (codes "version") d ≡ Some (number (unsigned 2))
+  pub version_is : get (codes "version") d ≡ Some (number (unsigned version))
   pub displays : passes_at is_flag (codes "displays") d ≡ true
 
-pub version_two_parts : (d : Data) → is_version_two d ≡ true → VersionTwoParts d
-version_two_parts d h =
+pub later_parts : (version : ℕ) (d : Data) → is_of_later version d ≡ true → LaterParts version d
+later_parts version d h =
     let a = and_parts _ _ h in
     let b = and_parts _ _ a.0 in
-    record { names = b.0; version = get-is_number (codes "version") 2 d b.1; displays = a.1 }
+    record { names = b.0; version_is = get-is_number (codes "version") version d b.1; displays = a.1 }
+
+pub version_two_parts : (d : Data) → is_version_two d ≡ true → LaterParts 2 d
+version_two_parts d h = later_parts 2 d (and_parts _ _ h).0
+
+pub version_three_parts : (d : Data) → is_version_three d ≡ true → LaterParts 3 d
+version_three_parts d h = later_parts 3 d h
+
+-- one of version 2 or 3 has `displays`
+pub either_displays : (d : Data) → (is_version_two d || is_version_three d) ≡ true → passes_at is_flag (codes "displays") d ≡ true
+either_displays d h = elim (or_cases (is_version_two d) (is_version_three d) h) [
+  | inl two ↦ (version_two_parts d two).displays
+  | inr three ↦ (version_three_parts d three).displays
+]
 
 pub record CertificateParts (numeric : Data → Bool) (d : Data) : Type 0 where
   pub edges : passes_at (is_list is_edge_signal) (codes "edges") d ≡ true
@@ -119,7 +137,7 @@ pub record CertificateParts (numeric : Data → Bool) (d : Data) : Type 0 where
   pub order : passes_at (is_list is_text) (codes "order") d ≡ true
   pub processes : passes_at (is_list (is_process_entry numeric)) (codes "processes") d ≡ true
   pub signals : passes_at (is_list is_signal_entry) (codes "signals") d ≡ true
-  pub version : (is_version_one d || is_version_two d) ≡ true
+  pub version : (is_version_one d || is_version_two d || is_version_three d) ≡ true
 
 pub certificate_parts : (numeric : Data → Bool) (d : Data) → is_certificate numeric d ≡ true → CertificateParts numeric d
 certificate_parts numeric d h =

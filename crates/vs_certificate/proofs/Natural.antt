@@ -5,7 +5,7 @@ use Rattle.std.specs.Option.{option_map_or}
 use Rattle.serde_json.specs.Data.{Data, null, boolean, number, string, array, object, Items, no_items, item}
 use Rattle.serde_json.specs.Find.{get}
 use Rattle.vs_certificate.specs.Shape.{natural, is_whole, is_natural, all_items, is_list, passes_at, is_combinational, is_edge_process, is_delay_process, is_process_entry, is_certificate}
-use Rattle.vs_certificate.specs.Limits.{items_in, rise, is_within, are_residues, are_slots, are_processes, is_modulus, holds_by, is_within_limits}
+use Rattle.vs_certificate.specs.Limits.{items_in, rise, is_within, are_residues, are_slots, are_processes, most_residues_in, is_modulus, holds_by, is_within_limits}
 use Rattle.vs_certificate.proofs.Found.{certificate_parts}
 use Rattle.std.proofs.lemmas.Bool.{and_from as both}
 
@@ -51,33 +51,33 @@ rising_naturals low modulus (item d ds) h =
     let n = number_rises low modulus (natural d) ds h in
     both (is_natural d) (all_items is_natural ds) (ap is_some n.1) (rising_naturals (n.0 + 1) modulus ds n.3)
 
-residues_natural : (modulus : ℕ) → Implied (is_list is_whole) (are_residues modulus) (is_list is_natural)
-residues_natural modulus d h k =
-    let rising = (and_parts (is_within 64 d) (rise 0 modulus (items_in d)) k).1 in
+residues_natural : (most modulus : ℕ) → Implied (is_list is_whole) (are_residues most modulus) (is_list is_natural)
+residues_natural most modulus d h k =
+    let rising = (and_parts (is_within most d) (rise 0 modulus (items_in d)) k).1 in
     list_implies is_whole is_natural is_natural (λ e w n. n) d h (rising_naturals 0 modulus (items_in d) rising)
 
-slots_natural : (modulus : ℕ) → Implied (is_list (is_list is_whole)) (are_slots modulus) (is_list (is_list is_natural))
-slots_natural modulus d h k =
-    let all = (and_parts (is_within 65536 d) (all_items (are_residues modulus) (items_in d)) k).1 in
-    list_implies (is_list is_whole) (are_residues modulus) (is_list is_natural) (residues_natural modulus) d h all
+slots_natural : (most modulus : ℕ) → Implied (is_list (is_list is_whole)) (are_slots most modulus) (is_list (is_list is_natural))
+slots_natural most modulus d h k =
+    let all = (and_parts (is_within 65536 d) (all_items (are_residues most modulus) (items_in d)) k).1 in
+    list_implies (is_list is_whole) (are_residues most modulus) (is_list is_natural) (residues_natural most modulus) d h all
 
 -- ---- processes
 
-delay_natural : (modulus : ℕ) → Implied (is_delay_process is_whole) (passes_at (are_slots modulus) (codes "slots")) (is_delay_process is_natural)
-delay_natural modulus d h k =
+delay_natural : (most modulus : ℕ) → Implied (is_delay_process is_whole) (passes_at (are_slots most modulus) (codes "slots")) (is_delay_process is_natural)
+delay_natural most modulus d h k =
     let a = and_parts _ _ h in
     let b = and_parts _ _ a.0 in
-    both _ _ (both _ _ b.0 (found_implies (is_list (is_list is_whole)) (are_slots modulus) (is_list (is_list is_natural)) (slots_natural modulus) (get (codes "slots") d) b.1 k)) a.1
+    both _ _ (both _ _ b.0 (found_implies (is_list (is_list is_whole)) (are_slots most modulus) (is_list (is_list is_natural)) (slots_natural most modulus) (get (codes "slots") d) b.1 k)) a.1
 
-process_natural : (modulus : ℕ) → Implied (is_process_entry is_whole) (passes_at (are_slots modulus) (codes "slots")) (is_process_entry is_natural)
-process_natural modulus d h k =
+process_natural : (most modulus : ℕ) → Implied (is_process_entry is_whole) (passes_at (are_slots most modulus) (codes "slots")) (is_process_entry is_natural)
+process_natural most modulus d h k =
     let a = and_parts _ _ h in
-    both _ _ a.0 (or_next (is_combinational d || is_edge_process d) (is_delay_process is_whole d) (is_delay_process is_natural d) a.1 (λ delay. delay_natural modulus d delay k))
+    both _ _ a.0 (or_next (is_combinational d || is_edge_process d) (is_delay_process is_whole d) (is_delay_process is_natural d) a.1 (λ delay. delay_natural most modulus d delay k))
 
-processes_natural : (modulus : ℕ) → Implied (is_list (is_process_entry is_whole)) (are_processes modulus) (is_list (is_process_entry is_natural))
-processes_natural modulus d h k =
-    let all = (and_parts (is_within 65536 d) (all_items (passes_at (are_slots modulus) (codes "slots")) (items_in d)) k).1 in
-    list_implies (is_process_entry is_whole) (passes_at (are_slots modulus) (codes "slots")) (is_process_entry is_natural) (process_natural modulus) d h all
+processes_natural : (most modulus : ℕ) → Implied (is_list (is_process_entry is_whole)) (are_processes most modulus) (is_list (is_process_entry is_natural))
+processes_natural most modulus d h k =
+    let all = (and_parts (is_within 65536 d) (all_items (passes_at (are_slots most modulus) (codes "slots")) (items_in d)) k).1 in
+    list_implies (is_process_entry is_whole) (passes_at (are_slots most modulus) (codes "slots")) (is_process_entry is_natural) (process_natural most modulus) d h all
 
 -- ---- the whole
 
@@ -86,7 +86,7 @@ pub record LimitParts (d : Data) (modulus : ℕ) : Type 0 where
   pub fits : is_modulus modulus ≡ true
   pub edges : passes_at (is_within 65536) (codes "edges") d ≡ true
   pub order : passes_at (is_within 65536) (codes "order") d ≡ true
-  pub processes : passes_at (are_processes modulus) (codes "processes") d ≡ true
+  pub processes : passes_at (are_processes (most_residues_in d) modulus) (codes "processes") d ≡ true
   pub signals : passes_at (is_within 65536) (codes "signals") d ≡ true
 
 pub limit_parts : (d : Data) (modulus : ℕ) → holds_by d modulus ≡ true → LimitParts d modulus
@@ -111,7 +111,8 @@ is_certificate-natural d h k =
     let p = certificate_parts is_whole d h in
     let q = modulus_found d (option_and_then natural (get (codes "modulus") d)) k in
     let modulus = modulus_natural (get (codes "modulus") d) q.0 q.1 in
-    let processes = found_implies (is_list (is_process_entry is_whole)) (are_processes q.0) (is_list (is_process_entry is_natural)) (processes_natural q.0) (get (codes "processes") d) p.processes q.2.processes in
+    let most = most_residues_in d in
+    let processes = found_implies (is_list (is_process_entry is_whole)) (are_processes most q.0) (is_list (is_process_entry is_natural)) (processes_natural most q.0) (get (codes "processes") d) p.processes q.2.processes in
     both _ _ (both _ _ (both _ _ (both _ _ (both _ _ (both _ _ p.edges p.grain) modulus) p.order) processes) p.signals) p.version
 
 -- a negative number is over a limit

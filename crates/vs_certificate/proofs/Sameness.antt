@@ -17,7 +17,7 @@ use Rattle.vs_certificate.specs.declared.members.Start.TheVariants as starts
 use Rattle.vs_certificate.specs.declared.members.Version.{Version}
 use Rattle.vs_certificate.specs.declared.members.Version.TheVariants as versions
 use Rattle.vs_certificate.specs.JsonValue.{kind_word, grain_value, mode_value, text_value, list_value, whole_value, residues_value, slots_value, start_word_value, start_value, edge_value, process_value, signal_value, members_with, object_with, shared_members, members_by, value_of}
-use Rattle.vs_certificate.specs.Shape.{is_word, has_names, names_of_one}
+use Rattle.vs_certificate.specs.Shape.{is_word, is_number, passes_at, has_names, names_of_one}
 use Rattle.vs_certificate.specs.Sameness.{start_of, residues_of, edge_parts, process_parts, signal_parts, IsSame}
 
 -- ---- lists
@@ -65,7 +65,8 @@ grain_from_value g h e = let same : Some g ≡ Some h = sym (grain_again g) ∙ 
 abbrev mode_in : Data → Option SignalMode
 mode_in d =
     if is_word (codes "net") d then Some modes.Net else if is_word (codes "unwritten") d then Some modes.Unwritten else if is_word (codes "comb") d then Some modes.Combinational
-    else if is_word (codes "nonblocking") d then Some modes.Nonblocking else if is_word (codes "blocking") d then Some modes.Blocking else Some modes.Private
+    else if is_word (codes "nonblocking") d then Some modes.Nonblocking else if is_word (codes "blocking") d then Some modes.Blocking
+    else if is_word (codes "private") d then Some modes.Private else Some modes.Both
 
 mode_again : (m : SignalMode) → mode_in (mode_value m) ≡ Some m
 mode_again modes.Net = refl
@@ -74,6 +75,7 @@ mode_again modes.Combinational = refl
 mode_again modes.Nonblocking = refl
 mode_again modes.Blocking = refl
 mode_again modes.Private = refl
+mode_again modes.Both = refl
 
 mode_from_value : (m n : SignalMode) → mode_value m ≡ mode_value n → m ≡ n
 mode_from_value m n e = let same : Some m ≡ Some n = sym (mode_again m) ∙ ap mode_in e ∙ mode_again n in cc
@@ -187,7 +189,14 @@ flag_from_value a b h = cc
 same_by : (v w : Version) (c d : Certificate) → object_with (members_by v c) ≡ object_with (members_by w d) → (v ≡ w) × AreSame c d
 same_by versions.One versions.One c d h = (refl, shared_from_value 1 1 c d (members_of h))
 same_by versions.One (versions.Two b) c d h = absurd (true≢false (ap (has_names names_of_one) h))
+same_by versions.One (versions.Three b) c d h = absurd (true≢false (ap (has_names names_of_one) h))
 same_by (versions.Two a) versions.One c d h = absurd (true≢false (sym (ap (has_names names_of_one) h)))
+same_by (versions.Three a) versions.One c d h = absurd (true≢false (sym (ap (has_names names_of_one) h)))
+same_by (versions.Two a) (versions.Three b) c d h = absurd (true≢false (ap (passes_at (is_number 2) (codes "version")) h))
+same_by (versions.Three a) (versions.Two b) c d h = absurd (true≢false (sym (ap (passes_at (is_number 2) (codes "version")) h)))
+same_by (versions.Three a) (versions.Three b) c d h =
+    let displays = members_of h in
+    (ap versions.Three (flag_from_value a b (first_member displays)), shared_from_value 3 3 c d (other_members displays))
 same_by (versions.Two a) (versions.Two b) c d h =
     let displays = members_of h in
     (ap versions.Two (flag_from_value a b (first_member displays)), shared_from_value 2 2 c d (other_members displays))
@@ -257,6 +266,18 @@ process_from_parts p q h =
     let begins : start_value p.kind ≡ start_value q.kind = start_value_of p.kind ∙ ap start_value_by start ∙ sym (start_value_of q.kind) in
     rw (word, name, slots_from_residues p.kind q.kind residues, begins) refl
 
+value_later : (number : ℕ) (displays : Bool) (c d : Certificate) → IsSame c d →
+    object_with ((codes "displays", boolean displays) ∷ shared_members number c) ≡ object_with ((codes "displays", boolean displays) ∷ shared_members number d)
+value_later number displays c d h =
+    rw (
+      values_from_parts edge_value edge_parts edge_from_parts c.edges.items d.edges.items h.edges,
+      h.grain,
+      h.modulus,
+      values_from_parts text_value string_bytes text_from_parts c.order.items d.order.items h.order,
+      values_from_parts process_value process_parts process_from_parts c.processes.items d.processes.items h.processes,
+      values_from_parts signal_value signal_parts signal_from_parts c.signals.items d.signals.items h.signals,
+    ) refl
+
 value_by : (v : Version) (c d : Certificate) → IsSame c d → object_with (members_by v c) ≡ object_with (members_by v d)
 value_by versions.One c d h =
     rw (
@@ -267,15 +288,8 @@ value_by versions.One c d h =
       values_from_parts process_value process_parts process_from_parts c.processes.items d.processes.items h.processes,
       values_from_parts signal_value signal_parts signal_from_parts c.signals.items d.signals.items h.signals,
     ) refl
-value_by (versions.Two displays) c d h =
-    rw (
-      values_from_parts edge_value edge_parts edge_from_parts c.edges.items d.edges.items h.edges,
-      h.grain,
-      h.modulus,
-      values_from_parts text_value string_bytes text_from_parts c.order.items d.order.items h.order,
-      values_from_parts process_value process_parts process_from_parts c.processes.items d.processes.items h.processes,
-      values_from_parts signal_value signal_parts signal_from_parts c.signals.items d.signals.items h.signals,
-    ) refl
+value_by (versions.Two displays) c d h = value_later 2 displays c d h
+value_by (versions.Three displays) c d h = value_later 3 displays c d h
 
 pub value_from_same : (c d : Certificate) → IsSame c d → value_of c ≡ value_of d
 value_from_same c d h = ap (λ v. object_with (members_by v c)) h.version ∙ value_by d.version c d h

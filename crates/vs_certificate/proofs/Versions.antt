@@ -1,4 +1,4 @@
--- The members of a certificate's value, of either version, as they are put together and as they are found.
+-- The members of a certificate's value, of each version, as they are put together and as they are found.
 use Rattle.std.proofs.Common.{◌≡◌, codes, Some, refl}
 use Rattle.serde_json.specs.Data.{Data, Members, no_members, put}
 use Rattle.serde_json.specs.Find.{get}
@@ -27,8 +27,9 @@ put_all version c =
 pub members_by-put : (version : Version) (c : Certificate) → put_all version c ≡ members_with (members_by version c)
 members_by-put versions.One c = refl
 members_by-put (versions.Two displays) c = refl
+members_by-put (versions.Three displays) c = refl
 
--- a value's members that both versions have are those of the certificate
+-- a value's members that all versions have are those of the certificate
 pub record HasShared (c : Certificate) (d : Data) : Type 0 where
   pub edges : get (codes "edges") d ≡ Some (list_value edge_value c.edges.items)
   pub grain : get (codes "grain") d ≡ Some (grain_value c.grain)
@@ -42,3 +43,5 @@ value_from_members versions.One c d is h =
     object_from (members_by versions.One c) d is.0 refl (h.edges, (h.grain, (h.modulus, (h.order, (h.processes, (h.signals, (is.1, tt)))))))
 value_from_members (versions.Two displays) c d is h =
     object_from (members_by (versions.Two displays) c) d is.0 refl (is.2, (h.edges, (h.grain, (h.modulus, (h.order, (h.processes, (h.signals, (is.1, tt))))))))
+value_from_members (versions.Three displays) c d is h =
+    object_from (members_by (versions.Three displays) c) d is.0 refl (is.2, (h.edges, (h.grain, (h.modulus, (h.order, (h.processes, (h.signals, (is.1, tt))))))))

@@ -32,6 +32,8 @@ has_none_by versions.One c =
     rw (no_floats edge_value (λ e. refl) c.edges.items, no_floats text_value (λ s. refl) c.order.items, no_floats process_value process_has_none c.processes.items, no_floats signal_value (λ s. refl) c.signals.items)
 has_none_by (versions.Two displays) c =
     rw (no_floats edge_value (λ e. refl) c.edges.items, no_floats text_value (λ s. refl) c.order.items, no_floats process_value process_has_none c.processes.items, no_floats signal_value (λ s. refl) c.signals.items)
+has_none_by (versions.Three displays) c =
+    rw (no_floats edge_value (λ e. refl) c.edges.items, no_floats text_value (λ s. refl) c.order.items, no_floats process_value process_has_none c.processes.items, no_floats signal_value (λ s. refl) c.signals.items)
 
 pub has_float-value_of : (c : Certificate) → has_float (value_of c) ≡ false
 has_float-value_of c = has_none_by c.version c

@@ -1,4 +1,4 @@
--- The JSON value of a certificate, in either version.
+-- The JSON value of a certificate, in each version.
 use Rattle.std.specs.Prelude.{◌≡◌, Some, ℕ, Bool, List, [], ◌∷◌, map, codes, String, string_bytes, Vec}
 use Rattle.std.specs.declared.alloc.Global.{Global}
 use Rattle.serde_json.specs.Data.{Data, boolean, number, unsigned, string, array, object, Members, no_members, member, put}
@@ -42,6 +42,7 @@ mode_word modes.Combinational = codes "comb"
 mode_word modes.Nonblocking = codes "nonblocking"
 mode_word modes.Blocking = codes "blocking"
 mode_word modes.Private = codes "private"
+mode_word modes.Both = codes "both"
 
 -- ---- values
 
@@ -112,8 +113,9 @@ signal_value s =
 abbrev pub version_number : Version → ℕ
 version_number versions.One = 1
 version_number (versions.Two displays) = 2
+version_number (versions.Three displays) = 3
 
--- the members that both versions have, with this number as that of the version
+-- the members that all versions have, with this number as that of the version
 abbrev pub shared_members : ℕ → Certificate → List (List ℕ × Data)
 shared_members version c =
     (codes "edges", list_value edge_value c.edges.items)
@@ -129,6 +131,7 @@ shared_members version c =
 abbrev pub members_by : Version → Certificate → List (List ℕ × Data)
 members_by versions.One c = shared_members 1 c
 members_by (versions.Two displays) c = (codes "displays", flag_value displays) ∷ shared_members 2 c
+members_by (versions.Three displays) c = (codes "displays", flag_value displays) ∷ shared_members 3 c
 
 -- the JSON value of a certificate
 abbrev pub value_of : Certificate → Data
@@ -138,3 +141,4 @@ value_of c = object_with (members_by c.version c)
 abbrev pub put_own : Version → Members → Members
 put_own versions.One ms = ms
 put_own (versions.Two displays) ms = put (codes "displays") (flag_value displays) ms
+put_own (versions.Three displays) ms = put (codes "displays") (flag_value displays) ms

@@ -1,4 +1,4 @@
--- Which JSON values have the form of a certificate, in either version: the members of each object, and of what kind each is.
+-- Which JSON values have the form of a certificate, in each version: the members of each object, and of what kind each is.
 -- The limits are no part of it. So numbers go by a test, `numeric`: any whole number of 64 bits, or one that isn't negative.
 use Rattle.std.specs.Prelude.{List, ℕ, [], ◌∷◌, codes, Bool, true, false, not, ◌&&◌, ◌||◌, bytes_eq, is_some, Option, option_and_then, ◌==◌}
 use Rattle.std.specs.Option.{option_map_or}
@@ -75,6 +75,7 @@ is_start d = is_word (codes "cold") d || is_word (codes "sources") d || is_word 
 abbrev pub is_mode : Data → Bool
 is_mode d =
     is_word (codes "net") d || is_word (codes "unwritten") d || is_word (codes "comb") d || is_word (codes "nonblocking") d || is_word (codes "blocking") d || is_word (codes "private") d
+    || is_word (codes "both") d
 
 -- ---- entries (profile)
 
@@ -105,30 +106,46 @@ is_process_entry numeric d =
 
 -- ---- the whole (profile)
 
--- the members that both versions have are there, where numbers pass this test
+-- the members that all versions have are there, where numbers pass this test
 abbrev pub has_shared : (Data → Bool) → Data → Bool
 has_shared numeric d =
     passes_at (is_list is_edge_signal) (codes "edges") d && passes_at is_grain (codes "grain") d && passes_at numeric (codes "modulus") d && passes_at (is_list is_text) (codes "order") d
     && passes_at (is_list (is_process_entry numeric)) (codes "processes") d && passes_at (is_list is_signal_entry) (codes "signals") d
 
--- the start of a process isn't `starter`
-abbrev pub is_no_starter : Data → Bool
-is_no_starter d = not (passes_at (is_word (codes "starter")) (codes "start") d)
+-- a member of an entry isn't this word
+abbrev pub lacks : List ℕ → List ℕ → Data → Bool
+lacks name word d = not (passes_at (is_word word) name d)
 
+-- nor is it of any entry of a list
+abbrev pub has_none : List ℕ → List ℕ → List ℕ → Data → Bool
+has_none list name word d = passes_at (is_list (lacks name word)) list d
+
+-- no start of a process is `starter`
 abbrev pub has_no_starter : Data → Bool
-has_no_starter d = passes_at (is_list is_no_starter) (codes "processes") d
+has_no_starter d = has_none (codes "processes") (codes "start") (codes "starter") d
+
+-- no signal is of mode `both`
+abbrev pub has_narrow_words : Data → Bool
+has_narrow_words d = has_none (codes "signals") (codes "mode") (codes "both") d
 
 abbrev pub names_of_one : List (List ℕ)
 names_of_one = codes "edges" ∷ codes "grain" ∷ codes "modulus" ∷ codes "order" ∷ codes "processes" ∷ codes "signals" ∷ codes "version" ∷ []
 
--- version 1: no other members, and no start that is `starter`
+-- version 1: no other members, and no start that is `starter`; nor a word of version 3
 abbrev pub is_version_one : Data → Bool
-is_version_one d = has_names names_of_one d && passes_at (is_number 1) (codes "version") d && has_no_starter d
+is_version_one d = has_names names_of_one d && passes_at (is_number 1) (codes "version") d && has_no_starter d && has_narrow_words d
 
--- version 2: `displays` besides, true or false
+-- of this version: `displays` besides, true or false
+abbrev pub is_of_later : ℕ → Data → Bool
+is_of_later version d = has_names (codes "displays" ∷ names_of_one) d && passes_at (is_number version) (codes "version") d && passes_at is_flag (codes "displays") d
+
+-- version 2: no word of version 3
 abbrev pub is_version_two : Data → Bool
-is_version_two d = has_names (codes "displays" ∷ names_of_one) d && passes_at (is_number 2) (codes "version") d && passes_at is_flag (codes "displays") d
+is_version_two d = is_of_later 2 d && has_narrow_words d
+
+abbrev pub is_version_three : Data → Bool
+is_version_three d = is_of_later 3 d
 
 -- a certificate whose numbers pass this test
 abbrev pub is_certificate : (Data → Bool) → Data → Bool
-is_certificate numeric d = has_shared numeric d && (is_version_one d || is_version_two d)
+is_certificate numeric d = has_shared numeric d && (is_version_one d || is_version_two d || is_version_three d)

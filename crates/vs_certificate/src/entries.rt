@@ -72,6 +72,7 @@ impl JsonForm for SignalMode {
             || is_word(json, "nonblocking")
             || is_word(json, "blocking")
             || is_word(json, "private")
+            || is_word(json, "both")
     }
 
     fn from_value(_alloc: Global, json: &Value) -> Result<SignalMode, AllocError> {
@@ -85,8 +86,10 @@ impl JsonForm for SignalMode {
             Ok(SignalMode::Nonblocking)
         } else if is_word(json, "blocking") {
             Ok(SignalMode::Blocking)
-        } else {
+        } else if is_word(json, "private") {
             Ok(SignalMode::Private)
+        } else {
+            Ok(SignalMode::Both)
         }
     }
 }

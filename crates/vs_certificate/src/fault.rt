@@ -13,7 +13,7 @@ pub enum CertFault {
     /// C2: a member is missing, unknown or of the wrong kind, or goes against its process's kind or the version.
     #[error("C2")]
     Shape,
-    /// C3: a whole-number version other than 1 and 2.
+    /// C3: a whole-number version other than those that the reader knows.
     #[error("C3")]
     Version,
     /// C4: a limit is passed, or residues don't rise.

@@ -1,4 +1,4 @@
-//! The certificate of a design's independence of the simulator's choices, and its JSON form, versions 1 and 2.
+//! The certificate of a design's independence of the simulator's choices, and its JSON form, versions 1, 2 and 3.
 #![tactic(auto)]
 
 mod entries;
@@ -18,5 +18,5 @@ pub use members::{
     Certificate, ClaimedGrain, ClaimedKind, EdgeSignal, ProcessEntry, SignalEntry, SignalMode,
     Start, Version,
 };
-pub use reading::from_json;
-pub use writing::{to_json, written_reads_back};
+pub use reading::{from_json, from_json_wide};
+pub use writing::{narrow_is_wide, to_json, written_reads_back};

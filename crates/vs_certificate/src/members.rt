@@ -46,6 +46,11 @@ pub enum Version {
         /// Whether the lines of `$display` are no choice of the simulator either.
         displays: bool,
     },
+    /// Version 3.
+    Three {
+        /// Whether the lines of `$display` are no choice of the simulator either.
+        displays: bool,
+    },
 }
 
 /// How finely processes may be interleaved.
@@ -92,7 +97,8 @@ pub enum ClaimedKind {
     /// A process that waits for edges alone.
     Edge,
     /// A process that waits for times alone. For each of its delay controls in the order of the text, the residues by
-    /// the modulus of the times above 0 at which that delay can end: rising, at most 64. At most 65,536 controls.
+    /// the modulus of the times above 0 at which that delay can end: rising, at most 64, in version 3 at most 4,096. At
+    /// most 65,536 controls.
     Delay(Vec<Vec<u64>>),
 }
 
@@ -111,7 +117,7 @@ pub enum Start {
     Cold,
     /// It waits for sources alone, so it runs as soon as there is anything to see.
     Sources,
-    /// A signal that it waits for is sure to change in the first slot. In version 2 alone.
+    /// A signal that it waits for is sure to change in the first slot. In versions 2 and 3 alone.
     Starter,
 }
 
@@ -149,10 +155,12 @@ pub enum SignalMode {
     Combinational,
     /// By `<=` alone.
     Nonblocking,
-    /// By `=` alone, in a process that waits for times, or in version 2 for edges.
+    /// By `=` alone, in a process that waits for times, or in versions 2 and 3 for edges.
     Blocking,
     /// No other process reads it.
     Private,
+    /// By `=` and by `<=`. In version 3 alone.
+    Both,
 }
 
 impl Version {
@@ -162,16 +170,47 @@ impl Version {
         match self {
             Version::One => 1,
             Version::Two { .. } => 2,
+            Version::Three { .. } => 3,
         }
     }
 
-    /// Whether it has what is claimed of a process of this kind: `starter` is a start of version 2 alone.
+    /// Whether it has what is claimed of a process of this kind: version 1 has no start `starter`.
     pub(crate) fn has_kind(self, kind: &ClaimedKind) -> bool
         ensures { result ≡ Versions.has_kind self kind.now }
     {
         match self {
             Version::One => !matches!(kind, ClaimedKind::Combinational(Start::Starter)),
-            Version::Two { .. } => true,
+            Version::Two { .. } | Version::Three { .. } => true,
+        }
+    }
+
+    /// Whether it has what is claimed of a signal of this mode: `both` is a mode of version 3 alone.
+    pub(crate) fn has_mode(self, mode: SignalMode) -> bool
+        ensures { result ≡ Versions.has_mode self mode }
+    {
+        match self {
+            Version::One | Version::Two { .. } => !matches!(mode, SignalMode::Both),
+            Version::Three { .. } => true,
+        }
+    }
+
+    /// Whether `from_json` reads it.
+    pub(crate) fn is_narrow(self) -> bool
+        ensures { result ≡ Versions.is_narrow self }
+    {
+        match self {
+            Version::One | Version::Two { .. } => true,
+            Version::Three { .. } => false,
+        }
+    }
+
+    /// How many residues a list of it may have.
+    pub(crate) fn most_residues(self) -> usize
+        ensures { result ≡ Versions.most_residues self }
+    {
+        match self {
+            Version::One | Version::Two { .. } => 64,
+            Version::Three { .. } => 4_096,
         }
     }
 }
@@ -222,6 +261,7 @@ impl SignalMode {
             SignalMode::Nonblocking => "nonblocking",
             SignalMode::Blocking => "blocking",
             SignalMode::Private => "private",
+            SignalMode::Both => "both",
         }
     }
 }

@@ -1,10 +1,12 @@
 //! A certificate from its text.
 
-ghost use Rattle.std.specs.Prelude.{◌≡◌, IfOk, IfErr, MatchResult};
+ghost use Rattle.std.specs.Prelude.{◌≡◌, true, IfOk, IfErr, MatchResult};
 ghost use Rattle.serde_json.specs.Data.{Data};
 ghost use Rattle.serde_json.specs.View.{view};
 ghost use Rattle.vs_certificate.specs.JsonValue.{value_of};
-ghost use Rattle.vs_certificate.specs.Reading.{IsJson, IsSound, FailsFirst, Passes, IsFaultOf, IsUnread};
+ghost use Rattle.vs_certificate.specs.Shape.{is_whole, is_certificate};
+ghost use Rattle.vs_certificate.specs.Limits.{is_within_limits};
+ghost use Rattle.vs_certificate.specs.Reading.{IsJson, FailsForm, Passes, PassesWide, IsFaultOf, IsWideFaultOf, IsUnread};
 ghost use Rattle.vs_certificate.specs.Reading as Reading;
 
 use crate::fault::CertFault;
@@ -27,6 +29,27 @@ pub fn from_json(alloc: Global, bytes: &[u8]) -> Result<Certificate, CertFault>
     ensures fault { IfErr result (IsFaultOf bytes.now) }
 {
     let json = value_from(alloc, bytes)?;
+    if is_other_version(&json) {
+        return Err(CertFault::Version);
+    }
+    certificate_from(alloc, &json)
+}
+
+/// The certificate, of version 3 too, whose JSON text the bytes are. The tests are those of `from_json`, but C3 passes of
+/// version 3.
+pub fn from_json_wide(alloc: Global, bytes: &[u8]) -> Result<Certificate, CertFault>
+    // What is answered is what the bytes say, and no test fails of them.
+    ensures ok { IfOk result (λ c. PassesWide bytes.now (value_of c)) }
+    // Where no test fails, what the bytes say is answered.
+    ensures only { (d : Data) → PassesWide bytes.now d
+        → MatchResult result (λ c. value_of c ≡ d) (λ e. e ≡ CertFault.Memory) }
+    // A fault is that of the first test that fails.
+    ensures fault { IfErr result (IsWideFaultOf bytes.now) }
+{
+    let json = value_from(alloc, bytes)?;
+    if is_unknown_version(&json) {
+        return Err(CertFault::Version);
+    }
     certificate_from(alloc, &json)
 }
 
@@ -51,12 +74,10 @@ fn value_from(alloc: Global, bytes: &[u8]) -> Result<Value, CertFault>
 /// The certificate that has this JSON value.
 fn certificate_from(alloc: Global, json: &Value) -> Result<Certificate, CertFault>
     ensures value { IfOk result (λ c. value_of c ≡ view json.now) }
-    ensures sound { IfOk result (λ _. IsSound (view json.now)) }
-    ensures fault { IfErr result (FailsFirst (view json.now)) }
+    ensures shape { IfOk result (λ _. is_certificate is_whole (view json.now) ≡ true) }
+    ensures limits { IfOk result (λ _. is_within_limits (view json.now) ≡ true) }
+    ensures fault { IfErr result (FailsForm (view json.now)) }
 {
-    if is_other_version(json) {
-        return Err(CertFault::Version);
-    }
     if !Certificate::has_form(json, Numbers::Whole) {
         return Err(CertFault::Shape);
     }
@@ -81,6 +102,22 @@ fn is_other_version(json: &Value) -> bool
         Some(version) => {
             let number = version.as_u64();
             (version.is_u64() || version.is_i64()) && number != Some(1) && number != Some(2)
+        },
+        None => false,
+    }
+}
+
+/// Whether the version is a whole number other than 1, 2 and 3.
+fn is_unknown_version(json: &Value) -> bool
+    ensures { result ≡ Reading.is_unknown_version (view json.now) }
+{
+    match json.get("version") {
+        Some(version) => {
+            let number = version.as_u64();
+            (version.is_u64() || version.is_i64())
+                && number != Some(1)
+                && number != Some(2)
+                && number != Some(3)
         },
         None => false,
     }

@@ -32,7 +32,8 @@ impl JsonForm for Certificate {
     }
 
     fn has_form(json: &Value, numbers: Numbers) -> bool {
-        has_shared_members(json, numbers) && (is_version_one(json) || is_version_two(json))
+        has_shared_members(json, numbers)
+            && (is_version_one(json) || is_version_two(json) || is_version_three(json))
     }
 
     fn from_value(alloc: Global, json: &Value) -> Result<Certificate, AllocError> {
@@ -65,11 +66,13 @@ fn with_own_members(
 {
     match version {
         Version::One => Ok(members),
-        Version::Two { displays } => with_member(alloc, members, "displays", &displays),
+        Version::Two { displays } | Version::Three { displays } => {
+            with_member(alloc, members, "displays", &displays)
+        },
     }
 }
 
-/// Whether the members are there, and of their kinds, that both versions have.
+/// Whether the members are there, and of their kinds, that all versions have.
 fn has_shared_members(json: &Value, numbers: Numbers) -> bool
     ensures { result ≡ has_shared (is_number_of numbers) (view json.now) }
 {
@@ -93,11 +96,27 @@ fn is_version_one(json: &Value) -> bool
         "signals",
         "version",
     ];
-    has_names(json, &names) && is_number_at(json, "version", 1) && has_no_starter(json)
+    has_names(json, &names)
+        && is_number_at(json, "version", 1)
+        && has_none(json, "processes", "start", "starter")
+        && has_narrow_words(json)
 }
 
 fn is_version_two(json: &Value) -> bool
     ensures { result ≡ Shape.is_version_two (view json.now) }
+{
+    is_of_later(json, 2) && has_narrow_words(json)
+}
+
+fn is_version_three(json: &Value) -> bool
+    ensures { result ≡ Shape.is_version_three (view json.now) }
+{
+    is_of_later(json, 3)
+}
+
+/// Whether it has the members of this version, which has `displays`.
+fn is_of_later(json: &Value, version: u64) -> bool
+    ensures { result ≡ Shape.is_of_later version (view json.now) }
 {
     let names = [
         "displays",
@@ -110,22 +129,29 @@ fn is_version_two(json: &Value) -> bool
         "version",
     ];
     has_names(json, &names)
-        && is_number_at(json, "version", 2)
+        && is_number_at(json, "version", version)
         && has_form_at::<bool>(json, "displays", Numbers::Whole)
 }
 
-/// Whether there is a list of processes, none of which has a start that version 1 lacks.
-fn has_no_starter(json: &Value) -> bool
-    ensures { result ≡ Shape.has_no_starter (view json.now) }
+/// Whether it has no word of version 3.
+fn has_narrow_words(json: &Value) -> bool
+    ensures { result ≡ Shape.has_narrow_words (view json.now) }
 {
-    let Some(processes) = json.get("processes") else {
+    has_none(json, "signals", "mode", "both")
+}
+
+/// Whether there is a list of this name, none of whose entries has this word in the member of that name.
+fn has_none(json: &Value, list: &str, name: &str, word: &str) -> bool
+    ensures { result ≡ Shape.has_none list.now name.now word.now (view json.now) }
+{
+    let Some(member) = json.get(list) else {
         return false;
     };
-    let Some(list) = processes.as_array() else {
+    let Some(entries) = member.as_array() else {
         return false;
     };
-    for process in list {
-        if is_word_at(process, "start", "starter") {
+    for entry in entries {
+        if is_word_at(entry, name, word) {
             return false;
         }
     }
@@ -133,12 +159,15 @@ fn has_no_starter(json: &Value) -> bool
 }
 
 fn version_from_value(alloc: Global, json: &Value) -> Result<Version, AllocError>
-    requires { IsTrue (Shape.is_version_one (view json.now) || Shape.is_version_two (view json.now)) }
+    requires { IsTrue (Shape.is_version_one (view json.now) || Shape.is_version_two (view json.now) || Shape.is_version_three (view json.now)) }
     ensures { IfOk result (IsOfVersion (view json.now)) }
 {
     if is_version_one(json) {
         return Ok(Version::One);
     }
     let displays = from_value_at(alloc, json, "displays")?;
-    Ok(Version::Two { displays })
+    if is_version_two(json) {
+        return Ok(Version::Two { displays });
+    }
+    Ok(Version::Three { displays })
 }

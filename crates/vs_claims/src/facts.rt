@@ -6,7 +6,7 @@ ghost use Rattle.vs_claims.specs.vs_rules.specs.Certificates.{claims_of, mode_fr
 ghost use Rattle.vs_claims.specs.vs_rules.specs.Claims.{claim_of, mode_in, writer_in, second_in, kind_of, names_process, assign_name, process_name};
 ghost use Rattle.vs_claims.specs.vs_rules.specs.Claims.{place_of, times_in, signal_names, process_names, edge_signals, edge_names};
 ghost use Rattle.vs_claims.specs.vs_rules.specs.Claims.{IsSignalNamed, IsProcessNamed, IsAssignNamed, IsWriter, IsSecond, IsBlock, IsEdge, IsDelay, IsSequential, IsRootOf, IsRoot};
-ghost use Rattle.vs_claims.specs.vs_rules.specs.Limits.{IsCertificate};
+ghost use Rattle.vs_claims.specs.vs_rules.specs.Limits.{IsWideCertificate};
 ghost use Rattle.vs_claims.specs.declared.facts.EntriesOf.TheVariants.{One};
 ghost use Rattle.vs_claims.specs.Facts.{AreCharts, AreListsOf, IsRootAt, case_of, seen, kind_seen};
 ghost use Rattle.vs_claims.specs.facts_passes.Kept.{AreEntriesOf, entry_seen};
@@ -68,7 +68,7 @@ impl<'a> Facts<'a> {
         tables: &'a [Tables<'a>],
     ) -> Result<Facts<'a>, AllocError>
         requires maps { AreCharts design.now tables.now }
-        requires certificate { IsCertificate (claims_of certificate.now) }
+        requires certificate { IsWideCertificate (claims_of certificate.now) }
         ensures { IfOk result (λ f. f ≡ case_of design.entry.now certificate.entry.now tables.entry.now) }
     {
         design.is_well_formed();
@@ -99,7 +99,7 @@ impl<'a> Facts<'a> {
 
     /// The certificate keeps its limits: there is nothing to do.
     pub fn is_certificate(&self)
-        ensures { IsCertificate self.now.claims }
+        ensures { IsWideCertificate self.now.claims }
     {
         let _ = &self.names;
     }

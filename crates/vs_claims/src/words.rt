@@ -55,7 +55,7 @@ pub(crate) fn displays(version: Version) -> bool
 {
     match version {
         Version::One => false,
-        Version::Two { displays } => displays,
+        Version::Two { displays } | Version::Three { displays } => displays,
     }
 }
 
@@ -66,6 +66,7 @@ pub(crate) fn number(version: Version) -> u64
     match version {
         Version::One => 1,
         Version::Two { .. } => 2,
+        Version::Three { .. } => 3,
     }
 }
 

@@ -17,46 +17,24 @@ use Rattle.vs_maps.proofs.EachPoint.{now_here}
 use Rattle.vs_maps.proofs.Texts.{place_of, place_back}
 use Rattle.vs_maps.specs.Ranges.{HasSignal, now_at}
 use Rattle.vs_maps.specs.Reaches.{Chart, IsPlace, places}
-use Rattle.vs_drivers.specs.Assigned.{signals_of, AssignsAt, AssignsIn, IsAssigned}
+use Rattle.vs_drivers.specs.Assigned.{AssignsAt, AssignsIn, IsAssigned}
 use Rattle.vs_drivers.specs.Names.{AreMaps}
 use Rattle.vs_drivers.specs.declared.writers.Written.{Written}
 use Rattle.vs_drivers.specs.Walks.{Passed, Named}
 use Rattle.vs_drivers.specs.Wires.{Wiring, OfWiring, Drives, IsFree, WritesAt, NeedsAt, driver_at, drivers}
-use Rattle.vs_drivers.proofs.ListBasics.{split, none_in, head_in, tail_in}
+use Rattle.vs_drivers.proofs.ListBasics.{split, none_in, head_in}
 use Rattle.vs_drivers.proofs.Numbers.{AreMarks, of_own, drives_on, drives_back, free_is, driver_cases, block_at}
 use Rattle.vs_rules.proofs.Past.{past_points}
 use Rattle.vs_drivers.proofs.WalkLemmas.{cones_are, passes_are}
 
 -- ---- signals that are written by `=`
 
-pub signal_in : (rs : List BitRange) (u : ℕ) → (Contains (signals_of rs) u ↔ HasSignal rs u)
-signal_in rs u = (there rs, λ y. back rs y.0 y.1 y.2) where
-  there : (rs : List BitRange) → Contains (signals_of rs) u → HasSignal rs u
-  there [] h = absurd (none_in u h)
-  there (r ∷ rs) h = elim (split r.signal u (signals_of rs) h) [
-    | inl e ↦ (r, head_in r rs, e)
-    | inr l ↦ let y = there rs l in (y.0, tail_in r y.0 rs y.1, y.2)
-  ]
-
-  back : (rs : List BitRange) (q : BitRange) → Contains rs q → q.signal ≡ u → Contains (signals_of rs) u
-  back [] q h e = absurd (none_in q h)
-  back (r ∷ rs) q h e = elim (split r q rs h) [
-    | inl s ↦ subst (λ (k : ℕ). Contains (signals_of (r ∷ rs)) k) (ap (λ (k : BitRange). k.signal) s ∙ e) (head_in r.signal (signals_of rs))
-    | inr l ↦ tail_in r.signal u (signals_of rs) (back rs q l e)
-  ]
-
 -- the signals that a point writes by `=` are put
-pub put_at : (t : Chart) (p u : ℕ) (old new : List ℕ) (rs : List BitRange) → IsPlace t p → new ≡ old ++ signals_of rs → rs ≡ now_at t p →
+pub put_at : (t : Chart) (p u : ℕ) (old new : List ℕ) (rs : List BitRange) → IsPlace t p → rs ≡ now_at t p → (Contains new u ↔ (Contains old u ⊎ HasSignal rs u)) →
     (Contains new u ↔ (Contains old u ⊎ AssignsAt t p u))
-put_at t p u old new rs place is now = (
-  λ h. elim (Contains-append_cases old (signals_of rs) u (subst (λ (l : List ℕ). Contains l u) is h)) [
-    | inl l ↦ inl l
-    | inr l ↦ inr (record { is_place = place; writes = subst (λ (l : List BitRange). HasSignal l u) now ((signal_in rs u).0 l) })
-  ],
-  λ h. subst (λ (l : List ℕ). Contains l u) (sym is) (elim h [
-    | inl l ↦ Contains-append_left old (signals_of rs) u l
-    | inr a ↦ Contains-append_right old (signals_of rs) u ((signal_in rs u).1 (subst (λ (l : List BitRange). HasSignal l u) (sym now) a.writes))
-  ]),
+put_at t p u old new rs place now f = (
+  λ h. elim (f.0 h) [ inl l ↦ inl l | inr w ↦ inr (record { is_place = place; writes = subst (λ (l : List BitRange). HasSignal l u) now w }) ],
+  λ h. f.1 (elim h [ inl l ↦ inl l | inr a ↦ inr (subst (λ (l : List BitRange). HasSignal l u) (sym now) a.writes) ]),
 )
 
 pub put_none : (t : Chart) (p u : ℕ) (old : Type 0) → (IsPlace t p → ⊥) → (old ↔ (old ⊎ AssignsAt t p u))

@@ -1,17 +1,12 @@
 -- Signals that processes write by `=`, by the places of their maps.
-use Rattle.std.specs.Prelude.{ℕ, ◌≡◌, ◌↔◌, Bool, false, Some, List, map, slice_get, slice_index_or, IsTrue}
+use Rattle.std.specs.Prelude.{ℕ, ◌≡◌, ◌↔◌, Bool, false, Some, List, slice_get, slice_index_or, IsTrue}
 use Rattle.std.specs.List.{Contains}
-use Rattle.vs_design.specs.declared.range.BitRange.{BitRange}
 use Rattle.vs_design.specs.Parts.{Parts}
 use Rattle.vs_process.specs.Places.{Todo}
 use Rattle.vs_rules.specs.Paths.{IsPoint, WritesNow}
 use Rattle.vs_maps.specs.Ranges.{HasSignal, now_at}
 use Rattle.vs_maps.specs.Reaches.{Chart, IsPlace}
 use Rattle.vs_drivers.specs.Wires.{Wiring, IsFree}
-
--- the signals of ranges
-abbrev pub signals_of : List BitRange → List ℕ
-signals_of rs = map (λ (r : BitRange). r.signal) rs
 
 -- the statement at a place, which is a point, writes the signal by `=`
 pub record AssignsAt (t : Chart) (p u : ℕ) : Type 0 where

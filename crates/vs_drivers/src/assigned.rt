@@ -1,22 +1,11 @@
 //! Which signals processes write by `=`.
-ghost use Rattle.std.specs.Prelude.{ℕ, ◌≡◌, ◌<◌, ◌++◌, ◌↔◌, length, IfOk, OnOk};
+ghost use Rattle.std.specs.Prelude.{ℕ, ◌<◌, ◌↔◌, length, IfOk};
 ghost use Rattle.std.specs.List.{Contains};
-ghost use Rattle.vs_drivers.specs.Assigned.{AssignsAt, AssignsIn, signals_of};
+ghost use Rattle.vs_drivers.specs.Assigned.{AssignsAt, AssignsIn};
 
 use std::alloc::{AllocError, Global};
-use vs_design::BitRange;
-use vs_maps::Tables;
 use vs_maps::vs_graph::{Family, gather};
-
-// Puts the signals of ranges.
-fn push_signals(out: &mut Vec<usize>, ranges: &[BitRange]) -> Result<(), AllocError>
-    ensures { OnOk result (out.new.items ≡ out.old.items ++ signals_of ranges.now) }
-{
-    for range in ranges {
-        out.push(range.signal)?;
-    }
-    Ok(())
-}
+use vs_maps::{Tables, push_signals};
 
 // The places of a process, and the signals that it writes there by `=`.
 #[derive(Drop)]

@@ -8,10 +8,11 @@ ghost use Rattle.vs_slots_constants.specs.vs_rules.specs.Rules.{IsCopy, CopiesRo
 ghost use Rattle.vs_slots_constants.specs.vs_rules.specs.Blocks.{CopiesWhole};
 ghost use Rattle.vs_drivers.specs.Copies.{NamesTarget, AreDrivers, AreSources, IsCopied, HaveSameWidth, ends_of, source_in};
 
-use crate::lists::{only, push_signals};
+use crate::lists::only;
 use std::alloc::{AllocError, Global};
 use std::marker::Model;
 use vs_design::{Design, SignalKind, writes};
+use vs_maps::push_signals;
 use vs_maps::vs_graph::{Family, Graph, index_of, reach};
 use vs_slots_constants::{is_plain, whole, whole_target};
 

@@ -22,7 +22,7 @@ pub use common::meets;
 pub use cones::Cones;
 pub use copies::Copies;
 pub use covering::covers;
-pub use lists::{only, push_signals};
+pub use lists::only;
 pub use once::distinct;
 pub use ranges::BySignal;
 pub use set::SignalSet;

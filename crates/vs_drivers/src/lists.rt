@@ -1,11 +1,7 @@
 //! Lists of numbers of signals and of drivers.
-ghost use Rattle.std.specs.Prelude.{ℕ, ◌≡◌, ◌↔◌, ◌⊎◌, Some, OnOk};
+ghost use Rattle.std.specs.Prelude.{ℕ, ◌≡◌, ◌↔◌, Some};
 ghost use Rattle.std.specs.List.{Contains};
-ghost use Rattle.vs_maps.specs.Ranges.{HasSignal};
 ghost use Rattle.vs_drivers.specs.Copies.{IsOnly};
-
-use std::alloc::AllocError;
-use vs_design::BitRange;
 
 /// The one number of a list that has it once or more, and no other.
 pub fn only(xs: &[usize]) -> Option<usize>
@@ -21,14 +17,4 @@ pub fn only(xs: &[usize]) -> Option<usize>
         }
     }
     Some(first)
-}
-
-/// Puts the signals of some ranges at a list's end.
-pub fn push_signals(out: &mut Vec<usize>, ranges: &[BitRange]) -> Result<(), AllocError>
-    ensures { OnOk result ((v : ℕ) → (Contains out.new.items v ↔ (Contains out.old.items v ⊎ HasSignal ranges.now v))) }
-{
-    for r in ranges {
-        out.push(r.signal)?;
-    }
-    Ok(())
 }

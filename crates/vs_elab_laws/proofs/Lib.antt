@@ -1,3 +1,5 @@
+mod NameLemmas
+mod OtherLemmas
 mod GoodNameLemmas
 mod GoodPieceLemmas
 mod GoodScopeLemmas

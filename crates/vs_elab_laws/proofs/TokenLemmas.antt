@@ -6,7 +6,7 @@ use Rattle.vs_design.specs.vs_logic4.proofs.Basics.{and_left, and_right}
 use Rattle.vs_syntax.specs.vs_lexer.specs.vs_lex_tokens.specs.declared.token.Kind.{Kind}
 use Rattle.vs_syntax.specs.vs_lexer.specs.vs_lex_tokens.specs.declared.token.Kind.TheVariants as k
 use Rattle.vs_syntax.specs.vs_lexer.specs.Tokens.{Lexeme}
-use Rattle.vs_lex_names.specs.PrintableNames.{name_passes, token_passes}
+use Rattle.vs_elab_laws.specs.PrintableNames.{name_passes, token_passes}
 use Rattle.vs_syntax.specs.Symbols.{Symbol, a_name, symbol_named, system_names, symbol_of, symbols}
 use Rattle.vs_syntax.specs.SourceNames.{NamesAreTokens, declared_names}
 use Rattle.vs_elab_pieces.specs.Uses.{names_used_among, UsedAreTokens}

@@ -2,7 +2,7 @@
 use Rattle.std.specs.Prelude.{◌≡◌, ℕ, ℤ, Bool, true, IsTrue, List, ◌++◌, Option, None}
 use Rattle.std.specs.List.{All, list_all}
 use Rattle.vs_syntax.specs.vs_lexer.specs.Tokens.{Lexeme}
-use Rattle.vs_lex_names.specs.PrintableNames.{token_passes}
+use Rattle.vs_elab_laws.specs.PrintableNames.{token_passes}
 use Rattle.vs_syntax.specs.declared.tree.Module.{Module}
 use Rattle.vs_syntax.specs.declared.tree.Source.{Source}
 use Rattle.vs_syntax.specs.Derives.{Derives}

@@ -41,6 +41,7 @@ pub fn mode_word(mode: SignalMode) -> &'static str {
         SignalMode::Nonblocking => "nonblocking",
         SignalMode::Blocking => "blocking",
         SignalMode::Private => "private",
+        SignalMode::Both => "both",
     }
 }
 

@@ -2,7 +2,7 @@
 
 use std::alloc::{AllocError, Global};
 use vs_design::{BitRange, Statement, Target, reads, statement_reads, writes};
-use vs_drivers::push_signals;
+use vs_drivers::vs_maps::push_signals;
 
 /// When a statement can run, over all ways through its text.
 #[derive(Clone, Copy, PartialEq, Eq)]

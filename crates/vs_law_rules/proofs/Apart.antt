@@ -41,6 +41,7 @@ use Rattle.vs_law_rules.proofs.Cones.{ControlNames, clash, out_writes, into_writ
 use Rattle.vs_law_rules.specs.Laws.{ClockTurns}
 use Rattle.vs_law_rules.proofs.Fire.{Begun, Walking, zero_less, timed_walks, timed_writes, seq_found, not_block, role, closed, stands_found, bit_digit}
 use Rattle.vs_rules.specs.vs_threads.proofs.Links.{root_bit}
+use Rattle.vs_law_rules.proofs.Early.{found_waits, thread_hears, timed_hears}
 use Rattle.vs_law_rules.proofs.Firing.{one_writer, one_second, writes_as, Rooted, rooted, none_fires, view_bit, same_digits}
 use Rattle.vs_law_rules.proofs.Lasts.{Last, Bitwise, bit_iterate}
 use Rattle.vs_law_rules.proofs.Texts.{writes_now, writes_later}
@@ -162,7 +163,7 @@ fired_by d c b g clocks i j u r th is seq reads up kind own reach slot = by_inpu
         absurd (no_reads (found blocks b i) rest (subst (λ (p : Place). Looks c p r) (ap (λ (t : Thread). t.place) still) reads))
     by_input (Some f) e may same =
         let heard : Heard d i may.terms (erased may.todo) = subst (Stands d c i b.time) may.at (subst (Stands d c i b.time) (sym (seq_found d c b i seq)) (stands_found d c b g i seq)) in
-        let o = opened d c b g clocks i f seq may.terms (erased may.todo) may.term heard may.is may.fires in
+        let o = opened d c b g clocks i f seq may.terms (erased may.todo) may.term heard may.is may.fires (λ first. absurd (found_waits d blocks b first i may.terms may.todo may.at)) in
         (f, e, same_signal f o)
       where
         same_signal : (f : Fired) → Opened d c b i f → f.signal ≡ r.signal
@@ -357,7 +358,8 @@ unfired d c b g i th f is w = elim (timed_walks d c b g i th is) [
 
         by_first : (b ≡ start d) ⊎ ((0 < b.time) ⊎ AllStopped b) → ⊥
         by_first (inl e) =
-            none_fires d c b g i w.term f (heard_term d i w.terms (erased w.todo) w.term heard w.is) (heard_level d c b g i w.terms (erased w.todo) w.term edge heard w.is) w.fires (ap (λ (s : State). s.time) e)
+            none_fires d c b g i w.term f (heard_term d i w.terms (erased w.todo) w.term heard w.is) (heard_level d c b g i w.terms (erased w.todo) w.term edge heard w.is) w.fires
+            (λ first. timed_hears d blocks b first i th is w.terms w.todo w.term w.at w.is) (ap (λ (s : State). s.time) e)
         by_first (inr (inl up)) = rests (subst (λ (p : Place). is_stopped p ≡ true) (sym place) (g.begin.edges_rest i edge (λ e. zero_less b.time up (ap (λ (s : State). s.time) e))))
         by_first (inr (inr still)) = rests (subst (λ (p : Place). is_stopped p ≡ true) (sym place) (still i))
 
@@ -365,6 +367,7 @@ unfired d c b g i th f is w = elim (timed_walks d c b g i th is) [
 opened_by : (d : Parts) (c : Claims) (b : State) → Begun d c b → ClockTurns d c b → (i : ℕ) (th : Thread) (f : Fired) → IsThread d (blocks_of d c) b i th → Awaits d (blocks_of d c) b th f → Opened d c b i f
 opened_by d c b g clocks i th f is w = elim (thread_walks d c b g clocks i th is) [
   | inl walking ↦ opened d c b g clocks i f walking.sequential w.terms (erased w.todo) w.term (subst (Stands d c i b.time) w.at walking.walked.stands) w.is w.fires
+      (λ first. thread_hears d (blocks_of d c) b first i th is w.terms w.todo w.term w.at w.is)
   | inr idle ↦ absurd (Rattle.vs_law_rules.proofs.Threads.ended_waits w.terms w.todo (sym (ap (λ (t : Thread). t.place) idle.0 ∙ idle.1) ∙ w.at))
 ]
 

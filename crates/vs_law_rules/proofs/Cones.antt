@@ -53,13 +53,16 @@ clash d c b g i k v seq wi blk wk = by_roles (r.named i wi) (r.named k wk)
     by_roles (inr x) y = r.no_block i k x (is_block d c k blk) wk
     by_roles (inl x) (inr y) = r.no_block k k y (is_block d c k blk) wk
 
--- a signal with a writer of kind delay is written by no block
-pub delay_alone : (d : Parts) (c : Claims) (b : State) → Begun d c b → (i k v : ℕ) → IsDelay d c i → IsWriter d c v i → blocks_of d c k ≡ true → Writes d k v → ⊥
-delay_alone d c b g i k v kind writer blk wk = by_role ((g.rules.writers v).named k wk)
+-- a signal with a writer of kind edge or delay is written by no block
+pub writer_alone : (d : Parts) (c : Claims) (b : State) → Begun d c b → (i k v : ℕ) → IsSequential d c i → IsWriter d c v i → blocks_of d c k ≡ true → Writes d k v → ⊥
+writer_alone d c b g i k v seq writer blk wk = by_role ((g.rules.writers v).named k wk)
   where
     by_role : IsWriter d c v k ⊎ IsSecond d c v k → ⊥
-    by_role (inl x) = true≢false (sym blk ∙ ap (blocks_of d c) (one_writer d c g.formed v k i x writer) ∙ not_block d c i (inr kind))
+    by_role (inl x) = true≢false (sym blk ∙ ap (blocks_of d c) (one_writer d c g.formed v k i x writer) ∙ not_block d c i seq)
     by_role (inr x) = (g.rules.writers v).no_block k k x (is_block d c k blk) wk
+
+pub delay_alone : (d : Parts) (c : Claims) (b : State) → Begun d c b → (i k v : ℕ) → IsDelay d c i → IsWriter d c v i → blocks_of d c k ≡ true → Writes d k v → ⊥
+delay_alone d c b g i k v kind writer blk wk = writer_alone d c b g i k v (inr kind) writer blk wk
 
 -- a block that writes into a range writes its signal
 pub into_writes : (d : Parts) (k : ℕ) (r : BitRange) → puts_into d k r ≡ true → Writes d k r.signal

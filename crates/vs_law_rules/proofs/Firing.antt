@@ -26,7 +26,7 @@ use Rattle.vs_design.proofs.Stores.{slice_get-changed_at as changed_same}
 use Rattle.vs_rules.specs.vs_threads.specs.Threads.{Thread, store_behind, turn_at, turn, iterate, writes}
 use Rattle.vs_rules.specs.Claims.{Name, names_process, writer_in, second_in}
 use Rattle.vs_rules.specs.Claims.{Claims, Kind, blocks_of, claim_of, IsWriter, IsSecond, IsDelay, signal_name, IsRootOf}
-use Rattle.vs_rules.specs.Paths.{WritesNow, HasTerm, RunsBehind}
+use Rattle.vs_rules.specs.Paths.{WritesNow, HasTerm, IsHeardAtStart, RunsBehind}
 use Rattle.vs_rules.specs.Rules.{IsSoundRoot}
 use Rattle.vs_rules.specs.Slots.{InPhase, Fires, Ends}
 use Rattle.vs_rules.specs.vs_threads.specs.Edges.{one_bit, IsBit, Copies}
@@ -181,9 +181,9 @@ change_of d c b g i t f has level w = record {
 pub same_digits : (store : Store) (v : ℕ) (x y : Digit) → digit_of store v 0 0 ≡ Some x → digit_of store v 0 0 ≡ Some y → x ≡ y
 same_digits store v x y hx hy = same_Some x y (sym hx ∙ hy)
 
--- nothing is fired at time 0
-pub none_fires : (d : Parts) (c : Claims) (b : State) → Begun d c b → (i : ℕ) (t : EventTerm) (f : Fired) → HasTerm d i t → is_level t ≡ false → Wakes d (blocks_of d c) b t f → b.time ≡ 0 → ⊥
-none_fires d c b g i t f has level w zero_time = by_first g.begin.first
+-- nothing is fired at time 0: terms at slot-0 points are silent there, and nothing waits for others
+pub none_fires : (d : Parts) (c : Claims) (b : State) → Begun d c b → (i : ℕ) (t : EventTerm) (f : Fired) → HasTerm d i t → is_level t ≡ false → Wakes d (blocks_of d c) b t f → (b ≡ start d → IsHeardAtStart d i t) → b.time ≡ 0 → ⊥
+none_fires d c b g i t f has level w heard zero_time = by_first g.begin.first
   where
     ch : Change d c b t w.root w.writer w.by
     ch = change_of d c b g i t f has level w
@@ -199,7 +199,7 @@ none_fires d c b g i t f has level w zero_time = by_first g.begin.first
     silent e (at_zero z s) =
         let none = (g.rules.first_roots w.root).constant w.writer ch.last.k (t.range.signal, ch.rooted.is) s ch.last.writes in
         let digit : ch.new ≡ none.digit = same_digits w.by.view w.root ch.new none.digit ch.has (ch.last.gave none.digit none.gives) in
-        true≢false (sym (subst (λ x. is_edge t.edge x none.digit ≡ true) (old_x e) (subst (λ x. is_edge t.edge ch.old x ≡ true) digit ch.edge)) ∙ none.silent i t has level ch.rooted.is)
+        true≢false (sym (subst (λ x. is_edge t.edge x none.digit ≡ true) (old_x e) (subst (λ x. is_edge t.edge ch.old x ≡ true) digit ch.edge)) ∙ none.silent i t has (λ wide. heard e) level ch.rooted.is)
 
     by_first : (b ≡ start d) ⊎ ((0 < b.time) ⊎ AllStopped b) → ⊥
     by_first (inl e) = silent e ch.last.here.at

@@ -2,6 +2,7 @@ pub mod Words
 pub mod Walks
 pub mod Boundary
 pub mod Beginning
+pub mod Early
 pub mod Texts
 pub mod Gave
 pub mod Roots

@@ -4,23 +4,23 @@ use Rattle.std.proofs.lemmas.Bool.{false≢true, cases_Bool, false_from_ne_true,
 use Rattle.std.proofs.lemmas.Option.{none-some, same_Some}
 use Rattle.vs_law_rules.proofs.Apart.{alone_later}
 use Rattle.vs_law_rules.proofs.Beginning.{IsBeginning, slot0_point, start_begins, start_first, start_stands}
-use Rattle.vs_law_rules.proofs.Cones.{delay_alone, is_block, out_writes}
+use Rattle.vs_law_rules.proofs.Cones.{writer_alone, is_block, out_writes}
 use Rattle.vs_law_rules.proofs.Copied.{copies_cone, copies_start, copy_bit, shows}
 use Rattle.vs_law_rules.proofs.Fire.{Begun, closed, seq_found, zero_less}
 use Rattle.vs_law_rules.proofs.Firing.{one_writer}
 use Rattle.vs_law_rules.proofs.Follow.{control_covers}
 use Rattle.vs_law_rules.proofs.Gave.{assignment_gives, gives_names}
 use Rattle.vs_law_rules.proofs.Shapes.{Shape}
-use Rattle.vs_law_rules.proofs.Texts.{writes_now}
+use Rattle.vs_law_rules.proofs.Texts.{none_in, writes_now}
 use Rattle.vs_law_rules.proofs.Threads.{makes_walks, writes_walks}
 use Rattle.vs_law_rules.proofs.Variables.{writes_variable}
 use Rattle.vs_law_rules.proofs.Walks.{At, Here, Made, Stands, Wrote, at_later, at_zero, late_behind, late_on, walked_iterate}
 use Rattle.vs_law_rules.proofs.Words.{step_later}
-use Rattle.vs_rules.specs.Blocks.{Begins, CopiesWhole, IsStarted, Missing, NamesBit, itself, statement_update, todo_update}
-use Rattle.vs_rules.specs.Claims.{Claims, HasKind, IsSecond, IsWriter, blocks_of, claim_of, is_block_kind}
+use Rattle.vs_rules.specs.Blocks.{Begins, CopiesWhole, IsStarted, MayStart, Missing, NamesBit, itself, statement_update, todo_update}
+use Rattle.vs_rules.specs.Claims.{Claims, HasKind, IsSecond, IsSequential, IsWriter, blocks_of, claim_of, is_block_kind}
 use Rattle.vs_rules.specs.Constants.{GivesDigit, IsKnown}
 use Rattle.vs_law_rules.specs.Laws.{ClockTurns}
-use Rattle.vs_rules.specs.Paths.{Bit, IsBit, IsLate, IsPoint, IsPrologue, IsSlot0, begins, goes, is_plain}
+use Rattle.vs_rules.specs.Paths.{Bit, IsBit, IsLate, IsPrologue, IsSlot0, ListsSignal, WritesNow, begins, goes, is_plain, statement_now}
 use Rattle.vs_rules.specs.Rules.{BlockNeeds}
 use Rattle.vs_rules.specs.Verdict.{Keeping}
 use Rattle.vs_design.specs.Parts.{Parts}
@@ -48,7 +48,7 @@ use Rattle.vs_independence.specs.vs_process.proofs.Stores.{put_other}
 use Rattle.vs_independence.specs.vs_process.proofs.WellFormed.{variable_undriven}
 use Rattle.vs_independence.specs.vs_process.specs.States.{Update, activated, paused, place_behind, start, updates_behind}
 use Rattle.vs_rules.proofs.Points.{step_follows}
-use Rattle.vs_rules.specs.Claims.{Name, names_process, nonblocking, writer_in}
+use Rattle.vs_rules.specs.Claims.{Name, names_process, writer_in}
 use Rattle.vs_rules.specs.Points.{Goes}
 use Rattle.vs_design.specs.declared.design.Process.{Process}
 use Rattle.vs_design.specs.declared.statement.EventTerm.{EventTerm}
@@ -123,6 +123,32 @@ step_updates : (k : Todo) (store : Store) (time n : ℕ) (target : Target) (valu
 step_updates [] store time n target value is = absurd (none-some _ is)
 step_updates (perform s ∷ rest) store time n target value is = statement_updates s (out-Statement s) rest store time n target value is
 step_updates (turns m s ∷ rest) store time n target value is = absurd (none-some _ is)
+
+-- what a point updates by `<=` it doesn't write by `=`
+statement_apart : (d : Parts) (f : Statement-F Statement) (v : ℕ) (x : ℕ × Target × Typed) → statement_update f ≡ Some x → ListsSignal d (statement_now f) v → ⊥
+statement_apart d (Statement-F.Later m ticks t e) v x is now = none_in now.range now.listed.0
+statement_apart d (Statement-F.Null m) v x is now = none-some x is
+statement_apart d (Statement-F.Assign m t e) v x is now = none-some x is
+statement_apart d (Statement-F.Call m y) v x is now = none-some x is
+statement_apart d (Statement-F.Finish m) v x is now = none-some x is
+statement_apart d (Statement-F.Block all) v x is now = none-some x is
+statement_apart d (Statement-F.Delay m ticks body) v x is now = none-some x is
+statement_apart d (Statement-F.Event m terms body) v x is now = none-some x is
+statement_apart d (Statement-F.If m e p q) v x is now = none-some x is
+statement_apart d (Statement-F.Case m kind y items) v x is now = none-some x is
+statement_apart d (Statement-F.While m e body) v x is now = none-some x is
+statement_apart d (Statement-F.Repeat m signed e body) v x is now = none-some x is
+statement_apart d (Statement-F.Forever m body) v x is now = none-some x is
+
+now_later : (d : Parts) (v : ℕ) (k : Todo) {x : ℕ × Target × Typed} → todo_update k ≡ Some x → WritesNow d k v → ⊥
+now_later d v [] {x} is now = none-some x is
+now_later d v (perform s ∷ rest) {x} is now = statement_apart d (out-Statement s) v x is now
+now_later d v (turns m s ∷ rest) {x} is now = none-some x is
+
+-- its writer is of kind edge or delay
+seq_of : (d : Parts) (c : Claims) (g w : ℕ) → MayStart d c g w → IsSequential d c w
+seq_of d c g w (inl may) = inr may.1
+seq_of d c g w (inr may) = may.2
 
 -- ---- along the turns of the process that starts the block
 
@@ -263,11 +289,11 @@ missing_first d c i g w h ended e b = h.rule.before_end (subst (Missing d i g w)
 
 fared_iterate : (d : Parts) (c : Claims) (i g w : ℕ) → Starting d c i g w → (n : ℕ) → Fared d c i g w (iterate n (turn 0 w) (opening (blocks_of d c) (start d) w None))
 fared_iterate d c i g w h zero =
-    inl (subst (MissingAt d i g w) (sym (seq_found d c (start d) w (inr h.rule.kind))) (missing_first d c i g w h (get_or (start d).places w ended) refl (start_begins d.processes w)))
+    inl (subst (MissingAt d i g w) (sym (seq_found d c (start d) w (seq_of d c g w h.rule.may))) (missing_first d c i g w h (get_or (start d).places w ended) refl (start_begins d.processes w)))
 fared_iterate d c i g w h (suc n) =
     let blocks = blocks_of d c in
     let one = iterate n (turn 0 w) (opening blocks (start d) w None) in
-    let seq = inr h.rule.kind in
+    let seq = seq_of d c g w h.rule.may in
     let stands = subst (Stands d c w 0) (sym (seq_found d c (start d) w seq)) (start_stands d c w) in
     let walked = walked_iterate d c w (closed d c (start d) h.begun w seq) 0 n (opening blocks (start d) w None) refl refl stands in
     fared_turn d c i g w h one.place one refl walked.stands (fared_iterate d c i g w h n)
@@ -287,7 +313,7 @@ stopped_left d c i g w h th is gone rests = elim (by_input is.input is.may is.is
 
     by_input : (input : Option Fired) → MayOpen d blocks (start d) w input → iterate is.count (turn (start d).time w) (opening blocks (start d) w input) ≡ th → Fared d c i g w th
     by_input None may e = subst (Fared d c i g w) e (fared_iterate d c i g w h is.count)
-    by_input (Some f) may e = absurd (waits_first (get_or (start d).places w ended) may.terms may.todo (start_begins d.processes w) (sym (seq_found d c (start d) w (inr h.rule.kind)) ∙ may.at))
+    by_input (Some f) may e = absurd (waits_first (get_or (start d).places w ended) may.terms may.todo (start_begins d.processes w) (sym (seq_found d c (start d) w (seq_of d c g w h.rule.may)) ∙ may.at))
 
     by_place : (p : Place) → is_going p ≡ false → is_inactive p ≡ false → MissingAt d i g w p → ⊥
     by_place (going gait k) gone rests m = true≢false gone
@@ -323,7 +349,7 @@ starts_moved d c formed r begun clocks k shape blk g w rule = record {
   root = g;
   source = record {
     undriven = variable_undriven d formed g variable;
-    unwritten = λ j blk. false_from_ne_true (puts_out d j g) (λ hit. delay_alone d c (start d) begun w j g rule.kind rule.writer blk (out_writes d j g hit));
+    unwritten = λ j blk. false_from_ne_true (puts_out d j g) (λ hit. writer_alone d c (start d) begun w j g (seq_of d c g w rule.may) rule.writer blk (out_writes d j g hit));
   };
   writer = w;
   untouched = λ i th last is is_last gone rests. false_from_ne_true (writes th g) (λ hit. touched i th is hit last.made (stopped_left d c k g w h last is_last gone rests));
@@ -352,7 +378,7 @@ starts_moved d c formed r begun clocks k shape blk g w rule = record {
     h = record { begun = begun; rule = rule; variable = variable }
 
     source : v.IsSource d c g
-    source = record { variable = variable; undriven = λ j b wj. delay_alone d c (start d) begun w j g rule.kind rule.writer (ap is_block_kind b.1) wj }
+    source = record { variable = variable; undriven = λ j b wj. writer_alone d c (start d) begun w j g (seq_of d c g w rule.may) rule.writer (ap is_block_kind b.1) wj }
 
     touched : (i : ℕ) (th : Thread) → IsThread d (blocks_of d c) (start d) i th → writes th g ≡ true → (made : List Update) → Leaves d c k g w made → ⊥
     touched i th is hit made l = by_role ((r.writers g).named i (writes_now d i wrote.k g wrote.here.point wrote.writes))
@@ -368,9 +394,11 @@ starts_moved d c formed r begun clocks k shape blk g w rule = record {
           | inr late ↦ (r.writers g).early i wrote.k second wrote.here.point (inl wrote.writes) late
         ]
 
+        -- its writer updates it alone
+        by_writer : i ≡ w → At d c i 0 wrote.k → ⊥
+        by_writer same (at_later up late slot) = zero_less 0 up refl
+        by_writer same (at_zero z path) = now_later d g wrote.k (rule.only wrote.k (subst (λ j. IsSlot0 d j wrote.k) same path) (inl wrote.writes)).is wrote.writes
+
         by_role : IsWriter d c g i ⊎ IsSecond d c g i → ⊥
-        by_role (inl writer) =
-            let mode = r.modes g nonblocking rule.mode in
-            let same : mode.0 ≡ i = one_writer d c formed g mode.0 i mode.1 writer in
-            mode.2.1 wrote.k (subst (λ j. IsPoint d j wrote.k) (sym same) wrote.here.point) wrote.writes
+        by_role (inl writer) = by_writer (one_writer d c formed g i w writer rule.writer) wrote.here.at
         by_role (inr second) = by_path second wrote.here.at

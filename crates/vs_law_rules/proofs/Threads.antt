@@ -10,19 +10,20 @@ use Rattle.vs_process.specs.Nexts.{erased}
 use Rattle.vs_process.specs.Places.{perform, turns, Todo, Place, going, sleeping, inactive, waiting, ended}
 use Rattle.vs_process.specs.Steps.{wait}
 use Rattle.vs_independence.specs.vs_process.specs.Executions.{is_level}
-use Rattle.vs_independence.specs.vs_process.specs.States.{State, triggered}
+use Rattle.vs_independence.specs.vs_process.specs.States.{State, start, triggered}
 use Rattle.vs_independence.specs.vs_process.proofs.ProcessLists.{none_at}
 use Rattle.vs_rules.specs.vs_threads.specs.Threads.{Thread, turn, iterate, writes, any_names, place_reads, place_shows, todo_shows}
 use Rattle.vs_rules.specs.vs_threads.proofs.Lists.{place_of}
 use Rattle.vs_rules.specs.vs_threads.proofs.Threads.{is_stopped}
 use Rattle.vs_rules.proofs.Points.{erased_reads}
 use Rattle.vs_rules.specs.Claims.{Claims, Kind, blocks_of, IsEdge, IsSequential}
-use Rattle.vs_rules.specs.Paths.{begins, IsHot, HasTerm}
+use Rattle.vs_rules.specs.Paths.{begins, IsHot, HasTerm, IsHeardAtStart}
 use Rattle.vs_rules.specs.Rules.{Reads}
 use Rattle.vs_rules.specs.Slots.{Fires, Ends}
 use Rattle.vs_rules.specs.vs_threads.specs.Threads.{Fired, found, opening, is_timed, Fires as Wakes, MayOpen, IsThread}
 use Rattle.vs_law_rules.specs.Laws.{ClockTurns}
 use Rattle.vs_law_rules.proofs.Fire.{Begun, Walking, role, seq_found, closed, stands_found, stopped_iterate}
+use Rattle.vs_law_rules.proofs.Early.{found_waits}
 use Rattle.vs_law_rules.proofs.Firing.{none_fires, fires_at}
 use Rattle.vs_law_rules.proofs.Texts.{none_in}
 use Rattle.vs_law_rules.proofs.Walks.{point_on, at_later, Here, Heard, HotAt, Stands, Walked, walked_iterate, stands_active}
@@ -65,8 +66,8 @@ pub record Opened (d : Parts) (c : Claims) (b : State) (i : ℕ) (f : Fired) : T
   pub fires : Fires d c term (b.time % c.modulus)
 
 pub opened : (d : Parts) (c : Claims) (b : State) → Begun d c b → ClockTurns d c b → (i : ℕ) (f : Fired) → IsSequential d c i → (terms : List EventTerm) (k : Todo) (t : EventTerm) → Heard d i terms k → Contains terms t →
-    Wakes d (blocks_of d c) b t f → Opened d c b i f
-opened d c b g clocks i f seq terms k t h is w = at_time (zero_or b.time)
+    Wakes d (blocks_of d c) b t f → (b ≡ start d → IsHeardAtStart d i t) → Opened d c b i f
+opened d c b g clocks i f seq terms k t h is w first = at_time (zero_or b.time)
   where
     edge : IsEdge d c i
     edge = heard_edge d c b g i terms k seq h
@@ -78,12 +79,12 @@ opened d c b g clocks i f seq terms k t h is w = at_time (zero_or b.time)
     level = heard_level d c b g i terms k t edge h is
 
     at_time : (b.time ≡ 0) ⊎ (0 < b.time) → Opened d c b i f
-    at_time (inl z) = absurd (none_fires d c b g i t f has level w z)
+    at_time (inl z) = absurd (none_fires d c b g i t f has level w first z)
     at_time (inr up) = record { edge = edge; up = up; term = t; has = has; of = w.term; fires = fires_at d c b g clocks i t f has level w up }
 
 triggered_stands : (d : Parts) (c : Claims) (b : State) → Begun d c b → ClockTurns d c b → (i : ℕ) (f : Fired) → IsSequential d c i → (p : Place) (terms : List EventTerm) (k : Todo) (t : EventTerm) → p ≡ waiting terms k →
-    Stands d c i b.time p → Contains terms t → Wakes d (blocks_of d c) b t f → Stands d c i b.time (triggered p)
-triggered_stands d c b g clocks i f seq p terms k t e stands is w =
+    Stands d c i b.time p → Contains terms t → Wakes d (blocks_of d c) b t f → (b ≡ start d → ⊥) → Stands d c i b.time (triggered p)
+triggered_stands d c b g clocks i f seq p terms k t e stands is w late =
     subst (λ (q : Place). Stands d c i b.time (triggered q)) (sym e)
     (stands_active d c i b.time Woken k (record {
       point = point_on d i heard.control (wait heard.number terms (erased k)) heard.point heard.way;
@@ -104,7 +105,7 @@ triggered_stands d c b g clocks i f seq p terms k t e stands is w =
     heard = subst (Stands d c i b.time) e stands
 
     o : Opened d c b i f
-    o = opened d c b g clocks i f seq terms (erased k) t heard is w
+    o = opened d c b g clocks i f seq terms (erased k) t heard is w (λ first. absurd (late first))
 
 -- a thread walks, or has nothing to do
 pub thread_walks : (d : Parts) (c : Claims) (b : State) → Begun d c b → ClockTurns d c b → (i : ℕ) (th : Thread) → IsThread d (blocks_of d c) b i th → Walking d c i b.time th ⊎ (th ≡ opening (blocks_of d c) b i None) × (found (blocks_of d c) b i ≡ ended)
@@ -121,7 +122,8 @@ thread_walks d c b g clocks i th is = by_role (role d c b g i)
     by_input seq (Some f) may e =
         subst (Walked d c i b.time) e
         (walked_iterate d c i (closed d c b g i seq) b.time is.count (opening blocks b i (Some f)) refl refl
-        (triggered_stands d c b g clocks i f seq (found blocks b i) may.terms may.todo may.term may.at (stands seq) may.is may.fires))
+        (triggered_stands d c b g clocks i f seq (found blocks b i) may.terms may.todo may.term may.at (stands seq) may.is may.fires
+        (λ first. found_waits d blocks b first i may.terms may.todo may.at)))
 
     by_ended : found blocks b i ≡ ended → (input : Option Fired) → MayOpen d blocks b i input → iterate is.count (turn b.time i) (opening blocks b i input) ≡ th → th ≡ opening blocks b i None
     by_ended h None may e = sym e ∙ stopped_iterate b.time i is.count (opening blocks b i None) (ap is_stopped h)

@@ -7,7 +7,7 @@ use Rattle.vs_threads.specs.vs_process.specs.Numbers.{number_next}
 use Rattle.vs_threads.specs.vs_process.specs.Places.{Todo}
 use Rattle.vs_threads.specs.vs_process.specs.Steps.{after}
 use Rattle.vs_elab_statements.specs.vs_elab_listed.specs.Outlines.{Declared}
-use Rattle.vs_rules.specs.Claims.{Name, Mode, net, unwritten, combinational, nonblocking, blocking, private, Claims, writer_in, second_in, IsBlock, IsDelay, IsSequential}
+use Rattle.vs_rules.specs.Claims.{Name, Mode, net, unwritten, combinational, nonblocking, blocking, private, both, Claims, writer_in, second_in, IsBlock, IsDelay, IsSequential}
 use Rattle.vs_rules.specs.Constants.{bit_of}
 use Rattle.vs_rules.specs.Drivers.{Driver, block}
 use Rattle.vs_rules.specs.Paths.{Bit, any_way, is_plain, is_zero_time, IsPoint, IsHot, WritesNow, reads_of}
@@ -21,7 +21,7 @@ use Rattle.vs_law_source.proofs.Named.{signal_named_as, process_named_as, assign
 use Rattle.vs_law_source.proofs.Slots.{delay_ends_as, runs_by_delays_as, has_slot_as, slot_point, write_slot_as, fires_of_as}
 use Rattle.vs_law_source.proofs.Todos.{AlikeTodo, both_after, todo_turned}
 use Rattle.vs_law_source.proofs.Trees.{whole_as, whole_target_as}
-use Rattle.vs_law_source.proofs.Walks.{TwinOf, goes_after_as, goes_wait_as, point_as, slot0_as, prologue_as, slot0_point, late_as, hot_as, from_point, term_as, one_here}
+use Rattle.vs_law_source.proofs.Walks.{TwinOf, goes_after_as, goes_wait_as, point_as, slot0_as, prologue_as, slot0_point, late_as, hot_as, from_point, heard_at_start_as, term_as, one_here}
 
 -- one of two, as one of two others
 pub either_as : {A B C D : Type 0} → (A → C) → (B → D) → A ⊎ B → C ⊎ D
@@ -109,6 +109,7 @@ mode_says_as {d} {d'} t c v blocking h =
     has_writer_as t c v (λ i. MayBlock d c i × NeverLater d v i) (λ i. MayBlock d' c i × NeverLater d' v i) (λ i w. (may_block_as t c i w.0, never_later_as t v i w.1)) h
 mode_says_as {d} {d'} t c v private h =
     has_writer_as t c v (λ i. IsSequential d c i × IsPrivate d v i) (λ i. IsSequential d' c i × IsPrivate d' v i) (λ i w. (sequential_as t c i w.0, private_as t v i w.1)) h
+mode_says_as {d} {d'} t c v both h = (h.0, has_writer_as t c v (IsSequential d c) (IsSequential d' c) (sequential_as t c) h.1)
 
 pub k3_as : {d d' : Parts} → Twins d d' → (c : Claims) (v : ℕ) → K3 d c v → K3 d' c v
 k3_as t c v h = λ mode m. mode_says_as t c v mode (h mode (mode_as (back t) c v mode m))
@@ -276,7 +277,7 @@ fires_none_as t c root k k' a h = record {
   digit = h.digit;
   known = h.known;
   gives = gives_digit_as (bit_of root) h.digit k k' a h.gives;
-  silent = λ j term has e r. h.silent j term (term_as (back t) j term has) e (root_of_as (back t) c root term.range.signal r);
+  silent = λ j term has first e r. h.silent j term (term_as (back t) j term has) (λ wide. heard_at_start_as (back t) j term (first wide)) e (root_of_as (back t) c root term.range.signal r);
 }
 
 pub k10_signal_as : {d d' : Parts} → Twins d d' → (c : Claims) (v : ℕ) → K10_Signal d c v → K10_Signal d' c v

@@ -1,5 +1,5 @@
 -- A rule of combinational blocks that a design keeps, one keeps that says the same.
-use Rattle.std.proofs.Common.{◌≡◌, ℕ, suc, ◌&&◌, ◌||◌, not, Bool, Option, Some, List, [], ◌∷◌, slice_get, refl, ap, ap₂, sym, subst, ◌∙◌}
+use Rattle.std.proofs.Common.{◌≡◌, ℕ, suc, inl, inr, ◌&&◌, ◌||◌, not, Bool, Option, Some, List, [], ◌∷◌, slice_get, refl, ap, ap₂, sym, subst, ◌∙◌}
 use Rattle.std.proofs.lemmas.Option.{none-some, same_Some}
 use Rattle.std.specs.List.{AllZip, list_any, list_all}
 use Rattle.vs_syntax.specs.Same.{no_pair, pair_more}
@@ -20,8 +20,8 @@ use Rattle.vs_threads.specs.vs_process.specs.Places.{Todo}
 use Rattle.vs_threads.specs.vs_process.specs.Executions.{is_level, waits_for_levels, is_block_body, is_always, is_combinational}
 use Rattle.vs_threads.specs.Blocks.{sizes, IsSettledStart}
 use Rattle.vs_elab_laws.specs.Same.{SameSides, SameAssign}
-use Rattle.vs_rules.specs.Blocks.{Unwritten, K5, run_alone, StaysCold, IsCold, WaitsForSources, CopiesWhole, NamesBit, statement_update, todo_update, Begins, Missing, IsStarted, Starts, K11}
-use Rattle.vs_rules.specs.Claims.{Claims, Start, cold, sources, starter, nonblocking}
+use Rattle.vs_rules.specs.Blocks.{Unwritten, K5, run_alone, StaysCold, IsCold, WaitsForSources, CopiesWhole, NamesBit, statement_update, todo_update, Begins, Missing, MayStart, IsStarted, Starts, K11}
+use Rattle.vs_rules.specs.Claims.{Claims, Start, cold, sources, starter, nonblocking, both}
 use Rattle.vs_rules.specs.Drivers.{block}
 use Rattle.vs_rules.specs.Paths.{Bit, Has, HasTerm, reads_of}
 use Rattle.vs_rules.specs.Points.{first_todo}
@@ -31,7 +31,7 @@ use Rattle.vs_law_source.proofs.Cones.{texts_read, writes_as, bit_as, names_as, 
 use Rattle.vs_law_source.proofs.Designs.{AlikeProcess, Twins, back, assign_there, process_there, start_same}
 use Rattle.vs_law_source.proofs.Done.{lists_same, late_same, surely_same, writes_any_as, reads_now_as}
 use Rattle.vs_law_source.proofs.Kept.{either_as, copy_as}
-use Rattle.vs_law_source.proofs.Named.{writer_as, mode_as, block_as, delay_as, start_as}
+use Rattle.vs_law_source.proofs.Named.{writer_as, mode_as, block_as, delay_as, start_as, sequential_as}
 use Rattle.vs_law_source.proofs.Steps.{assignment_same, run_same}
 use Rattle.vs_law_source.proofs.Texts.{control_same}
 use Rattle.vs_law_source.proofs.Todos.{AlikeTodo, performs, turning, todo_turned, goes_as}
@@ -202,13 +202,16 @@ missing_as t i g w _ (Missing.waits k l number p way) =
 nothing_as : (k : Todo) → AlikeTodo [] k → k ≡ []
 nothing_as _ no_pair = refl
 
+may_start_as : {d d' : Parts} → Twins d d' → (c : Claims) (g w : ℕ) → MayStart d c g w → MayStart d' c g w
+may_start_as t c g w (inl m) = inl (mode_as t c g nonblocking m.0, delay_as t c w m.1)
+may_start_as t c g w (inr m) = inr (m.0, either_as (mode_as t c g nonblocking) (mode_as t c g both) m.1, sequential_as t c w m.2)
+
 started_as : {d d' : Parts} → Twins d d' → (c : Claims) (i g w : ℕ) → IsStarted d c i g w → IsStarted d' c i g w
 started_as {d} {d'} t c i g w h =
     let u = back t in
     record {
-      mode = mode_as t c g nonblocking h.mode;
+      may = may_start_as t c g w h.may;
       writer = writer_as t c g w h.writer;
-      kind = delay_as t c w h.kind;
       named = (h.named.0, names_as t i h.named.0 h.named.1, copies_whole_as t g h.named.0.signal h.named.2);
       only = λ k o n.
           let q = slot0_as u w k o in

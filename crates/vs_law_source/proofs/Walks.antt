@@ -15,7 +15,7 @@ use Rattle.vs_threads.specs.vs_process.specs.Places.{Item, Todo, ended, active_a
 use Rattle.vs_threads.specs.vs_process.specs.Steps.{Next, on, after, wait}
 use Rattle.vs_rules.proofs.Past.{past_points}
 use Rattle.vs_rules.specs.Points.{Goes, Point, first_todo}
-use Rattle.vs_rules.specs.Paths.{Path, begins, goes, any_way, is_plain, is_zero_time, IsPoint, IsSlot0, IsPrologue, PathFrom, IsLate, IsHot, HasTerm, WritesNow}
+use Rattle.vs_rules.specs.Paths.{Path, begins, goes, any_way, is_plain, is_zero_time, IsPoint, IsSlot0, IsPrologue, PathFrom, IsLate, IsHot, HasTerm, IsHeardAtStart, WritesNow}
 use Rattle.vs_law_source.proofs.Designs.{AlikeProcess, AreNumbered, Twins}
 use Rattle.vs_law_source.proofs.Done.{writes_now_as}
 use Rattle.vs_law_source.proofs.Spots.{one_point, counted_once}
@@ -200,6 +200,12 @@ term_as t i term h =
     let p = point_as t i h.control h.point in
     let m = goes_wait_as h.control p.to h.behind h.number h.terms p.same h.goes in
     record { control = p.to; number = h.number; terms = h.terms; behind = m.to; point = p.is; goes = m.is; is = h.is }
+
+pub heard_at_start_as : {d d' : Parts} → Twins d d' → (i : ℕ) (term : EventTerm) → IsHeardAtStart d i term → IsHeardAtStart d' i term
+heard_at_start_as t i term h =
+    let p = slot0_as t i h.control h.slot0 in
+    let m = goes_wait_as h.control p.to h.behind h.number h.terms p.same h.goes in
+    record { control = p.to; number = h.number; terms = h.terms; behind = m.to; slot0 = p.is; goes = m.is; is = h.is }
 
 -- ---- points of one number
 

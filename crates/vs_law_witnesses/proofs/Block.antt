@@ -23,7 +23,7 @@ use Rattle.vs_process.specs.Steps.{after, assignment}
 use Rattle.vs_law_witnesses.specs.Race.{bit, initially, name, operand, target, the_bit}
 use Rattle.vs_law_witnesses.specs.Mirror.{one_of}
 use Rattle.vs_law_witnesses.proofs.Race.{numbers_assign, reads_number, reads_operand, size_number, size_operand, sound_assign, value_number}
-use Rattle.vs_rules.specs.Claims.{HasKind, Mode, Name, Start, cold, sources, starter, combinational, nonblocking, all_names, claim_of, edge_names, process_names, signal_names, times_in, writer_in, IsProcessNamed, IsWriter, IsBlock, IsSequential}
+use Rattle.vs_rules.specs.Claims.{HasKind, has_both, Mode, Name, Start, cold, sources, starter, combinational, nonblocking, all_names, claim_of, edge_names, process_names, signal_names, times_in, writer_in, IsProcessNamed, IsWriter, IsBlock, IsSequential}
 use Rattle.vs_rules.specs.Constants.{bit_of, one}
 use Rattle.vs_rules.specs.Controls.{controls_of}
 use Rattle.vs_rules.specs.Drivers.{Driver, assign, block as block_driver, DriverReads, IsDriver, IsSource, StandsBefore, WritesBit}
@@ -452,9 +452,8 @@ first_point g net = Point.begins
 
 started : (g : Global) (net : Bool) → IsStarted (following g net) (block_claims net starter) 1 0 0
 started g net = record {
-  mode = refl;
+  may = inl (refl, ([], refl));
   writer = refl;
-  kind = ([], refl);
   named = (whole (heard net), names_a g net, copies_a g net);
   only = λ k slot w. only_at k (early_at g net 0 k slot) w;
   before_end = λ none. let no_way : [] ≡ updating g = missing g net [] none in cc;
@@ -505,6 +504,7 @@ certificate net start = record {
   version = inr refl;
   displays = λ one. absurd (differ 2 1 refl one);
   starts = λ p one has is. differ 2 1 refl one;
+  narrow = inr (no_both net);
   above = lit< tt;
   below = lit≤ tt;
   few_edges = lit≤ tt;
@@ -514,6 +514,10 @@ certificate net start = record {
   lists = sound_lists (block_claims net start).modulus (block_claims net start).processes (no_lists 1, (tt, tt));
 }
   where
+    no_both : (through : Bool) → has_both (block_claims through start) ≡ false
+    no_both false = refl
+    no_both true = refl
+
     few_ordered : (through : Bool) → length (block_claims through start).order ≤ 65536
     few_ordered false = lit≤ tt
     few_ordered true = lit≤ tt

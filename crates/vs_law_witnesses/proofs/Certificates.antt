@@ -22,19 +22,19 @@ kind_in P (q ∷ ps) all (suc n) p is = kind_in P ps all.1 n p is
 
 -- ---- lists
 
-pub no_lists : (modulus : ℕ) → AreLists modulus []
+pub no_lists : (modulus : ℕ) → AreLists 64 modulus []
 no_lists modulus = record { few = lit≤ tt; each = λ residues has. absurd (none_in residues has) }
 
-pub one_list : (modulus : ℕ) (residues : List ℕ) → AreResidues modulus residues → AreLists modulus (residues ∷ [])
-one_list modulus residues are = record { few = lit≤ tt; each = λ other has. subst (AreResidues modulus) (one_in residues other has) are }
+pub one_list : (modulus : ℕ) (residues : List ℕ) → AreResidues 64 modulus residues → AreLists 64 modulus (residues ∷ [])
+one_list modulus residues are = record { few = lit≤ tt; each = λ other has. subst (AreResidues 64 modulus) (one_in residues other has) are }
 
--- the lists of a process of this kind are sound
+-- the lists of a process of this kind are sound, in version 1 or 2
 abbrev pub HasSoundLists : ℕ → Kind → Type 0
 HasSoundLists modulus (Kind.block start) = Unit {0}
 HasSoundLists modulus Kind.edges = Unit {0}
-HasSoundLists modulus (Kind.delays lists) = AreLists modulus lists
+HasSoundLists modulus (Kind.delays lists) = AreLists 64 modulus lists
 
-pub sound_lists : (modulus : ℕ) (ps : List ProcessClaim) → AllKinds (HasSoundLists modulus) ps → (p : ProcessClaim) (lists : List (List ℕ)) → Contains ps p → p.kind ≡ Kind.delays lists → AreLists modulus lists
+pub sound_lists : (modulus : ℕ) (ps : List ProcessClaim) → AllKinds (HasSoundLists modulus) ps → (p : ProcessClaim) (lists : List (List ℕ)) → Contains ps p → p.kind ≡ Kind.delays lists → AreLists 64 modulus lists
 sound_lists modulus ps all p lists has is = let there = place_of ps p has in subst (HasSoundLists modulus) is (kind_in (HasSoundLists modulus) ps all there.0 p there.1)
 
 -- ---- starts

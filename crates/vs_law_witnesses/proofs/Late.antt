@@ -273,7 +273,7 @@ modes g grain zero mode is =
     subst (IsAsModeSays (reading_late g) (reading_late_claims grain) 0) (same_Some blocking mode is)
     (0, refl, (inl ((1 ∷ []) ∷ [], refl), λ k point w. updates g 0 0 k (spot_at g 0 k point) w))
 modes g grain (suc zero) mode is =
-    subst (IsAsModeSays (reading_late g) (reading_late_claims grain) 1) (same_Some blocking mode is) (1, refl, (inr (refl, refl), λ k point w. updates g 1 1 k (spot_at g 1 k point) w))
+    subst (IsAsModeSays (reading_late g) (reading_late_claims grain) 1) (same_Some blocking mode is) (1, refl, (inr (inl refl, refl), λ k point w. updates g 1 1 k (spot_at g 1 k point) w))
 modes g grain (suc (suc zero)) mode is =
     subst (IsAsModeSays (reading_late g) (reading_late_claims grain) 2) (same_Some blocking mode is)
     (2, refl, (inl ((2 ∷ []) ∷ [], refl), λ k point w. updates g 2 2 k (spot_at g 2 k point) w))
@@ -466,6 +466,7 @@ certificate grain = record {
   version = inr refl;
   displays = λ one. absurd (differ 2 1 refl one);
   starts = λ p one has is. differ 2 1 refl one;
+  narrow = inr refl;
   above = lit< tt;
   below = lit≤ tt;
   few_edges = lit≤ tt;

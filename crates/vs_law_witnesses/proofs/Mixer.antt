@@ -383,6 +383,7 @@ certificate start other = record {
   version = inl refl;
   displays = λ one. refl;
   starts = λ p one has is. no_starters (mixing_claims start).processes (tt, (not_starter start other, tt)) p has is;
+  narrow = inr refl;
   above = lit< tt;
   below = lit≤ tt;
   few_edges = lit≤ tt;

@@ -627,22 +627,23 @@ keeping g grain = record {
 
 -- ---- its certificate is one
 
-certificate : (mode : Mode) (grain : Grain) → IsCertificate (rise_claims mode grain)
-certificate mode grain = record {
+certificate : (grain : Grain) → IsCertificate (rise_claims private grain)
+certificate grain = record {
   version = inr refl;
   displays = λ one. absurd (differ 2 1 refl one);
   starts = λ p one has is. differ 2 1 refl one;
+  narrow = inr refl;
   above = lit< tt;
   below = lit≤ tt;
   few_edges = lit≤ tt;
   few_ordered = lit≤ tt;
   few_processes = lit≤ tt;
   few_signals = lit≤ tt;
-  lists = sound_lists (rise_claims mode grain).modulus (rise_claims mode grain).processes (one_list 2 (1 ∷ []) (record { few = lit≤ tt; rising = refl }), (tt, tt));
+  lists = sound_lists (rise_claims private grain).modulus (rise_claims private grain).processes (one_list 2 (1 ∷ []) (record { few = lit≤ tt; rising = refl }), (tt, tt));
 }
 
 pub rise_keeps_the_rules : ARiseKeepsTheRules
-rise_keeps_the_rules g grain = keeps_rules (rising g) (rise_claims private grain) (rise_is_disciplined g grain).0 (certificate private grain) (keeping g grain)
+rise_keeps_the_rules g grain = keeps_rules (rising g) (rise_claims private grain) (rise_is_disciplined g grain).0 (certificate grain) (keeping g grain)
 
 -- ---- with a wrong mode
 

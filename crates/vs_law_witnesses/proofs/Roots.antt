@@ -616,6 +616,7 @@ certificate grain = record {
   version = inr refl;
   displays = λ one. absurd (differ 2 1 refl one);
   starts = λ p one has is. differ 2 1 refl one;
+  narrow = inr refl;
   above = lit< tt;
   below = lit≤ tt;
   few_edges = lit≤ tt;

@@ -307,7 +307,7 @@ fires_none g grain = record {
   digit = Zero;
   known = known_zero;
   gives = rw (reads_number (Zero ∷ []), value_number (Zero ∷ []) [] 0) refl;
-  silent = λ j t has edge is. ap (λ (t : EventTerm). is_edge t.edge X Zero) (sym (term_is g j t has));
+  silent = λ j t has first edge is. ap (λ (t : EventTerm). is_edge t.edge X Zero) (sym (term_is g j t has));
 }
 
 -- only t#p0 sets `c` there
@@ -373,6 +373,7 @@ certificate grain = record {
   version = inl refl;
   displays = λ one. refl;
   starts = λ p one has is. no_starters (swap_claims grain).processes (tt, (tt, (tt, (tt, (tt, (tt, tt)))))) p has is;
+  narrow = inr refl;
   above = lit< tt;
   below = lit≤ tt;
   few_edges = lit≤ tt;

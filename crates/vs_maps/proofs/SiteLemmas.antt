@@ -1,5 +1,5 @@
 -- The table of sites.
-use Rattle.std.proofs.Common.{◌≡◌, ℕ, zero, suc, ◌+◌, ◌<◌, ◌≤◌, ◌⊎◌, ◌↔◌, inl, inr, Bool, true, false, IsTrue, List, [], ◌∷◌, ◌++◌, Some, length, map, slice_get, get_or, if◌then◌else◌, refl, sym, ◌∙◌, ap, subst, arith}
+use Rattle.std.proofs.Common.{◌≡◌, ℕ, zero, suc, ◌+◌, ◌<◌, ◌≤◌, ◌⊎◌, ◌↔◌, inl, inr, true, false, IsTrue, List, [], ◌∷◌, ◌++◌, Some, length, map, slice_get, get_or, refl, sym, ◌∙◌, ap, subst, arith}
 use Rattle.std.specs.List.{Contains}
 use Rattle.std.proofs.lemmas.List.{length-append, length-replicate}
 use Rattle.std.proofs.lemmas.List.Elements.{Contains-append_left, Contains-append_right, Contains-append_cases}
@@ -10,12 +10,9 @@ use Rattle.vs_design.specs.declared.statement.EventTerm.{EventTerm}
 use Rattle.vs_graph.specs.Rows.{empty_rows, row, with_one}
 use Rattle.vs_graph.proofs.RowLemmas.{in_either, none_in, head_in, tail_in, length_one, one_has, row_empty}
 use Rattle.vs_maps.specs.Ranges.{HasSignal, now_at, later_at, reads_at, shows_at, pause_terms}
-use Rattle.vs_process.specs.Stops.{stop_at, stop_statement, stops_behind, stops_tos}
-use Rattle.vs_graph.specs.Reached.{Reached}
-use Rattle.vs_maps.specs.declared.along.Along.TheVariants.{ZeroTime}
-use Rattle.vs_maps.specs.Reaches.{Chart, InSlot0, IsPlace, pause_at, statement_passes}
+use Rattle.vs_maps.specs.Reaches.{Chart, IsPlace, pause_at}
 use Rattle.vs_maps.specs.Sites.{AreSites, IsSite, IsWrite, UsesAt, all_filed, site_of, waiting_of}
-use Rattle.vs_maps.specs.Texts.{Texts, AllNow, AllLater}
+use Rattle.vs_maps.specs.Texts.{Texts}
 use Rattle.vs_maps.specs.declared.sites.Site.{Site}
 use Rattle.vs_maps.specs.declared.sites.Use.{Use}
 use Rattle.vs_maps.specs.declared.sites.Use.TheVariants.{Now, Later, Reads, Shows, Waits}
@@ -269,6 +266,28 @@ written_so t p v Reads r w h e = absurd w
 written_so t p v Shows r w h e = absurd w
 written_so t p v (Waits edge) r w h e = absurd w
 
+-- ---- of one process
+
+-- a list has the sites of a process
+abbrev pub AreSitesIn : List Chart → ℕ → List Site → Type 0
+AreSitesIn charts i sites = (s : Site) → (Contains sites s ↔ (IsSite charts s × (s.process ≡ i)))
+
+-- each is at a point of its map, which uses the range so
+pub site_here : (charts : List Chart) (i : ℕ) (t : Chart) → slice_get charts i ≡ Some t → (sites : List Site) → AreSitesIn charts i sites → (s : Site) → Contains sites s →
+    IsPlace t s.place × UsesAt t s.place s.usage s.range
+site_here charts i t at sites are s c =
+    let y = (are s).0 c in
+    let same : y.0.chart ≡ t = same_Some y.0.chart t (sym y.0.is ∙ ap (slice_get charts) y.1 ∙ at) in
+    (subst (λ (x : Chart). IsPlace x s.place) same y.0.point, subst (λ (x : Chart). UsesAt x s.place s.usage s.range) same y.0.uses)
+
+-- a rule of its uses is one of its sites
+pub uses_keep : (charts : List Chart) (i : ℕ) (t : Chart) → slice_get charts i ≡ Some t → (sites : List Site) → AreSitesIn charts i sites → (keeps : ℕ → Use → BitRange → Type 0) →
+    (((s : Site) → Contains sites s → keeps s.place s.usage s.range) ↔ ((p : ℕ) (u : Use) (r : BitRange) → IsPlace t p → UsesAt t p u r → keeps p u r))
+uses_keep charts i t at sites are keeps = (
+  λ all p u r point uses. all (site_of i p u r) ((are (site_of i p u r)).1 (record { chart = t; is = at; point = point; uses = uses }, refl)),
+  λ all s c. let h = site_here charts i t at sites are s c in all s.place s.usage s.range h.0 h.1,
+)
+
 -- ---- rules of sites
 
 -- all of the first sites keep a rule, and one more
@@ -291,20 +310,13 @@ keep_not P sites i d within not = (λ h. absurd (false≢true h), λ all. absurd
   same_read (x ∷ xs) zero a b h = refl
   same_read (x ∷ xs) (suc k) a b h = same_read xs k a b (omega (arith, h))
 
--- sites of a signal that are writes by `=` keep a rule of their places
-pub now_kept : (x : Texts) (v : ℕ) (keeps : ℕ → ℕ → Type 0) (sites : List Site) → AreSitesOf x.charts v sites →
-    (((s : Site) → Contains sites s → s.usage ≡ Now → keeps s.process s.place) ↔ AllNow x v keeps)
-now_kept x v keeps sites are = (
-  λ all i p t is point h. all (site_of i p Now h.0) ((are (site_of i p Now h.0)).1 (record { chart = t; is = is; point = point; uses = h.1 }, h.2)) refl,
-  λ all s c e. let y = (are s).0 c in all s.process s.place y.0.chart y.0.is y.0.point (s.range, subst (λ (u : Use). UsesAt y.0.chart s.place u s.range) e y.0.uses, y.1),
-)
-
--- those that are writes by `<=` do
-pub later_kept : (x : Texts) (v : ℕ) (keeps : ℕ → ℕ → Type 0) (sites : List Site) → AreSitesOf x.charts v sites →
-    (((s : Site) → Contains sites s → s.usage ≡ Later → keeps s.process s.place) ↔ AllLater x v keeps)
-later_kept x v keeps sites are = (
-  λ all i p t is point h. all (site_of i p Later h.0) ((are (site_of i p Later h.0)).1 (record { chart = t; is = is; point = point; uses = h.1 }, h.2)) refl,
-  λ all s c e. let y = (are s).0 c in all s.process s.place y.0.chart y.0.is y.0.point (s.range, subst (λ (u : Use). UsesAt y.0.chart s.place u s.range) e y.0.uses, y.1),
+-- those of the sites of a signal that are of a use keep a rule of their places
+pub kept : (charts : List Chart) (v : ℕ) (u : Use) (keeps : ℕ → ℕ → Type 0) (sites : List Site) → AreSitesOf charts v sites →
+    (((s : Site) → Contains sites s → s.usage ≡ u → keeps s.process s.place)
+    ↔ ((i p : ℕ) (t : Chart) → slice_get charts i ≡ Some t → IsPlace t p → (r : BitRange) × UsesAt t p u r × (r.signal ≡ v) → keeps i p))
+kept charts v u keeps sites are = (
+  λ all i p t is point h. all (site_of i p u h.0) ((are (site_of i p u h.0)).1 (record { chart = t; is = is; point = point; uses = h.1 }, h.2)) refl,
+  λ all s c e. let y = (are s).0 c in all s.process s.place y.0.chart y.0.is y.0.point (s.range, subst (λ (x : Use). UsesAt y.0.chart s.place x s.range) e y.0.uses, y.1),
 )
 
 -- ---- sites picked
@@ -350,14 +362,3 @@ all_picked P f sites n all past have x = (
   λ c. let y = (have x).0 c in (y.1, (y.0, slice_get_within sites y.0 y.1 y.3, get_or_from_slice_get sites y.0 y.1 y.1 y.3), y.4, y.5),
   λ y. (have x).1 (y.1.0, y.0, omega (arith, y.1.1, past), slice_get-get_or sites y.1.0 y.0 y.1.1 ∙ ap Some y.1.2, y.2, y.3),
 )
-
--- ---- points of the first slot
-
-chosen_in : (chosen : Bool) (xs : List ℕ) (b : ℕ) → Contains (if chosen then xs else []) b → Contains xs b
-chosen_in true xs b c = c
-chosen_in false xs b c = absurd (none_in b c)
-
-pub slot0_point : (t : Chart) (p : ℕ) → InSlot0 t p → IsPlace t p
-slot0_point t _ (Reached.begins a c) = Reached.begins a c
-slot0_point t _ (Reached.goes_on a b h c) =
-    Reached.goes_on a b (slot0_point t a h) (tail_in (stops_behind t.stops a) b (stops_tos t.stops a) (chosen_in (statement_passes ZeroTime (stop_statement (stop_at t.stops a))) (stops_tos t.stops a) b c))

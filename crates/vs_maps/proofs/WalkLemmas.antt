@@ -39,6 +39,10 @@ walked t along to h _ (goes_on a b r c) =
     goes_on a b (walked t along to h a r) (tail_in (stops_behind t.stops a) b (stops_tos t.stops a)
     (true_if (statement_passes along (stop_statement (stop_at t.stops a))) (stops_tos t.stops a) b c).1)
 
+-- from the start they do
+pub start_walked : (t : Chart) (along : Along) (p : ℕ) → Reached (stops_along along t.stops) (t.start ∷ []) p → IsPlace t p
+start_walked t along p h = walked t along t.start (begins t.start (head_in t.start [])) p h
+
 pub walk_place : (t : Chart) (along : Along) (sort : ℕ → Type 0) (p : ℕ) → WalkFrom t along sort p → IsPlace t p
 walk_place t along sort p w = walked t along w.to (goes_on w.from w.to w.is_place (tail_in (stops_behind t.stops w.from) w.to (stops_tos t.stops w.from) w.leads)) p w.reached
 

@@ -13,7 +13,7 @@ use vs_design::{BitRange, Design, EventTerm};
 use vs_threads::statement_writes;
 
 /// Puts the signals of ranges at a list's end.
-pub(crate) fn push_signals(out: &mut Vec<usize>, ranges: &[BitRange]) -> Result<(), AllocError>
+pub fn push_signals(out: &mut Vec<usize>, ranges: &[BitRange]) -> Result<(), AllocError>
     ensures { OnOk result ((v : ℕ) → (Contains out.new.items v ↔ (Contains out.old.items v ⊎ HasSignal ranges.now v))) }
 {
     for r in ranges {

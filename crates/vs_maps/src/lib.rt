@@ -17,12 +17,11 @@ mod walks;
 
 pub use along::Along;
 pub use delays::controls;
+pub use families::push_signals;
 pub use laws::{maps_are_exact, texts_are_exact};
 pub use pauses::Pause;
 pub use readings::text_reads;
-pub use sites::{
-    Site, SiteRule, Sites, Use, is_later, is_now, is_write, is_write_of, places_written,
-};
+pub use sites::{Site, SiteRule, Sites, Use, is_now, is_write, is_write_of, places_written};
 pub use tables::Tables;
 pub use uses::Uses;
 pub use vs_graph;

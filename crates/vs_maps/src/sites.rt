@@ -3,7 +3,7 @@ ghost use Rattle.std.specs.Prelude.{ℕ, ◌≡◌, ◌<◌, ◌↔◌, ◌⊎�
 ghost use Rattle.std.specs.List.{Contains};
 ghost use Rattle.vs_maps.specs.Reaches.{IsPlace};
 ghost use Rattle.vs_maps.specs.declared.sites.Site.{Site};
-ghost use Rattle.vs_maps.specs.declared.sites.Use.TheVariants.{Now, Later};
+ghost use Rattle.vs_maps.specs.declared.sites.Use.TheVariants.{Now};
 ghost use Rattle.vs_maps.specs.Sites.{IsSite, IsWrite, UsesAt, all_filed, site_of, waiting_of};
 ghost use Rattle.vs_maps.specs.Texts.{AreLate, texts_of};
 
@@ -16,7 +16,7 @@ use vs_design::{BitRange, Design, EventTerm};
 use vs_graph::Rows;
 
 /// What a point does with a range.
-#[derive(Clone, Copy)]
+#[derive(Clone, Copy, PartialEq, Eq)]
 pub enum Use {
     /// It writes it by `=`.
     Now,
@@ -221,20 +221,7 @@ impl<'a> Sites<'a> {
 pub fn is_now(usage: Use) -> bool
     ensures { IsTrue result ↔ usage ≡ Now }
 {
-    match usage {
-        Use::Now => true,
-        Use::Later | Use::Reads | Use::Shows | Use::Waits(_) => false,
-    }
-}
-
-/// Whether a use is a write by `<=`.
-pub fn is_later(usage: Use) -> bool
-    ensures { IsTrue result ↔ usage ≡ Later }
-{
-    match usage {
-        Use::Later => true,
-        Use::Now | Use::Reads | Use::Shows | Use::Waits(_) => false,
-    }
+    usage == Use::Now
 }
 
 /// Whether a use is a write, by `=` or by `<=`.
@@ -276,46 +263,23 @@ pub fn places_written(
     Ok(all)
 }
 
-// Whether a site keeps a rule, where it is a write by `=`.
-fn keeps_now<R: SiteRule>(site: Site, rule: &R) -> bool
-    ensures { IsTrue result ↔ (site.usage ≡ Now → R.keeps rule.now site.process site.place) }
+// Whether a site keeps a rule, where it is of this use.
+fn keeps<R: SiteRule>(site: Site, usage: Use, rule: &R) -> bool
+    ensures { IsTrue result ↔ (site.usage ≡ usage → R.keeps rule.now site.process site.place) }
 {
-    if is_now(site.usage) {
+    if site.usage == usage {
         rule.test(site.process, site.place)
     } else {
         true
     }
 }
 
-/// Whether the points of some sites that are writes by `=` keep a rule.
-pub(crate) fn all_keep_now<R: SiteRule>(sites: &[Site], rule: &R) -> bool
-    ensures { IsTrue result ↔ ((s : Site) → Contains sites.now s → s.usage ≡ Now → R.keeps rule.now s.process s.place) }
+/// Whether the points of those of some sites that are of a use keep a rule.
+pub(crate) fn all_keep<R: SiteRule>(sites: &[Site], usage: Use, rule: &R) -> bool
+    ensures { IsTrue result ↔ ((s : Site) → Contains sites.now s → s.usage ≡ usage → R.keeps rule.now s.process s.place) }
 {
     for site in sites {
-        if !keeps_now(*site, rule) {
-            return false;
-        }
-    }
-    true
-}
-
-// Whether a site keeps a rule, where it is a write by `<=`.
-fn keeps_later<R: SiteRule>(site: Site, rule: &R) -> bool
-    ensures { IsTrue result ↔ (site.usage ≡ Later → R.keeps rule.now site.process site.place) }
-{
-    if is_later(site.usage) {
-        rule.test(site.process, site.place)
-    } else {
-        true
-    }
-}
-
-/// Whether the points of some sites that are writes by `<=` keep a rule.
-pub(crate) fn all_keep_later<R: SiteRule>(sites: &[Site], rule: &R) -> bool
-    ensures { IsTrue result ↔ ((s : Site) → Contains sites.now s → s.usage ≡ Later → R.keeps rule.now s.process s.place) }
-{
-    for site in sites {
-        if !keeps_later(*site, rule) {
+        if !keeps(*site, usage, rule) {
             return false;
         }
     }

@@ -8,7 +8,7 @@ ghost use Rattle.vs_maps.specs.Walks.{AreMarked, InLate};
 
 use crate::Tables;
 use crate::families::{Reading, Waiting, Writing};
-use crate::sites::{SiteRule, Sites, all_keep_later, all_keep_now, late_marks};
+use crate::sites::{SiteRule, Sites, Use, all_keep, late_marks};
 use std::alloc::{AllocError, Global};
 use std::marker::Model;
 use vs_design::Design;
@@ -117,7 +117,7 @@ impl<'a> Uses<'a> {
         requires { v < length self.now.design.signals }
         ensures { IsTrue result ↔ AllNow self.now v (R.keeps rule.now) }
     {
-        all_keep_now(self.sites.of_signal(v), rule)
+        all_keep(self.sites.of_signal(v), Use::Now, rule)
     }
 
     /// Whether all points of the maps with a write of the signal by `<=` keep a rule.
@@ -125,6 +125,6 @@ impl<'a> Uses<'a> {
         requires { v < length self.now.design.signals }
         ensures { IsTrue result ↔ AllLater self.now v (R.keeps rule.now) }
     {
-        all_keep_later(self.sites.of_signal(v), rule)
+        all_keep(self.sites.of_signal(v), Use::Later, rule)
     }
 }

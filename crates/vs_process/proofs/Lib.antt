@@ -12,6 +12,7 @@ pub mod ScriptLists
 pub mod Shapes
 pub mod SpotLemmas
 pub mod Starts
+pub mod SwitchLemmas
 pub mod TextMaps
 pub mod Ways
 pub mod Assigns

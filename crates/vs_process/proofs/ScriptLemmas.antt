@@ -23,6 +23,9 @@ use Rattle.vs_design.specs.Stores.{Store}
 use Rattle.vs_design.specs.Writes.{Write}
 use Rattle.vs_strobe.specs.vs_eval.specs.Values.{value_of}
 use Rattle.vs_strobe.specs.Lines.{Format, format_of_call, full_line}
+use Rattle.vs_process.specs.declared.choice.Case.{Case}
+use Rattle.vs_process.specs.declared.switch.Switch.{Switch}
+use Rattle.std.proofs.lemmas.List.Elements.{All-cons, All-nil}
 use Rattle.vs_process.specs.declared.draft.Op.{Op}
 use Rattle.vs_process.specs.declared.draft.Task.{Task}
 use Rattle.vs_process.specs.declared.draft.Task.TheVariants.{Perform, Turns}
@@ -32,13 +35,13 @@ use Rattle.vs_process.specs.declared.script.Instruction.{Instruction}
 use Rattle.vs_process.specs.Choices.{index_of, case_index, repeat_lands, turns_lands}
 use Rattle.vs_process.specs.Codes.{IsCode, IsFormatOf, IsFormatFor, links_of, link_of, job_of}
 use Rattle.vs_process.specs.Extras.{format_in, starts_in}
-use Rattle.vs_process.specs.Instructions.{IsActionOf, IsAssign, IsBranch, IsCall, IsCase, IsDelay, IsInstructionOf, IsOfTask, IsRepeat, IsTurns, IsUpdate, IsWait, next_place}
+use Rattle.vs_process.specs.Instructions.{IsActionOf, IsAssign, IsBranch, IsCall, IsCase, IsDelay, IsInstructionOf, IsOfTask, IsRepeat, IsTurns, IsUpdate, IsWait, next_place, IsCaseIn}
 use Rattle.vs_process.specs.Landings.{Landing, landing, layer_lands, lands, start_taken, todo_behind, turned}
 use Rattle.vs_process.specs.Links.{Link, item_of, todo_at, todo_within}
 use Rattle.vs_process.specs.Links.{todo_from}
 use Rattle.vs_eval_resolved.specs.Meant.{Meaning}
 use Rattle.vs_process.specs.Places.{Todo}
-use Rattle.vs_process.specs.Scripts.{Does, IsStep, Steps, index_in, todo_landed, todo_on, spot_value}
+use Rattle.vs_process.specs.Scripts.{Does, IsStep, Steps, index_in, todo_landed, todo_on, spot_value, AreSwitchesOf, led_by}
 use Rattle.vs_process.specs.Spots.{spot_write}
 use Rattle.vs_process.specs.Steps.{Next, Out, on, after, wait, goes, assignment, branch, called, has_nothing, step, statement_step, turns_for}
 use Rattle.vs_process.specs.Texts.{Text}
@@ -171,17 +174,28 @@ does_branch c i next other e (a.Branch r there) takes h = (
 )
 does_branch c i next other e _ takes h = absurd h
 
+does_cases : (c : Text) (i next : ℕ) (x : Op) (kind : CaseKind) (e : Typed) (items : List (Vec Typed Global × Statement)) (all : List Switch) →
+    Takes c i (λ cs store time. goes (on (todo_on c cs (index_of (length c.links) (start_taken kind (value_of e store time) store time items (starts_in x) x.behind))))) →
+    IsCaseIn c.signals (length c.links) x kind e items all →
+    AreSwitchesOf c.signals all × Steps c i (λ cs store time. goes (on (todo_on c cs (led_by all next store time))))
+does_cases c i next x kind e items [] takes h = absurd h
+does_cases c i next x kind e items (s ∷ []) takes h =
+    let k : Case = s.case in (
+      All-cons (λ (y : Switch). y.subject.signals ≡ c.signals) s [] h.0 (All-nil (λ (y : Switch). y.subject.signals ≡ c.signals)),
+      steps_as c i (λ cs store time. goes (on (todo_on c cs (index_of (length c.links) (start_taken kind (value_of e store time) store time items (starts_in x) x.behind)))))
+          (λ cs store time. goes (on (todo_on c cs (case_index k store time)))) takes
+          (λ cs store time.
+          ap (λ (n : ℕ). goes (on (todo_on c cs (index_of n (start_taken kind (value_of e store time) store time items (starts_in x) x.behind))))) (sym h.1.same_count)
+          ∙ ap₂ (λ (g : CaseKind) (v : Typed). goes (on (todo_on c cs (index_of k.count (start_taken g (value_of v store time) store time items (starts_in x) x.behind))))) (sym h.1.same_kind) (sym h.1.same_value)
+          ∙ ap₂ (λ (l : List (Vec Typed Global × Statement)) (y : Op).
+          goes (on (todo_on c cs (index_of k.count (start_taken k.kind (value_of k.e.now store time) store time l (starts_in y) y.behind))))) (sym h.1.same_items) (sym h.1.same_op)),
+    )
+does_cases c i next x kind e items (s ∷ t ∷ more) takes h = absurd h
+
 does_case : (c : Text) (i next : ℕ) (x : Op) (kind : CaseKind) (e : Typed) (items : List (Vec Typed Global × Statement)) (action : Action) →
     Takes c i (λ cs store time. goes (on (todo_on c cs (index_of (length c.links) (start_taken kind (value_of e store time) store time items (starts_in x) x.behind))))) →
-    IsCase (length c.links) x kind e items action → Does c i action next
-does_case c i next x kind e items (a.Case k) takes h =
-    steps_as c i (λ cs store time. goes (on (todo_on c cs (index_of (length c.links) (start_taken kind (value_of e store time) store time items (starts_in x) x.behind)))))
-    (λ cs store time. goes (on (todo_on c cs (case_index k store time)))) takes
-    (λ cs store time.
-    ap (λ (n : ℕ). goes (on (todo_on c cs (index_of n (start_taken kind (value_of e store time) store time items (starts_in x) x.behind))))) (sym h.same_count)
-    ∙ ap₂ (λ (g : CaseKind) (v : Typed). goes (on (todo_on c cs (index_of k.count (start_taken g (value_of v store time) store time items (starts_in x) x.behind))))) (sym h.same_kind) (sym h.same_value)
-    ∙ ap₂ (λ (l : List (Vec Typed Global × Statement)) (y : Op).
-    goes (on (todo_on c cs (index_of k.count (start_taken k.kind (value_of k.e.now store time) store time l (starts_in y) y.behind))))) (sym h.same_items) (sym h.same_op))
+    IsCase c.signals (length c.links) x kind e items action → Does c i action next
+does_case c i next x kind e items (a.Case all) takes h = does_cases c i next x kind e items all.items takes h
 does_case c i next x kind e items _ takes h = absurd h
 
 does_repeat : (c : Text) (i next : ℕ) (x : Op) (signed : Bool) (e : Typed) (action : Action) →

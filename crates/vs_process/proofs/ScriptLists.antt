@@ -81,10 +81,10 @@ branch_free : (signals : List Signal) (e : Typed) (other : ℕ) (action : Action
 branch_free signals e other (a.Branch r there) h = refl
 branch_free signals e other _ h = absurd h
 
-case_free : (count : ℕ) (x : Op) (kind : CaseKind) (e : Typed) (items : List (Vec Typed Global × Statement)) (action : Action) → IsCase count x kind e items action →
+case_free : (signals : List Signal) (count : ℕ) (x : Op) (kind : CaseKind) (e : Typed) (items : List (Vec Typed Global × Statement)) (action : Action) → IsCase signals count x kind e items action →
     action_control action ≡ None
-case_free count x kind e items (a.Case c) h = refl
-case_free count x kind e items _ h = absurd h
+case_free signals count x kind e items (a.Case s) h = refl
+case_free signals count x kind e items _ h = absurd h
 
 repeat_free : (count : ℕ) (x : Op) (signed : Bool) (e : Typed) (action : Action) → IsRepeat count x signed e action → action_control action ≡ None
 repeat_free count x signed e (a.Repeat r) h = refl
@@ -112,7 +112,7 @@ layer_same signals count x (Statement-F.Block all) action h = ap (λ (k : Action
 layer_same signals count x (Statement-F.Delay m ticks body) action h = delay_free m ticks action h
 layer_same signals count x (Statement-F.Event m terms body) action h = wait_control m terms.items action h
 layer_same signals count x (Statement-F.If m v p q) action h = branch_free signals v (index_of count x.second) action h
-layer_same signals count x (Statement-F.Case m kind v items) action h = case_free count x kind v items.items action h
+layer_same signals count x (Statement-F.Case m kind v items) action h = case_free signals count x kind v items.items action h
 layer_same signals count x (Statement-F.While m v body) action h = branch_free signals v (index_of count x.behind) action h
 layer_same signals count x (Statement-F.Repeat m signed v body) action h = repeat_free count x signed v action h
 layer_same signals count x (Statement-F.Forever m body) action h = ap (λ (k : Action). action_control k) h

@@ -21,6 +21,7 @@ use Rattle.vs_process.specs.declared.draft.Task.TheVariants as t
 use Rattle.vs_process.specs.declared.script.Action.{Action}
 use Rattle.vs_process.specs.declared.script.Action.TheVariants as a
 use Rattle.vs_process.specs.declared.script.Instruction.{Instruction}
+use Rattle.vs_process.specs.declared.switch.Switch.{Switch}
 use Rattle.vs_process.specs.Choices.{index_of}
 use Rattle.vs_process.specs.Extras.{format_in}
 use Rattle.vs_eval_resolved.specs.Meant.{Meaning}
@@ -69,9 +70,14 @@ pub record IsRepeatOf (count : ℕ) (x : Op) (signed : Bool) (e : Typed) (r : Re
   pub same_value : r.e.now ≡ e
   pub same_count : r.count ≡ count
 
-abbrev pub IsCase : ℕ → Op → CaseKind → Typed → List (Vec Typed Global × Statement) → Action → Type 0
-IsCase count x kind e items (a.Case c) = IsCaseOf count x kind e items c
-IsCase count x kind e items _ = ⊥
+-- the only one of some `case`s is this one
+abbrev pub IsCaseIn : List Signal → ℕ → Op → CaseKind → Typed → List (Vec Typed Global × Statement) → List Switch → Type 0
+IsCaseIn signals count x kind e items (s ∷ []) = (s.subject.signals ≡ signals) × IsCaseOf count x kind e items s.case
+IsCaseIn signals count x kind e items _ = ⊥
+
+abbrev pub IsCase : List Signal → ℕ → Op → CaseKind → Typed → List (Vec Typed Global × Statement) → Action → Type 0
+IsCase signals count x kind e items (a.Case all) = IsCaseIn signals count x kind e items all.items
+IsCase signals count x kind e items _ = ⊥
 
 abbrev pub IsRepeat : ℕ → Op → Bool → Typed → Action → Type 0
 IsRepeat count x signed e (a.Repeat r) = IsRepeatOf count x signed e r
@@ -100,7 +106,7 @@ IsActionOf signals count x (Statement-F.Block all) action = action ≡ a.Nothing
 IsActionOf signals count x (Statement-F.Delay n ticks body) action = IsDelay n ticks action
 IsActionOf signals count x (Statement-F.Event n terms body) action = IsWait n terms.items action
 IsActionOf signals count x (Statement-F.If n e p q) action = IsBranch signals e (index_of count x.second) action
-IsActionOf signals count x (Statement-F.Case n kind e items) action = IsCase count x kind e items.items action
+IsActionOf signals count x (Statement-F.Case n kind e items) action = IsCase signals count x kind e items.items action
 IsActionOf signals count x (Statement-F.While n e body) action = IsBranch signals e (index_of count x.behind) action
 IsActionOf signals count x (Statement-F.Repeat n signed e body) action = IsRepeat count x signed e action
 IsActionOf signals count x (Statement-F.Forever n body) action = action ≡ a.Nothing

@@ -14,6 +14,7 @@ pub mod Scripts
 pub mod Spots
 pub mod Steps
 pub mod Stops
+pub mod Switches
 pub mod Texts
 pub mod Ways
 pub mod passes

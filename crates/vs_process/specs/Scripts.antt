@@ -1,8 +1,10 @@
 -- Scripts: flat codes as a run takes their steps.
-use Rattle.std.specs.Prelude.{ℕ, suc, ◌≡◌, true, false, Option, Some, None, List, [], length, map, slice_get}
+use Rattle.std.specs.Prelude.{ℕ, suc, ◌≡◌, true, false, Option, Some, None, List, [], ◌∷◌, length, map, slice_get}
+use Rattle.std.specs.List.{All}
 use Rattle.vs_design.specs.vs_logic4.specs.declared.digit.Digit.{Digit}
 use Rattle.vs_design.specs.vs_logic4.specs.Comparisons.{truth}
 use Rattle.vs_design.specs.vs_logic4.specs.Vectors.{resized}
+use Rattle.vs_design.specs.declared.signal.Signal.{Signal}
 use Rattle.vs_design.specs.declared.statement.Statement.{Statement}
 use Rattle.vs_design.specs.Stores.{Store}
 use Rattle.vs_strobe.specs.vs_eval.specs.Values.{value_of}
@@ -11,6 +13,7 @@ use Rattle.vs_process.specs.declared.script.Action.{Action}
 use Rattle.vs_process.specs.declared.script.Action.TheVariants as a
 use Rattle.vs_process.specs.declared.script.Instruction.{Instruction}
 use Rattle.vs_process.specs.declared.spot.Spot.{Spot}
+use Rattle.vs_process.specs.declared.switch.Switch.{Switch}
 use Rattle.vs_process.specs.Choices.{index_of, case_index, repeat_lands, turns_lands}
 use Rattle.vs_process.specs.Landings.{Landing}
 use Rattle.vs_process.specs.Links.{todo_at}
@@ -51,6 +54,15 @@ pub record AreOf (c : Text) (spot : Spot) (r : Meaning) : Type 0 where
   pub inside : IsSpotIn c.signals spot
   pub signals : r.signals ≡ c.signals
 
+-- `case`s are of a design with these signals
+abbrev pub AreSwitchesOf : List Signal → List Switch → Type 0
+AreSwitchesOf signals all = All (λ (s : Switch). s.subject.signals ≡ signals) all
+
+-- where the first of some `case`s leads; where there is none, this index
+abbrev pub led_by : List Switch → ℕ → Store → ℕ → ℕ
+led_by [] none store time = none
+led_by (s ∷ more) none store time = case_index s.case store time
+
 -- what an instruction at an index does, and where it goes on, is the step of a process that stands there (clauses 9.2, 9.4 to 9.7, 17.1 and 17.4.1)
 abbrev pub Does : Text → ℕ → Action → ℕ → Type 0
 Does c here a.Nothing next = Steps c here (λ counters store time. goes (on (todo_on c counters next)))
@@ -66,7 +78,8 @@ Does c here (a.UpdateAny ticks t e) next = Steps c here (λ counters store time.
     record (goes (on (todo_on c counters next))) { update = Some (ticks.count, assignment t.now e.now store time) })
 Does c here (a.Branch r other) next = (r.signals ≡ c.signals)
     × Steps c here (λ counters store time. goes (on (todo_on c counters (branch (truth (value_of r.expression store time)) next other))))
-Does c here (a.Case choice) next = Steps c here (λ counters store time. goes (on (todo_on c counters (case_index choice store time))))
+Does c here (a.Case all) next = AreSwitchesOf c.signals all.items
+    × Steps c here (λ counters store time. goes (on (todo_on c counters (led_by all.items next store time))))
 Does c here (a.Repeat choice) next = (choice.count ≡ length c.links)
     × Steps c here (λ counters store time. goes (on (todo_landed c (repeat_lands choice counters store time))))
 Does c here (a.Turns choice) next = (choice.count ≡ length c.links)

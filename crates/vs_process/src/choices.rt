@@ -49,7 +49,7 @@ fn is_default(item: &(Vec<Typed>, Statement)) -> bool
 }
 
 /// The start of the first item that is a `default`.
-fn start_default(items: &[(Vec<Typed>, Statement)], starts: &[usize]) -> Option<usize>
+pub(crate) fn start_default(items: &[(Vec<Typed>, Statement)], starts: &[usize]) -> Option<usize>
     ensures { result ≡ start_where is_default items.now starts.now }
 {
     for i in 0..items.len() {

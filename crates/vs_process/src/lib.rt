@@ -18,6 +18,7 @@ mod script;
 mod spot;
 mod spots;
 mod stops;
+mod switch;
 
 pub use changes::{Change, make};
 pub use choice::{Case, Repeat, Turns};
@@ -32,10 +33,11 @@ pub use process_laws::{
     blocks_are_told, blocks_exclude, idle_assigns_have_values, inside_follows, inside_goes_on,
     moves_are_permitted, never_stuck, none_inside_first, stores_are_sized, times_rise,
 };
-pub use script::{Action, Instruction, Script};
+pub use script::{Action, Instruction, Script, case_of};
 pub use spot::Spot;
 pub use spots::{spot_of, spots_hold};
 pub use stops::{Stop, TextMap};
+pub use switch::Switch;
 pub use vs_edges;
 pub use vs_eval;
 pub use vs_strobe;

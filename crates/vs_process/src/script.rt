@@ -1,20 +1,25 @@
 //! The script of a process: its flat code as a run takes its steps, with each fixed target resolved to a word of the store and each expression resolved;
 //! made once, at the start of a run.
 ghost use Rattle.std.specs.Prelude.{ℕ, List, ◌≡◌, true, length, IfOk};
+ghost use Rattle.std.specs.List.{All};
+ghost use Rattle.vs_design.specs.InOrder.{IsStoreOf};
 ghost use Rattle.vs_design.specs.WellFormed.{numbers, counts_from};
 ghost use Rattle.vs_design.specs.declared.statement.Statement.TheViews.{out-Statement};
 ghost use Rattle.vs_process.specs.Choices.{index_of};
-ghost use Rattle.vs_process.specs.Instructions.{AreInstructionsOf, IsActionOf, IsAssign, IsCall, IsInstructionOf, IsUpdate, meaning, next_place};
-ghost use Rattle.vs_process.specs.Scripts.{IsScriptOf, StartsWith};
+ghost use Rattle.vs_process.specs.Instructions.{AreInstructionsOf, IsActionOf, IsAssign, IsCall, IsCase, IsInstructionOf, IsUpdate, meaning, next_place};
+ghost use Rattle.vs_process.specs.declared.switch.Switch as switch;
+ghost use Rattle.vs_process.specs.Scripts.{IsScriptOf, StartsWith, led_by};
 
 use crate::choice::{Case, Repeat, Turns, index_of};
 use crate::code::Code;
 use crate::draft::{Extra, Op, Task};
 use crate::spot::Spot;
 use crate::spots::spot_of;
+use crate::switch::Switch;
 use std::alloc::{AllocError, Global};
 use std::marker::Model;
-use vs_design::{Call, CallKind, Design, EventTerm, Statement, Target, Ticks, Typed};
+use vs_design::vs_logic4::CaseKind;
+use vs_design::{Call, CallKind, Design, EventTerm, Statement, Store, Target, Ticks, Typed};
 use vs_eval_resolved::Resolved;
 use vs_strobe::Format;
 
@@ -33,8 +38,8 @@ pub enum Action<'a> {
     UpdateAny(Ticks, &'a Target, &'a Typed),
     /// A condition, and the index where it goes on where this isn't true.
     Branch(Resolved<'a>, usize),
-    /// A `case`.
-    Case(Case<'a>),
+    /// A `case`: a list of one, which takes less room in an instruction than the `case`.
+    Case(Vec<Switch<'a>>),
     /// A `repeat` that reads its count.
     Repeat(Repeat<'a>),
     /// One that has its count.
@@ -96,6 +101,31 @@ fn update_action<'a>(
     }
 }
 
+// What a `case` does, of so many instructions.
+fn case_action<'a>(
+    alloc: Global,
+    design: &'a Design,
+    count: usize,
+    op: &'a Op<'a>,
+    kind: CaseKind,
+    e: &'a Typed,
+    items: &'a [(Vec<Typed>, Statement)],
+) -> Result<Action<'a>, AllocError>
+    ensures { IfOk result (λ action. IsCase design.entry.now.signals count op.entry.now kind e.entry.now items.entry.now action) }
+{
+    let case = Case {
+        op,
+        kind,
+        e,
+        items,
+        count,
+    };
+    let switch = Switch::new(alloc, design, case)?;
+    let mut all = Vec::new(alloc);
+    all.push(switch)?;
+    Ok(Action::Case(all))
+}
+
 // What a call does.
 fn call_action<'a>(op: &'a Op<'a>, call: &'a Call) -> Action<'a>
     ensures { IsCall op.entry.now call.entry.now result }
@@ -144,13 +174,9 @@ fn action_of<'a>(
             let resolved = Resolved::new(alloc, design, e)?;
             Ok(Action::Branch(resolved, index_of(count, op.behind)))
         }
-        Statement::Case(_, kind, e, items) => Ok(Action::Case(Case {
-            op,
-            kind: *kind,
-            e,
-            items,
-            count,
-        })),
+        Statement::Case(_, kind, e, items) => {
+            case_action(alloc, design, count, op, *kind, e, items)
+        }
         Statement::Repeat(_, signed, e, _) => Ok(Action::Repeat(Repeat {
             op,
             signed: *signed,
@@ -218,6 +244,18 @@ fn instructions_of<'a>(
         all.push(x)?;
     }
     Ok(all)
+}
+
+/// Where the only one of some `case`s leads in a store at a time in ticks; where there is none, this index.
+#[inline(always)]
+pub fn case_of(all: &[Switch], none: usize, store: &Store, time: u64) -> usize
+    requires { All (λ (s : switch.Switch). IsStoreOf s.subject.signals store.now) all.now }
+    ensures { result ≡ led_by all.now none store.now time }
+{
+    match all.first() {
+        Some(switch) => switch.index(store, time),
+        None => none,
+    }
 }
 
 /// The script of a process. A contract sees the places of its code.

@@ -14,7 +14,7 @@ use Rattle.vs_program.specs.passes.Proposing.{IsShort}
 
 -- what is proposed reads back, where it is short enough
 pub reads_back : (d : Parts) (grain : ClaimedGrain) (p : Proposal) → ((c : Certificate) → certificates.ReadsBack c) → IsProposal d grain p → IsShort p → ReadsBack p
-reads_back d grain (Made c) law is short = law c is.own_kinds is.sound.limits short
+reads_back d grain (Made c) law is short = record { json = (law c is.own_words is.sound.limits short).json; sound = is.sound }
 reads_back d grain (NotMade r) law is short = tt
 
 -- a line of which a front was written

@@ -1,5 +1,5 @@
 -- Certificates that are proposed.
-use Rattle.std.proofs.Common.{◌≡◌, ◌-◌, ℕ, true, List, [], refl, sym, ap, subst, codes, ◌∷◌}
+use Rattle.std.proofs.Common.{◌≡◌, ◌&&◌, ◌-◌, ℕ, true, List, [], refl, sym, ap₂, subst, codes, ◌∷◌}
 use Rattle.std.specs.List.{list_all}
 use Rattle.std.specs.declared.alloc.Global.{Global}
 use Rattle.std.specs.declared.vec.Vec.{Vec}
@@ -13,9 +13,9 @@ use Rattle.vs_certificate.specs.declared.members.SignalEntry.{SignalEntry}
 use Rattle.vs_certificate.specs.declared.members.Version.TheVariants as versions
 use Rattle.vs_certificate.specs.JsonValue.{value_of, object_with, list_value, edge_value, grain_value, process_value, signal_value, text_value, whole_value}
 use Rattle.vs_certificate.specs.Limits.{is_within_limits}
-use Rattle.vs_certificate.specs.Reading.{IsSound}
-use Rattle.vs_certificate.specs.Versions.{has_kind}
-use Rattle.vs_certificate.proofs.Law.{sound_value, own_kinds}
+use Rattle.vs_certificate.specs.Reading.{IsSound, is_other_version}
+use Rattle.vs_certificate.specs.Versions.{has_kind, has_mode}
+use Rattle.vs_certificate.proofs.Law.{sound_value, own_words}
 use Rattle.vs_cert_check.specs.Answers.{verdict_view, HasNumber}
 use Rattle.vs_cert_check.specs.Verdicts.{rule_of}
 use Rattle.vs_cert_check.specs.declared.verdict.Verdict.{Verdict}
@@ -30,7 +30,7 @@ pub made : (d : Parts) (grain : ClaimedGrain) (c : Certificate) (v : Verdict) �
 made d grain c v same sound verdict is = record {
   grain_is = same;
   sound = sound;
-  own_kinds = own_kinds c sound;
+  own_words = own_words is_other_version c sound;
   kept = subst (λ w. IsVerdict d (claims_of c) (verdict_view w)) is verdict;
 }
 
@@ -78,5 +78,5 @@ pub sound_nothing : (grain : ClaimedGrain) (edges : Vec EdgeSignal Global) (orde
     IsSound (value_of (record { version = versions.One; grain = grain; modulus = 1; edges = edges; order = order; processes = processes; signals = signals }))
 sound_nothing grain edges order processes signals e o p s =
     sound_value (record { version = versions.One; grain = grain; modulus = 1; edges = edges; order = order; processes = processes; signals = signals })
-    (ap (list_all (λ (q : ProcessEntry). has_kind versions.One q.kind)) p)
+    refl (ap₂ (λ (ps : List ProcessEntry) (ss : List SignalEntry). list_all (λ (q : ProcessEntry). has_kind versions.One q.kind) ps && list_all (λ (t : SignalEntry). has_mode versions.One t.mode) ss) p s)
     (nothing_within grain edges.items order.items processes.items signals.items e o p s)

@@ -5,7 +5,7 @@ use Rattle.vs_certificate.specs.declared.members.Certificate.{Certificate}
 use Rattle.vs_certificate.specs.declared.members.ClaimedGrain.{ClaimedGrain}
 use Rattle.vs_certificate.specs.JsonValue.{value_of}
 use Rattle.vs_certificate.specs.Reading.{IsSound}
-use Rattle.vs_certificate.specs.Versions.{has_own_kinds}
+use Rattle.vs_certificate.specs.Versions.{has_own_words}
 use Rattle.vs_design.specs.Parts.{Parts}
 use Rattle.vs_cert_check.specs.vs_rules.specs.Certificates.{claims_of}
 use Rattle.vs_cert_check.specs.vs_rules.specs.Verdict.{Disciplined, IsVerdict, no_verdict}
@@ -17,7 +17,7 @@ use Rattle.vs_propose.specs.declared.proposal.Proposal.TheVariants.{Made, NotMad
 pub record IsMade (d : Parts) (grain : ClaimedGrain) (c : Certificate) : Type 0 where
   pub grain_is : c.grain ≡ grain
   pub sound : IsSound (value_of c)
-  pub own_kinds : has_own_kinds c ≡ true
+  pub own_words : has_own_words c ≡ true
   pub kept : Disciplined d (claims_of c)
 
 -- under its certificate, which has this grain and of which no such test fails, the rule of its number, from 1 to 11, is the least that the design

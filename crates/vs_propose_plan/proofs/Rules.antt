@@ -1,6 +1,6 @@
 -- The rules, of designs without processes.
-use Rattle.std.proofs.Common.{◌≡◌, ℕ, zero, suc, ◌<◌, ◌≤◌, ◌⊎◌, inl, inr, Bool, true, false, if◌then◌else◌, Option, Some, None, List, [], ◌∷◌, ◌++◌, length, map, slice_get, refl, sym, ◌∙◌, ap, subst, arith}
-use Rattle.std.specs.List.{Contains, IsDistinct, flat_map}
+use Rattle.std.proofs.Common.{◌≡◌, ℕ, zero, suc, ◌<◌, ◌≤◌, ◌⊎◌, inl, inr, Bool, true, false, if◌then◌else◌, ◌||◌, Option, Some, None, List, [], ◌∷◌, ◌++◌, length, map, slice_get, refl, sym, ◌∙◌, ap, subst, arith}
+use Rattle.std.specs.List.{Contains, IsDistinct, flat_map, list_any}
 use Rattle.std.specs.Str.{bytes_eq}
 use Rattle.std.proofs.lemmas.Bool.{false≢true, true≢false}
 use Rattle.std.proofs.lemmas.List.{length-map}
@@ -17,7 +17,7 @@ use Rattle.vs_design.specs.Parts.{Parts}
 use Rattle.vs_design.specs.WellFormed.{WellFormed}
 use Rattle.vs_process.specs.Steps.{wait}
 use Rattle.vs_drivers.specs.vs_rules.specs.vs_threads.specs.Blocks.{outputs_for}
-use Rattle.vs_drivers.specs.vs_rules.specs.Claims.{Name, Claims, Kind, Mode, SignalClaim, ProcessClaim, EdgeClaim, names_process, writer_in, second_in, mode_in, times_in, place_of, all_names, edge_names, names_of_edge, edge_signals, process_names, signal_names}
+use Rattle.vs_drivers.specs.vs_rules.specs.Claims.{Name, Claims, Kind, Mode, is_both, SignalClaim, ProcessClaim, EdgeClaim, names_process, writer_in, second_in, mode_in, times_in, place_of, all_names, edge_names, names_of_edge, edge_signals, process_names, signal_names}
 use Rattle.vs_drivers.specs.vs_rules.specs.Claims.{assign_name, process_name, signal_name, claim_for, claim_of, kind_for, kind_of, IsSignalNamed, IsAssignNamed, IsProcessNamed, IsSecond, IsBlock, IsDelay, IsSequential, HasMode, HasKind, IsRootOf, IsRoot}
 use Rattle.vs_drivers.specs.vs_rules.specs.Claims as k
 use Rattle.vs_drivers.specs.vs_rules.specs.Limits.{IsCertificate}
@@ -384,11 +384,24 @@ few_ordered d c e order formed plain o s = no_more c.order e.order
     (differ c.order (λ i j name a b. let t = stands d c order plain o j name b in (only_place d c order formed plain o j t.0 name t.1 t.2).only i a))
     (λ i name at. let t = stands d c order plain o i name at in there e.order name ((s.assigns t.0).listed name t.2).once)
 
+-- no such entry has mode both
+plain_mode : (b : Bool) → is_both (mode_at b) ≡ false
+plain_mode true = refl
+plain_mode false = refl
+
+neither : (a b : Bool) → a ≡ false → b ≡ false → (a || b) ≡ false
+neither a b p q = rw (p, q) refl
+
+plain_modes : (ss : List Signal) → list_any (λ (s : SignalClaim). is_both s.mode) (map entry_of ss) ≡ false
+plain_modes [] = refl
+plain_modes (s ∷ ss) = neither (is_both (mode_at (is_variable s.kind))) (list_any (λ (x : SignalClaim). is_both x.mode) (map entry_of ss)) (plain_mode (is_variable s.kind)) (plain_modes ss)
+
 certificate : (d : Parts) (c e : Claims) (order : List ℕ) → WellFormed d → IsPlain d c order → IsOrder d order → Settles d e → IsCertificate e → IsCertificate c
 certificate d c e order formed plain o s f = record {
   version = inl plain.version;
   displays = λ one. plain.displays;
   starts = λ q one has. absurd (none q has);
+  narrow = inr (ap (λ (ss : List SignalClaim). list_any (λ (s : SignalClaim). is_both s.mode) ss) plain.signals ∙ plain_modes d.signals);
   above = omega (arith, plain.modulus);
   below = omega (arith, plain.modulus);
   few_edges = omega (arith, ap length plain.edges);

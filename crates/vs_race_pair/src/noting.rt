@@ -8,9 +8,8 @@ use std::alloc::{AllocError, Global};
 use vs_design::{Design, Statement, Store, Target, Typed};
 use vs_eval_resolved::vs_eval::{cut_value, write_of};
 use vs_process::TextMap;
-use vs_run_events::vs_run_regions::Event;
-use vs_run_moves::vs_run_regions::Due;
 use vs_run_moves::vs_run_regions::vs_time_wheel::EventQueue;
+use vs_run_moves::vs_run_regions::{Due, Event};
 use vs_run_steps::RunState;
 
 /// The most bits of a word.

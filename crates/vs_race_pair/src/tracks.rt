@@ -2,9 +2,9 @@
 
 use std::alloc::{AllocError, Global};
 use vs_run_active::Wait;
-use vs_run_events::vs_run_assigns::needs;
 use vs_run_moves::vs_run_regions::Due;
 use vs_run_moves::vs_run_regions::vs_time_wheel::EventQueue;
+use vs_run_moves::vs_run_steps::needs;
 use vs_run_steps::RunState;
 
 /// What is kept of the events of a slot so far, by their numbers.

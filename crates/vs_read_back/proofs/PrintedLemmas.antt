@@ -8,7 +8,7 @@ use Rattle.std.proofs.Math.Nat.{mod-lt}
 use Rattle.std.proofs.lemmas.Bool.{and_parts, and_from, cond_both, ne_eqb}
 use Rattle.std.proofs.lemmas.List.Folds.{list_all-append}
 use Rattle.vs_syntax.specs.vs_lex_tokens.specs.Bytes.{in_escaped}
-use Rattle.vs_elab_laws.specs.vs_lex_names.specs.PrintableNames.{is_printable_name}
+use Rattle.vs_elab_laws.specs.PrintableNames.{is_printable_name}
 use Rattle.vs_design.specs.declared.design.Entry.{Entry}
 use Rattle.vs_design.specs.declared.design.Entry.TheVariants.{Enter, Declare, Leave}
 use Rattle.vs_design.specs.declared.design.ScopeKind.{ScopeKind}

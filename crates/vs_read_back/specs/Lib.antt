@@ -3,5 +3,4 @@ pub use Rattle.vs_kernel
 pub use Rattle.vs_vcd_reader
 pub mod Outlined
 pub use Rattle.vs_elab_laws
-pub use Rattle.vs_elab_laws.specs.vs_lex_names
 pub mod BackReadBack

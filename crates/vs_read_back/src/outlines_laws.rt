@@ -1,8 +1,7 @@
 //! Outlines of designs.
 ghost use Rattle.vs_read_back.specs.Outlined.{NamesArePrinted, OutlinesAreInOrder, OutlinesOfTextsAreInOrder};
 
-use vs_elab_laws::vs_lex_names::names_are_printable;
-use vs_elab_laws::{names_are_of_source, names_of_modules_are_tokens};
+use vs_elab_laws::{names_are_of_source, names_are_printable, names_of_modules_are_tokens};
 
 /// The outline of a design that a source and a top define declares each signal once, in design order, in scopes below one top module, where the
 /// names of the design are as they are printed.

@@ -23,7 +23,7 @@ use Rattle.vs_threads.specs.vs_process.specs.Places.{perform, Todo}
 use Rattle.vs_threads.specs.vs_process.specs.Steps.{Next, on, after, wait, step}
 use Rattle.vs_threads.specs.Blocks.{IsSettledStart}
 use Rattle.vs_threads.specs.Threads.{store_behind}
-use Rattle.vs_rules.specs.Claims.{nonblocking}
+use Rattle.vs_rules.specs.Claims.{nonblocking, both, IsSequential, IsWide}
 use Rattle.vs_rules.specs.Points.{Goes, first_todo}
 use Rattle.vs_rules.specs.Claims.{Claims, Start, cold, sources, starter, HasStart, IsBlock, IsDelay, IsWriter, HasMode}
 use Rattle.vs_rules.specs.Paths.{Bit, IsBit, Has, Lists, reads_of, ReadsNow, WritesAny, IsPoint, IsSlot0, is_plain, Writes, HasTerm}
@@ -157,11 +157,14 @@ pub data Missing (d : Parts) (i g w : ℕ) : Todo → Type 0 where
   goes_on : (k l : Todo) → Missing d i g w k → (Begins d i g k → ⊥) → Goes k (on l) → Missing d i g w l
   waits : (k l : Todo) (number : ℕ) → Missing d i g w k → Goes k (after number 0 l) → Missing d i g w l
 
--- a variable of mode nonblocking that a delay process is sure to change for the block in the first slot
+-- a variable of mode nonblocking with a writer of kind delay, in version 3 of mode both too, and with one of kind edge too
+abbrev pub MayStart : Parts → Claims → ℕ → ℕ → Type 0
+MayStart d c g w = (HasMode d c g nonblocking × IsDelay d c w) ⊎ (IsWide c × (HasMode d c g nonblocking ⊎ HasMode d c g both) × IsSequential d c w)
+
+-- such a variable, which its writer is sure to change for the block in the first slot
 pub record IsStarted (d : Parts) (c : Claims) (i g w : ℕ) : Type 0 where
-  pub mode : HasMode d c g nonblocking
+  pub may : MayStart d c g w
   pub writer : IsWriter d c g w
-  pub kind : IsDelay d c w
   -- the control names it, itself or by way of a copy
   pub named : (r : BitRange) × Names d i r × CopiesWhole d g r.signal
   -- each of its writes there is such a one

@@ -18,7 +18,7 @@ use Rattle.vs_certificate.specs.declared.members.Version.TheVariants as versions
 use Rattle.vs_certificate.specs.JsonValue.{version_number}
 use Rattle.vs_threads.specs.vs_process.specs.declared.moves.Grain.{Grain}
 use Rattle.vs_threads.specs.vs_process.specs.declared.moves.Grain.TheVariants as g
-use Rattle.vs_rules.specs.Claims.{Name, Mode, net, unwritten, combinational, nonblocking, blocking, private, Start, cold, sources, starter}
+use Rattle.vs_rules.specs.Claims.{Name, Mode, net, unwritten, combinational, nonblocking, blocking, private, both, Start, cold, sources, starter}
 use Rattle.vs_rules.specs.Claims.{Kind, block, edges, delays, SignalClaim, ProcessClaim, EdgeClaim, Claims}
 
 -- ---- words
@@ -34,6 +34,7 @@ mode_from modes.Combinational = combinational
 mode_from modes.Nonblocking = nonblocking
 mode_from modes.Blocking = blocking
 mode_from modes.Private = private
+mode_from modes.Both = both
 
 abbrev pub start_from : start.Start → Start
 start_from starts.Cold = cold
@@ -44,6 +45,7 @@ start_from starts.Starter = starter
 abbrev pub displays_from : Version → Bool
 displays_from versions.One = false
 displays_from (versions.Two displays) = displays
+displays_from (versions.Three displays) = displays
 
 -- ---- names
 

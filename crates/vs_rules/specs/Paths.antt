@@ -198,6 +198,16 @@ writes_of d i = outputs d i
 abbrev pub Writes : Parts → ℕ → ℕ → Type 0
 Writes d i v = ListsSignal d (writes_of d i) v
 
+-- an event control at a slot-0 point has this term
+pub record IsHeardAtStart (d : Parts) (i : ℕ) (t : EventTerm) : Type 0 where
+  pub control : Todo
+  pub number : ℕ
+  pub terms : List EventTerm
+  pub behind : Todo
+  pub slot0 : IsSlot0 d i control
+  pub goes : Goes control (wait number terms behind)
+  pub is : Contains terms t
+
 -- an event control of the text has this term
 pub record HasTerm (d : Parts) (i : ℕ) (t : EventTerm) : Type 0 where
   pub control : Todo

@@ -14,12 +14,12 @@ use Rattle.vs_design.specs.Uses.{reads, writes}
 use Rattle.vs_threads.specs.vs_process.specs.Executions.{is_level}
 use Rattle.vs_threads.specs.vs_process.specs.Places.{Todo}
 use Rattle.vs_threads.specs.vs_process.specs.Steps.{after, wait}
-use Rattle.vs_rules.specs.Claims.{Name, Mode, net, unwritten, combinational, nonblocking, blocking, private, writer_in, second_in, times_in}
+use Rattle.vs_rules.specs.Claims.{Name, Mode, net, unwritten, combinational, nonblocking, blocking, private, both, writer_in, second_in, times_in}
 use Rattle.vs_rules.specs.Controls.{controls_of}
 use Rattle.vs_rules.specs.Points.{Goes}
-use Rattle.vs_rules.specs.Claims.{Claims, IsSignalNamed, IsProcessNamed, IsAssignNamed, claim_of, IsWriter, IsSecond, HasMode, HasKind, IsBlock, IsEdge, HasLists, IsDelay, IsSequential}
+use Rattle.vs_rules.specs.Claims.{Claims, IsSignalNamed, IsProcessNamed, IsAssignNamed, claim_of, IsWriter, IsSecond, HasMode, HasKind, IsBlock, IsEdge, HasLists, IsDelay, IsSequential, IsLater, IsWide}
 use Rattle.vs_rules.specs.Claims.{signal_names, process_names, edge_names, edge_signals, IsRootOf, IsRoot}
-use Rattle.vs_rules.specs.Paths.{Bit, IsBit, Has, ListsSignal, WritesNow, WritesLater, WritesAny, ReadsNow, ShowsNow, IsPoint, IsSlot0, IsPrologue, IsLate, IsHot, Writes, reads_of, HasTerm}
+use Rattle.vs_rules.specs.Paths.{Bit, IsBit, Has, ListsSignal, WritesNow, WritesLater, WritesAny, ReadsNow, ShowsNow, IsPoint, IsSlot0, IsPrologue, IsLate, IsHot, Writes, reads_of, HasTerm, IsHeardAtStart}
 use Rattle.vs_rules.specs.Drivers.{Driver, block, IsDriver, DriverReads, DriverNeeds, StandsBefore, WritesBit, IsSource, IsBlocking, InCone}
 use Rattle.vs_rules.specs.Constants.{bit_of, Gives, IsKnown, IsWhole, IsWholeTarget}
 use Rattle.vs_rules.specs.Slots.{DelayEnds, RunsByDelays, HasSlot, HasWriteSlot, FiresOf}
@@ -82,9 +82,9 @@ NeverNow d v i = (k : Todo) → IsPoint d i k → WritesNow d k v → ⊥
 abbrev pub NeverLater : Parts → ℕ → ℕ → Type 0
 NeverLater d v i = (k : Todo) → IsPoint d i k → WritesLater d k v → ⊥
 
--- of kind delay, or in version 2 of kind edge
+-- of kind delay, or in versions 2 and 3 of kind edge
 abbrev pub MayBlock : Parts → Claims → ℕ → Type 0
-MayBlock d c i = IsDelay d c i ⊎ ((c.version ≡ 2) × IsEdge d c i)
+MayBlock d c i = IsDelay d c i ⊎ (IsLater c × IsEdge d c i)
 
 -- no other process, no continuous assignment and no event term reads the signal; what `$display` shows is no read
 pub record IsPrivate (d : Parts) (v i : ℕ) : Type 0 where
@@ -99,6 +99,7 @@ IsAsModeSays d c v combinational = HasWriter d c v (IsBlock d c)
 IsAsModeSays d c v nonblocking = HasWriter d c v (λ i. IsSequential d c i × NeverNow d v i)
 IsAsModeSays d c v blocking = HasWriter d c v (λ i. MayBlock d c i × NeverLater d v i)
 IsAsModeSays d c v private = HasWriter d c v (λ i. IsSequential d c i × IsPrivate d v i)
+IsAsModeSays d c v both = IsWide c × HasWriter d c v (IsSequential d c)
 
 abbrev pub K3 : Parts → Claims → ℕ → Type 0
 K3 d c v = (mode : Mode) → HasMode d c v mode → IsAsModeSays d c v mode
@@ -238,8 +239,9 @@ pub record FiresNone (d : Parts) (c : Claims) (root : ℕ) (k : Todo) : Type 0 w
   pub digit : Digit
   pub known : IsKnown digit
   pub gives : Gives k (bit_of root) digit
-  pub silent : (j : ℕ) (t : EventTerm) → HasTerm d j t → is_level t ≡ false → IsRootOf d c root t.range.signal →
-      is_edge t.edge X digit ≡ false
+  -- in version 3 terms of other event controls than those at slot-0 points don't count: nothing waits there yet
+  pub silent : (j : ℕ) (t : EventTerm) → HasTerm d j t → (IsWide c → IsHeardAtStart d j t) → is_level t ≡ false →
+      IsRootOf d c root t.range.signal → is_edge t.edge X digit ≡ false
 
 pub record K10_Signal (d : Parts) (c : Claims) (v : ℕ) : Type 0 where
   -- one statement at most, of all processes, writes it at slot-0 points

@@ -4,7 +4,7 @@ ghost use Rattle.std.specs.List.{Contains};
 ghost use Rattle.vs_design.specs.Kinds.{is_variable};
 ghost use Rattle.vs_design.specs.declared.signal.Signal.{Signal};
 ghost use Rattle.vs_maps.specs.vs_rules.specs.Certificates.{mode_from};
-ghost use Rattle.vs_maps.specs.vs_rules.specs.Claims.{HasKind, IsBlock, IsSequential};
+ghost use Rattle.vs_maps.specs.vs_rules.specs.Claims.{HasKind, IsBlock, IsSequential, IsWide};
 ghost use Rattle.vs_design.specs.declared.design.Assign.{Assign};
 ghost use Rattle.vs_design.specs.declared.statement.EventTerm.{EventTerm};
 ghost use Rattle.vs_design.specs.Uses.{reads};
@@ -59,14 +59,15 @@ fn are_none(row: &[usize]) -> bool
     row.is_empty()
 }
 
-// Whether a process is of kind delay, or in version 2 of kind edge.
+// Whether a process is of kind delay, or in versions 2 and 3 of kind edge.
 fn may_block<'a>(facts: &'a Facts<'a>, i: usize) -> bool
     ensures { IsTrue result ↔ MayBlock facts.entry.now.design facts.entry.now.claims i }
 {
     if facts.is_delay(i) {
         return true;
     }
-    if facts.version() != 2 {
+    let version = facts.version();
+    if version != 2 && version != 3 {
         return false;
     }
     facts.is_edge(i)
@@ -174,6 +175,20 @@ impl<'a> Claimed<'a> {
         self.is_private_of(v, process)
     }
 
+    // Whether it is of version 3, and the writer of kind edge or delay.
+    fn is_both(&self, v: usize) -> bool
+        ensures { IsTrue result ↔ (IsWide self.now.facts.now.claims
+            × HasWriter self.now.facts.now.design self.now.facts.now.claims v (IsSequential self.now.facts.now.design self.now.facts.now.claims)) }
+    {
+        if self.facts.version() != 3 {
+            return false;
+        }
+        let Some(process) = self.facts.writer(v) else {
+            return false;
+        };
+        self.facts.is_sequential(process)
+    }
+
     // Whether a signal is written as this mode says.
     fn is_as_mode_says(&self, v: usize, mode: SignalMode) -> bool
         requires { v < length self.now.facts.now.design.signals }
@@ -186,6 +201,7 @@ impl<'a> Claimed<'a> {
             SignalMode::Nonblocking => self.is_nonblocking(v),
             SignalMode::Blocking => self.is_blocking(v),
             SignalMode::Private => self.is_private(v),
+            SignalMode::Both => self.is_both(v),
         }
     }
 }

@@ -1,4 +1,4 @@
--- Variables that a process of kind delay is sure to change in the first slot.
+-- Variables that a process is sure to change in the first slot.
 use Rattle.std.proofs.Common.{◌≡◌, ◌↔◌, ℕ, ◌+◌, ◌<◌, ◌≤◌, ◌⊎◌, ◌&&◌, Bool, true, false, IsTrue, Option, Some, None, List, [], ◌∷◌, length, slice_get, refl, sym, ◌∙◌, ap, subst, inl, inr, arith}
 use Rattle.std.specs.List.{Contains}
 use Rattle.std.proofs.lemmas.Bool.{and_parts, cases_lt}
@@ -11,8 +11,9 @@ use Rattle.vs_design.specs.Parts.{Parts}
 use Rattle.vs_design.specs.WellFormed.{WellFormed, counts_from, is_body_of, is_sound_process, is_sound_statement, numbers}
 use Rattle.vs_rules.specs.vs_threads.proofs.Lists.{contains_at, place_of}
 use Rattle.vs_claims.specs.vs_process.proofs.ProcessLists.{all_slice}
-use Rattle.vs_rules.specs.Claims.{Claims, Mode, claim_for, mode_in, kind_for, nonblocking, HasMode, IsDelay, IsWriter}
-use Rattle.vs_rules.specs.Blocks.{CopiesWhole, HasStarter}
+use Rattle.vs_rules.specs.Claims.{Claims, Mode, claim_for, edges, mode_in, kind_for, nonblocking, HasMode, IsDelay, IsSequential, IsWide, IsWriter}
+use Rattle.vs_rules.specs.Claims as claims
+use Rattle.vs_rules.specs.Blocks.{MayStart as MayBegin, CopiesWhole, HasStarter}
 use Rattle.vs_rules_of_starts.specs.Beginnings.{AreNamed}
 use Rattle.vs_rules_of_starts.specs.Started.{StartsFor, AreTerms, IsOf, MayStart, IsStartedBy}
 
@@ -45,21 +46,40 @@ mode_within d c g m h = elim (cases_lt g (length d.signals)) [
   | inr past ↦ absurd (none-some m (ap (λ (o : Option Signal). mode_in (claim_for c o)) (sym (slice_get_past d.signals g past)) ∙ h))
 ]
 
-pub no_mode : (d : Parts) (c : Claims) (g : ℕ) → (HasMode d c g nonblocking → ⊥) → (w : ℕ) → (MayStart d c g w ↔ None ≡ Some w)
-no_mode d c g none w = (λ m. absurd (none m.mode), λ e. absurd (none-some w e))
+-- a process of kind edge or delay is one of the design
+sequential_within : (d : Parts) (c : Claims) (w : ℕ) → IsSequential d c w → w < length d.processes
+sequential_within d c w (inl edge) = elim (cases_lt w (length d.processes)) [
+  | inl lt ↦ lt
+  | inr past ↦ absurd (none-some edges (ap (kind_for c) (sym (slice_get_past d.processes w past)) ∙ edge))
+]
+sequential_within d c w (inr h) = delay_within d c w h
+
+pub may_within : (d : Parts) (c : Claims) (g w : ℕ) → MayStart d c g w → w < length d.processes
+may_within d c g w m = by m.may where
+  by : MayBegin d c g w → w < length d.processes
+  by (inl h) = delay_within d c w h.1
+  by (inr h) = sequential_within d c w h.2
+
+-- so is the variable one of it
+pub starter_within : (d : Parts) (c : Claims) (g w : ℕ) → MayBegin d c g w → g < length d.signals
+starter_within d c g w (inl h) = mode_within d c g nonblocking h.0
+starter_within d c g w (inr h) = by h.1 where
+  by : HasMode d c g nonblocking ⊎ HasMode d c g claims.both → g < length d.signals
+  by (inl m) = mode_within d c g nonblocking m
+  by (inr m) = mode_within d c g claims.both m
 
 pub no_writer : (d : Parts) (c : Claims) (g : ℕ) → ((w : ℕ) → IsWriter d c g w → ⊥) → (w : ℕ) → (MayStart d c g w ↔ None ≡ Some w)
 no_writer d c g none w = (λ m. absurd (none w m.writer), λ e. absurd (none-some w e))
 
-pub a_writer : (d : Parts) (c : Claims) (g v : ℕ) → HasMode d c g nonblocking → ((w : ℕ) → (IsWriter d c g w ↔ Some v ≡ Some w)) → IsDelay d c v → (w : ℕ) → (MayStart d c g w ↔ Some v ≡ Some w)
-a_writer d c g v mode writer kind w = (
+pub a_writer : (d : Parts) (c : Claims) (g v : ℕ) → ((w : ℕ) → (IsWriter d c g w ↔ Some v ≡ Some w)) → MayBegin d c g v → (w : ℕ) → (MayStart d c g w ↔ Some v ≡ Some w)
+a_writer d c g v writer may w = (
   λ m. (writer w).0 m.writer,
-  λ e. record { mode = mode; writer = (writer w).1 e; kind = subst (IsDelay d c) (same_Some v w e) kind },
+  λ e. record { may = subst (MayBegin d c g) (same_Some v w e) may; writer = (writer w).1 e },
 )
 
-pub no_delay : (d : Parts) (c : Claims) (g v : ℕ) → ((w : ℕ) → (IsWriter d c g w ↔ Some v ≡ Some w)) → (IsDelay d c v → ⊥) → (w : ℕ) → (MayStart d c g w ↔ None ≡ Some w)
-no_delay d c g v writer none w = (
-  λ m. absurd (none (subst (IsDelay d c) (sym (same_Some v w ((writer w).0 m.writer))) m.kind)),
+pub no_starting : (d : Parts) (c : Claims) (g v : ℕ) → ((w : ℕ) → (IsWriter d c g w ↔ Some v ≡ Some w)) → (MayBegin d c g v → ⊥) → (w : ℕ) → (MayStart d c g w ↔ None ≡ Some w)
+no_starting d c g v writer none w = (
+  λ m. absurd (none (subst (MayBegin d c g) (sym (same_Some v w ((writer w).0 m.writer))) m.may)),
   λ e. absurd (none-some w e),
 )
 
@@ -124,10 +144,10 @@ started_is d c i g w named are r listed may b told = (
   λ h.
       let m = (may w).1 refl in
       let s = told.0 h in
-      (w, record { mode = m.mode; writer = m.writer; kind = m.kind; named = (r, ((are r).0 listed).0, ((are r).0 listed).1); only = s.only; before_end = s.ends.before_end; before_delay = s.ends.before_delay; before_wait = s.ends.before_wait }),
+      (w, record { may = m.may; writer = m.writer; named = (r, ((are r).0 listed).0, ((are r).0 listed).1); only = s.only; before_end = s.ends.before_end; before_delay = s.ends.before_delay; before_wait = s.ends.before_wait }),
   λ y.
       let s = y.1 in
-      let same : w ≡ y.0 = same_Some w y.0 ((may y.0).0 (record { mode = s.mode; writer = s.writer; kind = s.kind })) in
+      let same : w ≡ y.0 = same_Some w y.0 ((may y.0).0 (record { may = s.may; writer = s.writer })) in
       told.1 (subst (StartsFor d i g) (sym same) (record { only = s.only; ends = record { before_end = s.before_end; before_delay = s.before_delay; before_wait = s.before_wait } })),
 )
 
@@ -143,7 +163,7 @@ no_names d c i g named are none = (
 pub no_start : (d : Parts) (c : Claims) (i g : ℕ) → ((v : ℕ) → (MayStart d c g v ↔ None ≡ Some v)) → (IsTrue false ↔ IsStartedBy d c i g)
 no_start d c i g may = (
   λ t. absurd (false_not t),
-  λ y. absurd (none-some y.0 ((may y.0).0 (record { mode = y.1.mode; writer = y.1.writer; kind = y.1.kind }))),
+  λ y. absurd (none-some y.0 ((may y.0).0 (record { may = y.1.may; writer = y.1.writer }))),
 )
 
 pub one_starter : (d : Parts) (c : Claims) (i g : ℕ) → IsStartedBy d c i g → (IsTrue true ↔ HasStarter d c i)
@@ -152,5 +172,5 @@ one_starter d c i g h = (λ t. (g, h.0, h.1), λ x. true_here)
 pub no_starter : (d : Parts) (c : Claims) (i n : ℕ) → length d.signals ≤ n → ((k : ℕ) → k < n → IsStartedBy d c i k → ⊥) → (IsTrue false ↔ HasStarter d c i)
 no_starter d c i n past none = (
   λ t. absurd (false_not t),
-  λ h. let lt : h.0 < length d.signals = mode_within d c h.0 nonblocking h.2.mode in absurd (none h.0 (omega (arith, lt, past)) (h.1, h.2)),
+  λ h. let lt : h.0 < length d.signals = starter_within d c h.0 h.1 h.2.may in absurd (none h.0 (omega (arith, lt, past)) (h.1, h.2)),
 )

@@ -1,4 +1,4 @@
--- Variables that a process of kind delay is sure to change in the first slot.
+-- Variables that a process is sure to change in the first slot.
 use Rattle.std.specs.Prelude.{ℕ, suc, ◌≡◌, ◌↔◌, ◌⊎◌, List, []}
 use Rattle.std.specs.List.{Contains}
 use Rattle.vs_design.specs.declared.range.BitRange.{BitRange}
@@ -7,10 +7,10 @@ use Rattle.vs_design.specs.Parts.{Parts}
 use Rattle.vs_rules_of_starts.specs.vs_process.specs.Places.{Todo}
 use Rattle.vs_rules_of_starts.specs.vs_process.specs.Steps.{after, wait}
 use Rattle.vs_rules.specs.Points.{Goes}
-use Rattle.vs_rules.specs.Claims.{Claims, nonblocking, HasMode, IsDelay, IsWriter}
+use Rattle.vs_rules.specs.Claims.{Claims, IsWriter}
 use Rattle.vs_rules.specs.Paths.{HasTerm, IsSlot0, WritesAny, Writes}
 use Rattle.vs_rules.specs.Drivers.{IsSource}
-use Rattle.vs_rules.specs.Blocks.{Begins, CopiesWhole, IsStarted, Missing}
+use Rattle.vs_rules.specs.Blocks.{MayStart as MayBegin, Begins, CopiesWhole, IsStarted, Missing}
 
 -- on every path something of the sort is done before the end and before each control that takes time
 pub record EndsNowhere (d : Parts) (b g w : ℕ) : Type 0 where
@@ -34,11 +34,10 @@ pub record IsOf (d : Parts) (g : ℕ) (terms : List EventTerm) (r : BitRange) : 
   pub is : term.range ≡ r
   pub copies : CopiesWhole d g r.signal
 
--- a process of kind delay is claimed to write the variable, of mode nonblocking
+-- a process is claimed to write the variable, of a mode and of a kind that may start
 pub record MayStart (d : Parts) (c : Claims) (g w : ℕ) : Type 0 where
-  pub mode : HasMode d c g nonblocking
+  pub may : MayBegin d c g w
   pub writer : IsWriter d c g w
-  pub kind : IsDelay d c w
 
 -- some process is sure to change the variable for the block
 abbrev pub IsStartedBy : Parts → Claims → ℕ → ℕ → Type 0

@@ -3,8 +3,8 @@ ghost use Rattle.std.specs.Prelude.{ℕ, ◌≡◌, ◌↔◌, ◌⊎◌, Some, 
 ghost use Rattle.std.specs.List.{Contains};
 ghost use Rattle.vs_design.specs.declared.range.BitRange as range;
 ghost use Rattle.vs_rules.specs.Certificates.{mode_from};
-ghost use Rattle.vs_rules.specs.Claims.{nonblocking};
-ghost use Rattle.vs_rules.specs.Blocks.{CopiesWhole, HasStarter};
+ghost use Rattle.vs_rules.specs.Claims.{nonblocking, both};
+ghost use Rattle.vs_rules.specs.Blocks.{MayStart as MayBegin, CopiesWhole, HasStarter};
 ghost use Rattle.vs_rules_of_starts.specs.Started.{AreTerms, IsOf, IsStartedBy, MayStart};
 
 use crate::started::starts_for;
@@ -24,17 +24,45 @@ fn is_nonblocking(mode: Option<SignalMode>) -> bool
     }
 }
 
-// The process of kind delay that is claimed to write a variable of mode nonblocking.
+// Whether it is the mode of a variable that is written by `<=`, be it by `=` too.
+fn is_updated(mode: Option<SignalMode>) -> bool
+    ensures { IsTrue result ↔ ((option_map mode_from mode ≡ Some nonblocking) ⊎ (option_map mode_from mode ≡ Some both)) }
+{
+    match mode {
+        None => false,
+        Some(m) => matches!(m, SignalMode::Nonblocking | SignalMode::Both),
+    }
+}
+
+// Whether a process may start a block by a variable that it writes: of mode nonblocking, and it is of kind delay; or in version 3 of mode both too, and
+// of kind edge too.
+fn may_begin(facts: &Facts, g: usize, w: usize) -> bool
+    ensures { IsTrue result ↔ MayBegin facts.now.design facts.now.claims g w }
+{
+    if is_nonblocking(facts.mode(g)) && facts.is_delay(w) {
+        return true;
+    }
+    if facts.version() != 3 {
+        return false;
+    }
+    if !is_updated(facts.mode(g)) {
+        return false;
+    }
+    facts.is_sequential(w)
+}
+
+// The process that is claimed to write a variable, where it may start a block by it.
 fn may_start(facts: &Facts, g: usize) -> Option<usize>
     ensures { (w : ℕ) → (MayStart facts.now.design facts.now.claims g w ↔ result ≡ Some w) }
 {
-    if !is_nonblocking(facts.mode(g)) {
-        return None;
-    }
     let Some(w) = facts.writer(g) else {
         return None;
     };
-    if facts.is_delay(w) { Some(w) } else { None }
+    if may_begin(facts, g, w) {
+        Some(w)
+    } else {
+        None
+    }
 }
 
 // Puts the range of a term, where its signal is a variable, or copies it.
@@ -93,8 +121,8 @@ fn is_started(
     starts_for(alloc, facts.design(), w, &named, g)
 }
 
-/// Whether a block with these terms has a starter. It takes as long as there are signals, and for each variable of mode nonblocking that a process of
-/// kind delay writes, the text of that process.
+/// Whether a block with these terms has a starter. It takes as long as there are signals, and for each variable by which a process may start
+/// it, the text of that process.
 pub(crate) fn has_starter(
     alloc: Global,
     facts: &Facts,

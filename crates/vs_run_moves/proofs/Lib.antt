@@ -1,3 +1,7 @@
+pub mod ActiveLemmas
+pub mod LeavingLemmas
+pub mod RunLemmas
+pub mod UpdateLemmas
 mod ScriptLemmas
 mod StartLemmas
 pub mod MarkingLemmas

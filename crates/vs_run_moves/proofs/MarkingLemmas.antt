@@ -18,10 +18,10 @@ use Rattle.vs_run_steps.specs.Slots.{AppendsSlots}
 use Rattle.vs_run_steps.proofs.Appending.{append_none}
 use Rattle.vs_run_steps.proofs.WritingLemmas.{ended_here}
 use Rattle.vs_vcd_writing.proofs.ProgressLemmas.{vcd_slots-push}
-use Rattle.vs_run_events.specs.vs_run_active.specs.Changes.{MarkChanges}
+use Rattle.vs_run_moves.specs.vs_run_active.specs.Changes.{MarkChanges}
 use Rattle.vs_vcd_writing.specs.Codes.{is_array}
 use Rattle.vs_vcd_writing.specs.CodeTables.{code_table}
-use Rattle.vs_run_events.specs.vs_run_active.proofs.MarkingLemmas.{unmarked}
+use Rattle.vs_run_moves.specs.vs_run_active.proofs.MarkingLemmas.{unmarked}
 use Rattle.vs_vcd_writing.specs.Progress.{Covers, HasWritten, Progress, vcd_slot}
 use Rattle.vs_run_steps.specs.Recording.{CoversNoted, HasNoted, HasRoom}
 use Rattle.vs_run_steps.specs.Runs.{Running, marks_of, state_of}

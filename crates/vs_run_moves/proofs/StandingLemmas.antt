@@ -20,11 +20,11 @@ use Rattle.vs_vcd_writing.specs.Progress.{Progress}
 use Rattle.vs_vcd_writing.specs.Sinks.{AppendsPart}
 use Rattle.vs_run_steps.specs.declared.run.RunState.{RunState}
 use Rattle.vs_run_moves.specs.vs_run_active.specs.declared.queue.Queue.{Queue}
-use Rattle.vs_run_events.specs.vs_run_regions.specs.declared.event.Event.{Event}
-use Rattle.vs_run_events.specs.vs_run_regions.specs.declared.event.Event.TheVariants as e
-use Rattle.vs_run_events.specs.Running.{IsMade, IsSingle, move_of}
-use Rattle.vs_run_events.proofs.RunLemmas.{event_inner, queue_run}
-use Rattle.vs_run_events.specs.vs_run_active.specs.Changes.{MarkChanges}
+use Rattle.vs_run_moves.specs.vs_run_regions.specs.declared.event.Event.{Event}
+use Rattle.vs_run_moves.specs.vs_run_regions.specs.declared.event.Event.TheVariants as e
+use Rattle.vs_run_moves.specs.Running.{IsMade, IsSingle, move_of}
+use Rattle.vs_run_moves.proofs.RunLemmas.{event_inner, queue_run}
+use Rattle.vs_run_moves.specs.vs_run_active.specs.Changes.{MarkChanges}
 use Rattle.vs_run_moves.proofs.MarkingLemmas.{kept_on}
 
 -- where no block has left its control, none goes on

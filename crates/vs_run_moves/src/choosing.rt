@@ -2,18 +2,17 @@
 ghost use Rattle.std.specs.Prelude.{◌≡◌, ◌<◌, false, true, None, IfNone, IfSome};
 ghost use Rattle.vs_run_active.specs.vs_process.specs.Blocks.{is_step_of_any};
 ghost use Rattle.vs_run_active.specs.vs_process.specs.Executions as executions;
-ghost use Rattle.vs_run_events.specs.Running.{IsChoice, move_of};
+ghost use Rattle.vs_run_moves.specs.Running.{IsChoice, move_of};
 ghost use Rattle.vs_run_moves.specs.Standing.{IsStanding};
 ghost use Rattle.vs_run_steps.specs.Runs.{state_of};
 ghost use Rattle.vs_run_steps.specs.Insides.{inside_told};
 ghost use Rattle.vs_run_steps.specs.Turns.{GoesOn};
 
 use crate::run::Run;
-use crate::vs_run_regions::Due;
 use crate::vs_run_regions::vs_time_wheel::EventQueue;
+use crate::vs_run_regions::{Due, Event};
+use crate::{is_active, is_going, is_inside, lost_event};
 use std::alloc::AllocError;
-use vs_run_events::vs_run_regions::Event;
-use vs_run_events::{is_active, is_going, is_inside, lost_event};
 use vs_run_regions::Pick;
 use vs_run_steps::RunState;
 

@@ -1,17 +1,22 @@
-//! A run: the scripts of a design's processes, the state in which every run begins, and its next moves, in the order of its queue or as a policy
-//! chooses (IEEE 1364-2005, clause 11).
+//! A run: the scripts of a design's processes, the state in which every run begins, its events, and its next moves, in the order of its queue or
+//! as a policy chooses (IEEE 1364-2005, clause 11).
 #![tactic(auto)]
 
 mod choosing;
+mod moves;
 mod moves_start;
 mod run;
 mod scripts;
 mod slot;
 mod start;
+mod state;
 
+pub use crate::vs_run_regions::Event;
+pub use moves::{leave, run_event};
 pub use run::Run;
 pub use scripts::{codes_of, scripts_of};
 pub use start::running_of;
-pub use vs_run_events::vs_run_regions::Event;
+pub use state::{Region, first_event, is_active, is_going, is_inside, lost_event, next_region};
+pub use vs_run_active;
 pub use vs_run_regions;
 pub use vs_run_steps;

@@ -13,15 +13,14 @@ ghost use Rattle.vs_vcd_writing.specs.Text.{vcd_header};
 
 use crate::run::Run;
 use crate::running_of;
-use crate::vs_run_regions::Due;
+use crate::vs_run_active::no_marks;
 use crate::vs_run_regions::vs_time_wheel::EventQueue;
+use crate::vs_run_regions::{Agenda, Due};
+use crate::vs_run_steps::Forms;
 use std::alloc::{AllocError, Global};
 use vs_design::{Design, Process};
 use vs_process::Script;
 use vs_run_active::vs_process::is_combinational;
-use vs_run_events::vs_run_active::no_marks;
-use vs_run_events::vs_run_assigns::Forms;
-use vs_run_events::vs_run_regions::Agenda;
 use vs_run_steps::{Recorder, RunState};
 use vs_vcd_writing::{Sink, WriterFault};
 

@@ -8,12 +8,11 @@ ghost use Rattle.vs_vcd_writing.specs.Progress.{is_write_fault, WritesPiece};
 ghost use Rattle.vs_vcd_writing.specs.Sinks.{failed_after};
 ghost use Rattle.vs_vcd_writing.specs.Text.{vcd_end};
 
-use crate::vs_run_regions::Due;
 use crate::vs_run_regions::vs_time_wheel::EventQueue;
+use crate::vs_run_regions::{Agenda, Due, Event};
+use crate::vs_run_steps::Forms;
 use std::alloc::Global;
 use std::marker::Model;
-use vs_run_events::vs_run_assigns::Forms;
-use vs_run_events::vs_run_regions::{Agenda, Event};
 use vs_run_steps::{Recorder, RunState};
 use vs_vcd_writing::{Sink, WriterFault};
 

@@ -12,3 +12,9 @@ pub mod WritesLemmas
 pub mod RunsLemmas
 pub mod StepsLemmas
 pub mod TakingLemmas
+pub mod DiffersLemmas
+pub mod FormsLemmas
+pub mod GroupLemmas
+pub mod KnownLemmas
+mod OutcomesLemmas
+pub mod RunLemmas

@@ -1,5 +1,5 @@
 -- Lemmas on what an instruction does in a run.
-use Rattle.std.proofs.Common.{◌≡◌, ◌≢◌, ℕ, zero, suc, ◌<◌, ◌≤◌, ◌+◌, ◌==◌, Bool, true, false, Option, Some, None, List, [], ◌∷◌, length, slice_get, get_or, if◌then◌else◌, refl, sym, ◌∙◌, ap, subst, arith}
+use Rattle.std.proofs.Common.{◌≡◌, ◌≢◌, ℕ, zero, suc, ◌<◌, ◌≤◌, ◌+◌, ◌==◌, Bool, true, false, Option, Some, None, List, [], ◌∷◌, length, slice_get, get_or, if◌then◌else◌, refl, sym, ◌∙◌, ap, ap₂, subst, arith}
 use Rattle.std.specs.Prelude.{option_map, slice_set}
 use Rattle.std.proofs.lemmas.List.{length-set}
 use Rattle.vs_design.specs.vs_logic4.specs.declared.digit.Digit.{Digit}
@@ -17,7 +17,6 @@ use Rattle.vs_design.specs.Writes.{Write}
 use Rattle.vs_eval_resolved.specs.vs_eval.specs.Values.{value_of}
 use Rattle.vs_eval_resolved.specs.Meant.{Meaning}
 use Rattle.vs_process.specs.vs_strobe.specs.Lines.{full_line}
-use Rattle.vs_process.specs.declared.choice.Case.{Case}
 use Rattle.vs_process.specs.declared.choice.Repeat.{Repeat}
 use Rattle.vs_process.specs.declared.choice.Turns.{Turns}
 use Rattle.vs_process.specs.declared.draft.Op.{Op}
@@ -25,10 +24,13 @@ use Rattle.vs_process.specs.declared.script.Action.{Action}
 use Rattle.vs_process.specs.declared.script.Action.TheVariants as a
 use Rattle.vs_process.specs.declared.script.Instruction.{Instruction}
 use Rattle.vs_process.specs.declared.spot.Spot.{Spot}
-use Rattle.vs_process.specs.Choices.{case_index, index_of, repeat_lands, turns_lands}
+use Rattle.vs_process.specs.declared.switch.Switch.{Switch}
+use Rattle.std.specs.declared.alloc.Global.{Global}
+use Rattle.std.specs.declared.vec.Vec.{Vec}
+use Rattle.vs_process.specs.Choices.{index_of, repeat_lands, turns_lands}
 use Rattle.vs_process.specs.Landings.{Landing, turned}
 use Rattle.vs_process.specs.Places.{Place, Todo, going, inactive, sleeping}
-use Rattle.vs_process.specs.Scripts.{Does, IsScriptOf, IsStep, Steps, instruction_control, spot_value, todo_landed, todo_on}
+use Rattle.vs_process.specs.Scripts.{Does, IsScriptOf, IsStep, Steps, instruction_control, spot_value, todo_landed, todo_on, AreSwitchesOf, led_by}
 use Rattle.vs_process.specs.Spots.{spot_write}
 use Rattle.vs_process.specs.Steps.{Next, Out, after, assignment, branch, goes, on, step, turns_for, wait}
 use Rattle.vs_process.specs.Texts.{Control, HasControl, Text, controls_of}
@@ -61,7 +63,7 @@ known_by signals c index next (a.Update spot r) does same =
     subst (λ (l : List Signal). IsKnown l (a.Update spot r)) same (does.0.inside, does.0.signals)
 known_by signals c index next (a.UpdateAny ticks t e) does same = tt
 known_by signals c index next (a.Branch r other) does same = does.0 ∙ same
-known_by signals c index next (a.Case choice) does same = tt
+known_by signals c index next (a.Case all) does same = subst (λ (l : List Signal). AreSwitchesOf l all.items) same does.0
 known_by signals c index next (a.Repeat choice) does same = tt
 known_by signals c index next (a.Turns choice) does same = tt
 known_by signals c index next (a.Display format) does same = tt
@@ -79,7 +81,7 @@ control_by c index (a.AssignAny t e) next o at is = tt
 control_by c index (a.Update spot r) next o at is = tt
 control_by c index (a.UpdateAny ticks t e) next o at is = tt
 control_by c index (a.Branch r other) next o at is = tt
-control_by c index (a.Case choice) next o at is = tt
+control_by c index (a.Case all) next o at is = tt
 control_by c index (a.Repeat choice) next o at is = tt
 control_by c index (a.Turns choice) next o at is = tt
 control_by c index (a.Display format) next o at is = tt
@@ -101,7 +103,7 @@ prints c index next (a.AssignAny t e) does cs store time long = ap (λ (o : Out)
 prints c index next (a.Update spot r) does cs store time long = ap (λ (o : Out). text_of_line o.line) (does.1.takes cs store time long).out
 prints c index next (a.UpdateAny ticks t e) does cs store time long = ap (λ (o : Out). text_of_line o.line) (does.takes cs store time long).out
 prints c index next (a.Branch r other) does cs store time long = ap (λ (o : Out). text_of_line o.line) (does.1.takes cs store time long).out
-prints c index next (a.Case choice) does cs store time long = ap (λ (o : Out). text_of_line o.line) (does.takes cs store time long).out
+prints c index next (a.Case all) does cs store time long = ap (λ (o : Out). text_of_line o.line) (does.1.takes cs store time long).out
 prints c index next (a.Repeat choice) does cs store time long = ap (λ (o : Out). text_of_line o.line) (does.1.takes cs store time long).out
 prints c index next (a.Turns choice) does cs store time long = ap (λ (o : Out). text_of_line o.line) (does.1.takes cs store time long).out
 prints c index next (a.Display format) does cs store time long = ap (λ (o : Out). text_of_line o.line) (does.takes cs store time long).out
@@ -145,7 +147,7 @@ Made number (a.Update spot r) next old new went = (counters_of new ≡ counters_
 Made number (a.UpdateAny ticks t e) next old new went = (counters_of new ≡ counters_of old) × (went ≡ On next)
     × (state_of new ≡ record (state_of old) { updates = updates_behind number old.regions.time (Some (ticks.count, assignment t.now e.now old.watched.store old.regions.time)) old.regions.updates })
 Made number (a.Branch r other) next old new went = (new ≡ old) × (went ≡ On (branch (truth (value_of r.expression old.watched.store old.regions.time)) next other))
-Made number (a.Case choice) next old new went = (new ≡ old) × (went ≡ On (case_index choice old.watched.store old.regions.time))
+Made number (a.Case all) next old new went = (new ≡ old) × (went ≡ On (led_by all.items next old.watched.store old.regions.time))
 Made number (a.Repeat choice) next old new went =
     Turned number choice.count (repeat_lands choice (counters_at number old) old.watched.store old.regions.time) old new went
 Made number (a.Turns choice) next old new went = Turned number choice.count (turns_lands choice (counters_at number old)) old new went
@@ -243,12 +245,12 @@ acts_of number (a.Branch r other) next old new went h = record {
       moved number c index old new went (On to) h.0 h.1
       (done number c index old old (On to) (goes n) (does.1.takes (counters_at number old) old.watched.store old.regions.time long) (sym (left_nothing (state_of old) number n)) refl);
 }
-acts_of number (a.Case choice) next old new went h = record {
+acts_of number (a.Case all) next old new went h = record {
   done = λ c index does control long.
-      let to : ℕ = case_index choice old.watched.store old.regions.time in
+      let to : ℕ = led_by all.items next old.watched.store old.regions.time in
       let n : Next = on (todo_on c (counters_at number old) to) in
       moved number c index old new went (On to) h.0 h.1
-      (done number c index old old (On to) (goes n) (does.takes (counters_at number old) old.watched.store old.regions.time long) (sym (left_nothing (state_of old) number n)) refl);
+      (done number c index old old (On to) (goes n) (does.1.takes (counters_at number old) old.watched.store old.regions.time long) (sym (left_nothing (state_of old) number n)) refl);
 }
 acts_of number (a.Repeat choice) next old new went h = record {
   done = λ c index does control long.
@@ -330,10 +332,11 @@ updated_as number next time x spot e old new ds is others state digits now =
           (digits ∙ ap (λ (t : ℕ). spot_value spot e old.watched.store t) now),
     )
 
-pub cased_as : {Q : Type 0} (number next time index : ℕ) (x : Action) (choice : Case) (old : RunState Q) → x ≡ a.Case choice → index ≡ case_index choice old.watched.store time → time ≡ old.regions.time →
-    Acts number x next old old (On index)
-cased_as number next time index x choice old is there now =
-    acts_as number x (a.Case choice) next old old (On index) is (refl, ap (λ (n : ℕ). On n) (there ∙ ap (λ (t : ℕ). case_index choice old.watched.store t) now))
+pub cased_as : {Q : Type 0} (number next time index : ℕ) (x : Action) (all : Vec Switch Global) (given : List Switch) (old : RunState Q) → x ≡ a.Case all → given ≡ all.items →
+    index ≡ led_by given next old.watched.store time → time ≡ old.regions.time → Acts number x next old old (On index)
+cased_as number next time index x all given old is same there now =
+    acts_as number x (a.Case all) next old old (On index) is
+    (refl, ap (λ (n : ℕ). On n) (there ∙ ap₂ (λ (l : List Switch) (t : ℕ). led_by l next old.watched.store t) same now))
 
 pub delayed_as : {Q : Type 0} (number next time n : ℕ) (x : Action) (ticks : Ticks) (rest : Wait) (old : RunState Q) → x ≡ a.Delay n ticks → ((todo : Todo) → place_by rest todo ≡ paused time ticks.count todo) →
     time ≡ old.regions.time → Acts number x next old old (Rests next rest)

@@ -11,3 +11,10 @@ pub use Rattle.vs_run_active
 pub use Rattle.vs_run_active.specs.vs_edges
 pub mod Runs
 pub mod Stepping
+pub mod Evaluations
+pub mod Forms
+pub mod Known
+pub mod Members
+pub mod MembersMade
+pub mod Outcomes
+pub mod Placed

@@ -9,7 +9,7 @@ use Rattle.vs_process.specs.declared.gait.Gait.{Gait}
 use Rattle.vs_process.specs.declared.script.Action.{Action}
 use Rattle.vs_process.specs.declared.script.Action.TheVariants as a
 use Rattle.vs_process.specs.Places.{Place, Todo, active_at, going, stepped_gait}
-use Rattle.vs_process.specs.Scripts.{Does, IsStep, todo_on}
+use Rattle.vs_process.specs.Scripts.{AreSwitchesOf, Does, IsStep, todo_on}
 use Rattle.vs_process.specs.Spots.{IsSpotIn}
 use Rattle.vs_process.specs.Steps.{Next, Out, on}
 use Rattle.vs_process.specs.Texts.{HasControl, Text}
@@ -37,6 +37,7 @@ abbrev pub IsKnown : List Signal → Action → Type 0
 IsKnown signals (a.Assign spot r) = IsSpotIn signals spot × (r.signals ≡ signals)
 IsKnown signals (a.Update spot r) = IsSpotIn signals spot × (r.signals ≡ signals)
 IsKnown signals (a.Branch r other) = r.signals ≡ signals
+IsKnown signals (a.Case all) = AreSwitchesOf signals all.items
 IsKnown signals _ = Unit {0}
 
 -- the event control of an instruction, where it is one, is one of a text

@@ -19,7 +19,7 @@ use std::alloc::AllocError;
 use vs_design::vs_logic4::Digit;
 use vs_eval_resolved::Resolved;
 use vs_process::vs_strobe::{Format, full_line};
-use vs_process::{Action, Instruction, Repeat, Turns};
+use vs_process::{Action, Instruction, Repeat, Turns, case_of};
 use vs_run_active::{Wait, pause};
 use vs_run_regions::Due;
 use vs_run_regions::vs_time_wheel::EventQueue;
@@ -156,7 +156,7 @@ impl<'a, Q: EventQueue<Due>> RunState<'a, Q> {
                 Ok(Went::On(x.next))
             }
             Action::Branch(e, other) => Ok(Went::On(self.branch(e, x.next, *other))),
-            Action::Case(choice) => Ok(Went::On(choice.index(&self.watched.store, time))),
+            Action::Case(all) => Ok(Went::On(case_of(all, x.next, &self.watched.store, time))),
             Action::Repeat(choice) => Ok(Went::On(self.repeat(number, choice))),
             Action::Turns(choice) => Ok(Went::On(self.turn(number, choice))),
             Action::Display(_) => Ok(Went::On(x.next)),

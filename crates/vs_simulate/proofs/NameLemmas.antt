@@ -6,7 +6,7 @@ use Rattle.vs_syntax.specs.vs_lexer.specs.vs_lex_tokens.specs.declared.token.Kin
 use Rattle.vs_syntax.specs.vs_lexer.specs.NameLines.{is_one_line, has_one_line_name, is_one_line_token}
 use Rattle.vs_syntax.specs.vs_lexer.specs.Spelling.{IsSpelled}
 use Rattle.vs_syntax.specs.vs_lexer.specs.Tokens.{Lexeme}
-use Rattle.vs_elab_laws.specs.vs_lex_names.specs.PrintableNames.{name_passes, token_passes}
+use Rattle.vs_elab_laws.specs.PrintableNames.{name_passes, token_passes}
 use Rattle.vs_syntax.specs.declared.tree.Source.{Source}
 use Rattle.vs_design.specs.OneLine.{HasNamesOfOneLine}
 use Rattle.vs_design.specs.Parts.{Parts}

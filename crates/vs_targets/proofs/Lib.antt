@@ -1,2 +1,5 @@
+mod Indexed
+mod TopsLemmas
+mod UsesLemmas
 mod TargetLemmas
 mod TickLemmas

@@ -4,7 +4,7 @@ use Rattle.std.specs.Prelude.{Option, Some, None, MatchOption, IfErr, IfOk, Resu
 use Rattle.vs_program_words.specs.declared.words.Call as asked
 use Rattle.vs_program_words.specs.declared.words.Subcommand.{Subcommand}
 use Rattle.vs_syntax.specs.declared.tree.Source.{Source}
-use Rattle.vs_top_modules.specs.Tops.{top_modules}
+use Rattle.vs_targets.specs.Tops.{top_modules}
 use Rattle.vs_targets.specs.Given.{GivesTop, IsOf, IsTarget, WantsTop, found, given, given_top, unread}
 use Rattle.vs_targets.specs.Targets.{Fails, FailsBy, IsAt, IsMeant, IsSourceOf, MeansTop, by_none, by_source, by_words, top_of}
 use Rattle.vs_targets.specs.declared.target.Target.{Target}

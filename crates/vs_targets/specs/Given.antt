@@ -9,7 +9,7 @@ use Rattle.vs_targets.specs.Targets.{IsNoSource, IsSourceOf, MeansUntil, until_o
 use Rattle.vs_targets.specs.declared.target.Target.{Target}
 use Rattle.vs_targets.specs.declared.target.TargetFault.{TargetFault}
 use Rattle.vs_targets.specs.declared.target.TargetFault.TheVariants as fault
-use Rattle.vs_top_modules.specs.Tops.{top_modules}
+use Rattle.vs_targets.specs.Tops.{top_modules}
 
 -- the top that a source gives, where it is left to it
 abbrev pub GivesTop : Source → Bool → Option (List ℕ) → Type 0

@@ -1,3 +1,5 @@
+pub mod Tops
+pub mod passes
 pub mod Given
 pub mod Targets
 pub mod Ticks

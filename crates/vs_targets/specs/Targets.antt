@@ -17,7 +17,7 @@ use Rattle.vs_program_words.specs.declared.words.Subcommand.TheVariants.{Run, Ru
 use Rattle.vs_targets.specs.Ticks.{AreTicks, tick_exponent}
 use Rattle.vs_targets.specs.declared.target.TargetFault.{TargetFault}
 use Rattle.vs_targets.specs.declared.target.TargetFault.TheVariants as fault
-use Rattle.vs_top_modules.specs.Tops.{top_modules}
+use Rattle.vs_targets.specs.Tops.{top_modules}
 
 -- a text spells tokens, which derive a source (clause 3, annex A)
 abbrev pub IsSourceOf : List ℕ → Source → Type 0

@@ -1,19 +1,19 @@
 //! What a call leaves to its source.
 ghost use Rattle.std.specs.Prelude.{◌≡◌, ℕ, List, [], ◌∷◌, IfOk, IfErr, IfSome, MatchOption, map, option_map, string_bytes};
 ghost use Rattle.vs_elab_pieces.specs.Reads.{read_names};
-ghost use Rattle.vs_top_modules.specs.Tops.{top_modules};
+ghost use Rattle.vs_targets.specs.Tops.{top_modules};
 ghost use Rattle.vs_targets.specs.Targets.{Fails, FailsBy, IsAt, IsMeant, MeansUntil, top_of, until_of};
 ghost use Rattle.vs_targets.specs.Given.{GivesTop, IsOf, IsTarget, WantsTop, given_top};
 ghost use Rattle.vs_targets.specs.declared.target.TargetFault.TheVariants.{Memory};
 
 use crate::reading::read_source;
 use crate::ticks::{Tick, source_tick, tick_exponent, ticks_in};
+use crate::top_modules;
 use std::alloc::{AllocError, Global};
 use std::str;
 use vs_design::Ticks;
 use vs_program_words::{Call, Hunt, Request, Subcommand};
 use vs_syntax::Source;
-use vs_top_modules::top_modules;
 
 /// What a source gives a call that leaves it to it.
 #[derive(Drop)]

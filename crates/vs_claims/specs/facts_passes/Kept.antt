@@ -13,7 +13,7 @@ use Rattle.vs_design.specs.Parts.{Parts}
 use Rattle.vs_design.specs.WellFormed.{WellFormed}
 use Rattle.vs_claims.specs.vs_rules.specs.Certificates.{claims_of, name_from, residues_from, signal_claim}
 use Rattle.vs_claims.specs.vs_rules.specs.Claims.{Name, SignalClaim, EdgeClaim, Kind, Start, block, delays}
-use Rattle.vs_claims.specs.vs_rules.specs.Limits.{IsCertificate}
+use Rattle.vs_claims.specs.vs_rules.specs.Limits.{IsWideCertificate}
 use Rattle.vs_maps.specs.Reaches.{Chart}
 use Rattle.vs_maps.specs.Texts.{Texts, texts_of}
 use Rattle.vs_claims.specs.declared.facts.EntriesOf.{EntriesOf}
@@ -93,7 +93,7 @@ pub record AreNames (d : Parts) (c : Certificate) (n : Names) : Type 0 where
 -- what is kept of a design and a certificate
 pub record AreFacts (d : Parts) (c : Certificate) (charts : List Chart) (u : Texts) (n : Names) : Type 0 where
   pub well_formed : WellFormed d
-  pub certificate : IsCertificate (claims_of c)
+  pub certificate : IsWideCertificate (claims_of c)
   pub maps : AreCharts d charts
   pub uses : u ≡ texts_of d charts
   pub names : AreNames d c n

@@ -1,16 +1,18 @@
-use Rattle.std.proofs.Common.{ℕ, refl, arith}
-use Rattle.std.proofs.lemmas.Bool.{false≢true}
-use Rattle.vs_cert_roots.specs.Entries.{WakesAt}
-use Rattle.vs_rules_of_signals.proofs.ListLemmas.{further, all_do, one_not}
+use Rattle.std.proofs.Common.{◌∙◌, sym}
+use Rattle.vs_drivers.specs.vs_maps.specs.declared.sites.Site.{Site}
+use Rattle.vs_drivers.specs.vs_maps.proofs.SiteLemmas.{keep_more, keep_all, keep_not}
+use Rattle.vs_cert_roots.specs.First.{WakesSite}
 use Rattle.vs_cert_roots.proofs.entries.none_wakes.Goals as goal
 
-pub loop-k-preserved : goal.loop-k-preserved
-loop-k-preserved c =
-    further (λ (k : ℕ). WakesAt c.args.terms.now k c.args.digit → ⊥) c.args.numbers.now c.loop-k.k-index c.loop-k.invariant (λ w. false≢true (c.if-wakes.ensures.1 w))
+pub loop-site-preserved : goal.loop-site-preserved
+loop-site-preserved c =
+    keep_more (λ (s : Site). WakesSite c.args.facts.now c.args.digit s → ⊥) c.args.sites.now c.loop-site.site-index _ c.loop-site.invariant c.loop-site-test.true
+    (λ h. let f = sym c.if-wakes.false ∙ c.wakes.ensures.1 h in absurd (cc))
 
 pub returns-then-wakes : goal.returns-then-wakes
 returns-then-wakes c =
-    one_not (λ (k : ℕ). WakesAt c.args.terms.now k c.args.digit → ⊥) c.args.numbers.now c.loop-k.k-index (omega arith) (λ p. absurd (p (c.if-wakes.ensures.0 refl)))
+    keep_not (λ (s : Site). WakesSite c.args.facts.now c.args.digit s → ⊥) c.args.sites.now c.loop-site.site-index _ c.loop-site-test.true (λ none. none (c.wakes.ensures.0 c.if-wakes.true))
 
 pub returns : goal.returns
-returns c = all_do (λ (k : ℕ). WakesAt c.args.terms.now k c.args.digit → ⊥) c.args.numbers.now c.loop-k.k-index (omega arith) c.loop-k.invariant
+returns c =
+    keep_all (λ (s : Site). WakesSite c.args.facts.now c.args.digit s → ⊥) c.args.sites.now c.loop-site.site-index c.loop-site-test.false c.loop-site.invariant

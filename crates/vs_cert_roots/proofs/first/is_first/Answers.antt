@@ -1,17 +1,8 @@
-use Rattle.std.proofs.Common.{◌≡◌, None, Some, sym, ◌∙◌, subst, refl}
-use Rattle.std.proofs.lemmas.Option.{same_Some}
-use Rattle.vs_drivers.specs.vs_maps.specs.Reaches.{Chart, InSlot0}
+use Rattle.std.proofs.Common.{refl}
 use Rattle.vs_cert_roots.proofs.first.is_first.Goals as goal
 
 pub returns-then-not-is_write : goal.returns-then-not-is_write
 returns-then-not-is_write c = (λ t. cc, λ h. let f = c.if-not-is_write.ensures.1 h.0 in cc)
 
-pub returns-in-None : goal.returns-in-None
-returns-in-None c = (λ t. cc, λ h. let e : None ≡ Some h.1.0 = c.in-None.ensures ∙ h.1.1 in cc)
-
-pub returns-in-Some : goal.returns-in-Some
-returns-in-Some c =
-    let t = c.in-Some.tables.now in (
-      λ h. (c.if-not-is_write.ensures.0 refl, (t, sym c.in-Some.ensures, c.is_early.ensures.0 h)),
-      λ h. c.is_early.ensures.1 (subst (λ (x : Chart). InSlot0 x c.args.site.place) (sym (same_Some t h.1.0 (c.in-Some.ensures ∙ h.1.1))) h.1.2),
-    )
+pub returns : goal.returns
+returns c = (λ h. (c.if-not-is_write.ensures.0 refl, c.is_at_start.ensures.0 h), λ h. c.is_at_start.ensures.1 h.1)

@@ -8,5 +8,5 @@ use Rattle.vs_certificate.proofs.limits.are_processes_within.Given as goal
 -- the processes that are left pass where all do
 abbrev pub invariant-loop-process : goal.invariant-loop-process
 invariant-loop-process l =
-    let test = passes_at (are_slots l.modulus) (codes "slots") in
+    let test = passes_at (are_slots l.most l.modulus) (codes "slots") in
     all_items test (items_of (map process_value (drop l.process-index l.processes))) ≡ all_items test (items_of (map process_value l.processes))

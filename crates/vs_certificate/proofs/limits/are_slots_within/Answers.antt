@@ -9,10 +9,10 @@ use Rattle.vs_certificate.proofs.limits.are_slots_within.Goals as goal
 pub returns-then-slots-gt-MAX_ENTRIES : goal.returns-then-slots-gt-MAX_ENTRIES
 returns-then-slots-gt-MAX_ENTRIES c =
     let slots = c.args.slots.now in
-    over_most residues_value slots 65536 (all_items (are_residues c.args.modulus) (items_of (map residues_value slots))) (omega arith)
+    over_most residues_value slots 65536 (all_items (are_residues c.args.most c.args.modulus) (items_of (map residues_value slots))) (omega arith)
 
 pub returns : goal.returns
 returns c =
     let slots = c.args.slots.now in
-    let past = all_items-images_past residues_value (are_residues c.args.modulus) slots c.loop-residues.residues-index (omega arith) in
-    within_most residues_value slots 65536 (all_items (are_residues c.args.modulus) (items_of (map residues_value slots))) (omega arith) (sym past ∙ c.loop-residues.invariant)
+    let past = all_items-images_past residues_value (are_residues c.args.most c.args.modulus) slots c.loop-residues.residues-index (omega arith) in
+    within_most residues_value slots 65536 (all_items (are_residues c.args.most c.args.modulus) (items_of (map residues_value slots))) (omega arith) (sym past ∙ c.loop-residues.invariant)

@@ -8,4 +8,4 @@ use Rattle.vs_certificate.proofs.limits.are_slots_within.Given as goal
 -- the lists that are left pass where all do
 abbrev pub invariant-loop-residues : goal.invariant-loop-residues
 invariant-loop-residues l =
-    all_items (are_residues l.modulus) (items_of (map residues_value (drop l.residues-index l.slots))) ≡ all_items (are_residues l.modulus) (items_of (map residues_value l.slots))
+    all_items (are_residues l.most l.modulus) (items_of (map residues_value (drop l.residues-index l.slots))) ≡ all_items (are_residues l.most l.modulus) (items_of (map residues_value l.slots))

@@ -7,11 +7,10 @@ use Rattle.vs_certificate.proofs.reading.certificate_from.Goals as goal
 pub returns-then-not-has_form-2-clause-fault : goal.returns-then-not-has_form-2-clause-fault
 returns-then-not-has_form-2-clause-fault c =
     let whole = sym c.has_form.ensures ∙ c.if-not-has_form.false in
-    (sym c.is_other_version.ensures ∙ c.if-is_other_version.false, whole, is_within_limits-negative (view c.args.json.now) whole (sym c.has_form-2.ensures ∙ c.if-not-has_form-2.true))
+    (whole, is_within_limits-negative (view c.args.json.now) whole (sym c.has_form-2.ensures ∙ c.if-not-has_form-2.true))
 
-pub returns-clause-sound : goal.returns-clause-sound
-returns-clause-sound c = record {
-  version = sym c.is_other_version.ensures ∙ c.if-is_other_version.false;
-  shape = sym c.has_form.ensures ∙ c.if-not-has_form.false;
-  limits = ap is_within_limits (sym c.in-Ok.ensures) ∙ sym c.is_within_limits.ensures ∙ c.if-not-is_within_limits.false;
-}
+pub returns-clause-shape : goal.returns-clause-shape
+returns-clause-shape c = sym c.has_form.ensures ∙ c.if-not-has_form.false
+
+pub returns-clause-limits : goal.returns-clause-limits
+returns-clause-limits c = ap is_within_limits (sym c.in-Ok.ensures) ∙ sym c.is_within_limits.ensures ∙ c.if-not-is_within_limits.false

@@ -1,6 +1,8 @@
-use Rattle.std.proofs.Common.{IfOk, IfErr, rules}
+use Rattle.std.proofs.Common.{Err, IfOk, IfErr, sym, ◌∙◌, rules}
+use Rattle.serde_json.specs.View.{view}
+use Rattle.vs_certificate.specs.declared.fault.CertFault.TheVariants as faults
 use Rattle.vs_certificate.specs.JsonValue.{value_of}
-use Rattle.vs_certificate.specs.Reading.{Passes, IsFaultOf}
+use Rattle.vs_certificate.specs.Reading.{Passes, IsFaultOf, is_other_version}
 use Rattle.vs_certificate.proofs.Only.{only_value, passes_from, fault_from}
 use Rattle.vs_certificate.proofs.reading.from_json.Goals as goal
 
@@ -8,15 +10,26 @@ pub returns-in_err-json-clause-only : goal.returns-in_err-json-clause-only
 returns-in_err-json-clause-only c =
     let ok : IfOk c.from_residual.result (λ r. Passes c.args.bytes.now (value_of r)) = search rules in
     let fault : IfErr c.from_residual.result (IsFaultOf c.args.bytes.now) = search rules in
-    only_value c.args.bytes.now c.from_residual.result ok fault
+    only_value is_other_version c.args.bytes.now c.from_residual.result ok fault
+
+pub returns-then-is_other_version-clause-only : goal.returns-then-is_other_version-clause-only
+returns-then-is_other_version-clause-only c =
+    only_value is_other_version c.args.bytes.now (Err faults.Version) tt (view c.in_ok-json.json, c.in_ok-json.ensures.ok, sym c.is_other_version.ensures ∙ c.if-is_other_version.true)
+
+pub returns-then-is_other_version-clause-fault : goal.returns-then-is_other_version-clause-fault
+returns-then-is_other_version-clause-fault c = (view c.in_ok-json.json, c.in_ok-json.ensures.ok, sym c.is_other_version.ensures ∙ c.if-is_other_version.true)
 
 pub returns-clause-ok : goal.returns-clause-ok
-returns-clause-ok c = passes_from c.args.bytes.now _ c.in_ok-json.ensures.ok c.certificate_from.result c.certificate_from.ensures.value c.certificate_from.ensures.sound
+returns-clause-ok c =
+    let known = sym c.is_other_version.ensures ∙ c.if-is_other_version.false in
+    passes_from is_other_version c.args.bytes.now _ c.in_ok-json.ensures.ok known c.certificate_from.result c.certificate_from.ensures.value c.certificate_from.ensures.shape c.certificate_from.ensures.limits
 
 pub returns-clause-only : goal.returns-clause-only
 returns-clause-only c =
-    only_value c.args.bytes.now c.certificate_from.result (passes_from _ _ c.in_ok-json.ensures.ok _ c.certificate_from.ensures.value c.certificate_from.ensures.sound)
-    (fault_from _ _ c.in_ok-json.ensures.ok _ c.certificate_from.ensures.fault)
+    let known = sym c.is_other_version.ensures ∙ c.if-is_other_version.false in
+    only_value is_other_version c.args.bytes.now c.certificate_from.result
+    (passes_from is_other_version _ _ c.in_ok-json.ensures.ok known _ c.certificate_from.ensures.value c.certificate_from.ensures.shape c.certificate_from.ensures.limits)
+    (fault_from is_other_version _ _ c.in_ok-json.ensures.ok known _ c.certificate_from.ensures.fault)
 
 pub returns-clause-fault : goal.returns-clause-fault
-returns-clause-fault c = fault_from c.args.bytes.now _ c.in_ok-json.ensures.ok c.certificate_from.result c.certificate_from.ensures.fault
+returns-clause-fault c = fault_from is_other_version c.args.bytes.now _ c.in_ok-json.ensures.ok (sym c.is_other_version.ensures ∙ c.if-is_other_version.false) c.certificate_from.result c.certificate_from.ensures.fault

@@ -1,4 +1,4 @@
-use Rattle.vs_elab_laws.specs.vs_lex_names.specs.PrintableNames.{is_printable_name}
+use Rattle.vs_elab_laws.specs.PrintableNames.{is_printable_name}
 use Rattle.vs_read_back.proofs.PrintedLemmas.{names_printed, numbered_printable}
 use Rattle.vs_read_back.proofs.outlines_laws.names_are_printed.Goals as goal
 

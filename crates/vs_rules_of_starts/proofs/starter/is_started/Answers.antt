@@ -1,12 +1,17 @@
-use Rattle.std.proofs.Common.{ℕ, ◌≡◌, ◌<◌, ◌↔◌, ◌∙◌, IsTrue, List, length, vec_len, refl, rules, subst, sym}
+use Rattle.std.proofs.Common.{ℕ, ◌≡◌, ◌<◌, ◌↔◌, ◌∙◌, IsTrue, Option, Some, List, length, vec_len, refl, rules, subst, sym}
 use Rattle.std.proofs.lemmas.Result.{IfOk-weaker}
 use Rattle.std.specs.List.{Contains}
 use Rattle.vs_design.specs.declared.range.BitRange.{BitRange}
 use Rattle.vs_design.specs.Parts.{Parts}
 use Rattle.vs_rules_of_starts.specs.Beginnings.{AreNamed}
-use Rattle.vs_rules_of_starts.specs.Started.{AreTerms, IsOf, IsStartedBy, StartsFor}
-use Rattle.vs_rules_of_starts.proofs.StartedLemmas.{are_named, delay_within, no_names, none_left, some_first, started_is}
+use Rattle.vs_rules_of_starts.specs.Started.{AreTerms, IsOf, IsStartedBy, MayStart, StartsFor}
+use Rattle.vs_rules_of_starts.proofs.StartedLemmas.{are_named, may_within, no_names, no_start, none_left, some_first, started_is}
 use Rattle.vs_rules_of_starts.proofs.starter.is_started.Goals as goal
+
+pub returns-in_default : goal.returns-in_default
+returns-in_default c i are =
+    no_start c.args.facts.now.design c.args.facts.now.claims i c.args.g
+    (subst (λ (o : Option ℕ). (v : ℕ) → (MayStart c.args.facts.now.design c.args.facts.now.claims c.args.g v ↔ o ≡ Some v)) c.in_default.is c.may_start.ensures)
 
 pub returns-then-len-eq0 : goal.returns-then-len-eq0
 returns-then-len-eq0 c i are =
@@ -19,7 +24,7 @@ returns-then-len-eq0 c i are =
 pub starts_for-requires : goal.starts_for-requires
 starts_for-requires c =
     subst (λ (p : Parts). c.in-Some.w < length p.processes) (sym c.design.ensures)
-    (delay_within c.args.facts.now.design c.args.facts.now.claims c.in-Some.w ((c.in-Some.ensures c.in-Some.w).1 refl).kind)
+    (may_within c.args.facts.now.design c.args.facts.now.claims c.args.g c.in-Some.w ((c.in-Some.ensures c.in-Some.w).1 refl))
 
 pub returns : goal.returns
 returns c =

@@ -5,7 +5,7 @@ use Rattle.vs_vcd_writing.specs.Progress.{vcd_slot}
 use Rattle.vs_run_steps.specs.Runs.{marks_of, state_of}
 use Rattle.vs_run_steps.proofs.WritingLemmas.{ended_here, slot_failed}
 use Rattle.vs_run_moves.proofs.MarkingLemmas.{kept_slot, noted_clear, room_on}
-use Rattle.vs_run_events.proofs.RunLemmas.{marks_run}
+use Rattle.vs_run_moves.proofs.RunLemmas.{marks_run}
 use Rattle.vs_run_moves.proofs.slot.write_slot.Goals as goal
 
 pub returns-in_err-slot-clause-part : goal.returns-in_err-slot-clause-part

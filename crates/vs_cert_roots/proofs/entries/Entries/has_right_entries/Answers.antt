@@ -10,19 +10,22 @@ pub returns-then-v-len : goal.returns-then-v-len
 returns-then-v-len c =
     let K = c.args.self.now in
     let P = c.self.inside.places in
-    let T = c.self.inside.terms.items in
-    let E = c.self.inside.edges in
-    let inv : KeepsEntries K P T E = subst (λ (k : Case). KeepsEntries k P T E) c.self.view_is c.self.invariant in
+    let inv : KeepsEntries K P = subst (λ (k : Case). KeepsEntries k P) c.self.view_is c.self.invariant in
     let h : length P ≤ c.args.v = omega (arith, c.len.ensures.is, c.if-v-len.true) in
     (λ t. past_entries K.design K.claims c.args.v (subst (λ (n : ℕ). n ≤ c.args.v) inv.long h), λ h. refl)
+
+pub is_edge_signal-requires : goal.is_edge_signal-requires
+is_edge_signal-requires c =
+    let K = c.args.self.now in
+    let P = c.self.inside.places in
+    let inv : KeepsEntries K P = subst (λ (k : Case). KeepsEntries k P) c.self.view_is c.self.invariant in
+    subst (λ (n : ℕ). c.args.v < n) inv.long (omega (arith, c.len.ensures.is, c.if-v-len.false))
 
 pub returns-then-is_edge_signal : goal.returns-then-is_edge_signal
 returns-then-is_edge_signal c =
     let K = c.args.self.now in
     let P = c.self.inside.places in
-    let T = c.self.inside.terms.items in
-    let E = c.self.inside.edges in
-    let inv : KeepsEntries K P T E = subst (λ (k : Case). KeepsEntries k P T E) c.self.view_is c.self.invariant in
+    let inv : KeepsEntries K P = subst (λ (k : Case). KeepsEntries k P) c.self.view_is c.self.invariant in
     let h : c.args.v < length P = omega (arith, c.len.ensures.is, c.if-v-len.false) in
     let l = right_edge K.design K.claims c.args.v c.places-places.result.now c.only.result (subst (λ (n : ℕ). c.args.v < n) inv.long h) c.places-places.ensures (c.if-is_edge_signal.ensures.0 refl) c.only.ensures in
     (λ t. l.0 (sym c.is_some.ensures ∙ t), λ k. c.is_some.ensures ∙ l.1 k)
@@ -31,9 +34,7 @@ pub returns-else-is_edge_signal : goal.returns-else-is_edge_signal
 returns-else-is_edge_signal c =
     let K = c.args.self.now in
     let P = c.self.inside.places in
-    let T = c.self.inside.terms.items in
-    let E = c.self.inside.edges in
-    let inv : KeepsEntries K P T E = subst (λ (k : Case). KeepsEntries k P T E) c.self.view_is c.self.invariant in
+    let inv : KeepsEntries K P = subst (λ (k : Case). KeepsEntries k P) c.self.view_is c.self.invariant in
     let h : c.args.v < length P = omega (arith, c.len.ensures.is, c.if-v-len.false) in
     right_none K.design K.claims c.args.v c.places-places.result.now c.is_empty.result (subst (λ (n : ℕ). c.args.v < n) inv.long h) c.places-places.ensures
     (λ e. let f = c.if-is_edge_signal.ensures.1 e in cc)

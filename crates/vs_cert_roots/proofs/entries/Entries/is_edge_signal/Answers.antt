@@ -1,29 +1,19 @@
-use Rattle.std.proofs.Common.{◌≡◌, ◌<◌, ℕ, length, refl, sym, ap, ◌∙◌, subst, arith}
-use Rattle.std.specs.List.{list_any}
-use Rattle.vs_rules.specs.Rules.{IsEdgeSignal}
-use Rattle.vs_rules_of_signals.specs.vs_claims.specs.Facts.{Case}
-use Rattle.vs_cert_roots.specs.Entries.{AreTerms, KeepsEntries, NamesTerm, is_edge_of}
-use Rattle.vs_cert_roots.proofs.FirstRows.{row_exact, row_told}
-use Rattle.vs_cert_roots.proofs.TermLemmas.{edge_signal_is, named_signal, signal_named, term_within}
+use Rattle.std.proofs.Common.{◌<◌, length, sym, ◌∙◌, subst}
+use Rattle.vs_drivers.specs.vs_maps.proofs.SiteLemmas.{AreSitesOf}
+use Rattle.vs_drivers.specs.vs_maps.specs.Texts.{Texts}
+use Rattle.vs_rules_of_signals.specs.vs_claims.specs.Facts.{AreCharts, Case}
+use Rattle.vs_cert_roots.proofs.TermLemmas.{edge_signal}
 use Rattle.vs_cert_roots.proofs.entries.Entries.is_edge_signal.Goals as goal
 
-pub returns-then-v-len : goal.returns-then-v-len
-returns-then-v-len c =
-    let T = c.self.inside.terms.items in
-    let are = subst (λ (k : Case). AreTerms k.design T) c.self.view_is c.self.invariant.terms_are in
-    let l = edge_signal_is c.args.self.now.design T are c.args.v in
-    let e : c.any_edge_of.result ≡ list_any (is_edge_of c.args.v) T = c.any_edge_of.ensures ∙ ap (list_any (is_edge_of c.args.v)) c.deref.ensures.value in
-    (λ t. l.0 (sym e ∙ t), λ h. e ∙ l.1 h)
+pub of_signal-requires : goal.of_signal-requires
+of_signal-requires c =
+    subst (λ (x : Texts). c.args.v < length x.design.signals) (sym c.sites.ensures) (subst (λ (k : Case). c.args.v < length k.design.signals) (sym c.facts-facts.ensures) c.requires)
 
 pub returns : goal.returns
 returns c =
     let K = c.args.self.now in
-    let P = c.self.inside.places in
-    let T = c.self.inside.terms.items in
-    let E = c.self.inside.edges in
-    let inv : KeepsEntries K P T E = subst (λ (k : Case). KeepsEntries k P T E) c.self.view_is c.self.invariant in
-    let v = c.args.v in
-    let h : v < length E = omega (arith, c.len.ensures.is, c.if-v-len.false) in
-    let are = row_exact (NamesTerm T) (length T) (length K.design.signals) E v c.row.result.now inv.edges_are (term_within T v) (subst (λ (n : ℕ). v < n) inv.edges_long h) (sym c.row.ensures) in
-    row_told (λ k. NamesTerm T k v) (IsEdgeSignal K.design v) c.row.result.now (length c.row.result.now) c.is_empty.result are (signal_named K.design T inv.terms_are v) (named_signal K.design T inv.terms_are v)
-    refl c.is_empty.ensures
+    let maps = subst (λ (k : Case). AreCharts k.design k.charts) c.facts-facts.ensures c.maps.ensures in
+    let G = subst (λ (x : Texts). AreSitesOf x.charts c.args.v c.of_signal.result.now) c.sites.ensures c.of_signal.ensures in
+    let are = subst (λ (k : Case). AreSitesOf k.charts c.args.v c.of_signal.result.now) c.facts-facts.ensures G in
+    let l = edge_signal K.design K.charts maps c.args.v c.of_signal.result.now are in
+    (λ t. l.0 (sym c.any_waits.ensures ∙ t), λ h. c.any_waits.ensures ∙ l.1 h)

@@ -8,7 +8,5 @@ pub returns : goal.returns
 returns c =
     let K = c.args.self.now in
     let P = c.self.inside.places in
-    let T = c.self.inside.terms.items in
-    let E = c.self.inside.edges in
-    let inv : KeepsEntries K P T E = subst (λ (k : Case). KeepsEntries k P T E) c.self.view_is c.self.invariant in
+    let inv : KeepsEntries K P = subst (λ (k : Case). KeepsEntries k P) c.self.view_is c.self.invariant in
     any_row K.design K.claims.edges P c.args.v c.row.result.now inv.long inv.places_are c.row.ensures

@@ -35,5 +35,5 @@ returns-else-of-root c =
     let here = subst (λ (o : Option (ℕ × ℕ)). Told c.facts.result.now c.args.place o) c.in-Some.is c.edge.ensures in
     let f = subst (λ (k : Case). Told k c.args.place (Some (c.in-Some.of, c.in-Some.v))) (c.facts.ensures ∙ c.self.view_is) here in
     let l = entry_calm K.design K.claims c.args.place c.args.root c.in-Some.of c.in-Some.v c.args.digit f c.if-of-root.false in
-    let e = subst (λ (k : Case). (IsTrue c.is_calm.result ↔ (WakesSignal k.design c.in-Some.v c.args.digit → ⊥))) c.self.view_is c.is_calm.ensures in
+    let e = subst (λ (k : Case). (IsTrue c.is_calm.result ↔ (WakesSignal k.design k.claims c.in-Some.v c.args.digit → ⊥))) c.self.view_is c.is_calm.ensures in
     (λ t. l.0 (e.0 t), λ n. e.1 (l.1 n))

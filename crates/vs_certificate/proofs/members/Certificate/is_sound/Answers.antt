@@ -1,10 +1,10 @@
 use Rattle.std.proofs.Common.{true≢false, sym, ◌∙◌}
-use Rattle.vs_certificate.proofs.Law.{sound_value, own_kinds}
+use Rattle.vs_certificate.proofs.Law.{narrow_sound, sound_narrow, sound_weaker}
 use Rattle.vs_certificate.proofs.members.Certificate.is_sound.Goals as goal
 
-pub returns-then-has_own_kinds : goal.returns-then-has_own_kinds
-returns-then-has_own_kinds c =
-    (λ h. sound_value c.args.self.now (sym c.has_own_kinds.ensures ∙ c.if-has_own_kinds.true) (sym c.is_within_limits.ensures ∙ h), λ s. c.is_within_limits.ensures ∙ s.limits)
+pub returns-then-is_narrow : goal.returns-then-is_narrow
+returns-then-is_narrow c =
+    (λ h. narrow_sound c.args.self.now (sym c.is_narrow.ensures ∙ c.if-is_narrow.true) (c.is_sound_wide.ensures.0 h), λ s. c.is_sound_wide.ensures.1 (sound_weaker _ s))
 
-pub returns-else-has_own_kinds : goal.returns-else-has_own_kinds
-returns-else-has_own_kinds c = (λ h. absurd (true≢false (sym h ∙ c.if-has_own_kinds.false)), λ s. c.has_own_kinds.ensures ∙ own_kinds c.args.self.now s)
+pub returns-else-is_narrow : goal.returns-else-is_narrow
+returns-else-is_narrow c = (λ h. absurd (true≢false (sym h ∙ c.if-is_narrow.false)), λ s. c.is_narrow.ensures ∙ sound_narrow c.args.self.now s)

@@ -1,6 +1,7 @@
 use Rattle.std.proofs.Common.{◌↔◌, ◌<◌, IsTrue, length, sym, subst}
+use Rattle.vs_maps.specs.declared.sites.Use.TheVariants.{Later}
 use Rattle.vs_maps.specs.Texts.{Texts, AllLater}
-use Rattle.vs_maps.proofs.SiteLemmas.{later_kept}
+use Rattle.vs_maps.proofs.SiteLemmas.{kept}
 use Rattle.vs_maps.proofs.uses.Uses.all_later.Goals as goal
 
 pub of_signal-requires : goal.of_signal-requires
@@ -8,6 +9,6 @@ of_signal-requires g c = subst (λ (x : Texts). c.args.v < length x.design.signa
 
 pub returns : goal.returns
 returns g c =
-    let k = later_kept c.self.inside.sites c.args.v (g.R.SiteRule.keeps c.args.rule.now) c.of_signal.result.now c.of_signal.ensures in
-    subst (λ (x : Texts). (IsTrue c.all_keep_later.result ↔ AllLater x c.args.v (g.R.SiteRule.keeps c.args.rule.now))) c.self.view_is
-    (λ t. k.0 (c.all_keep_later.ensures.0 t), λ a. c.all_keep_later.ensures.1 (k.1 a))
+    let k = kept c.self.inside.sites.charts c.args.v Later (g.R.SiteRule.keeps c.args.rule.now) c.of_signal.result.now c.of_signal.ensures in
+    subst (λ (x : Texts). (IsTrue c.all_keep.result ↔ AllLater x c.args.v (g.R.SiteRule.keeps c.args.rule.now))) c.self.view_is
+    (λ t. k.0 (c.all_keep.ensures.0 t), λ a. c.all_keep.ensures.1 (k.1 a))

@@ -15,7 +15,7 @@ use Rattle.vs_run_steps.proofs.Appending.{part_all}
 use Rattle.vs_run_steps.proofs.WritingLemmas.{slots_whole}
 use Rattle.vs_run_moves.proofs.MarkingLemmas.{kept_on}
 use Rattle.vs_run_moves.proofs.RegionLemmas.{ended_part, ended_turned}
-use Rattle.vs_run_events.proofs.RunLemmas.{marks_still, own_run, run_of_own}
+use Rattle.vs_run_moves.proofs.RunLemmas.{marks_still, own_run, run_of_own}
 use Rattle.vs_run_moves.proofs.StandingLemmas.{none_goes}
 use Rattle.vs_run_moves.proofs.run.Run.end_slot.Goals as goal
 

@@ -3,15 +3,15 @@ use Rattle.vs_run_active.specs.vs_process.specs.declared.moves.Move.TheVariants.
 use Rattle.vs_run_active.specs.vs_process.specs.Executions.{is_enabled}
 use Rattle.vs_run_active.specs.vs_process.proofs.Results.{on_err}
 use Rattle.vs_run_active.specs.vs_process.specs.States.{State}
-use Rattle.vs_run_events.specs.declared.state.Region.{Region}
-use Rattle.vs_run_events.specs.Running.{region_move}
+use Rattle.vs_run_moves.specs.declared.state.Region.{Region}
+use Rattle.vs_run_moves.specs.Running.{region_move}
 use Rattle.vs_run_steps.specs.Runs.{running_of, state_of}
 use Rattle.vs_run_moves.specs.Standing.{IsStanding, Standing, point_of}
 use Rattle.vs_run_steps.specs.Points.{point}
 use Rattle.vs_run_steps.specs.Turns.{Turned, TurnedPart}
 use Rattle.vs_run_steps.proofs.TurnsLemmas.{turned_part}
 use Rattle.vs_run_moves.proofs.RegionLemmas.{activate_turned, rouse_turned}
-use Rattle.vs_run_events.proofs.RunLemmas.{marks_still, own_run, run_of_own}
+use Rattle.vs_run_moves.proofs.RunLemmas.{marks_still, own_run, run_of_own}
 use Rattle.vs_run_moves.proofs.StandingLemmas.{standing_on}
 use Rattle.vs_run_moves.proofs.run.Run.leave_region.Goals as goal
 

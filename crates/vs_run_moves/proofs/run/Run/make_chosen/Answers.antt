@@ -1,7 +1,7 @@
 use Rattle.std.proofs.Common.{◌≡◌, ◌∙◌, true, [], refl, sym, ap, subst, arith}
 use Rattle.vs_run_active.specs.vs_process.specs.Blocks.{is_step_of_any}
 use Rattle.vs_run_active.specs.vs_process.proofs.Results.{on_err}
-use Rattle.vs_run_events.specs.Running.{IsActive, move_of}
+use Rattle.vs_run_moves.specs.Running.{IsActive, move_of}
 use Rattle.vs_run_moves.specs.Standing.{IsStanding, Standing}
 use Rattle.vs_run_steps.specs.Runs.{running_of, state_of}
 use Rattle.vs_run_steps.proofs.Appending.{part_all}

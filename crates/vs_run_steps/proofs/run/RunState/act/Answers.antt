@@ -32,7 +32,7 @@ returns-in-Branch-clause-acts g c = acts_as c.args.number c.args.x.now.action _ 
 
 pub returns-in-Case-clause-acts : goal.returns-in-Case-clause-acts
 returns-in-Case-clause-acts g c =
-    cased_as c.args.number c.args.x.now.next c.time-time.result c.index.result c.args.x.now.action _ c.args.self.now c.in-Case.is c.index.ensures c.time-time.ensures
+    cased_as c.args.number c.args.x.now.next c.time-time.result c.case_of.result c.args.x.now.action _ _ c.args.self.now c.in-Case.is c.deref.ensures.value c.case_of.ensures c.time-time.ensures
 
 pub returns-in-Repeat-clause-acts : goal.returns-in-Repeat-clause-acts
 returns-in-Repeat-clause-acts g c =

@@ -1,6 +1,0 @@
-pub mod DiffersLemmas
-pub mod FormsLemmas
-pub mod GroupLemmas
-pub mod KnownLemmas
-mod OutcomesLemmas
-pub mod RunLemmas

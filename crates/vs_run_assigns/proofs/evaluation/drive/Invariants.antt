@@ -1,7 +1,0 @@
-use Rattle.vs_run_assigns.proofs.evaluation.drive.Given as goal
-
-abbrev pub ghost-drive_any : goal.ghost-drive_any
-ghost-drive_any g a = g.plan
-
-abbrev pub ghost-write : goal.ghost-write
-ghost-write g a = g.plan

@@ -1,4 +1,0 @@
-pub mod ActiveLemmas
-pub mod LeavingLemmas
-pub mod RunLemmas
-pub mod UpdateLemmas

@@ -1,5 +1,0 @@
-pub mod Leaving
-pub mod Making
-pub mod Running
-pub use Rattle.vs_run_regions
-pub use Rattle.vs_run_active

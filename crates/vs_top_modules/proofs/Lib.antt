@@ -1,3 +1,0 @@
-mod Indexed
-mod TopsLemmas
-mod UsesLemmas
