@@ -447,8 +447,8 @@ pub fn check(
     check_wide(alloc, design, certificate)
 }
 
-/// The verdict on a certificate of a design, as `check_wide` gives it, and the first subjects that break rules, at most so many: by the rules, and then
-/// in the order of subjects. The rule K11 is asked where no other one is broken. It takes as long as a `Yes`.
+/// The verdict on a certificate of a design, as `check_wide` gives it, and the first subjects that break rules, at most so many: by the rules,
+/// and then in the order of subjects. The rule K11 is asked where no other one is broken. It takes as long as a `Yes`.
 pub fn check_all_wide(
     alloc: Global,
     design: &Design,

@@ -197,8 +197,8 @@ impl<'a> Entries<'a> {
         any_waits(facts.sites().of_signal(v))
     }
 
-    /// Whether a change of a signal from x to a digit wakes no edge term of it, in version 3 none of an event control of the first slot. It takes as long
-    /// as there are sites of the signal.
+    /// Whether a change of a signal from x to a digit wakes no edge term of it, in version 3 none of an event control of the first slot. It takes as
+    /// long as there are sites of the signal.
     pub(crate) fn is_calm(&self, v: usize, digit: Digit) -> bool
         requires { v < length self.now.design.signals }
         ensures { IsTrue result ↔ (WakesSignal self.now.design self.now.claims v digit → ⊥) }

@@ -203,8 +203,8 @@ impl<'a> FirstWrites<'a> {
         true
     }
 
-    /// Whether no edge term of a root is woken by a change from x to a digit, in version 3 none of an event control of the first slot. It takes as long as
-    /// the signals that copy the root have edge terms.
+    /// Whether no edge term of a root is woken by a change from x to a digit, in version 3 none of an event control of the first slot. It takes as
+    /// long as the signals that copy the root have edge terms.
     pub fn is_silent(&self, root: usize, digit: Digit) -> bool
         ensures { IsTrue result ↔ IsSilent self.now.design self.now.claims root digit }
     {

@@ -164,7 +164,8 @@ pub enum SignalMode {
 }
 
 impl Version {
-    pub(crate) fn number(self) -> u64
+    /// Its number: 1, 2 or 3.
+    pub fn number(self) -> u64
         ensures { result ≡ version_number self }
     {
         match self {

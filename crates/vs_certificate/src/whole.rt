@@ -159,7 +159,8 @@ fn has_none(json: &Value, list: &str, name: &str, word: &str) -> bool
 }
 
 fn version_from_value(alloc: Global, json: &Value) -> Result<Version, AllocError>
-    requires { IsTrue (Shape.is_version_one (view json.now) || Shape.is_version_two (view json.now) || Shape.is_version_three (view json.now)) }
+    requires { IsTrue (Shape.is_version_one (view json.now) || Shape.is_version_two (view json.now)
+        || Shape.is_version_three (view json.now)) }
     ensures { IfOk result (IsOfVersion (view json.now)) }
 {
     if is_version_one(json) {

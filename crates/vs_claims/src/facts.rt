@@ -13,7 +13,7 @@ ghost use Rattle.vs_claims.specs.facts_passes.Kept.{AreEntriesOf, entry_seen};
 ghost use Rattle.vs_maps.specs.Texts.{texts_of};
 
 use crate::names::Names;
-use crate::words::{displays, grain, is_block, is_edge, lists_in, number};
+use crate::words::{displays, grain, is_block, is_edge, lists_in};
 use std::alloc::{AllocError, Global};
 use std::marker::Model;
 use vs_certificate::{Certificate, ClaimedKind, SignalEntry, SignalMode};
@@ -506,7 +506,7 @@ impl<'a> Facts<'a> {
     pub fn version(&self) -> u64
         ensures { result ≡ self.now.claims.version }
     {
-        number(self.certificate.version)
+        self.certificate.version.number()
     }
 
     /// What residues are counted by, in ticks.

@@ -1,6 +1,5 @@
 //! What the words of a certificate say.
 ghost use Rattle.std.specs.Prelude.{◌≡◌, ◌↔◌, IsTrue, Some};
-ghost use Rattle.vs_certificate.specs.JsonValue.{version_number};
 ghost use Rattle.vs_claims.specs.vs_rules.specs.Certificates.{displays_from, grain_from, kind_from};
 ghost use Rattle.vs_claims.specs.vs_rules.specs.Claims.{edges};
 ghost use Rattle.vs_claims.specs.Facts.{kind_seen};
@@ -56,17 +55,6 @@ pub(crate) fn displays(version: Version) -> bool
     match version {
         Version::One => false,
         Version::Two { displays } | Version::Three { displays } => displays,
-    }
-}
-
-/// The number of a version.
-pub(crate) fn number(version: Version) -> u64
-    ensures { result ≡ version_number version }
-{
-    match version {
-        Version::One => 1,
-        Version::Two { .. } => 2,
-        Version::Three { .. } => 3,
     }
 }
 

@@ -1,8 +1,8 @@
 //! Instructions that choose among several places: those of a `case` and of a `repeat` (IEEE 1364-2005, clauses 9.5 and 9.6).
 ghost use Rattle.std.specs.Prelude.{◌≡◌, length};
-ghost use Rattle.vs_process.specs.Choices.{case_index, index_of, repeat_lands, turns_lands};
+ghost use Rattle.vs_process.specs.Choices.{index_of, repeat_lands, turns_lands};
 
-use crate::choices::{start_taken, starts_of, turn, turns_for};
+use crate::choices::{turn, turns_for};
 use crate::draft::Op;
 use vs_design::vs_logic4::CaseKind;
 use vs_design::{Statement, Store, Typed};
@@ -42,21 +42,6 @@ pub(crate) fn index_of(count: usize, place: usize) -> usize
     ensures { result ≡ index_of count place }
 {
     if place == 0 { count } else { place - 1 }
-}
-
-impl<'a> Case<'a> {
-    /// The index to which it leads in a store at a time in ticks.
-    #[inline(never)]
-    pub fn index(&self, store: &Store, time: u64) -> usize
-        ensures { result ≡ case_index self.now store.now time }
-    {
-        let op = self.op;
-        let starts = starts_of(&op.extra);
-        let place = start_taken(
-            self.kind, self.e, store, time, self.items, starts, op.behind,
-        );
-        index_of(self.count, place)
-    }
 }
 
 impl<'a> Repeat<'a> {
