@@ -10,7 +10,7 @@ ghost use Rattle.vs_rules_of_signals.specs.vs_claims.specs.Facts.{AreCharts, bod
 ghost use Rattle.vs_claims.specs.Subjects.{subject_view};
 ghost use Rattle.vs_rules_of_signals.specs.Writers.{texts_in};
 ghost use Rattle.vs_claims.specs.vs_certificate.specs.JsonValue.{value_of};
-ghost use Rattle.vs_claims.specs.vs_certificate.specs.Reading.{IsSound, IsSoundWide};
+ghost use Rattle.vs_claims.specs.vs_certificate.specs.Reading.{IsSound, IsSoundBy, IsSoundWide, other_by};
 ghost use Rattle.vs_rules_of_signals.specs.vs_graph.specs.Verdicts.{IsFirst, IsLeast};
 ghost use Rattle.vs_rules_of_starts.specs.vs_rules.specs.Blocks.{K5};
 ghost use Rattle.vs_rules_of_starts.specs.vs_rules.specs.Certificates.{claims_of};
@@ -27,7 +27,7 @@ use std::alloc::{AllocError, Global};
 use vs_cert_blocks::vs_process::{Code, TextMap};
 use vs_cert_roots::vs_drivers::Copies;
 use vs_cert_roots::{Entries, FirstWrites};
-use vs_claims::vs_certificate::Certificate;
+use vs_claims::vs_certificate::{Certificate, Rules};
 use vs_claims::{Subject, all_subjects, name_of};
 use vs_design::Design;
 use vs_law_rules::{rules_make_displays_alike, rules_make_independent};
@@ -447,6 +447,22 @@ pub fn check(
     check_wide(alloc, design, certificate)
 }
 
+/// The same, of a certificate of a version that is read by these rules.
+pub fn check_by(
+    alloc: Global,
+    design: &Design,
+    rules: Rules,
+    certificate: &Certificate,
+) -> Result<Verdict, AllocError>
+    requires sound { IsSoundBy (other_by rules) (value_of certificate.now) }
+    ensures exact { IfOk result (λ v. IsVerdict design.entry.now (claims_of certificate.entry.now) (verdict_view v)) }
+    ensures numbered { IfOk result (λ v. HasNumber v) }
+    ensures meaning { IfOk result (λ v. Means design.entry.now (claims_of certificate.entry.now) v) }
+{
+    let _ = rules;
+    check_wide(alloc, design, certificate)
+}
+
 /// The verdict on a certificate of a design, as `check_wide` gives it, and the first subjects that break rules, at most so many: by the rules,
 /// and then in the order of subjects. The rule K11 is asked where no other one is broken. It takes as long as a `Yes`.
 pub fn check_all_wide(
@@ -476,5 +492,22 @@ pub fn check_all(
     ensures numbered { IfOk result (λ t. HasNumber t.verdict) }
     ensures broken { IfOk result (λ t. IsListed design.entry.now (claims_of certificate.entry.now) most t.broken.items) }
 {
+    check_all_wide(alloc, design, certificate, most)
+}
+
+/// The same, of a certificate of a version that is read by these rules.
+pub fn check_all_by(
+    alloc: Global,
+    design: &Design,
+    rules: Rules,
+    certificate: &Certificate,
+    most: usize,
+) -> Result<Told, AllocError>
+    requires sound { IsSoundBy (other_by rules) (value_of certificate.now) }
+    ensures exact { IfOk result (λ t. IsVerdict design.entry.now (claims_of certificate.entry.now) (verdict_view t.verdict)) }
+    ensures numbered { IfOk result (λ t. HasNumber t.verdict) }
+    ensures broken { IfOk result (λ t. IsListed design.entry.now (claims_of certificate.entry.now) most t.broken.items) }
+{
+    let _ = rules;
     check_all_wide(alloc, design, certificate, most)
 }

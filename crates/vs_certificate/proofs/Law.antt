@@ -22,12 +22,14 @@ use Rattle.vs_certificate.specs.declared.members.SignalEntry.{SignalEntry}
 use Rattle.vs_certificate.specs.declared.members.SignalMode.{SignalMode}
 use Rattle.vs_certificate.specs.declared.members.SignalMode.TheVariants as modes
 use Rattle.vs_certificate.specs.declared.members.Start.TheVariants as starts
+use Rattle.vs_certificate.specs.declared.members.Rules.{Rules}
+use Rattle.vs_certificate.specs.declared.members.Rules.TheVariants.{Narrow, Wide}
 use Rattle.vs_certificate.specs.declared.members.Version.{Version}
 use Rattle.vs_certificate.specs.declared.members.Version.TheVariants as versions
 use Rattle.vs_certificate.specs.JsonValue.{kind_word, grain_value, mode_value, text_value, list_value, whole_value, residues_value, slots_value, start_value, edge_value, process_value, signal_value, flag_value, object_with, shared_members, members_by, value_of}
 use Rattle.vs_certificate.specs.Shape.{is_whole, is_word, all_items, is_list, passes_at, is_text, is_grain, is_mode, is_edge_signal, is_signal_entry, is_process_entry, lacks, has_shared, is_certificate}
 use Rattle.vs_certificate.specs.Limits.{rise, is_within, are_residues, are_slots, are_processes, is_modulus, is_within_limits}
-use Rattle.vs_certificate.specs.Reading.{is_version, is_wide_version, is_other_version, is_unknown_version, is_other_for, ReadsBack, NarrowIsWide, IsSound, IsSoundWide, IsSoundBy}
+use Rattle.vs_certificate.specs.Reading.{is_version, is_wide_version, is_other_version, is_unknown_version, is_other_for, ReadsBack, NarrowIsWide, IsSound, IsSoundWide, IsSoundBy, other_by}
 use Rattle.vs_certificate.specs.Versions.{has_kind, has_mode, has_own_words, is_narrow}
 use Rattle.vs_certificate.proofs.Plain.{IsPlain, ArePlainItems, of_json-outline, IsUtf8-compact_text, read-compact_text}
 use Rattle.vs_certificate.proofs.Natural.{limit_parts}
@@ -445,6 +447,10 @@ sound_weaker d s = record {
   shape = s.shape;
   limits = s.limits;
 }
+
+pub sound_for : (r : Rules) (d : Data) → IsSoundBy (other_by r) d → IsSoundWide d
+sound_for Narrow d s = sound_weaker d s
+sound_for Wide d s = s
 
 pub narrow_is_wide : NarrowIsWide
 narrow_is_wide bytes d p = record { json = p.json; sound = sound_weaker d p.sound }

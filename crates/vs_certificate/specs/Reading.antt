@@ -8,6 +8,8 @@ use Rattle.serde_json.specs.Find.{get, as_number, as_integer}
 use Rattle.serde_json.specs.Read.{read}
 use Rattle.serde_json.specs.Written.{compact_text}
 use Rattle.vs_certificate.specs.declared.members.Certificate.{Certificate}
+use Rattle.vs_certificate.specs.declared.members.Rules.{Rules}
+use Rattle.vs_certificate.specs.declared.members.Rules.TheVariants.{Narrow, Wide}
 use Rattle.vs_certificate.specs.declared.members.Version.{Version}
 use Rattle.vs_certificate.specs.declared.members.Version.TheVariants as versions
 use Rattle.vs_certificate.specs.declared.fault.CertFault.{CertFault}
@@ -59,6 +61,11 @@ is_other_version d = has_version_but is_version d
 -- and of a reader of version 3 too: other than 1, 2 and 3
 abbrev pub is_unknown_version : Data → Bool
 is_unknown_version d = has_version_but is_wide_version d
+
+-- the test of C3 of those who read the versions of these rules
+abbrev pub other_by : Rules → Data → Bool
+other_by Narrow = is_other_version
+other_by Wide = is_unknown_version
 
 -- C3, by this test, C2 and C4 pass of the value
 pub record IsSoundBy (is_other : Data → Bool) (d : Data) : Type 0 where

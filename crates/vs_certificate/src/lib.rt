@@ -15,8 +15,8 @@ mod writing;
 pub use fault::CertFault;
 pub use laws::value_has_one_certificate;
 pub use members::{
-    Certificate, ClaimedGrain, ClaimedKind, EdgeSignal, ProcessEntry, SignalEntry, SignalMode,
-    Start, Version,
+    Certificate, ClaimedGrain, ClaimedKind, EdgeSignal, ProcessEntry, Rules, SignalEntry,
+    SignalMode, Start, Version,
 };
-pub use reading::{from_json, from_json_wide};
+pub use reading::{from_json, from_json_by, from_json_wide};
 pub use writing::{narrow_is_wide, to_json, written_reads_back};

@@ -4,11 +4,11 @@ ghost use Rattle.std.specs.Prelude.{◌≡◌, ◌↔◌, ℕ, IsTrue};
 ghost use Rattle.vs_certificate.specs.JsonValue.{whole_value, residues_value, list_value, process_value, value_of};
 ghost use Rattle.vs_certificate.specs.Limits.{is_within, are_residues, are_slots, are_processes, is_within_limits};
 ghost use Rattle.vs_certificate.specs.Limits as Limits;
-ghost use Rattle.vs_certificate.specs.Reading.{IsSound, IsSoundWide};
+ghost use Rattle.vs_certificate.specs.Reading.{IsSound, IsSoundBy, IsSoundWide, other_by};
 ghost use Rattle.vs_certificate.specs.Versions.{has_own_kinds, has_own_modes, has_own_words};
 
 use crate::form::JsonForm;
-use crate::members::{Certificate, ClaimedKind, ProcessEntry};
+use crate::members::{Certificate, ClaimedKind, ProcessEntry, Rules};
 
 const MAX_ENTRIES: usize = 65_536;
 
@@ -29,6 +29,16 @@ impl Certificate {
         ensures { IsTrue result ↔ IsSoundWide (value_of self.now) }
     {
         self.has_own_words() && self.is_within_limits()
+    }
+
+    /// Whether it is as sound as `from_json_by` asks by these rules.
+    pub fn is_sound_by(&self, rules: Rules) -> bool
+        ensures { IsTrue result ↔ IsSoundBy (other_by rules) (value_of self.now) }
+    {
+        match rules {
+            Rules::Narrow => self.is_sound(),
+            Rules::Wide => self.is_sound_wide(),
+        }
     }
 
     /// Whether its version has all that is claimed of its processes and its signals.

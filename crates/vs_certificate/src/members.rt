@@ -53,6 +53,15 @@ pub enum Version {
     },
 }
 
+/// Which versions of certificates are read.
+#[derive(Clone, Copy)]
+pub enum Rules {
+    /// Versions 1 and 2.
+    Narrow,
+    /// Version 3 too.
+    Wide,
+}
+
 /// How finely processes may be interleaved.
 #[derive(Clone, Copy, PartialEq, Eq)]
 pub enum ClaimedGrain {

@@ -6,12 +6,12 @@ ghost use Rattle.serde_json.specs.View.{view};
 ghost use Rattle.vs_certificate.specs.JsonValue.{value_of};
 ghost use Rattle.vs_certificate.specs.Shape.{is_whole, is_certificate};
 ghost use Rattle.vs_certificate.specs.Limits.{is_within_limits};
-ghost use Rattle.vs_certificate.specs.Reading.{IsJson, FailsForm, Passes, PassesWide, IsFaultOf, IsWideFaultOf, IsUnread};
+ghost use Rattle.vs_certificate.specs.Reading.{IsJson, FailsForm, Passes, PassesBy, PassesWide, IsFaultBy, IsFaultOf, IsWideFaultOf, IsUnread, other_by};
 ghost use Rattle.vs_certificate.specs.Reading as Reading;
 
 use crate::fault::CertFault;
 use crate::form::{JsonForm, Numbers};
-use crate::members::Certificate;
+use crate::members::{Certificate, Rules};
 use serde_json::Value;
 use std::alloc::Global;
 
@@ -28,11 +28,7 @@ pub fn from_json(alloc: Global, bytes: &[u8]) -> Result<Certificate, CertFault>
     // A fault is that of the first test that fails.
     ensures fault { IfErr result (IsFaultOf bytes.now) }
 {
-    let json = value_from(alloc, bytes)?;
-    if is_other_version(&json) {
-        return Err(CertFault::Version);
-    }
-    certificate_from(alloc, &json)
+    from_json_by(alloc, Rules::Narrow, bytes)
 }
 
 /// The certificate, of version 3 too, whose JSON text the bytes are. The tests are those of `from_json`, but C3 passes of
@@ -46,8 +42,22 @@ pub fn from_json_wide(alloc: Global, bytes: &[u8]) -> Result<Certificate, CertFa
     // A fault is that of the first test that fails.
     ensures fault { IfErr result (IsWideFaultOf bytes.now) }
 {
+    from_json_by(alloc, Rules::Wide, bytes)
+}
+
+/// The certificate, of a version that is read by these rules, whose JSON text the bytes are: as `from_json` or as
+/// `from_json_wide`.
+pub fn from_json_by(alloc: Global, rules: Rules, bytes: &[u8]) -> Result<Certificate, CertFault>
+    // What is answered is what the bytes say, and no test fails of them.
+    ensures ok { IfOk result (λ c. PassesBy (other_by rules) bytes.now (value_of c)) }
+    // Where no test fails, what the bytes say is answered.
+    ensures only { (d : Data) → PassesBy (other_by rules) bytes.now d
+        → MatchResult result (λ c. value_of c ≡ d) (λ e. e ≡ CertFault.Memory) }
+    // A fault is that of the first test that fails.
+    ensures fault { IfErr result (IsFaultBy (other_by rules) bytes.now) }
+{
     let json = value_from(alloc, bytes)?;
-    if is_unknown_version(&json) {
+    if is_other(rules, &json) {
         return Err(CertFault::Version);
     }
     certificate_from(alloc, &json)
@@ -92,6 +102,16 @@ fn certificate_from(alloc: Global, json: &Value) -> Result<Certificate, CertFaul
         return Err(CertFault::Limit);
     }
     Ok(certificate)
+}
+
+/// Whether the version is a whole number other than those that are read.
+fn is_other(rules: Rules, json: &Value) -> bool
+    ensures { result ≡ other_by rules (view json.now) }
+{
+    match rules {
+        Rules::Narrow => is_other_version(json),
+        Rules::Wide => is_unknown_version(json),
+    }
 }
 
 /// Whether the version is a whole number other than 1 and 2.
