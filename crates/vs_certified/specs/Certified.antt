@@ -3,8 +3,10 @@ use Rattle.std.specs.Prelude.{◌≡◌, ◌++◌, ℕ, not, Bool, true, false, 
 use Rattle.std.specs.Io.KnownBytes.{Appends}
 use Rattle.std.specs.List.{Contains}
 use Rattle.vs_certificate.specs.declared.members.Certificate.{Certificate}
+use Rattle.vs_certificate.specs.declared.members.Rules.{Rules}
+use Rattle.vs_certificate.specs.declared.members.Rules.TheVariants.{Narrow}
 use Rattle.vs_certificate.specs.JsonValue.{value_of}
-use Rattle.vs_certificate.specs.Reading.{Passes}
+use Rattle.vs_certificate.specs.Reading.{PassesBy, other_by}
 use Rattle.vs_design.specs.Parts.{Parts}
 use Rattle.vs_design.specs.Traces.{Line, SameTrace, Slot, Trace, times_in}
 use Rattle.vs_independence.specs.vs_process.specs.declared.moves.Move.{Move}
@@ -26,7 +28,7 @@ use Rattle.vs_simulate.specs.vs_kernel.specs.declared.outcome.RunFault.TheVarian
 use Rattle.vs_cert_check.specs.Means.{IsIndependent}
 use Rattle.vs_simulate.specs.Honesty.{Defines, SimulationFails, is_refusal}
 use Rattle.vs_simulate.specs.declared.fault.SimFault.TheVariants.{Run}
-use Rattle.vs_certified.specs.Judged.{IsRefused, IsRejected}
+use Rattle.vs_certified.specs.Judged.{IsRefusedBy, IsRejectedBy}
 use Rattle.vs_certified.specs.declared.fault.CertifiedFault as f
 use Rattle.vs_certified.specs.declared.fault.CertifiedFault.TheVariants.{Simulation, Rejected}
 use Rattle.vs_certified.specs.declared.fault.CertifiedFault.TheVariants as faults
@@ -70,16 +72,16 @@ pub record StandsFor (d : Parts) (c : Claims) (until : ℕ) (moves : List Move) 
   -- where the certificate says `displays`, each process of kind edge or delay makes the same lines of `$display` in each slot in both, in their order
   pub displayed : c.displays ≡ true → SameDisplays (λ i. not (blocks_of d c i)) (displays d xs until) (displays d moves until)
 
--- a certified run that answered an outcome: the design that the source and the top define keeps all rules of the certificate whose text was given, so
--- that its traces do not depend on the order of steps; it ran to the moment in at most so many steps, and the value change dump of this run was
--- appended to the known bytes of a sink, and its lines to those of another one. Unless the step limit ended it, what was written stands for each
--- execution that is permitted at the certificate's grain and complete to the moment
-pub record IsCertifiedRun (source top certificate : List ℕ) (until steps : ℕ) (outcome : Outcome)
+-- a certified run that answered an outcome: the design that the source and the top define keeps all rules of the certificate whose text was given, of
+-- a version that is read by these rules, so that its traces do not depend on the order of steps; it ran to the moment in at most so many steps, and
+-- the value change dump of this run was appended to the known bytes of a sink, and its lines to those of another one. Unless the step limit ended it,
+-- what was written stands for each execution that is permitted at the certificate's grain and complete to the moment
+pub record IsCertifiedRunBy (rules : Rules) (source top certificate : List ℕ) (until steps : ℕ) (outcome : Outcome)
     (old new lines_old lines_new : Option (List ℕ)) : Type 0 where
   pub design : Parts
   pub defined : Defines source top design
   pub claimed : Certificate
-  pub passes : Passes certificate (value_of claimed)
+  pub passes : PassesBy (other_by rules) certificate (value_of claimed)
   pub disciplined : Disciplined design (claims_of claimed)
   pub independent : IsIndependent design (claims_of claimed)
   pub ran : RanTo design until steps outcome old new lines_old lines_new
@@ -87,23 +89,39 @@ pub record IsCertifiedRun (source top certificate : List ℕ) (until steps : ℕ
   pub every : is_whole outcome ≡ true → (xs : List Move) → Legal (claims_of claimed).grain design xs →
       is_complete until (after design xs) ≡ true → StandsFor design (claims_of claimed) until ran.moves old new lines_old lines_new xs
 
--- what a certified run leaves that failed: the design keeps all rules of the certificate, and a beginning of the value change dump of one of its
--- executions was appended to the known bytes of a sink, and a beginning of its lines to those of another one
-pub record HasBegunCertifiedRun (source top certificate : List ℕ) (until steps : ℕ)
+-- the same by a certificate of version 1 or 2
+abbrev pub IsCertifiedRun : List ℕ → List ℕ → List ℕ → ℕ → ℕ → Outcome →
+    Option (List ℕ) → Option (List ℕ) → Option (List ℕ) → Option (List ℕ) → Type 0
+IsCertifiedRun source top certificate until steps outcome old new lines_old lines_new =
+    IsCertifiedRunBy Narrow source top certificate until steps outcome old new lines_old lines_new
+
+-- what a certified run leaves that failed: the design keeps all rules of the certificate, of a version that is read by these rules, and a beginning
+-- of the value change dump of one of its executions was appended to the known bytes of a sink, and a beginning of its lines to those of another one
+pub record HasBegunCertifiedRunBy (rules : Rules) (source top certificate : List ℕ) (until steps : ℕ)
     (old new lines_old lines_new : Option (List ℕ)) : Type 0 where
   pub design : Parts
   pub defined : Defines source top design
   pub claimed : Certificate
-  pub passes : Passes certificate (value_of claimed)
+  pub passes : PassesBy (other_by rules) certificate (value_of claimed)
   pub disciplined : Disciplined design (claims_of claimed)
   pub begun : HasBegun design until steps old new lines_old lines_new
 
--- what a fault says where a certified run was asked for: the source is refused, or then the certificate, or then the design breaks a rule; and a run
--- fails for memory or a write alone
+-- the same by a certificate of version 1 or 2
+abbrev pub HasBegunCertifiedRun : List ℕ → List ℕ → List ℕ → ℕ → ℕ →
+    Option (List ℕ) → Option (List ℕ) → Option (List ℕ) → Option (List ℕ) → Type 0
+HasBegunCertifiedRun source top certificate until steps old new lines_old lines_new =
+    HasBegunCertifiedRunBy Narrow source top certificate until steps old new lines_old lines_new
+
+-- what a fault says where a certified run was asked for by these rules: the source is refused, or then the certificate, or then the design breaks a
+-- rule; and a run fails for memory or a write alone
+abbrev pub CertifyingFailsBy : Rules → List ℕ → List ℕ → List ℕ → f.CertifiedFault → Type 0
+CertifyingFailsBy rules source top certificate (Simulation fault) = SimulationFails source top fault
+CertifyingFailsBy rules source top certificate (faults.Certificate fault) = IsRefusedBy rules source top certificate fault
+CertifyingFailsBy rules source top certificate (Rejected number place) = IsRejectedBy rules source top certificate number place.items
+
+-- the same where versions 1 and 2 are read
 abbrev pub CertifyingFails : List ℕ → List ℕ → List ℕ → f.CertifiedFault → Type 0
-CertifyingFails source top certificate (Simulation fault) = SimulationFails source top fault
-CertifyingFails source top certificate (faults.Certificate fault) = IsRefused source top certificate fault
-CertifyingFails source top certificate (Rejected number place) = IsRejected source top certificate number place.items
+CertifyingFails source top certificate fault = CertifyingFailsBy Narrow source top certificate fault
 
 -- whether a fault is told before anything is run
 abbrev pub is_before_run : f.CertifiedFault → Bool

@@ -1,12 +1,13 @@
 //! A run that stands for all permitted ones, from bytes.
 ghost use Rattle.std.specs.Prelude.{◌≡◌, ◌<◌, ◌^◌, true, false, IfOk, IfErr};
-ghost use Rattle.vs_certified.specs.Certified.{IsCertifiedRun, HasBegunCertifiedRun, CertifyingFails, is_before_run, is_write};
+ghost use Rattle.vs_certified.specs.Certified.{IsCertifiedRun, IsCertifiedRunBy, HasBegunCertifiedRun, HasBegunCertifiedRunBy};
+ghost use Rattle.vs_certified.specs.Certified.{CertifyingFails, CertifyingFailsBy, is_before_run, is_write};
 ghost use Rattle.vs_simulate.specs.vs_kernel.specs.Faults.{OneFailed};
 
 use crate::fault::CertifiedFault;
 use std::alloc::Global;
-use vs_cert_check::{Verdict, check};
-use vs_certificate::from_json;
+use vs_cert_check::{Verdict, check_by};
+use vs_certificate::{Rules, from_json_by};
 use vs_independence::lines_are_of_slots;
 use vs_simulate::vs_kernel::vs_vcd_writing::Sink;
 use vs_simulate::vs_kernel::{Outcome, dumps_show_slot_ends};
@@ -41,12 +42,49 @@ pub fn certified<'s, V: Sink, L: Sink>(
     // A failed write is told only where the count of a sink rose.
     ensures failures { OneFailed (is_write result) (V.failed vcd.old) (V.failed vcd.new) (L.failed lines.old) (L.failed lines.new) }
 {
+    certified_by(
+        alloc,
+        Rules::Narrow,
+        source,
+        top,
+        certificate,
+        until,
+        steps,
+        vcd,
+        lines,
+    )
+}
+
+/// The same, by a certificate of a version that is read by these rules.
+pub fn certified_by<'s, V: Sink, L: Sink>(
+    alloc: Global,
+    rules: Rules,
+    source: &'s [u8],
+    top: &[u8],
+    certificate: &[u8],
+    until: u64,
+    steps: u64,
+    vcd: &mut V,
+    lines: &mut L,
+) -> Result<Outcome, CertifiedFault<'s>>
+    requires until { until < 2 ^ 62 }
+    requires steps { steps < 2 ^ 62 }
+    ensures honest { IfOk result (λ outcome. IsCertifiedRunBy rules source.entry.now top.now certificate.now until steps outcome
+        (V.bytes vcd.old) (V.bytes vcd.new) (L.bytes lines.old) (L.bytes lines.new)) }
+    ensures fault { IfErr result (λ fault. CertifyingFailsBy rules source.entry.now top.now certificate.now fault) }
+    ensures refused { IfErr result (λ fault. is_before_run fault ≡ true → (vcd.new ≡ vcd.old) × (lines.new ≡ lines.old)) }
+    ensures begun { IfErr result (λ fault. is_before_run fault ≡ false →
+        HasBegunCertifiedRunBy rules source.entry.now top.now certificate.now until steps
+        (V.bytes vcd.old) (V.bytes vcd.new) (L.bytes lines.old) (L.bytes lines.new)) }
+    // A failed write is told only where the count of a sink rose.
+    ensures failures { OneFailed (is_write result) (V.failed vcd.old) (V.failed vcd.new) (L.failed lines.old) (L.failed lines.new) }
+{
     dumps_show_slot_ends();
     names_of_one_line();
     lines_are_of_slots();
     let design = design_of(alloc, source, top)?;
-    let claimed = from_json(alloc, certificate)?;
-    let verdict = check(alloc, &design, &claimed)?;
+    let claimed = from_json_by(alloc, rules, certificate)?;
+    let verdict = check_by(alloc, &design, rules, &claimed)?;
     match verdict {
         Verdict::Yes => {
             let outcome = run_design(alloc, &design, &Policy::Fifo, until, steps, vcd, lines)?;

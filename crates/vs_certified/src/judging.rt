@@ -1,11 +1,11 @@
 //! The verdict on a certificate, from bytes.
 ghost use Rattle.std.specs.Prelude.{IfOk, IfErr};
-ghost use Rattle.vs_certified.specs.Judged.{IsJudged, JudgingFails};
+ghost use Rattle.vs_certified.specs.Judged.{IsJudged, IsJudgedBy, JudgingFails, JudgingFailsBy};
 
 use crate::fault::CertifiedFault;
 use std::alloc::Global;
-use vs_cert_check::{Verdict, check};
-use vs_certificate::from_json;
+use vs_cert_check::{Verdict, check_by};
+use vs_certificate::{Rules, from_json_by};
 use vs_simulate::design_of;
 
 /// The verdict on a certificate, which is given by its JSON text, of the design that a source and the name of a top module define: `Yes` exactly
@@ -21,8 +21,22 @@ pub fn judge<'s>(
     ensures judged { IfOk result (λ v. IsJudged source.entry.now top.now certificate.now v) }
     ensures fault { IfErr result (λ fault. JudgingFails source.entry.now top.now certificate.now fault) }
 {
+    judge_by(alloc, Rules::Narrow, source, top, certificate)
+}
+
+/// The same, of a certificate of a version that is read by these rules.
+pub fn judge_by<'s>(
+    alloc: Global,
+    rules: Rules,
+    source: &'s [u8],
+    top: &[u8],
+    certificate: &[u8],
+) -> Result<Verdict, CertifiedFault<'s>>
+    ensures judged { IfOk result (λ v. IsJudgedBy rules source.entry.now top.now certificate.now v) }
+    ensures fault { IfErr result (λ fault. JudgingFailsBy rules source.entry.now top.now certificate.now fault) }
+{
     let design = design_of(alloc, source, top)?;
-    let claimed = from_json(alloc, certificate)?;
-    let verdict = check(alloc, &design, &claimed)?;
+    let claimed = from_json_by(alloc, rules, certificate)?;
+    let verdict = check_by(alloc, &design, rules, &claimed)?;
     Ok(verdict)
 }

@@ -5,9 +5,9 @@ mod certifying;
 mod fault;
 mod judging;
 
-pub use certifying::certified;
+pub use certifying::{certified, certified_by};
 pub use fault::CertifiedFault;
-pub use judging::judge;
+pub use judging::{judge, judge_by};
 pub use vs_cert_check;
 pub use vs_simulate;
 pub use vs_simulate::vs_kernel;

@@ -9,13 +9,15 @@ use Rattle.vs_certificate.specs.declared.members.Certificate.{Certificate}
 use Rattle.vs_certificate.specs.declared.members.ClaimedGrain.{ClaimedGrain}
 use Rattle.vs_certificate.specs.declared.members.EdgeSignal.{EdgeSignal}
 use Rattle.vs_certificate.specs.declared.members.ProcessEntry.{ProcessEntry}
+use Rattle.vs_certificate.specs.declared.members.Rules.{Rules}
+use Rattle.vs_certificate.specs.declared.members.Rules.TheVariants.{Narrow, Wide}
 use Rattle.vs_certificate.specs.declared.members.SignalEntry.{SignalEntry}
 use Rattle.vs_certificate.specs.declared.members.Version.TheVariants as versions
 use Rattle.vs_certificate.specs.JsonValue.{value_of, object_with, list_value, edge_value, grain_value, process_value, signal_value, text_value, whole_value}
 use Rattle.vs_certificate.specs.Limits.{is_within_limits}
-use Rattle.vs_certificate.specs.Reading.{IsSound, is_other_version}
+use Rattle.vs_certificate.specs.Reading.{IsSound, IsSoundBy, other_by}
 use Rattle.vs_certificate.specs.Versions.{has_kind, has_mode}
-use Rattle.vs_certificate.proofs.Law.{sound_value, own_words}
+use Rattle.vs_certificate.proofs.Law.{sound_value, sound_weaker, own_words}
 use Rattle.vs_cert_check.specs.Answers.{verdict_view, HasNumber}
 use Rattle.vs_cert_check.specs.Verdicts.{rule_of}
 use Rattle.vs_cert_check.specs.declared.verdict.Verdict.{Verdict}
@@ -24,20 +26,26 @@ use Rattle.vs_design.specs.Parts.{Parts}
 use Rattle.vs_cert_check.specs.vs_rules.specs.Certificates.{claims_of}
 use Rattle.vs_cert_check.specs.vs_rules.specs.Claims.{Claims}
 use Rattle.vs_cert_check.specs.vs_rules.specs.Verdict.{Breaks, Disciplined, IsVerdict}
-use Rattle.vs_propose.specs.Proposals.{IsMade, IsRefused}
+use Rattle.vs_propose.specs.Proposals.{IsMadeBy, IsRefusedBy}
 
-pub made : (d : Parts) (grain : ClaimedGrain) (c : Certificate) (v : Verdict) → c.grain ≡ grain → IsSound (value_of c) → IsVerdict d (claims_of c) (verdict_view v) → v ≡ verdicts.Yes → IsMade d grain c
-made d grain c v same sound verdict is = record {
+-- what the tests of versions 1 and 2 pass, the tests by any rules pass
+pub sound_by : (rules : Rules) (d : Data) → IsSound d → IsSoundBy (other_by rules) d
+sound_by Narrow d sound = sound
+sound_by Wide d sound = sound_weaker d sound
+
+pub made : (rules : Rules) (d : Parts) (grain : ClaimedGrain) (c : Certificate) (v : Verdict) → c.grain ≡ grain → IsSoundBy (other_by rules) (value_of c) →
+    IsVerdict d (claims_of c) (verdict_view v) → v ≡ verdicts.Yes → IsMadeBy rules d grain c
+made rules d grain c v same sound verdict is = record {
   grain_is = same;
   sound = sound;
-  own_words = own_words is_other_version c sound;
+  own_words = own_words (other_by rules) c sound;
   kept = subst (λ w. IsVerdict d (claims_of c) (verdict_view w)) is verdict;
 }
 
-pub refused : (d : Parts) (grain : ClaimedGrain) (c : Certificate) (v : Verdict) (number : ℕ) (place : Vec ℕ Global) → c.grain ≡ grain → IsSound (value_of c) →
-    IsVerdict d (claims_of c) (verdict_view v) → HasNumber v → v ≡ verdicts.No number place →
-    IsRefused d grain (record { certificate = c; number = number; place = place })
-refused d grain c v number place same sound verdict numbered is = record {
+pub refused : (rules : Rules) (d : Parts) (grain : ClaimedGrain) (c : Certificate) (v : Verdict) (number : ℕ) (place : Vec ℕ Global) → c.grain ≡ grain →
+    IsSoundBy (other_by rules) (value_of c) → IsVerdict d (claims_of c) (verdict_view v) → HasNumber v → v ≡ verdicts.No number place →
+    IsRefusedBy rules d grain (record { certificate = c; number = number; place = place })
+refused rules d grain c v number place same sound verdict numbered is = record {
   grain_is = same;
   sound = sound;
   numbered = subst HasNumber is numbered;
@@ -73,10 +81,17 @@ nothing_within grain edges order processes signals e o p s =
     (subst (λ t. is_within_limits (nothing_with grain [] [] t signals) ≡ true) (sym p)
     (subst (λ t. is_within_limits (nothing_with grain [] [] [] t) ≡ true) (sym s) refl)))
 
-pub sound_nothing : (grain : ClaimedGrain) (edges : Vec EdgeSignal Global) (order : Vec (String Global) Global) (processes : Vec ProcessEntry Global) (signals : Vec SignalEntry Global) →
+nothing_sound : (grain : ClaimedGrain) (edges : Vec EdgeSignal Global) (order : Vec (String Global) Global) (processes : Vec ProcessEntry Global) (signals : Vec SignalEntry Global) →
     edges.items ≡ [] → order.items ≡ [] → processes.items ≡ [] → signals.items ≡ [] →
     IsSound (value_of (record { version = versions.One; grain = grain; modulus = 1; edges = edges; order = order; processes = processes; signals = signals }))
-sound_nothing grain edges order processes signals e o p s =
+nothing_sound grain edges order processes signals e o p s =
     sound_value (record { version = versions.One; grain = grain; modulus = 1; edges = edges; order = order; processes = processes; signals = signals })
     refl (ap₂ (λ (ps : List ProcessEntry) (ss : List SignalEntry). list_all (λ (q : ProcessEntry). has_kind versions.One q.kind) ps && list_all (λ (t : SignalEntry). has_mode versions.One t.mode) ss) p s)
     (nothing_within grain edges.items order.items processes.items signals.items e o p s)
+
+pub sound_nothing : (rules : Rules) (grain : ClaimedGrain) (edges : Vec EdgeSignal Global) (order : Vec (String Global) Global) (processes : Vec ProcessEntry Global)
+    (signals : Vec SignalEntry Global) → edges.items ≡ [] → order.items ≡ [] → processes.items ≡ [] → signals.items ≡ [] →
+    IsSoundBy (other_by rules) (value_of (record { version = versions.One; grain = grain; modulus = 1; edges = edges; order = order; processes = processes; signals = signals }))
+sound_nothing rules grain edges order processes signals e o p s =
+    sound_by rules (value_of (record { version = versions.One; grain = grain; modulus = 1; edges = edges; order = order; processes = processes; signals = signals }))
+    (nothing_sound grain edges order processes signals e o p s)

@@ -5,5 +5,5 @@ mod proposal;
 mod search;
 
 pub use proposal::{Proposal, Refusal};
-pub use search::propose;
+pub use search::{propose, propose_by};
 pub use vs_certificate;

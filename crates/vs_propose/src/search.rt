@@ -2,35 +2,37 @@
 ghost use Rattle.std.specs.Prelude.{◌≡◌, [], IfOk, IfSome, IsSome};
 ghost use Rattle.vs_cert_check.specs.Answers.{verdict_view, HasNumber};
 ghost use Rattle.vs_certificate.specs.JsonValue.{value_of};
-ghost use Rattle.vs_certificate.specs.Reading.{IsSound};
+ghost use Rattle.vs_certificate.specs.Reading.{IsSoundBy, other_by};
 ghost use Rattle.vs_propose_plan.specs.Settling.{CanSettle};
 ghost use Rattle.vs_cert_check.specs.vs_rules.specs.Certificates.{claims_of};
 ghost use Rattle.vs_cert_check.specs.vs_rules.specs.Verdict.{Disciplined, IsVerdict};
-ghost use Rattle.vs_propose.specs.Proposals.{IsMade, IsProposal, MayBeProposal, AnswersMade, HasMade};
+ghost use Rattle.vs_propose.specs.Proposals.{IsMadeBy, IsProposal, IsProposalBy, MayBeProposalBy, AnswersMade, HasMade};
 
 use crate::proposal::{Proposal, Refusal};
 use std::alloc::{AllocError, Global};
 use vs_cert_check::vs_rules::tested_are_certificates;
-use vs_cert_check::{Verdict, check};
-use vs_certificate::{Certificate, ClaimedGrain, Version};
+use vs_cert_check::{Verdict, check_by};
+use vs_certificate::{Certificate, ClaimedGrain, Rules, Version};
 use vs_design::Design;
 use vs_propose_plan::{Plan, certificate_of, certificate_of_assigns, moduli_of, plan_of};
 
 // What the verdict on a certificate comes to.
 fn proposal_of(
     design: &Design,
+    rules: Rules,
     grain: ClaimedGrain,
     certificate: Certificate,
     verdict: Verdict,
 ) -> Proposal
     requires grain { certificate.grain ≡ grain }
-    requires sound { IsSound (value_of certificate) }
+    requires sound { IsSoundBy (other_by rules) (value_of certificate) }
     requires verdict { IsVerdict design.now (claims_of certificate) (verdict_view verdict) }
     requires numbered { HasNumber verdict }
-    ensures is { IsProposal design.now grain result }
+    ensures is { IsProposalBy rules design.now grain result }
     ensures made { Disciplined design.now (claims_of certificate) → AnswersMade result }
 {
     let _ = design;
+    let _ = rules;
     let _ = grain;
     match verdict {
         Verdict::Yes => Proposal::Made(certificate),
@@ -46,19 +48,21 @@ fn proposal_of(
 fn tried(
     alloc: Global,
     design: &Design,
+    rules: Rules,
     grain: ClaimedGrain,
     certificate: Certificate,
 ) -> Result<Option<Proposal>, AllocError>
     requires { certificate.grain ≡ grain }
-    ensures is { IfOk result (MayBeProposal design.now grain) }
-    ensures some { IsSound (value_of certificate) → IfOk result IsSome }
-    ensures made { IsSound (value_of certificate) → Disciplined design.now (claims_of certificate) → IfOk result HasMade }
+    ensures is { IfOk result (MayBeProposalBy rules design.now grain) }
+    ensures some { IsSoundBy (other_by rules) (value_of certificate) → IfOk result IsSome }
+    ensures made { IsSoundBy (other_by rules) (value_of certificate) → Disciplined design.now (claims_of certificate) →
+        IfOk result HasMade }
 {
-    if !certificate.is_sound() {
+    if !certificate.is_sound_by(rules) {
         return Ok(None);
     }
-    let verdict = check(alloc, design, &certificate)?;
-    Ok(Some(proposal_of(design, grain, certificate, verdict)))
+    let verdict = check_by(alloc, design, rules, &certificate)?;
+    Ok(Some(proposal_of(design, rules, grain, certificate, verdict)))
 }
 
 // What it says of the certificate of a plan, by a modulus; nothing, where that has none.
@@ -66,22 +70,24 @@ fn tried_by(
     alloc: Global,
     design: &Design,
     plan: &Plan,
+    rules: Rules,
     grain: ClaimedGrain,
     modulus: u64,
 ) -> Result<Option<Proposal>, AllocError>
-    ensures { IfOk result (MayBeProposal design.now grain) }
+    ensures { IfOk result (MayBeProposalBy rules design.now grain) }
 {
     match certificate_of(alloc, design, plan, grain, modulus)? {
         None => Ok(None),
-        Some(certificate) => tried(alloc, design, grain, certificate),
+        Some(certificate) => tried(alloc, design, rules, grain, certificate),
     }
 }
 
-// A certificate that claims nothing.
-fn no_claims(alloc: Global, grain: ClaimedGrain) -> Certificate
+// A certificate that claims nothing, of a version that is read by any rules.
+fn no_claims(alloc: Global, rules: Rules, grain: ClaimedGrain) -> Certificate
     ensures grain { result.grain ≡ grain }
-    ensures sound { IsSound (value_of result) }
+    ensures sound { IsSoundBy (other_by rules) (value_of result) }
 {
+    let _ = rules;
     Certificate {
         version: Version::One,
         grain,
@@ -97,11 +103,12 @@ fn no_claims(alloc: Global, grain: ClaimedGrain) -> Certificate
 fn tried_without_claims(
     alloc: Global,
     design: &Design,
+    rules: Rules,
     grain: ClaimedGrain,
 ) -> Result<Proposal, AllocError>
-    ensures { IfOk result (IsProposal design.now grain) }
+    ensures { IfOk result (IsProposalBy rules design.now grain) }
 {
-    match tried(alloc, design, grain, no_claims(alloc, grain))? {
+    match tried(alloc, design, rules, grain, no_claims(alloc, rules, grain))? {
         Some(proposal) => Ok(proposal),
         None => unreachable!(),
     }
@@ -123,12 +130,19 @@ fn may_improve(proposal: &Proposal) -> bool {
 }
 
 // The better one of two proposals, the first of two that are as good as each other.
-fn better(design: &Design, grain: ClaimedGrain, best: Option<Proposal>, other: Proposal) -> Proposal
-    requires best { MayBeProposal design.now grain best }
-    requires other { IsProposal design.now grain other }
-    ensures { IsProposal design.now grain result }
+fn better(
+    design: &Design,
+    rules: Rules,
+    grain: ClaimedGrain,
+    best: Option<Proposal>,
+    other: Proposal,
+) -> Proposal
+    requires best { MayBeProposalBy rules design.now grain best }
+    requires other { IsProposalBy rules design.now grain other }
+    ensures { IsProposalBy rules design.now grain result }
 {
     let _ = design;
+    let _ = rules;
     let _ = grain;
     match best {
         None => other,
@@ -147,16 +161,17 @@ fn best_of(
     alloc: Global,
     design: &Design,
     plan: &Plan,
+    rules: Rules,
     grain: ClaimedGrain,
     moduli: &[u64],
 ) -> Result<Option<Proposal>, AllocError>
-    ensures { IfOk result (MayBeProposal design.now grain) }
+    ensures { IfOk result (MayBeProposalBy rules design.now grain) }
 {
     let mut best = None;
     for modulus in moduli {
-        if let Some(proposal) = tried_by(alloc, design, plan, grain, *modulus)? {
+        if let Some(proposal) = tried_by(alloc, design, plan, rules, grain, *modulus)? {
             let goes_on = may_improve(&proposal);
-            best = Some(better(design, grain, best, proposal));
+            best = Some(better(design, rules, grain, best, proposal));
             if !goes_on {
                 return Ok(best);
             }
@@ -165,15 +180,55 @@ fn best_of(
     Ok(best)
 }
 
-// What the checker says of the certificates of a plan.
-fn searched(alloc: Global, design: &Design, grain: ClaimedGrain) -> Result<Proposal, AllocError>
-    ensures { IfOk result (IsProposal design.now grain) }
+// What the checker says of the certificates of a plan, which is for versions 1 and 2 (narrow), or for version 3 (wide).
+fn searched(
+    alloc: Global,
+    design: &Design,
+    rules: Rules,
+    grain: ClaimedGrain,
+    versions: Rules,
+) -> Result<Proposal, AllocError>
+    ensures { IfOk result (IsProposalBy rules design.now grain) }
 {
-    let plan = plan_of(alloc, design)?;
+    let plan = plan_of(alloc, design, versions)?;
     let moduli = moduli_of(alloc, design, &plan)?;
-    match best_of(alloc, design, &plan, grain, &moduli)? {
+    match best_of(alloc, design, &plan, rules, grain, &moduli)? {
         Some(best) => Ok(best),
-        None => tried_without_claims(alloc, design, grain),
+        None => tried_without_claims(alloc, design, rules, grain),
+    }
+}
+
+// A proposal of versions 1 and 2, or what the checker says of certificates of version 3, where that is better.
+fn widened(
+    alloc: Global,
+    design: &Design,
+    rules: Rules,
+    grain: ClaimedGrain,
+    narrow: Proposal,
+) -> Result<Proposal, AllocError>
+    requires { IsProposalBy rules design.now grain narrow }
+    ensures { IfOk result (IsProposalBy rules design.now grain) }
+{
+    if matches!(&narrow, Proposal::Made(_)) {
+        return Ok(narrow);
+    }
+    let wide = searched(alloc, design, rules, grain, Rules::Wide)?;
+    Ok(better(design, rules, grain, Some(narrow), wide))
+}
+
+// What the checker says of the certificates of plans: of versions 1 and 2, and where none of them is made, of version 3 too where the rules have it.
+fn searched_by(
+    alloc: Global,
+    design: &Design,
+    rules: Rules,
+    grain: ClaimedGrain,
+) -> Result<Proposal, AllocError>
+    ensures { IfOk result (IsProposalBy rules design.now grain) }
+{
+    let narrow = searched(alloc, design, rules, grain, Rules::Narrow)?;
+    match rules {
+        Rules::Narrow => Ok(narrow),
+        Rules::Wide => widened(alloc, design, rules, grain, narrow),
     }
 }
 
@@ -181,32 +236,53 @@ fn searched(alloc: Global, design: &Design, grain: ClaimedGrain) -> Result<Propo
 fn tried_by_assigns(
     alloc: Global,
     design: &Design,
+    rules: Rules,
     grain: ClaimedGrain,
 ) -> Result<Option<Proposal>, AllocError>
     requires { design.now.processes ≡ [] }
-    ensures is { IfOk result (MayBeProposal design.now grain) }
+    ensures is { IfOk result (MayBeProposalBy rules design.now grain) }
     ensures made { CanSettle design.now → IfOk result HasMade }
 {
     tested_are_certificates();
     let certificate = certificate_of_assigns(alloc, design, grain)?;
-    tried(alloc, design, grain, certificate)
+    tried(alloc, design, rules, grain, certificate)
 }
 
 // The certificate that is proposed of a design without processes, where its continuous assignments settle.
 fn settled(
     alloc: Global,
     design: &Design,
+    rules: Rules,
     grain: ClaimedGrain,
 ) -> Result<Option<Certificate>, AllocError>
-    ensures is { IfOk result (λ o. IfSome o (IsMade design.now grain)) }
+    ensures is { IfOk result (λ o. IfSome o (IsMadeBy rules design.now grain)) }
     ensures some { CanSettle design.now → IfOk result IsSome }
 {
     if !design.processes().is_empty() {
         return Ok(None);
     }
-    match tried_by_assigns(alloc, design, grain)? {
+    match tried_by_assigns(alloc, design, rules, grain)? {
         Some(Proposal::Made(certificate)) => Ok(Some(certificate)),
         _ => Ok(None),
+    }
+}
+
+/// A certificate of a grain for a design, of a version that is read by these rules, where one is found. By narrow rules it is what `propose` answers.
+/// By wide ones that is tried first, so that one of version 3 is made only where none of version 1 or 2 is found: then it makes a plan of what
+/// version 3 has besides, and tries it in the same way. Of two refusals it answers the one of the rule with the greater number, and of two of one
+/// rule that of version 1 or 2.
+pub fn propose_by(
+    alloc: Global,
+    design: &Design,
+    rules: Rules,
+    grain: ClaimedGrain,
+) -> Result<Proposal, AllocError>
+    ensures is { IfOk result (IsProposalBy rules design.now grain) }
+    ensures complete { CanSettle design.now → IfOk result AnswersMade }
+{
+    match settled(alloc, design, rules, grain)? {
+        Some(certificate) => Ok(Proposal::Made(certificate)),
+        None => searched_by(alloc, design, rules, grain),
     }
 }
 
@@ -221,8 +297,5 @@ pub fn propose(alloc: Global, design: &Design, grain: ClaimedGrain) -> Result<Pr
     ensures is { IfOk result (IsProposal design.now grain) }
     ensures complete { CanSettle design.now → IfOk result AnswersMade }
 {
-    match settled(alloc, design, grain)? {
-        Some(certificate) => Ok(Proposal::Made(certificate)),
-        None => searched(alloc, design, grain),
-    }
+    propose_by(alloc, design, Rules::Narrow, grain)
 }

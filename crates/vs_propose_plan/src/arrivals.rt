@@ -1,14 +1,20 @@
 //! How a text comes to each place of its map.
 
+use crate::vs_certificate::Rules;
 use std::alloc::{AllocError, Global};
 use vs_design::Statement;
 use vs_process::{Stop, TextMap};
 
-/// How many ways to come to one place are told apart.
-const MAX_ARRIVALS: usize = 1_024;
+// How many ways to come to one place are told apart: by wide rules as many as a list may have residues, and those without one.
+fn most_arrivals(rules: Rules) -> usize {
+    match rules {
+        Rules::Narrow => 1_024,
+        Rules::Wide => 4_100,
+    }
+}
 
 /// How a text comes to a place of its map.
-#[derive(Clone, Copy, PartialEq, Eq)]
+#[derive(Clone, Copy, PartialEq, Eq, PartialOrd, Ord)]
 pub(crate) enum Arrival {
     /// From its start, through no control.
     Start,
@@ -88,24 +94,26 @@ pub(crate) fn stop_at<'a>(stops: &'a [Stop<'a>], place: usize) -> Option<&'a Sto
 struct Walk {
     rows: Vec<Vec<Arrival>>,
     todo: Vec<(usize, Arrival)>,
+    // How many ways to come to one place are told apart.
+    most: usize,
     is_full: bool,
 }
 
-// Puts a way to come at a row's end, where it isn't there. The answer is whether it is new; none where there are too many.
-fn put(row: &mut Vec<Arrival>, arrival: Arrival) -> Result<Option<bool>, AllocError> {
-    if row.contains(&arrival) {
+// Puts a way to come into a row that ascends, where it isn't there. The answer is whether it is new; none where there are too many.
+fn put(row: &mut Vec<Arrival>, arrival: Arrival, most: usize) -> Result<Option<bool>, AllocError> {
+    let Err(at) = row.binary_search(&arrival) else {
         return Ok(Some(false));
-    }
-    if row.len() >= MAX_ARRIVALS {
+    };
+    if row.len() >= most {
         return Ok(None);
     }
-    row.push(arrival)?;
+    row.insert(at, arrival)?;
     Ok(Some(true))
 }
 
 impl Walk {
     // A walk that has come nowhere.
-    fn new(alloc: Global, places: usize) -> Result<Walk, AllocError> {
+    fn new(alloc: Global, places: usize, most: usize) -> Result<Walk, AllocError> {
         let mut rows = Vec::new(alloc);
         for _ in 0..places {
             rows.push(Vec::new(alloc))?;
@@ -113,15 +121,17 @@ impl Walk {
         Ok(Walk {
             rows,
             todo: Vec::new(alloc),
+            most,
             is_full: false,
         })
     }
 
     // Comes to a place.
     fn come(&mut self, place: usize, arrival: Arrival) -> Result<(), AllocError> {
+        let most = self.most;
         let is_new = match self.rows.get_mut(place) {
             None => Some(false),
-            Some(row) => put(row, arrival)?,
+            Some(row) => put(row, arrival, most)?,
         };
         match is_new {
             None => self.is_full = true,
@@ -155,9 +165,11 @@ impl Walk {
 pub(crate) fn all_arrivals(
     alloc: Global,
     map: &TextMap,
+    rules: Rules,
     modulus: u64,
 ) -> Result<Option<Arrivals>, AllocError> {
-    let mut walk = Walk::new(alloc, map.stops.len().saturating_add(1))?;
+    let places = map.stops.len().saturating_add(1);
+    let mut walk = Walk::new(alloc, places, most_arrivals(rules))?;
     walk.come(map.start, Arrival::Start)?;
     for _ in 0..u64::MAX {
         let Some((place, arrival)) = walk.todo.pop() else {

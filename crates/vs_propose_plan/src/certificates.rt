@@ -3,7 +3,7 @@ ghost use Rattle.std.specs.Prelude.{◌≡◌, IfOk, IfSome};
 
 use crate::plans::{EdgePlan, KindPlan, Plan, SignalPlan};
 use crate::vs_certificate::{
-    Certificate, ClaimedGrain, ClaimedKind, EdgeSignal, ProcessEntry, SignalEntry, Version,
+    Certificate, ClaimedGrain, ClaimedKind, EdgeSignal, ProcessEntry, Rules, SignalEntry, Version,
 };
 use crate::{text_lists, text_of};
 use std::alloc::{AllocError, Global};
@@ -100,6 +100,7 @@ fn claimed_kind(
     design: &Design,
     i: usize,
     plan: KindPlan,
+    rules: Rules,
     modulus: u64,
 ) -> Result<Option<ClaimedKind>, AllocError> {
     match plan {
@@ -109,7 +110,7 @@ fn claimed_kind(
             if i >= design.processes().len() {
                 return Ok(None);
             }
-            match text_lists(alloc, design, i, modulus)? {
+            match text_lists(alloc, design, i, rules, modulus)? {
                 None => Ok(None),
                 Some(lists) => Ok(Some(ClaimedKind::Delay(lists))),
             }
@@ -124,9 +125,10 @@ fn process_entry(
     process: &Process,
     i: usize,
     plan: KindPlan,
+    rules: Rules,
     modulus: u64,
 ) -> Result<Option<ProcessEntry>, AllocError> {
-    match claimed_kind(alloc, design, i, plan, modulus)? {
+    match claimed_kind(alloc, design, i, plan, rules, modulus)? {
         None => Ok(None),
         Some(kind) => Ok(Some(ProcessEntry {
             kind,
@@ -140,13 +142,14 @@ fn process_entries(
     alloc: Global,
     design: &Design,
     plans: &[KindPlan],
+    rules: Rules,
     modulus: u64,
 ) -> Result<Option<Vec<ProcessEntry>>, AllocError> {
     let processes = design.processes();
     let mut entries = Vec::new(alloc);
     for i in 0..processes.len() {
         if i < plans.len() {
-            match process_entry(alloc, design, &processes[i], i, plans[i], modulus)? {
+            match process_entry(alloc, design, &processes[i], i, plans[i], rules, modulus)? {
                 None => return Ok(None),
                 Some(entry) => entries.push(entry)?,
             }
@@ -155,12 +158,17 @@ fn process_entries(
     Ok(Some(entries))
 }
 
-// The version of a plan: 1, where that has all that is claimed.
+// The version of a plan: 3 by wide rules, and else 1, where that has all that is claimed.
 fn version_of(plan: &Plan) -> Version {
-    if plan.is_new() {
-        Version::Two { displays: false }
-    } else {
-        Version::One
+    match plan.rules {
+        Rules::Wide => Version::Three { displays: false },
+        Rules::Narrow => {
+            if plan.is_new() {
+                Version::Two { displays: false }
+            } else {
+                Version::One
+            }
+        }
     }
 }
 
@@ -174,7 +182,7 @@ pub fn certificate_of(
 ) -> Result<Option<Certificate>, AllocError>
     ensures { IfOk result (λ o. IfSome o (λ c. c.grain ≡ grain)) }
 {
-    let Some(processes) = process_entries(alloc, design, &plan.kinds, modulus)? else {
+    let Some(processes) = process_entries(alloc, design, &plan.kinds, plan.rules, modulus)? else {
         return Ok(None);
     };
     Ok(Some(Certificate {

@@ -6,6 +6,7 @@ use crate::arrivals::{Arrivals, all_arrivals};
 use crate::kinds::{TextKind, kind_of};
 use crate::lists::delay_lists;
 use crate::periods::{Timing, timing_of};
+use crate::vs_certificate::Rules;
 use crate::writing::{SignalWrite, signal_writes};
 use std::alloc::{AllocError, Global};
 use vs_design::Design;
@@ -26,7 +27,7 @@ pub struct TextFacts {
 
 // How a text comes to each place; to none where there are too many ways.
 fn arrivals_or_none(alloc: Global, map: &TextMap, modulus: u64) -> Result<Arrivals, AllocError> {
-    match all_arrivals(alloc, map, modulus)? {
+    match all_arrivals(alloc, map, Rules::Narrow, modulus)? {
         Some(all) => Ok(all),
         None => Ok(Arrivals::none(alloc)),
     }
@@ -79,33 +80,40 @@ pub fn text_facts(alloc: Global, design: &Design, i: usize) -> Result<TextFacts,
 fn lists_on(
     alloc: Global,
     map: &TextMap,
+    rules: Rules,
     modulus: u64,
 ) -> Result<Option<Vec<Vec<u64>>>, AllocError> {
-    match all_arrivals(alloc, map, modulus)? {
+    match all_arrivals(alloc, map, rules, modulus)? {
         None => Ok(None),
-        Some(all) => delay_lists(alloc, map, &all, modulus),
+        Some(all) => delay_lists(alloc, map, &all, rules, modulus),
     }
 }
 
 // The lists of a text with this code.
-fn lists_by(alloc: Global, code: &Code, modulus: u64) -> Result<Option<Vec<Vec<u64>>>, AllocError>
+fn lists_by(
+    alloc: Global,
+    code: &Code,
+    rules: Rules,
+    modulus: u64,
+) -> Result<Option<Vec<Vec<u64>>>, AllocError>
     requires { counts_from 0 (numbers code.now) ≡ true }
 {
     let map = TextMap::of(alloc, code)?;
-    lists_on(alloc, &map, modulus)
+    lists_on(alloc, &map, rules, modulus)
 }
 
-/// For each delay control of the text of a process, in its order, the residues by a modulus of the times above 0 at which it can end, rising; none where
-/// one has more than 64 of them. It takes as long as the text, times how many residues there are.
+/// For each delay control of the text of a process, in its order, the residues by a modulus of the times above 0 at which it can end, rising; none
+/// where one has more than 64 of them, by wide rules more than 4,096. It takes as long as the text, times how many residues there are.
 pub fn text_lists(
     alloc: Global,
     design: &Design,
     i: usize,
+    rules: Rules,
     modulus: u64,
 ) -> Result<Option<Vec<Vec<u64>>>, AllocError>
     requires { i < length design.now.processes }
 {
     design.is_well_formed();
     let code = compile(alloc, &design.processes()[i].body)?;
-    lists_by(alloc, &code, modulus)
+    lists_by(alloc, &code, rules, modulus)
 }

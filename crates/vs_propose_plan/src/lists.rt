@@ -1,14 +1,31 @@
 //! The residues at which delay controls can end.
 
 use crate::arrivals::{Arrival, Arrivals, delayed, stop_at};
+use crate::vs_certificate::Rules;
 use std::alloc::{AllocError, Global};
 use vs_design::Statement;
 use vs_process::TextMap;
 
-/// How many residues a list of a certificate may have.
-const MAX_RESIDUES: usize = 64;
+// How many residues a list of a certificate may have.
+fn most_residues(rules: Rules) -> usize {
+    match rules {
+        Rules::Narrow => 64,
+        Rules::Wide => 4_096,
+    }
+}
 
-// The residues at which a control of so many ticks can end to which a text comes so, rising: one above the limit, where there are more.
+// Numbers that rise, each once.
+fn once_each(alloc: Global, sorted: &[u64]) -> Result<Vec<u64>, AllocError> {
+    let mut list = Vec::new(alloc);
+    for number in sorted {
+        if list.last() != Some(number) {
+            list.push(*number)?;
+        }
+    }
+    Ok(list)
+}
+
+// The residues at which a control of so many ticks can end to which a text comes so, rising.
 fn ends(
     alloc: Global,
     arrivals: &[Arrival],
@@ -18,13 +35,11 @@ fn ends(
     let mut list = Vec::new(alloc);
     for arrival in arrivals {
         if let Arrival::Residue(r) = delayed(*arrival, ticks, modulus) {
-            if list.len() <= MAX_RESIDUES && !list.contains(&r) {
-                list.push(r)?;
-            }
+            list.push(r)?;
         }
     }
     list.sort()?;
-    Ok(list)
+    once_each(alloc, &list)
 }
 
 // The list of a place, with the number of its control, where there is one there.
@@ -65,13 +80,14 @@ pub(crate) fn delay_lists(
     alloc: Global,
     map: &TextMap,
     arrivals: &Arrivals,
+    rules: Rules,
     modulus: u64,
 ) -> Result<Option<Vec<Vec<u64>>>, AllocError> {
     let places = map.stops.len().saturating_add(1);
     let mut table = no_lists(alloc, places)?;
     for place in 0..places {
         if let Some((number, list)) = list_at(alloc, map, arrivals, place, modulus)? {
-            if list.len() > MAX_RESIDUES {
+            if list.len() > most_residues(rules) {
                 return Ok(None);
             }
             if let Some(entry) = table.get_mut(number as usize) {

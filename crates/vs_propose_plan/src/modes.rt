@@ -2,7 +2,7 @@
 
 use crate::plans::SignalPlan;
 use crate::readers::{Readers, is_private, readers_of};
-use crate::vs_certificate::SignalMode;
+use crate::vs_certificate::{Rules, SignalMode};
 use crate::writers::Writer;
 use crate::{TextFacts, TextKind};
 use std::alloc::{AllocError, Global};
@@ -37,13 +37,23 @@ fn kind_of(texts: &[TextFacts], i: usize) -> TextKind {
     }
 }
 
-// How a writer that waits for edges or for times writes a signal, which no other process reads, or some may.
-fn mode_of(writer: Writer, kind: TextKind, is_private: bool) -> SignalMode {
+// How a signal is written that one process writes by `=` and by `<=`. Versions 1 and 2 have no mode for it, but where no other process reads it.
+fn both_ways(rules: Rules) -> SignalMode {
+    match rules {
+        Rules::Narrow => SignalMode::Private,
+        Rules::Wide => SignalMode::Both,
+    }
+}
+
+// How a writer writes a signal, which no other process reads, or some may.
+fn mode_of(writer: Writer, kind: TextKind, is_private: bool, rules: Rules) -> SignalMode {
     if kind == TextKind::Block {
         SignalMode::Combinational
     } else if !writer.has_now {
         SignalMode::Nonblocking
-    } else if writer.has_later || (kind == TextKind::Edge && is_private) {
+    } else if writer.has_later {
+        both_ways(rules)
+    } else if kind == TextKind::Edge && is_private {
         SignalMode::Private
     } else {
         SignalMode::Blocking
@@ -80,12 +90,14 @@ fn signal_plan(
     readers: &[Readers],
     v: usize,
     declared: SignalKind,
+    rules: Rules,
 ) -> SignalPlan {
     match writer_and_second(row) {
         None => unwritten(declared),
         Some((writer, second)) => {
             let kind = kind_of(texts, writer.process);
-            let mode = mode_of(writer, kind, is_private(design, readers, v, writer.process));
+            let is_private = is_private(design, readers, v, writer.process);
+            let mode = mode_of(writer, kind, is_private, rules);
             SignalPlan {
                 mode,
                 writer: Some(writer.process),
@@ -108,6 +120,7 @@ fn row_of(writers: &[Vec<Writer>], v: usize) -> &[Writer] {
 pub(crate) fn signal_plans(
     alloc: Global,
     design: &Design,
+    rules: Rules,
     texts: &[TextFacts],
     writers: &[Vec<Writer>],
 ) -> Result<Vec<SignalPlan>, AllocError> {
@@ -116,7 +129,8 @@ pub(crate) fn signal_plans(
     let mut plans = Vec::new(alloc);
     for v in 0..signals.len() {
         let row = row_of(writers, v);
-        plans.push(signal_plan(design, texts, row, &readers, v, signals[v].kind))?;
+        let declared = signals[v].kind;
+        plans.push(signal_plan(design, texts, row, &readers, v, declared, rules))?;
     }
     Ok(plans)
 }

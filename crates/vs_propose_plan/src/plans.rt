@@ -4,7 +4,7 @@ use crate::copied::edge_plans;
 use crate::drivers::{Needs, driver_order, drivers_needed};
 use crate::modes::signal_plans;
 use crate::starts::kind_plans;
-use crate::vs_certificate::{SignalMode, Start};
+use crate::vs_certificate::{Rules, SignalMode, Start};
 use crate::writers::writers_of;
 use crate::{TextFacts, text_facts};
 use std::alloc::{AllocError, Global};
@@ -46,6 +46,8 @@ pub struct EdgePlan {
 /// What is to be claimed of a design, but for residues.
 #[derive(Drop)]
 pub struct Plan {
+    /// Whether its certificate is of version 1 or 2, or of version 3.
+    pub rules: Rules,
     /// Of each signal.
     pub signals: Vec<SignalPlan>,
     /// Of each process.
@@ -78,16 +80,18 @@ fn texts_of(alloc: Global, design: &Design) -> Result<Vec<TextFacts>, AllocError
     Ok(texts)
 }
 
-/// What is to be claimed of a design. It takes as long as its texts are, and for a block whose control names nets the steps of one run.
-pub fn plan_of(alloc: Global, design: &Design) -> Result<Plan, AllocError> {
+/// What is to be claimed of a design: by narrow rules in version 1 or 2, by wide ones in version 3. It takes as long as its texts are, and for a
+/// block whose control names nets the steps of one run.
+pub fn plan_of(alloc: Global, design: &Design, rules: Rules) -> Result<Plan, AllocError> {
     let texts = texts_of(alloc, design)?;
     let writers = writers_of(alloc, &texts, design.signals().len())?;
-    let signals = signal_plans(alloc, design, &texts, &writers)?;
+    let signals = signal_plans(alloc, design, rules, &texts, &writers)?;
     let needed = drivers_needed(alloc, design, &texts, Needs::Reads)?;
     let order = driver_order(alloc, design, &texts, &needed)?;
-    let kinds = kind_plans(alloc, design, &texts, &signals, &order)?;
+    let kinds = kind_plans(alloc, design, rules, &texts, &signals, &order)?;
     let edges = edge_plans(alloc, design, &order)?;
     Ok(Plan {
+        rules,
         signals,
         kinds,
         edges,

@@ -3,7 +3,7 @@
 use crate::copied::roots_of;
 use crate::drivers::{Needs, driver_order, drivers_needed};
 use crate::plans::{KindPlan, SignalPlan};
-use crate::vs_certificate::{SignalMode, Start};
+use crate::vs_certificate::{Rules, SignalMode, Start};
 use crate::{TextFacts, TextKind, Trial};
 use std::alloc::{AllocError, Global};
 use vs_design::{BitRange, Design, EventTerm, Statement, event_terms};
@@ -29,12 +29,21 @@ fn waits_for_sources(signals: &[SignalPlan], written: &[BitRange], terms: &[Even
     })
 }
 
-// Whether a process writes a signal by `<=` in the first slot.
-fn writes_first(texts: &[TextFacts], i: usize, signal: usize) -> bool {
+// Whether the writer of a starter may be of a kind: of kind edge in version 3 alone.
+fn is_of_starters(kind: TextKind, rules: Rules) -> bool {
+    match kind {
+        TextKind::Block => false,
+        TextKind::Edge => matches!(rules, Rules::Wide),
+        TextKind::Delay => true,
+    }
+}
+
+// Whether a process that may be the writer of a starter writes a signal by `<=` in the first slot.
+fn writes_first(texts: &[TextFacts], i: usize, signal: usize, rules: Rules) -> bool {
     match texts.get(i) {
         None => false,
         Some(text) => {
-            text.kind == TextKind::Delay
+            is_of_starters(text.kind, rules)
                 && text
                     .writes
                     .iter()
@@ -43,14 +52,15 @@ fn writes_first(texts: &[TextFacts], i: usize, signal: usize) -> bool {
     }
 }
 
-// Whether a variable may be sure to change in the first slot.
-fn may_start(texts: &[TextFacts], signals: &[SignalPlan], v: usize) -> bool {
+// Whether a variable may be sure to change in the first slot. Mode `both` is one of version 3.
+fn may_start(texts: &[TextFacts], signals: &[SignalPlan], v: usize, rules: Rules) -> bool {
     match signals.get(v) {
         None => false,
         Some(plan) => match plan.writer {
             None => false,
             Some(writer) => {
-                plan.mode == SignalMode::Nonblocking && writes_first(texts, writer, v)
+                matches!(plan.mode, SignalMode::Nonblocking | SignalMode::Both)
+                    && writes_first(texts, writer, v, rules)
             }
         },
     }
@@ -72,11 +82,12 @@ fn starters_of(
     texts: &[TextFacts],
     signals: &[SignalPlan],
     order: &[usize],
+    rules: Rules,
 ) -> Result<Vec<bool>, AllocError> {
     let roots = roots_of(alloc, design, order)?;
     let mut marks = Vec::new(alloc);
     for root in &roots {
-        marks.push(may_start(texts, signals, *root))?;
+        marks.push(may_start(texts, signals, *root, rules))?;
     }
     Ok(marks)
 }
@@ -167,6 +178,7 @@ impl<'a> Starts<'a> {
 pub(crate) fn kind_plans(
     alloc: Global,
     design: &Design,
+    rules: Rules,
     texts: &[TextFacts],
     signals: &[SignalPlan],
     order: &[usize],
@@ -183,7 +195,7 @@ pub(crate) fn kind_plans(
         design,
         signals,
         trial: Trial::new(alloc, design, order)?,
-        starters: starters_of(alloc, design, texts, signals, order)?,
+        starters: starters_of(alloc, design, texts, signals, order, rules)?,
         behind: vec![in alloc; false; needed.len()]?,
         kinds,
     };

@@ -2,13 +2,15 @@
 use Rattle.std.specs.Prelude.{ℕ, List}
 use Rattle.vs_propose.specs.vs_certificate.specs.declared.members.Certificate.{Certificate}
 use Rattle.vs_propose.specs.vs_certificate.specs.declared.members.ClaimedGrain.TheVariants.{Block}
+use Rattle.vs_propose.specs.vs_certificate.specs.declared.members.Rules.{Rules}
+use Rattle.vs_propose.specs.vs_certificate.specs.declared.members.Rules.TheVariants.{Narrow}
 use Rattle.vs_design.specs.Parts.{Parts}
 use Rattle.vs_design.specs.Traces.{SameTrace}
 use Rattle.vs_law_rules.specs.vs_process.specs.declared.moves.Grain.{Grain}
 use Rattle.vs_law_rules.specs.vs_process.specs.Executions.{trace}
 use Rattle.vs_law_rules.specs.vs_independence.specs.Discipline.{Independent}
 use Rattle.vs_certified.specs.vs_simulate.specs.Honesty.{Defines}
-use Rattle.vs_propose.specs.Proposals.{IsMade}
+use Rattle.vs_propose.specs.Proposals.{IsMadeBy}
 use Rattle.vs_propose.specs.vs_rules.specs.Certificates.{claims_of}
 use Rattle.vs_race.specs.declared.witness.LineWitness.{LineWitness}
 use Rattle.vs_race.specs.declared.witness.Witness.{Witness}
@@ -33,16 +35,26 @@ pub record IsLineRace (source top : List ℕ) (w : LineWitness) : Type 0 where
   pub traces : SameTrace (trace design witness.first.moves w.time) (trace design witness.other.moves w.time) → ⊥
   pub dependent : (grain : Grain) → Independent grain design → ⊥
 
--- the design that a source and a top define keeps all rules of a certificate of grain block, so that it doesn't depend on that order
-pub record IsCertified (source top : List ℕ) (c : Certificate) : Type 0 where
+-- the design that a source and a top define keeps all rules of a certificate of grain block, of a version that is read by these rules, so that it
+-- doesn't depend on that order
+pub record IsCertifiedBy (rules : Rules) (source top : List ℕ) (c : Certificate) : Type 0 where
   pub design : Parts
   pub defined : Defines source top design
-  pub made : IsMade design Block c
+  pub made : IsMadeBy rules design Block c
   pub independent : Independent (claims_of c).grain design
 
--- what is answered of a source and a top: a certificate or a race is one; where neither was found, these define a design, and nothing else is said
+-- the same of one of version 1 or 2
+abbrev pub IsCertified : List ℕ → List ℕ → Certificate → Type 0
+IsCertified source top c = IsCertifiedBy Narrow source top c
+
+-- what is answered of a source and a top, with certificates of the versions that are read by these rules: a certificate or a race is one; where
+-- neither was found, these define a design, and nothing else is said
+abbrev pub IsAnswerBy : Rules → List ℕ → List ℕ → Race → Type 0
+IsAnswerBy rules source top (Certified c) = IsCertifiedBy rules source top c
+IsAnswerBy rules source top (Found w refused) = IsRace source top w
+IsAnswerBy rules source top (FoundLine w refused) = IsLineRace source top w
+IsAnswerBy rules source top (NotFound missed refused) = (design : Parts) × Defines source top design
+
+-- the same with certificates of versions 1 and 2
 abbrev pub IsAnswer : List ℕ → List ℕ → Race → Type 0
-IsAnswer source top (Certified c) = IsCertified source top c
-IsAnswer source top (Found w refused) = IsRace source top w
-IsAnswer source top (FoundLine w refused) = IsLineRace source top w
-IsAnswer source top (NotFound missed refused) = (design : Parts) × Defines source top design
+IsAnswer source top race = IsAnswerBy Narrow source top race

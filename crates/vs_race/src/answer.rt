@@ -15,7 +15,7 @@ pub struct Missed {
 /// What a search for a race answers.
 #[derive(Drop)]
 pub enum Race {
-    /// There is none at grain block: the design keeps all rules of this certificate.
+    /// There is none at grain block: the design keeps all rules of this certificate, perhaps of version 3 where wide rules were asked for.
     Certified(Certificate),
     /// One was found; with why no certificate was made.
     Found(Witness, Proposal),

@@ -19,7 +19,7 @@ mod witness;
 pub use answer::{Missed, Race};
 pub use dumps::write_dumps;
 pub use laws::{all_lines_are_strobed, same_traces_print_rows_as_often};
-pub use racing::race;
+pub use racing::{race, race_by};
 pub use vs_certified::vs_simulate;
 pub use vs_propose;
 pub use vs_race_orders::{Planned, Search, Span, Unwatched, Watch, choices_of};

@@ -3,7 +3,7 @@ ghost use Rattle.std.specs.Prelude.{◌≡◌, ◌<◌, ◌^◌, IfOk, IfErr, If
 ghost use Rattle.vs_design.specs.OneLine.{HasNamesOfOneLine};
 ghost use Rattle.vs_vcd_reader.specs.Conditions.{IsOutlined};
 ghost use Rattle.vs_certified.specs.vs_simulate.specs.Honesty.{SimulationFails, is_refusal};
-ghost use Rattle.vs_race.specs.Races.{IsAnswer};
+ghost use Rattle.vs_race.specs.Races.{IsAnswer, IsAnswerBy};
 ghost use Rattle.vs_race.specs.passes.Sightings.{IsSighting};
 
 use crate::answer::{Missed, Race};
@@ -16,8 +16,8 @@ use std::alloc::{AllocError, Global};
 use vs_certified::vs_simulate::{SimFault, design_of, names_of_one_line};
 use vs_design::Design;
 use vs_law_rules::rules_make_independent;
-use vs_propose::vs_certificate::ClaimedGrain;
-use vs_propose::{Proposal, propose};
+use vs_propose::vs_certificate::{ClaimedGrain, Rules};
+use vs_propose::{Proposal, propose_by};
 use vs_race_orders::{Difference, Search, Sought, Watch, find};
 use vs_read_back::outline_is_in_order;
 use vs_vcd_reader::vs_vcd_writing::shows_one_value;
@@ -123,6 +123,24 @@ pub fn race<'s, W: Watch>(
     ensures fault { IfErr result (λ fault. SimulationFails source.entry.now top.now fault) }
     ensures early { IfErr result (λ fault. is_refusal fault ≡ true) }
 {
+    race_by(alloc, Rules::Narrow, source, top, asked, watch)
+}
+
+/// The same, with a certificate of a version that is read by these rules, where `propose_by` makes one.
+pub fn race_by<'s, W: Watch>(
+    alloc: Global,
+    rules: Rules,
+    source: &'s [u8],
+    top: &[u8],
+    asked: &Search,
+    watch: &mut W,
+) -> Result<Race, SimFault<'s>>
+    requires until { asked.now.until < 2 ^ 62 }
+    requires steps { asked.now.steps < 2 ^ 62 }
+    ensures answered { IfOk result (λ r. IsAnswerBy rules source.entry.now top.now r) }
+    ensures fault { IfErr result (λ fault. SimulationFails source.entry.now top.now fault) }
+    ensures early { IfErr result (λ fault. is_refusal fault ≡ true) }
+{
     names_of_one_line();
     shows_one_value();
     same_traces_print_rows_as_often();
@@ -130,7 +148,7 @@ pub fn race<'s, W: Watch>(
     let design = design_of(alloc, source, top)?;
     outline_is_in_order(&design);
     design.is_well_formed();
-    let proposal = propose(alloc, &design, ClaimedGrain::Block)?;
+    let proposal = propose_by(alloc, &design, rules, ClaimedGrain::Block)?;
     match proposal {
         Proposal::Made(certificate) => Ok(Race::Certified(certificate)),
         refused => {

@@ -1,5 +1,5 @@
-use Rattle.vs_propose.specs.Proposals.{MayBeProposal}
+use Rattle.vs_propose.specs.Proposals.{MayBeProposalBy}
 use Rattle.vs_propose.proofs.search.best_of.Given as goal
 
 abbrev pub invariant-loop-modulus : goal.invariant-loop-modulus
-invariant-loop-modulus l = MayBeProposal l.design l.grain l.best
+invariant-loop-modulus l = MayBeProposalBy l.rules l.design l.grain l.best

@@ -1,6 +1,6 @@
 use Rattle.vs_propose.specs.vs_rules.specs.Certificates.{claims_of}
 use Rattle.vs_race.proofs.RaceLemmas.{line_race_of, race_of}
-use Rattle.vs_race.proofs.racing.race.Goals as goal
+use Rattle.vs_race.proofs.racing.race_by.Goals as goal
 
 pub seek-requires-clause-outlined : goal.seek-requires-clause-outlined
 seek-requires-clause-outlined g c = c.outline_is_in_order.ensures c.args.source.now c.args.top.now c.in_ok-design.ensures

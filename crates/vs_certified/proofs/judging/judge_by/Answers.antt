@@ -1,4 +1,4 @@
-use Rattle.vs_certified.proofs.judging.judge.Goals as goal
+use Rattle.vs_certified.proofs.judging.judge_by.Goals as goal
 
 pub returns-clause-judged : goal.returns-clause-judged
 returns-clause-judged c = record {

@@ -7,7 +7,7 @@ use Rattle.vs_cert_check.specs.Answers.{verdict_view, HasNumber}
 use Rattle.vs_cert_check.specs.Means.{Means}
 use Rattle.vs_certified.specs.Certified.{is_before_run}
 use Rattle.vs_certified.proofs.CertifiedLemmas.{stands_for}
-use Rattle.vs_certified.proofs.certifying.certified.Goals as goal
+use Rattle.vs_certified.proofs.certifying.certified_by.Goals as goal
 
 if_err : {A B : Type 0} (C : B → Type 0) {P : Type 0} (r : Result A B) → P → IfErr r (λ fault. C fault → P)
 if_err C (Ok x) p = tt
