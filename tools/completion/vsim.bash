@@ -12,15 +12,16 @@ _vsim() {
     --policy) words='fifo lifo list:' ;;
     --out) words='lines vcd' ;;
     --grain) words='block statement' ;;
+    --rules) words='narrow wide' ;;
     --top | --until | --steps | --tries | --seed | --from | --vcd | --certificate | --vcd-pair | -o | -D | -I | '<' | '>' | '>>') ;;
     *)
       case $COMP_CWORD:${COMP_WORDS[1]} in
         1:*) words='run check certify race elab preprocess help --help --version' ;;
         2:help) words='run check certify race elab preprocess' ;;
-        *:run) words='--top --until --steps --policy --out --vcd --cert --certificate --explain --short -D -I --help' ;;
-        *:race) words='--top --until --steps --tries --seed --from --vcd-pair --explain --short -D -I --help' ;;
-        *:certify) words='--top --grain --race -o --explain --short -D -I --help' ;;
-        *:check) words='--top --certificate --explain --short -D -I --help' ;;
+        *:run) words='--top --until --steps --policy --out --vcd --cert --certificate --rules --explain --short -D -I --help' ;;
+        *:race) words='--top --until --steps --tries --seed --from --vcd-pair --rules --explain --short -D -I --help' ;;
+        *:certify) words='--top --grain --rules --race -o --explain --short -D -I --help' ;;
+        *:check) words='--top --certificate --rules --explain --short -D -I --help' ;;
         *:elab) words='--top --explain --short -D -I --help' ;;
         *:preprocess) words='-o --explain --short -D -I --help' ;;
       esac

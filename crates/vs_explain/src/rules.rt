@@ -3,10 +3,10 @@
 use crate::broken::explain_broken;
 use crate::scopes::put_scope;
 use std::alloc::{AllocError, Global};
-use vs_cert_check::{Broken, check_all};
+use vs_cert_check::{Broken, check_all_by};
 use vs_design::Design;
 use vs_explain_certificate::vs_certificate::{
-    CertFault, Certificate, ClaimedGrain, Version, from_json,
+    CertFault, Certificate, ClaimedGrain, Rules, Version, from_json_by,
 };
 use vs_explain_certificate::{put_name_in, put_named_in};
 use vs_explain_outline::{Explanation, Page, SourceText, put_named};
@@ -118,15 +118,16 @@ fn put_rules(
     page: &mut Page,
     text: &SourceText,
     design: &Design,
+    rules: Rules,
     offender: Offender,
     further: Further,
 ) -> Result<(), AllocError> {
     let alloc = page.alloc();
-    match from_json(alloc, offender.certificate) {
+    match from_json_by(alloc, rules, offender.certificate) {
         Ok(claimed) => {
             put_offender(page, text, design, &claimed, offender);
             if further == Further::Told {
-                let told = check_all(alloc, design, &claimed, TOLD + 1)?;
+                let told = check_all_by(alloc, design, rules, &claimed, TOLD + 1)?;
                 put_others(page, text, design, offender, &told.broken);
             }
             Ok(())
@@ -139,11 +140,12 @@ fn put_rules(
     }
 }
 
-/// Why a design breaks a rule of certificates, and where it is wanted which further subjects break one.
+/// Why a design breaks a rule under a certificate that is read by these rules, and where it is wanted which further subjects break one.
 pub fn explain_rule(
     alloc: Global,
     source: &[u8],
     top: &[u8],
+    rules: Rules,
     offender: Offender,
     further: Further,
 ) -> Result<Explanation, AllocError> {
@@ -151,7 +153,7 @@ pub fn explain_rule(
     let text = SourceText::read(alloc, source)?;
     let design = design_of(alloc, source, top);
     if let (Some(text), Ok(design)) = (&text, &design) {
-        put_rules(&mut page, text, design, offender, further)?;
+        put_rules(&mut page, text, design, rules, offender, further)?;
     }
     page.finish()
 }

@@ -1,5 +1,7 @@
 //! The forms of the values of a certificate.
 
+use vs_certificate::Rules;
+
 /// The most members of an object.
 pub(crate) const MOST_MEMBERS: usize = 8;
 
@@ -113,40 +115,29 @@ impl Form {
         }
     }
 
-    /// How many entries a list has at most.
-    pub(crate) fn most_entries(self) -> usize {
-        match self {
-            Form::Residues => 64,
-            _ => 65536,
-        }
-    }
-
-    /// Whether a text has the form.
-    pub(crate) fn has_text(self, text: &str) -> bool {
+    /// Whether a text has the form, in a certificate of a version that is read by these rules.
+    pub(crate) fn has_text(self, rules: Rules, text: &str) -> bool {
         match self {
             Form::Name => true,
             Form::Grain => matches!(text.as_bytes(), b"block" | b"statement"),
             Form::Kind => matches!(text.as_bytes(), b"comb" | b"delay" | b"edge"),
             Form::Start => matches!(text.as_bytes(), b"none" | b"cold" | b"sources" | b"starter"),
-            Form::Mode => matches!(
-                text.as_bytes(),
-                b"net" | b"unwritten" | b"comb" | b"nonblocking" | b"blocking" | b"private"
-            ),
+            Form::Mode => is_mode(rules, text),
             _ => false,
         }
     }
 
     /// Whether a number has the form.
-    pub(crate) fn has_number(self, number: &str) -> bool {
+    pub(crate) fn has_number(self, rules: Rules, number: &str) -> bool {
         match self {
-            Form::Version => number == "1" || number == "2",
+            Form::Version => is_version(rules, number),
             Form::Modulus | Form::Residue => is_whole(number),
             _ => false,
         }
     }
 
     /// What is said of the form.
-    pub(crate) fn words(self) -> &'static str {
+    pub(crate) fn words(self, rules: Rules) -> &'static str {
         match self {
             Form::Certificate =>
                 "an object with the members `edges`, `grain`, `modulus`, `order`, `processes`, `signals` and `version`",
@@ -162,14 +153,39 @@ impl Form {
             Form::Residues => "a list of numbers",
             Form::Residue | Form::Modulus =>
                 "a whole number of 64 bits, without a point and an exponent,",
-            Form::Version => "the number 1 or 2",
+            Form::Version => match rules {
+                Rules::Narrow => "the number 1 or 2",
+                Rules::Wide => "the number 1, 2 or 3",
+            },
             Form::Flag => "`true` or `false`",
             Form::Grain => "`\"block\"` or `\"statement\"`",
             Form::Kind => "`\"comb\"`, `\"delay\"` or `\"edge\"`",
             Form::Start => "`\"none\"`, `\"cold\"`, `\"sources\"` or `\"starter\"`",
-            Form::Mode =>
-                "`\"net\"`, `\"unwritten\"`, `\"comb\"`, `\"nonblocking\"`, `\"blocking\"` or `\"private\"`",
+            Form::Mode => match rules {
+                Rules::Narrow =>
+                    "`\"net\"`, `\"unwritten\"`, `\"comb\"`, `\"nonblocking\"`, `\"blocking\"` or `\"private\"`",
+                Rules::Wide =>
+                    "`\"net\"`, `\"unwritten\"`, `\"comb\"`, `\"nonblocking\"`, `\"blocking\"`, `\"private\"` or `\"both\"`",
+            },
         }
+    }
+}
+
+/// Whether a text is a mode of a version that is read by these rules.
+fn is_mode(rules: Rules, text: &str) -> bool {
+    match text.as_bytes() {
+        b"net" | b"unwritten" | b"comb" | b"nonblocking" | b"blocking" | b"private" => true,
+        b"both" => matches!(rules, Rules::Wide),
+        _ => false,
+    }
+}
+
+/// Whether a number is a version that is read by these rules.
+fn is_version(rules: Rules, number: &str) -> bool {
+    match number.as_bytes() {
+        b"1" | b"2" => true,
+        b"3" => matches!(rules, Rules::Wide),
+        _ => false,
     }
 }
 

@@ -3,7 +3,7 @@
 use crate::breaks::{Break, Reason, break_of};
 use crate::forms::Form;
 use crate::walk::{Flaw, Whole, Why, walk_over};
-use vs_certificate::CertFault;
+use vs_certificate::{CertFault, Rules};
 use vs_explain_outline::Page;
 
 /// The most bytes of a certificate: 16 MiB.
@@ -68,8 +68,8 @@ fn looks_like_source(line: &[u8]) -> bool {
     }
 }
 
-/// Says that no certificate stands in front of a source that is refused, where the line in front looks like one of the source. What is said of the source
-/// comes after it, with lines that are counted from the second one.
+/// Says that no certificate stands in front of a source that is refused, where the line in front looks like one of the source. What is said of
+/// the source comes after it, with lines that are counted from the second one.
 pub fn put_forgotten(page: &mut Page, certificate: &[u8]) {
     if !looks_like_source(certificate) {
         return;
@@ -153,17 +153,17 @@ fn put_missing(page: &mut Page, form: Form, missing: &[bool]) {
 }
 
 /// Puts why a value of a certificate is refused.
-fn put_why(page: &mut Page, why: Why) {
+fn put_why(page: &mut Page, rules: Rules, why: Why) {
     match why {
         Why::Other(form) => {
             page.put("Here ");
-            page.put(form.words());
+            page.put(form.words(rules));
             page.put(" is wanted.\n");
         }
         Why::Lacks(form, missing) => put_missing(page, form, &missing),
         Why::Unknown(form) => {
             page.put("There is no such member: here ");
-            page.put(form.words());
+            page.put(form.words(rules));
             page.put(" is wanted.\n");
         }
         Why::AgainstKind => page.put(
@@ -171,6 +171,9 @@ fn put_why(page: &mut Page, why: Why) {
         ),
         Why::AgainstVersion => page.put(
             "Version 1 has no such thing: write `\"version\":2`, and whether it has `displays`.\n",
+        ),
+        Why::OfLater => page.put(
+            "Versions 1 and 2 have no such mode: write `\"version\":3`, and whether it has `displays`.\n",
         ),
         Why::Long(most) => {
             page.put("This entry is one too many: the list has at most ");
@@ -185,49 +188,66 @@ fn put_why(page: &mut Page, why: Why) {
 }
 
 /// Puts a value that is refused; where none was found, the beginning of the certificate.
-fn put_flaw(page: &mut Page, flaw: Option<Flaw>) {
+fn put_flaw(page: &mut Page, rules: Rules, flaw: Option<Flaw>) {
     match flaw {
         Some(flaw) => {
             put_at(page, flaw.place);
-            put_why(page, flaw.why);
+            put_why(page, rules, flaw.why);
         }
         None => put_at(page, 0),
     }
     page.put(ANEW);
 }
 
-/// Puts where a certificate has its version.
-fn put_version(page: &mut Page, whole: Whole) {
+/// Puts where a certificate has its version, which isn't read by these rules.
+fn put_version(page: &mut Page, rules: Rules, whole: Whole) {
     put_at(page, whole.version.unwrap_or(0));
-    page.put("This version is neither 1 nor 2. ");
-    page.put(ANEW);
+    match rules {
+        Rules::Narrow if whole.is_third => page.put(
+            "This version is neither 1 nor 2. With `--rules wide` version 3 is read too.\n",
+        ),
+        Rules::Narrow => {
+            page.put("This version is neither 1 nor 2. ");
+            page.put(ANEW);
+        }
+        Rules::Wide => {
+            page.put("This version is none of 1, 2 and 3. ");
+            page.put(ANEW);
+        }
+    }
 }
 
 /// Puts where a certificate that is a JSON text is refused.
-fn put_refused(page: &mut Page, certificate: &[u8], fault: CertFault) {
+fn put_refused(page: &mut Page, certificate: &[u8], rules: Rules, fault: CertFault) {
     let Ok(text) = str::from_utf8(certificate) else {
         return put_at(page, 0);
     };
-    let Ok(whole) = walk_over(page.alloc(), text, None) else {
+    let Ok(whole) = walk_over(page.alloc(), text, rules, None) else {
         return page.leave_out();
     };
     if fault == CertFault::Version {
-        return put_version(page, whole);
+        return put_version(page, rules, whole);
     }
     if fault == CertFault::Shape {
-        return put_flaw(page, whole.flaw);
+        return put_flaw(page, rules, whole.flaw);
     }
-    match walk_over(page.alloc(), text, Some(whole.modulus.unwrap_or(0))) {
-        Ok(limits) => put_flaw(page, limits.flaw),
+    match walk_over(page.alloc(), text, rules, Some(whole.limits())) {
+        Ok(limited) => put_flaw(page, rules, limited.flaw),
         Err(_) => page.leave_out(),
     }
 }
 
-/// Says where and why bytes are no certificate.
-pub fn explain_malformed(page: &mut Page, certificate: &[u8], stands: Stands, fault: CertFault) {
+/// Says where and why bytes are no certificate that is read by these rules.
+pub fn explain_malformed(
+    page: &mut Page,
+    certificate: &[u8],
+    rules: Rules,
+    stands: Stands,
+    fault: CertFault,
+) {
     match fault {
         CertFault::NotJson => put_no_json(page, certificate, stands),
         CertFault::Memory => {}
-        _ => put_refused(page, certificate, fault),
+        _ => put_refused(page, certificate, rules, fault),
     }
 }

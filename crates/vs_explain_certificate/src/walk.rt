@@ -6,6 +6,7 @@
 use crate::forms::{Form, MOST_MEMBERS};
 use json::{Reader, Scratch, Token};
 use std::alloc::{AllocError, Global};
+use vs_certificate::Rules;
 
 /// How deep arrays and objects nest at most.
 const DEPTH_LIMIT: usize = 127;
@@ -13,7 +14,10 @@ const DEPTH_LIMIT: usize = 127;
 /// The greatest modulus.
 const MOST_MODULUS: u64 = 4294967296;
 
-/// The numbers of members of a certificate and of a process.
+/// The most entries of a list that is none of residues.
+const MOST_ENTRIES: usize = 65536;
+
+/// The numbers of members of a certificate, of a process and of a signal.
 const MODULUS: usize = 2;
 
 const VERSION: usize = 6;
@@ -25,6 +29,8 @@ const KIND: usize = 0;
 const SLOTS: usize = 2;
 
 const START: usize = 3;
+
+const MODE: usize = 0;
 
 /// Why a value is refused.
 #[derive(Clone, Copy)]
@@ -39,6 +45,8 @@ pub(crate) enum Why {
     AgainstKind,
     /// Version 1 has no such thing.
     AgainstVersion,
+    /// Only version 3 has such a mode.
+    OfLater,
     /// The list has too many entries: more than so many.
     Long(usize),
     /// A residue doesn't rise, or isn't below the modulus.
@@ -75,10 +83,30 @@ type Members<'c> = [Option<Seen<'c>>; MOST_MEMBERS];
 pub(crate) struct Whole {
     /// The first flaw in it.
     pub(crate) flaw: Option<Flaw>,
-    /// Where its version stands.
+    /// Where its version stands, and whether that is 3.
     pub(crate) version: Option<usize>,
+    pub(crate) is_third: bool,
     /// Its modulus.
     pub(crate) modulus: Option<u64>,
+}
+
+impl Whole {
+    /// The limits of a certificate of its version and modulus.
+    pub(crate) fn limits(&self) -> Limits {
+        Limits {
+            modulus: self.modulus.unwrap_or(0),
+            residues: if self.is_third { 4096 } else { 64 },
+        }
+    }
+}
+
+/// The limits of a certificate of a version and a modulus.
+#[derive(Clone, Copy)]
+pub(crate) struct Limits {
+    /// What its residues are below.
+    modulus: u64,
+    /// How many residues a list of them has at most.
+    residues: usize,
 }
 
 /// An object or a list that is open.
@@ -104,16 +132,21 @@ struct Frame<'c> {
 struct Walk<'c> {
     reader: Reader<'c>,
     bytes: &'c [u8],
-    /// The modulus, where the limits are asked.
-    limit: Option<u64>,
+    /// The rules by which versions are read.
+    rules: Rules,
+    /// The limits, where they are asked.
+    limit: Option<Limits>,
     /// What is open, the innermost one last.
     frames: Vec<Frame<'c>>,
     /// The first flaw in the whole, once it has ended.
     flaw: Option<Flaw>,
     /// Where a process has a start that version 1 lacks.
     starter: Option<usize>,
+    /// Where a signal has a mode that version 3 alone has.
+    both: Option<usize>,
     /// What is seen of the members of the whole.
     version: Option<usize>,
+    is_third: bool,
     modulus: Option<u64>,
 }
 
@@ -172,9 +205,13 @@ fn kind_flaw(members: &Members) -> Option<Flaw> {
 }
 
 /// The flaw of an entry of a list, which has so many before it, where the limits are asked; residues are at least so large.
-fn entry_flaw(frame: &Frame, entry: &Seen, limit: Option<u64>) -> Option<Flaw> {
-    let modulus = limit?;
-    let most = frame.form.most_entries();
+fn entry_flaw(frame: &Frame, entry: &Seen, limit: Option<Limits>) -> Option<Flaw> {
+    let Limits { modulus, residues } = limit?;
+    let most = if frame.form == Form::Residues {
+        residues
+    } else {
+        MOST_ENTRIES
+    };
     let long = flaw_if(frame.count >= most, entry.place, Why::Long(most));
     if frame.form != Form::Residues {
         return long;
@@ -188,7 +225,7 @@ fn entry_flaw(frame: &Frame, entry: &Seen, limit: Option<u64>) -> Option<Flaw> {
 }
 
 /// The flaw of a modulus, where the limits are asked.
-fn modulus_flaw(number: &str, place: usize, limit: Option<u64>) -> Option<Flaw> {
+fn modulus_flaw(number: &str, place: usize, limit: Option<Limits>) -> Option<Flaw> {
     let modulus: Option<u64> = number.parse().ok();
     let fits = match modulus {
         Some(modulus) => 1 <= modulus && modulus <= MOST_MODULUS,
@@ -198,10 +235,16 @@ fn modulus_flaw(number: &str, place: usize, limit: Option<u64>) -> Option<Flaw> 
 }
 
 /// What is seen of a text, a number, a truth value or nothing.
-fn seen_single<'c>(token: Token<'c>, form: Form, place: usize, limit: Option<u64>) -> Seen<'c> {
+fn seen_single<'c>(
+    token: Token<'c>,
+    form: Form,
+    place: usize,
+    rules: Rules,
+    limit: Option<Limits>,
+) -> Seen<'c> {
     let (fits, text) = match token {
-        Token::String(text) => (form.has_text(text), text),
-        Token::Number(text) => (form.has_number(text), text),
+        Token::String(text) => (form.has_text(rules, text), text),
+        Token::Number(text) => (form.has_number(rules, text), text),
         Token::Bool(_) => (form == Form::Flag, ""),
         _ => (false, ""),
     };
@@ -233,7 +276,7 @@ impl<'c> Frame<'c> {
     }
 
     /// One of its values has ended.
-    fn take(&mut self, seen: Seen<'c>, limit: Option<u64>) {
+    fn take(&mut self, seen: Seen<'c>, limit: Option<Limits>) {
         if self.form.entries().is_none() {
             let number = self.member;
             if let Some(member) = self.members.get_mut(number) {
@@ -261,17 +304,22 @@ impl<'c> Walk<'c> {
     fn version_flaw(&self, members: &Members, end: usize) -> Option<Flaw> {
         let version = seen_at(members, VERSION)?;
         let displays = seen_at(members, DISPLAYS);
-        if version.text == "2" {
+        let later = match self.both {
+            Some(place) => flaw_if(version.text != "3", place, Why::OfLater),
+            None => None,
+        };
+        if version.text != "1" {
             let mut missing = [false; MOST_MEMBERS];
             missing[DISPLAYS] = true;
             let why = Why::Lacks(Form::Certificate, missing);
-            return flaw_if(displays.is_none(), end, why);
+            return first_of(later, flaw_if(displays.is_none(), end, why));
         }
-        match (displays, self.starter) {
+        let own = match (displays, self.starter) {
             (Some(displays), _) => flaw_if(true, displays.place, Why::AgainstVersion),
             (None, Some(place)) => flaw_if(true, place, Why::AgainstVersion),
             (None, None) => None,
-        }
+        };
+        first_of(later, own)
     }
 
     /// Keeps what is asked later of the members of an object.
@@ -279,6 +327,7 @@ impl<'c> Walk<'c> {
         if form == Form::Certificate {
             if let Some(version) = seen_at(members, VERSION) {
                 self.version = Some(version.place);
+                self.is_third = version.text == "3";
             }
             if let Some(modulus) = seen_at(members, MODULUS) {
                 self.modulus = modulus.text.parse().ok();
@@ -288,6 +337,13 @@ impl<'c> Walk<'c> {
             if let Some(start) = seen_at(members, START) {
                 if start.text == "starter" {
                     self.starter = Some(start.place);
+                }
+            }
+        }
+        if form == Form::Signal && self.both.is_none() {
+            if let Some(mode) = seen_at(members, MODE) {
+                if mode.text == "both" {
+                    self.both = Some(mode.place);
                 }
             }
         }
@@ -311,8 +367,10 @@ impl<'c> Walk<'c> {
             Some((number, wanted)) => {
                 frame.member = number;
                 frame.wanted = wanted;
-                if wanted == Form::Processes {
-                    self.starter = None;
+                match wanted {
+                    Form::Processes => self.starter = None,
+                    Form::Signals => self.both = None,
+                    _ => {}
                 }
             }
             None => {
@@ -381,28 +439,32 @@ impl<'c> Walk<'c> {
             Token::Key(name) => self.name(name, place),
             Token::BeginObject | Token::BeginArray => self.frames.push(Frame::new(form, place))?,
             Token::EndObject | Token::EndArray => self.close(place),
-            _ => self.end_value(seen_single(token, form, place, self.limit)),
+            _ => self.end_value(seen_single(token, form, place, self.rules, self.limit)),
         }
         Ok(true)
     }
 }
 
-/// What is seen of a JSON text that is to be a certificate; its limits are asked where its modulus is given.
+/// What is seen of a JSON text that is to be a certificate of a version that is read by these rules; limits are asked where they are given.
 pub(crate) fn walk_over(
     alloc: Global,
     text: &str,
-    limit: Option<u64>,
+    rules: Rules,
+    limit: Option<Limits>,
 ) -> Result<Whole, AllocError> {
     let mut scratch = Scratch::new(alloc);
     let reader = Reader::new(text, &mut scratch)?;
     let mut walk = Walk {
         reader,
         bytes: text.as_bytes(),
+        rules,
         limit,
         frames: Vec::new(alloc),
         flaw: None,
         starter: None,
+        both: None,
         version: None,
+        is_third: false,
         modulus: None,
     };
     for _ in 0..text.len() {
@@ -413,6 +475,7 @@ pub(crate) fn walk_over(
     Ok(Whole {
         flaw: walk.flaw,
         version: walk.version,
+        is_third: walk.is_third,
         modulus: walk.modulus,
     })
 }

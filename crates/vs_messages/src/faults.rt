@@ -157,7 +157,7 @@ pub fn tell_certificate<E: Write>(
         } else {
             Stands::Alone
         };
-        let explanation = explain_certificate(alloc, given.certificate, stands, fault);
+        let explanation = explain_certificate(alloc, given.certificate, given.rules, stands, fault);
         tell_explained(
             alloc,
             given,
@@ -197,7 +197,14 @@ pub fn tell_broken<E: Write>(
             place,
         };
         let further = further_of(given);
-        let explanation = explain_rule(alloc, given.source, given.top, offender, further);
+        let explanation = explain_rule(
+            alloc,
+            given.source,
+            given.top,
+            given.rules,
+            offender,
+            further,
+        );
         tell_explained(
             alloc,
             given,
@@ -224,7 +231,14 @@ fn explain_refused(
     offender: Offender,
     further: Further,
 ) -> Result<Explanation, AllocError> {
-    let mut explanation = explain_rule(alloc, given.source, given.top, offender, further)?;
+    let mut explanation = explain_rule(
+        alloc,
+        given.source,
+        given.top,
+        given.rules,
+        offender,
+        further,
+    )?;
     let words = &mut explanation.words;
     words.extend_from_slice(b"`vsim race --top ")?;
     words.extend_from_slice(given.top)?;
@@ -264,7 +278,14 @@ pub fn tell_unproved<E: Write>(
     err: &mut E,
 ) {
     let (source, certificate) = (given.source, offender.certificate);
-    if let Ok(explanation) = explain_rule(alloc, source, given.top, offender, further) {
+    if let Ok(explanation) = explain_rule(
+        alloc,
+        source,
+        given.top,
+        given.rules,
+        offender,
+        further,
+    ) {
         tell_text(
             err,
             explained_beside(alloc, &explanation, source, certificate, given.places),

@@ -1,5 +1,6 @@
 //! What a message is about.
 
+use vs_explain::vs_certificate::Rules;
 use vs_preprocess::Places;
 
 /// How much is told of a refusal.
@@ -28,6 +29,8 @@ pub struct Given<'g> {
     pub is_in_front: bool,
     /// The words of the call that name its files, each with a space in front; nothing, where the source is standard input.
     pub files: &'g [u8],
+    /// The rules by which certificates are read.
+    pub rules: Rules,
     /// How much is told.
     pub extent: Extent,
 }

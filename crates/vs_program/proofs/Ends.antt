@@ -11,7 +11,7 @@ use Rattle.vs_race.specs.vs_propose.specs.declared.proposal.Proposal.{Proposal}
 use Rattle.vs_race.specs.vs_propose.specs.declared.proposal.Proposal.TheVariants.{Made, NotMade}
 use Rattle.vs_certified.specs.vs_kernel.specs.Runs.{HasBegun, RanTo}
 use Rattle.vs_certified.specs.vs_kernel.specs.declared.outcome.Outcome.{Outcome}
-use Rattle.vs_certified.specs.Certified.{HasBegunCertifiedRun, IsCertifiedRun, StandsFor, is_before_run}
+use Rattle.vs_certified.specs.Certified.{HasBegunCertifiedRunBy, IsCertifiedRunBy, StandsFor, is_before_run}
 use Rattle.vs_certified.specs.declared.fault.CertifiedFault.{CertifiedFault}
 use Rattle.vs_certified.specs.vs_simulate.specs.Honesty.{IsRun, HasBegunRun}
 use Rattle.vs_program.specs.declared.doing.Texts.{Texts}
@@ -23,6 +23,7 @@ use Rattle.vs_program.specs.declared.doing.Done.TheVariants.{Ran, Judged, Propos
 use Rattle.vs_program_words.specs.declared.words.Request.{Request}
 use Rattle.vs_program_words.specs.declared.words.OutputText.TheVariants.{Lines, Dump}
 use Rattle.vs_program_words.specs.declared.words.Subcommand.{Subcommand}
+use Rattle.vs_program_words.specs.vs_certificate.specs.declared.members.Rules.{Rules}
 use Rattle.vs_program_words.specs.declared.words.Subcommand.TheVariants.{Run, RunCertified, Check, Certify, Race, Elab, Preprocess}
 use Rattle.vs_program.specs.Ends.{HasBegunCertifiedText, HasBegunText, HasBegunWriting, HasWritten, Wrote, WroteCertified, texts_of}
 use Rattle.vs_program.specs.Ends.{CallFails, CanBegin, Ends, EndsBy, EndsCall, EndsFiles, EndsWith, Held, IsFinished, IsProposed, KeepsAll, MakingFails, OnShown}
@@ -86,9 +87,9 @@ module _ (old mid new lines_old lines_mid lines_new : Option (List ℕ)) (kept :
     displayed = h.displayed;
   }
 
-  certified_kept : (bytes top certificate : List ℕ) (until steps : ℕ) (o : Outcome) → IsCertifiedRun bytes top certificate until steps o old mid lines_old lines_mid
-      → IsCertifiedRun bytes top certificate until steps o old new lines_old lines_new
-  certified_kept bytes top certificate until steps o h = record {
+  certified_kept : (rules : Rules) (bytes top certificate : List ℕ) (until steps : ℕ) (o : Outcome) → IsCertifiedRunBy rules bytes top certificate until steps o old mid lines_old lines_mid
+      → IsCertifiedRunBy rules bytes top certificate until steps o old new lines_old lines_new
+  certified_kept rules bytes top certificate until steps o h = record {
     design = h.design;
     defined = h.defined;
     claimed = h.claimed;
@@ -100,9 +101,9 @@ module _ (old mid new lines_old lines_mid lines_new : Option (List ℕ)) (kept :
     every = λ whole xs legal complete. stands_kept h.design _ until h.ran.moves xs (h.every whole xs legal complete);
   }
 
-  begun_certified_kept : (bytes top certificate : List ℕ) (until steps : ℕ) → HasBegunCertifiedRun bytes top certificate until steps old mid lines_old lines_mid
-      → HasBegunCertifiedRun bytes top certificate until steps old new lines_old lines_new
-  begun_certified_kept bytes top certificate until steps h = record {
+  begun_certified_kept : (rules : Rules) (bytes top certificate : List ℕ) (until steps : ℕ) → HasBegunCertifiedRunBy rules bytes top certificate until steps old mid lines_old lines_mid
+      → HasBegunCertifiedRunBy rules bytes top certificate until steps old new lines_old lines_new
+  begun_certified_kept rules bytes top certificate until steps h = record {
     design = h.design;
     defined = h.defined;
     claimed = h.claimed;
@@ -121,18 +122,18 @@ module _ (old mid new dump_old dump_mid dump_new : Option (List ℕ)) (kept : Ke
   wrote_certified_kept : (t : Texts) (bytes certificate : List ℕ) (q : Request) (o : Outcome) → WroteCertified t bytes certificate q o old mid dump_old dump_mid
       → WroteCertified t bytes certificate q o old new dump_old dump_new
   wrote_certified_kept (One Dump) bytes certificate q o h =
-      certified_kept old mid new None None None kept tt bytes q.top.now certificate q.until.count q.steps.count o h
+      certified_kept old mid new None None None kept tt q.rules bytes q.top.now certificate q.until.count q.steps.count o h
   wrote_certified_kept (One Lines) bytes certificate q o h =
-      certified_kept None None None old mid new tt kept bytes q.top.now certificate q.until.count q.steps.count o h
+      certified_kept None None None old mid new tt kept q.rules bytes q.top.now certificate q.until.count q.steps.count o h
   wrote_certified_kept Both bytes certificate q o h =
-      certified_kept dump_old dump_mid dump_new old mid new dump_kept kept bytes q.top.now certificate q.until.count q.steps.count o h
+      certified_kept dump_old dump_mid dump_new old mid new dump_kept kept q.rules bytes q.top.now certificate q.until.count q.steps.count o h
 
   written_kept : (bytes certificate : List ℕ) (w : Outputs) (call : Subcommand) (done : Done) → HasWritten bytes certificate w call done old mid dump_old dump_mid
       → HasWritten bytes certificate w call done old new dump_old dump_new
   written_kept bytes certificate w (Run q) (Ran o) h = wrote_kept (texts_of q.text w.dump) bytes q o h
   written_kept bytes certificate w (RunCertified q) (Ran o) h = wrote_certified_kept (texts_of q.text w.dump) bytes certificate q o h
-  written_kept bytes certificate w (Check top) (Judged v) h = record { judged = h.judged; written = Appends-kept old mid new _ h.written kept }
-  written_kept bytes certificate w (Certify top grain) (Proposed p) h = record { proposed = h.proposed; reads_back = h.reads_back; written = Appends-kept old mid new _ h.written kept }
+  written_kept bytes certificate w (Check top rules) (Judged v) h = record { judged = h.judged; written = Appends-kept old mid new _ h.written kept }
+  written_kept bytes certificate w (Certify top grain rules) (Proposed p) h = record { proposed = h.proposed; reads_back = h.reads_back; written = Appends-kept old mid new _ h.written kept }
   written_kept bytes certificate w (Race q) (Raced race) h =
       record { answered = h.answered; text = h.text; told = h.told; written = Appends-kept old mid new _ h.written kept }
   written_kept bytes certificate w (Elab top) Listed h = record { design = h.design; defined = h.defined; written = Appends-kept old mid new _ h.written kept }
@@ -147,19 +148,19 @@ module _ (old mid new dump_old dump_mid dump_new : Option (List ℕ)) (kept : Ke
   begun_certified_text_kept : (t : Texts) (bytes certificate : List ℕ) (q : Request) → HasBegunCertifiedText t bytes certificate q old mid dump_old dump_mid
       → HasBegunCertifiedText t bytes certificate q old new dump_old dump_new
   begun_certified_text_kept (One Dump) bytes certificate q h =
-      begun_certified_kept old mid new None None None kept tt bytes q.top.now certificate q.until.count q.steps.count h
+      begun_certified_kept old mid new None None None kept tt q.rules bytes q.top.now certificate q.until.count q.steps.count h
   begun_certified_text_kept (One Lines) bytes certificate q h =
-      begun_certified_kept None None None old mid new tt kept bytes q.top.now certificate q.until.count q.steps.count h
+      begun_certified_kept None None None old mid new tt kept q.rules bytes q.top.now certificate q.until.count q.steps.count h
   begun_certified_text_kept Both bytes certificate q h =
-      begun_certified_kept dump_old dump_mid dump_new old mid new dump_kept kept bytes q.top.now certificate q.until.count q.steps.count h
+      begun_certified_kept dump_old dump_mid dump_new old mid new dump_kept kept q.rules bytes q.top.now certificate q.until.count q.steps.count h
 
   begun_kept : (bytes certificate : List ℕ) (w : Outputs) (call : Subcommand) → HasBegunWriting bytes certificate w call old mid dump_old dump_mid
       → HasBegunWriting bytes certificate w call old new dump_old dump_new
   begun_kept bytes certificate w (Run q) h = begun_text_kept (texts_of q.text w.dump) bytes q h
   begun_kept bytes certificate w (RunCertified q) h = begun_certified_text_kept (texts_of q.text w.dump) bytes certificate q h
-  begun_kept bytes certificate w (Check top) h =
+  begun_kept bytes certificate w (Check top rules) h =
       record { verdict = h.verdict; judged = h.judged; begun = (h.begun.0, Appends-kept old mid new _ h.begun.1 kept) }
-  begun_kept bytes certificate w (Certify top grain) h =
+  begun_kept bytes certificate w (Certify top grain rules) h =
       record { proposal = h.proposal; proposed = h.proposed; begun = (h.begun.0, Appends-kept old mid new _ h.begun.1 kept) }
   begun_kept bytes certificate w (Race q) h =
       record { race = h.race; answered = h.answered; text = h.text; told = h.told; begun = (h.begun.0, Appends-kept old mid new _ h.begun.1 kept) }
@@ -244,19 +245,19 @@ own_file : (bytes certificate : List ℕ) (o : Outputs) (call : Subcommand) (don
     → HasWritten bytes certificate o call done old new dump_old dump_new → file_of o done ≡ o.text
 own_file bytes certificate o (Run q) (Ran outcome) old new dump_old dump_new other h = refl
 own_file bytes certificate o (RunCertified q) (Ran outcome) old new dump_old dump_new other h = refl
-own_file bytes certificate o (Check top) (Judged v) old new dump_old dump_new other h = refl
-own_file bytes certificate o (Certify top grain) (Proposed p) old new dump_old dump_new other h = absurd (true≢false other)
+own_file bytes certificate o (Check top rules) (Judged v) old new dump_old dump_new other h = refl
+own_file bytes certificate o (Certify top grain rules) (Proposed p) old new dump_old dump_new other h = absurd (true≢false other)
 own_file bytes certificate o (Race q) (Raced race) old new dump_old dump_new other h = refl
 own_file bytes certificate o (Elab top) Listed old new dump_old dump_new other h = refl
 own_file bytes certificate o Preprocess Preprocessed old new dump_old dump_new other h = refl
 own_file bytes certificate o call done old new dump_old dump_new other h = absurd h
 
 -- one that isn't asked for a certificate makes none
-pub other_call : (call : Subcommand) → ((top : Bor (List ℕ)) (grain : ClaimedGrain) → call ≡ Certify top grain → ⊥) → makes_certificate call ≡ false
+pub other_call : (call : Subcommand) → ((top : Bor (List ℕ)) (grain : ClaimedGrain) (rules : Rules) → call ≡ Certify top grain rules → ⊥) → makes_certificate call ≡ false
 other_call (Run q) other = refl
 other_call (RunCertified q) other = refl
-other_call (Check top) other = refl
-other_call (Certify top grain) other = absurd (other top grain refl)
+other_call (Check top rules) other = refl
+other_call (Certify top grain rules) other = absurd (other top grain rules refl)
 other_call (Race q) other = refl
 other_call (Elab top) other = refl
 other_call Preprocess other = refl
@@ -264,9 +265,9 @@ other_call Preprocess other = refl
 can_begin : (o : Outputs) (call : Subcommand) → (o.text ≡ None) ⊎ (makes_certificate call ≡ false) → CanBegin o call
 can_begin o (Run q) h = tt
 can_begin o (RunCertified q) h = tt
-can_begin o (Check top) h = tt
-can_begin o (Certify top grain) (inl none) = none
-can_begin o (Certify top grain) (inr other) = absurd (true≢false other)
+can_begin o (Check top rules) h = tt
+can_begin o (Certify top grain rules) (inl none) = none
+can_begin o (Certify top grain rules) (inr other) = absurd (true≢false other)
 can_begin o (Race q) h = tt
 can_begin o (Elab top) h = tt
 can_begin o Preprocess h = tt
@@ -329,19 +330,19 @@ ends_in_file certificate bytes o call name old new status named other (written_h
 ends_in_file certificate bytes o call name old new status named other (kept_here text dump is) kept = by_device (record { out = kept; text = text; dump = dump }) is
 
 -- a line, as what a call that makes a certificate has written
-line_written : (bytes certificate top : List ℕ) (o : Outputs) (at : Bor (List ℕ)) (grain : ClaimedGrain) (p : Proposal) (lost : List ℕ) (name : Bor (List ℕ)) (old new : Held)
-    → o.text ≡ Some name → at.now ≡ top → IsProposed bytes top grain p → ReadsBack p → WroteLine p (proposal_line p) lost old new
-    → OnShown (file_of o (Proposed p)) (Written bytes certificate o (Certify at grain) (Proposed p) lost []) old new
-line_written bytes certificate top o at grain (Made c) lost name old new named same is reads line =
-    shown_file (Written bytes certificate o (Certify at grain) (Proposed (Made c)) lost []) old new o.text name named (record { proposed = subst (λ (t : List ℕ). IsProposed bytes t grain (Made c)) (sym same) is; reads_back = reads; written = line.0 }) line.1
-line_written bytes certificate top o at grain (NotMade r) lost name old new named same is reads line =
-    (record { proposed = subst (λ (t : List ℕ). IsProposed bytes t grain (NotMade r)) (sym same) is; reads_back = reads; written = line.0 }, line.1)
+line_written : (rules : Rules) (bytes certificate top : List ℕ) (o : Outputs) (at : Bor (List ℕ)) (grain : ClaimedGrain) (p : Proposal) (lost : List ℕ) (name : Bor (List ℕ)) (old new : Held)
+    → o.text ≡ Some name → at.now ≡ top → IsProposed rules bytes top grain p → ReadsBack rules p → WroteLine p (proposal_line p) lost old new
+    → OnShown (file_of o (Proposed p)) (Written bytes certificate o (Certify at grain rules) (Proposed p) lost []) old new
+line_written rules bytes certificate top o at grain (Made c) lost name old new named same is reads line =
+    shown_file (Written bytes certificate o (Certify at grain rules) (Proposed (Made c)) lost []) old new o.text name named (record { proposed = subst (λ (t : List ℕ). IsProposed rules bytes t grain (Made c)) (sym same) is; reads_back = reads; written = line.0 }) line.1
+line_written rules bytes certificate top o at grain (NotMade r) lost name old new named same is reads line =
+    (record { proposed = subst (λ (t : List ℕ). IsProposed rules bytes t grain (NotMade r)) (sym same) is; reads_back = reads; written = line.0 }, line.1)
 
 -- what was proposed, whose line was written or wasn't
-pub ends_lined : (bytes top : List ℕ) (grain : ClaimedGrain) (found : ProposalLine) (whole : Bool) (old new : Held) (status : ℕ) → HasProposed bytes top grain found
+pub ends_lined : (rules : Rules) (bytes top : List ℕ) (grain : ClaimedGrain) (found : ProposalLine) (whole : Bool) (old new : Held) (status : ℕ) → HasProposed rules bytes top grain found
     → ((lost : List ℕ) × (whole ≡ true → lost ≡ []) × WroteLine found.proposal found.line.items lost old new)
-    → ((whole ≡ true) × (status ≡ done_status (Proposed found.proposal))) ⊎ (status ≡ 3) → EndsMaking bytes top grain old new status
-ends_lined bytes top grain found whole old new status has wrote told =
+    → ((whole ≡ true) × (status ≡ done_status (Proposed found.proposal))) ⊎ (status ≡ 3) → EndsMaking rules bytes top grain old new status
+ends_lined rules bytes top grain found whole old new status has wrote told =
     with_line found.proposal wrote.0 has.proposed has.reads_back (subst (λ (l : List ℕ). WroteLine found.proposal l wrote.0 old new) has.line wrote.2) (ended told)
   where
     ended : ((whole ≡ true) × (status ≡ done_status (Proposed found.proposal))) ⊎ (status ≡ 3)
@@ -350,20 +351,20 @@ ends_lined bytes top grain found whole old new status has wrote told =
     ended (inr failed) = inr failed
 
 -- a certificate that is made for a file
-pub ends_making : (certificate bytes top : List ℕ) (o : Outputs) (call : Subcommand) (at : Bor (List ℕ)) (grain : ClaimedGrain) (name : Bor (List ℕ)) (old new : Held) (status : ℕ)
-    → o.text ≡ Some name → call ≡ Certify at grain → at.now ≡ top → EndsMaking bytes top grain old new status → EndsKept certificate bytes o call old new status
-ends_making certificate bytes top o call at grain name old new status named asked same ended = subst (λ (s : Subcommand). EndsKept certificate bytes o s old new status) (sym asked) (go ended)
+pub ends_making : (rules : Rules) (certificate bytes top : List ℕ) (o : Outputs) (call : Subcommand) (at : Bor (List ℕ)) (grain : ClaimedGrain) (name : Bor (List ℕ)) (old new : Held) (status : ℕ)
+    → o.text ≡ Some name → call ≡ Certify at grain rules → at.now ≡ top → EndsMaking rules bytes top grain old new status → EndsKept certificate bytes o call old new status
+ends_making rules certificate bytes top o call at grain name old new status named asked same ended = subst (λ (s : Subcommand). EndsKept certificate bytes o s old new status) (sym asked) (go ended)
   where
-    go : EndsMaking bytes top grain old new status → EndsKept certificate bytes o (Certify at grain) old new status
+    go : EndsMaking rules bytes top grain old new status → EndsKept certificate bytes o (Certify at grain rules) old new status
     go (with_line p lost is reads line (inl all)) =
-        by_doing certificate bytes (Proposed p) lost [] (refl, refl) (line_written bytes certificate top o at grain p lost name old new named same is reads line) all.0 refl all.1
+        by_doing certificate bytes (Proposed p) lost [] (refl, refl) (line_written rules bytes certificate top o at grain p lost name old new named same is reads line) all.0 refl all.1
     go (with_line p lost is reads line (inr failed)) =
-        by_write certificate bytes (Proposed p) lost [] (refl, refl) (line_written bytes certificate top o at grain p lost name old new named same is reads line) failed
+        by_write certificate bytes (Proposed p) lost [] (refl, refl) (line_written rules bytes certificate top o at grain p lost name old new named same is reads line) failed
     go (without_line f fails before kept told) =
         by_fault certificate bytes f (refl, refl) (fails_at f fails) (record { refused = λ _. kept; begun = λ running. absurd (true≢false (sym before ∙ running)) }) told
       where
-        fails_at : (f : CertifiedFault) → MakingFails bytes top grain f → MakingFails bytes at.now grain f
-        fails_at f h = subst (λ (t : List ℕ). MakingFails bytes t grain f) (sym same) h
+        fails_at : (f : CertifiedFault) → MakingFails rules bytes top grain f → MakingFails rules bytes at.now grain f
+        fails_at f h = subst (λ (t : List ℕ). MakingFails rules bytes t grain f) (sym same) h
 
 -- how a call ends that names no file, and one that names some
 pub ends_without : (files : List (Bor (List ℕ))) (input : Option (List ℕ)) (call : asked.Call) (old new : Held) (status : ℕ)
@@ -384,9 +385,9 @@ certificate_at : (c s : Subcommand) (top : List ℕ) (until : ℕ) (file : Optio
 certificate_at (Run q) (Run r) top until file input certificate at h = h
 certificate_at (RunCertified q) (RunCertified r) top until None input certificate at h = h
 certificate_at (RunCertified q) (RunCertified r) top until (Some f) input certificate at h = h
-certificate_at (Check t) (Check u) top until None input certificate at h = h
-certificate_at (Check t) (Check u) top until (Some f) input certificate at h = h
-certificate_at (Certify t g) (Certify u k) top until file input certificate at h = h
+certificate_at (Check t a) (Check u b) top until None input certificate at h = h
+certificate_at (Check t a) (Check u b) top until (Some f) input certificate at h = h
+certificate_at (Certify t g a) (Certify u k b) top until file input certificate at h = h
 certificate_at (Race q) (Race r) top until file input certificate at h = h
 certificate_at (Elab t) (Elab u) top until file input certificate at h = h
 certificate_at Preprocess Preprocess top until file input certificate at h = h

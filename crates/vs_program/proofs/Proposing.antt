@@ -5,17 +5,18 @@ use Rattle.vs_certified.specs.vs_vcd_writing.specs.Sinks.{AppendsPart}
 use Rattle.vs_program_words.specs.vs_certificate.specs.declared.members.Certificate.{Certificate}
 use Rattle.vs_program_words.specs.vs_certificate.specs.Reading as certificates
 use Rattle.vs_program_words.specs.vs_certificate.specs.declared.members.ClaimedGrain.{ClaimedGrain}
+use Rattle.vs_program_words.specs.vs_certificate.specs.declared.members.Rules.{Rules}
 use Rattle.vs_design.specs.Parts.{Parts}
-use Rattle.vs_race.specs.vs_propose.specs.Proposals.{IsProposal}
+use Rattle.vs_race.specs.vs_propose.specs.Proposals.{IsProposalBy}
 use Rattle.vs_race.specs.vs_propose.specs.declared.proposal.Proposal.{Proposal}
 use Rattle.vs_race.specs.vs_propose.specs.declared.proposal.Proposal.TheVariants.{Made, NotMade}
 use Rattle.vs_program.specs.Texts.{ReadsBack}
 use Rattle.vs_program.specs.passes.Proposing.{IsShort}
 
 -- what is proposed reads back, where it is short enough
-pub reads_back : (d : Parts) (grain : ClaimedGrain) (p : Proposal) → ((c : Certificate) → certificates.ReadsBack c) → IsProposal d grain p → IsShort p → ReadsBack p
-reads_back d grain (Made c) law is short = record { json = (law c is.own_words is.sound.limits short).json; sound = is.sound }
-reads_back d grain (NotMade r) law is short = tt
+pub reads_back : (rules : Rules) (d : Parts) (grain : ClaimedGrain) (p : Proposal) → ((c : Certificate) → certificates.ReadsBack c) → IsProposalBy rules d grain p → IsShort p → ReadsBack rules p
+reads_back rules d grain (Made c) law is short = record { json = (law c is.own_words is.sound.limits short).json; sound = is.sound }
+reads_back rules d grain (NotMade r) law is short = tt
 
 -- a line of which a front was written
 front_written : (a b : Option (List ℕ)) (line : List ℕ) (n : ℕ) → Appends a b (take n line) → Appends a (append_known b (drop n line)) line

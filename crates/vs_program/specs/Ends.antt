@@ -4,6 +4,7 @@ use Rattle.std.specs.Prelude.{ℕ, ◌≡◌, ◌≤◌, ◌⊎◌, true, false,
 use Rattle.std.specs.Io.KnownBytes.{Appends, Keeps, append_known}
 use Rattle.clap.specs.declared.error.kind.ErrorKind.{ErrorKind}
 use Rattle.vs_program_words.specs.vs_certificate.specs.declared.members.ClaimedGrain.{ClaimedGrain}
+use Rattle.vs_program_words.specs.vs_certificate.specs.declared.members.Rules.{Rules}
 use Rattle.vs_program_words.specs.vs_certificate.specs.declared.fault.CertFault.TheVariants.{NotJson}
 use Rattle.vs_design.specs.Parts.{Parts}
 use Rattle.vs_certified.specs.vs_vcd_writing.specs.Sinks.{AppendsPart}
@@ -11,11 +12,11 @@ use Rattle.vs_certified.specs.vs_kernel.specs.declared.outcome.Outcome.{Outcome}
 use Rattle.vs_certified.specs.vs_cert_check.specs.declared.verdict.Verdict.{Verdict}
 use Rattle.vs_race.specs.vs_propose.specs.declared.proposal.Proposal.{Proposal}
 use Rattle.vs_race.specs.vs_propose.specs.declared.proposal.Proposal.TheVariants.{NotMade}
-use Rattle.vs_race.specs.vs_propose.specs.Proposals.{IsProposal}
+use Rattle.vs_race.specs.vs_propose.specs.Proposals.{IsProposalBy}
 use Rattle.vs_certified.specs.vs_simulate.specs.Honesty.{Defines, IsRun, HasBegunRun, SimulationFails}
 use Rattle.vs_certified.specs.vs_simulate.specs.Listing.{IsListed, HasBegunListing}
-use Rattle.vs_certified.specs.Certified.{IsCertifiedRun, HasBegunCertifiedRun, CertifyingFails, is_before_run}
-use Rattle.vs_certified.specs.Judged.{IsJudged}
+use Rattle.vs_certified.specs.Certified.{IsCertifiedRunBy, HasBegunCertifiedRunBy, CertifyingFailsBy, is_before_run}
+use Rattle.vs_certified.specs.Judged.{IsJudgedBy}
 use Rattle.vs_certified.specs.declared.fault.CertifiedFault.{CertifiedFault}
 use Rattle.vs_certified.specs.declared.fault.CertifiedFault.TheVariants.{Simulation, Certificate, Rejected}
 use Rattle.vs_certified.specs.vs_simulate.specs.declared.fault.SimFault.TheVariants as sim
@@ -56,31 +57,32 @@ Wrote (One Dump) bytes q outcome old new dump_old dump_new = IsRun bytes q.top.n
 Wrote (One Lines) bytes q outcome old new dump_old dump_new = IsRun bytes q.top.now q.until.count q.steps.count outcome None None old new
 Wrote Both bytes q outcome old new dump_old dump_new = IsRun bytes q.top.now q.until.count q.steps.count outcome dump_old dump_new old new
 
--- the same of a run of a design whose certificate is accepted, with the text of the certificate
+-- the same of a run of a design whose certificate is accepted by the rules that are asked for, with the text of the certificate
 abbrev pub WroteCertified : Texts → List ℕ → List ℕ → Request → Outcome
     → Option (List ℕ) → Option (List ℕ) → Option (List ℕ) → Option (List ℕ) → Type 0
 WroteCertified (One Dump) bytes certificate q outcome old new dump_old dump_new =
-    IsCertifiedRun bytes q.top.now certificate q.until.count q.steps.count outcome old new None None
+    IsCertifiedRunBy q.rules bytes q.top.now certificate q.until.count q.steps.count outcome old new None None
 WroteCertified (One Lines) bytes certificate q outcome old new dump_old dump_new =
-    IsCertifiedRun bytes q.top.now certificate q.until.count q.steps.count outcome None None old new
+    IsCertifiedRunBy q.rules bytes q.top.now certificate q.until.count q.steps.count outcome None None old new
 WroteCertified Both bytes certificate q outcome old new dump_old dump_new =
-    IsCertifiedRun bytes q.top.now certificate q.until.count q.steps.count outcome dump_old dump_new old new
+    IsCertifiedRunBy q.rules bytes q.top.now certificate q.until.count q.steps.count outcome dump_old dump_new old new
 
--- the line of the verdict on a certificate was written
-pub record WroteVerdict (bytes top certificate : List ℕ) (v : Verdict) (old new : Option (List ℕ)) : Type 0 where
-  pub judged : IsJudged bytes top certificate v
+-- the line of the verdict on a certificate, by rules, was written
+pub record WroteVerdict (rules : Rules) (bytes top certificate : List ℕ) (v : Verdict) (old new : Option (List ℕ)) : Type 0 where
+  pub judged : IsJudgedBy rules bytes top certificate v
   pub written : Appends old new (verdict_line v)
 
--- what is proposed for the design that bytes and a top define, at a grain
-pub record IsProposed (bytes top : List ℕ) (grain : ClaimedGrain) (p : Proposal) : Type 0 where
+-- what is proposed by rules for the design that bytes and a top define, at a grain
+pub record IsProposed (rules : Rules) (bytes top : List ℕ) (grain : ClaimedGrain) (p : Proposal) : Type 0 where
   pub design : Parts
   pub defined : Defines bytes top design
-  pub proposal : IsProposal design grain p
+  pub proposal : IsProposalBy rules design grain p
 
--- the line of what is proposed was written; the text of a certificate is one that is read again
-pub record WroteProposal (bytes top : List ℕ) (grain : ClaimedGrain) (p : Proposal) (old new : Option (List ℕ)) : Type 0 where
-  pub proposed : IsProposed bytes top grain p
-  pub reads_back : ReadsBack p
+-- the line of what is proposed was written; the text of a certificate is one that is read again by the same rules
+pub record WroteProposal (rules : Rules) (bytes top : List ℕ) (grain : ClaimedGrain) (p : Proposal) (old new : Option (List ℕ))
+    : Type 0 where
+  pub proposed : IsProposed rules bytes top grain p
+  pub reads_back : ReadsBack rules p
   pub written : Appends old new (proposal_line p)
 
 -- what a call wrote to the writer, and to the file of its dump, with the bytes of the source and those of the certificate
@@ -90,9 +92,11 @@ HasWritten bytes certificate o (Run q) (Ran outcome) old new dump_old dump_new =
     Wrote (texts_of q.text o.dump) bytes q outcome old new dump_old dump_new
 HasWritten bytes certificate o (RunCertified q) (Ran outcome) old new dump_old dump_new =
     WroteCertified (texts_of q.text o.dump) bytes certificate q outcome old new dump_old dump_new
-HasWritten bytes certificate o (Check top) (Judged v) old new dump_old dump_new = WroteVerdict bytes top.now certificate v old new
-HasWritten bytes certificate o (Certify top grain) (Proposed p) old new dump_old dump_new = WroteProposal bytes top.now grain p old new
-HasWritten bytes certificate o (Race q) (Raced race) old new dump_old dump_new = WroteRace bytes q.top.now race old new
+HasWritten bytes certificate o (Check top rules) (Judged v) old new dump_old dump_new =
+    WroteVerdict rules bytes top.now certificate v old new
+HasWritten bytes certificate o (Certify top grain rules) (Proposed p) old new dump_old dump_new =
+    WroteProposal rules bytes top.now grain p old new
+HasWritten bytes certificate o (Race q) (Raced race) old new dump_old dump_new = WroteRace q.rules bytes q.top.now race old new
 HasWritten bytes certificate o (Elab top) Listed old new dump_old dump_new = IsListed bytes top.now old new
 HasWritten bytes certificate o Preprocess Preprocessed old new dump_old dump_new = Appends old new bytes
 HasWritten bytes certificate o call _ old new dump_old dump_new = ⊥
@@ -118,22 +122,22 @@ HasBegunText Both bytes q old new dump_old dump_new = HasBegunRun bytes q.top.no
 abbrev pub HasBegunCertifiedText : Texts → List ℕ → List ℕ → Request
     → Option (List ℕ) → Option (List ℕ) → Option (List ℕ) → Option (List ℕ) → Type 0
 HasBegunCertifiedText (One Dump) bytes certificate q old new dump_old dump_new =
-    HasBegunCertifiedRun bytes q.top.now certificate q.until.count q.steps.count old new None None
+    HasBegunCertifiedRunBy q.rules bytes q.top.now certificate q.until.count q.steps.count old new None None
 HasBegunCertifiedText (One Lines) bytes certificate q old new dump_old dump_new =
-    HasBegunCertifiedRun bytes q.top.now certificate q.until.count q.steps.count None None old new
+    HasBegunCertifiedRunBy q.rules bytes q.top.now certificate q.until.count q.steps.count None None old new
 HasBegunCertifiedText Both bytes certificate q old new dump_old dump_new =
-    HasBegunCertifiedRun bytes q.top.now certificate q.until.count q.steps.count dump_old dump_new old new
+    HasBegunCertifiedRunBy q.rules bytes q.top.now certificate q.until.count q.steps.count dump_old dump_new old new
 
 -- a beginning of the line of the verdict on a certificate
-pub record HasBegunVerdict (bytes top certificate : List ℕ) (old new : Option (List ℕ)) : Type 0 where
+pub record HasBegunVerdict (rules : Rules) (bytes top certificate : List ℕ) (old new : Option (List ℕ)) : Type 0 where
   pub verdict : Verdict
-  pub judged : IsJudged bytes top certificate verdict
+  pub judged : IsJudgedBy rules bytes top certificate verdict
   pub begun : AppendsPart old new (verdict_line verdict)
 
 -- a beginning of the line of what is proposed
-pub record HasBegunProposal (bytes top : List ℕ) (grain : ClaimedGrain) (old new : Option (List ℕ)) : Type 0 where
+pub record HasBegunProposal (rules : Rules) (bytes top : List ℕ) (grain : ClaimedGrain) (old new : Option (List ℕ)) : Type 0 where
   pub proposal : Proposal
-  pub proposed : IsProposed bytes top grain proposal
+  pub proposed : IsProposed rules bytes top grain proposal
   pub begun : AppendsPart old new (proposal_line proposal)
 
 -- what a call wrote that failed: a beginning of its text, and of its dump in a file
@@ -143,9 +147,9 @@ HasBegunWriting bytes certificate o (Run q) old new dump_old dump_new =
     HasBegunText (texts_of q.text o.dump) bytes q old new dump_old dump_new
 HasBegunWriting bytes certificate o (RunCertified q) old new dump_old dump_new =
     HasBegunCertifiedText (texts_of q.text o.dump) bytes certificate q old new dump_old dump_new
-HasBegunWriting bytes certificate o (Check top) old new dump_old dump_new = HasBegunVerdict bytes top.now certificate old new
-HasBegunWriting bytes certificate o (Certify top grain) old new dump_old dump_new = HasBegunProposal bytes top.now grain old new
-HasBegunWriting bytes certificate o (Race q) old new dump_old dump_new = HasBegunRace bytes q.top.now old new
+HasBegunWriting bytes certificate o (Check top rules) old new dump_old dump_new = HasBegunVerdict rules bytes top.now certificate old new
+HasBegunWriting bytes certificate o (Certify top grain rules) old new dump_old dump_new = HasBegunProposal rules bytes top.now grain old new
+HasBegunWriting bytes certificate o (Race q) old new dump_old dump_new = HasBegunRace q.rules bytes q.top.now old new
 HasBegunWriting bytes certificate o (Elab top) old new dump_old dump_new = HasBegunListing bytes top.now old new
 HasBegunWriting bytes certificate o Preprocess old new dump_old dump_new = AppendsPart old new bytes
 
@@ -157,21 +161,21 @@ SourceFails bytes top (Simulation fault) = SimulationFails bytes top fault
 SourceFails bytes top _ = ⊥
 
 -- a certificate is made for the design that bytes and a top define, and its text is too long to be read again
-pub record IsMadeTooLong (bytes top : List ℕ) (grain : ClaimedGrain) : Type 0 where
+pub record IsMadeTooLong (rules : Rules) (bytes top : List ℕ) (grain : ClaimedGrain) : Type 0 where
   pub proposal : Proposal
-  pub proposed : IsProposed bytes top grain proposal
+  pub proposed : IsProposed rules bytes top grain proposal
   pub long : IsTooLong proposal
 
--- what a fault says where a certificate is to be made: the source is refused, or the certificate that is made, for its length
-abbrev pub MakingFails : List ℕ → List ℕ → ClaimedGrain → CertifiedFault → Type 0
-MakingFails bytes top grain (Simulation fault) = SimulationFails bytes top fault
-MakingFails bytes top grain (Certificate NotJson) = IsMadeTooLong bytes top grain
-MakingFails bytes top grain _ = ⊥
+-- what a fault says where a certificate is to be made by rules: the source is refused, or the certificate that is made, for its length
+abbrev pub MakingFails : Rules → List ℕ → List ℕ → ClaimedGrain → CertifiedFault → Type 0
+MakingFails rules bytes top grain (Simulation fault) = SimulationFails bytes top fault
+MakingFails rules bytes top grain (Certificate NotJson) = IsMadeTooLong rules bytes top grain
+MakingFails rules bytes top grain _ = ⊥
 
--- what a fault says where a verdict is asked for, which a no is none of
-abbrev pub CheckingFails : List ℕ → List ℕ → List ℕ → CertifiedFault → Type 0
-CheckingFails bytes top certificate (Rejected number place) = ⊥
-CheckingFails bytes top certificate fault = CertifyingFails bytes top certificate fault
+-- what a fault says where a verdict is asked for by rules, which a no is none of
+abbrev pub CheckingFails : Rules → List ℕ → List ℕ → List ℕ → CertifiedFault → Type 0
+CheckingFails rules bytes top certificate (Rejected number place) = ⊥
+CheckingFails rules bytes top certificate fault = CertifyingFailsBy rules bytes top certificate fault
 
 -- what a fault says where a text is only to be written
 abbrev pub WritingFails : CertifiedFault → Type 0
@@ -182,9 +186,9 @@ WritingFails _ = ⊥
 -- to run; and a text of files that is only to be written fails where a write fails
 abbrev pub CallFails : List ℕ → List ℕ → Subcommand → CertifiedFault → Type 0
 CallFails bytes certificate (Run q) fault = SourceFails bytes q.top.now fault
-CallFails bytes certificate (RunCertified q) fault = CertifyingFails bytes q.top.now certificate fault
-CallFails bytes certificate (Check top) fault = CheckingFails bytes top.now certificate fault
-CallFails bytes certificate (Certify top grain) fault = MakingFails bytes top.now grain fault
+CallFails bytes certificate (RunCertified q) fault = CertifyingFailsBy q.rules bytes q.top.now certificate fault
+CallFails bytes certificate (Check top rules) fault = CheckingFails rules bytes top.now certificate fault
+CallFails bytes certificate (Certify top grain rules) fault = MakingFails rules bytes top.now grain fault
 CallFails bytes certificate (Race q) fault = SourceFails bytes q.top.now fault
 CallFails bytes certificate (Elab top) fault = SourceFails bytes top.now fault
 CallFails bytes certificate Preprocess fault = WritingFails fault
@@ -243,7 +247,7 @@ file_of o done = o.text
 
 -- a text may be begun whose end isn't known to be there: a certificate that goes to a file is made before any of it is written
 abbrev pub CanBegin : Outputs → Subcommand → Type 0
-CanBegin o (Certify top grain) = o.text ≡ None
+CanBegin o (Certify top grain rules) = o.text ≡ None
 CanBegin o call = Unit {0}
 
 -- what a call that gave a fault leaves at its writers: where it is refused, all is as it was; else a beginning of its texts, but for bytes at
@@ -260,8 +264,8 @@ pub record HasLeft (bytes certificate : List ℕ) (o : Outputs) (call : Subcomma
 abbrev pub IsKeptFor : Subcommand → Option (List ℕ) → List ℕ → List ℕ → Type 0
 IsKeptFor (Run q) input certificate bytes = IsKept input bytes
 IsKeptFor (RunCertified q) input certificate bytes = AreKept input certificate bytes
-IsKeptFor (Check top) input certificate bytes = AreKept input certificate bytes
-IsKeptFor (Certify top grain) input certificate bytes = IsKept input bytes
+IsKeptFor (Check top rules) input certificate bytes = AreKept input certificate bytes
+IsKeptFor (Certify top grain rules) input certificate bytes = IsKept input bytes
 IsKeptFor (Race q) input certificate bytes = IsKept input bytes
 IsKeptFor (Elab top) input certificate bytes = IsKept input bytes
 IsKeptFor Preprocess input certificate bytes = IsKept input bytes

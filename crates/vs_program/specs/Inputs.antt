@@ -39,7 +39,7 @@ IsFront most (Some all) bytes = bytes ≡ take most all
 -- said of one that is in a file
 abbrev pub IsCertificateFor : Subcommand → Option (Bor (List ℕ)) → Option (List ℕ) → List ℕ → Type 0
 IsCertificateFor (RunCertified q) None input certificate = IsFront 16777217 input certificate
-IsCertificateFor (Check top) None input certificate = IsFront 16777217 input certificate
+IsCertificateFor (Check top rules) None input certificate = IsFront 16777217 input certificate
 IsCertificateFor call file input certificate = Unit {0}
 
 -- the bytes of a call whose source is the text of files: that text, and the certificate that is kept of the input

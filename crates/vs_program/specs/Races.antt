@@ -7,7 +7,8 @@ use Rattle.vs_design.specs.vs_logic4.specs.Tables.{letter}
 use Rattle.vs_elaborate.specs.vs_scopes.specs.Texts.{shown_byte}
 use Rattle.vs_certified.specs.vs_vcd_writing.specs.Sinks.{AppendsPart}
 use Rattle.vs_race.specs.Dumps.{AreDumps}
-use Rattle.vs_race.specs.Races.{IsAnswer}
+use Rattle.vs_program_words.specs.vs_certificate.specs.declared.members.Rules.{Rules}
+use Rattle.vs_race.specs.Races.{IsAnswerBy}
 use Rattle.vs_race.specs.declared.answer.Race.{Race}
 use Rattle.vs_race.specs.declared.answer.Race.TheVariants.{Certified, Found, FoundLine, NotFound}
 use Rattle.vs_race.specs.declared.witness.LineWitness.{LineWitness}
@@ -39,9 +40,9 @@ race_line (NotFound missed refused) = codes "none found" ++ 10 ∷ []
 abbrev pub IsTold : Race → List ℕ → Type 0
 IsTold race text = (more : List ℕ) × (text ≡ race_line race ++ more)
 
--- what is told of a search was written
-pub record WroteRace (bytes top : List ℕ) (race : Race) (old new : Option (List ℕ)) : Type 0 where
-  pub answered : IsAnswer bytes top race
+-- what is told of a search, with certificates by these rules, was written
+pub record WroteRace (rules : Rules) (bytes top : List ℕ) (race : Race) (old new : Option (List ℕ)) : Type 0 where
+  pub answered : IsAnswerBy rules bytes top race
   pub text : List ℕ
   pub told : IsTold race text
   pub written : Appends old new text
@@ -54,9 +55,9 @@ WroteDumps bytes top (Certified c) steps first first' other other' = (first' ≡
 WroteDumps bytes top (NotFound missed refused) steps first first' other other' = (first' ≡ first) × (other' ≡ other)
 
 -- a beginning of it
-pub record HasBegunRace (bytes top : List ℕ) (old new : Option (List ℕ)) : Type 0 where
+pub record HasBegunRace (rules : Rules) (bytes top : List ℕ) (old new : Option (List ℕ)) : Type 0 where
   pub race : Race
-  pub answered : IsAnswer bytes top race
+  pub answered : IsAnswerBy rules bytes top race
   pub text : List ℕ
   pub told : IsTold race text
   pub begun : AppendsPart old new text

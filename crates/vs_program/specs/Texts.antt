@@ -4,6 +4,7 @@ use Rattle.std.specs.List.{flat_map}
 use Rattle.serde_json.specs.Written.{compact_text}
 use Rattle.vs_program_words.specs.vs_certificate.specs.JsonValue.{value_of}
 use Rattle.vs_program_words.specs.vs_certificate.specs.Reading as certificates
+use Rattle.vs_program_words.specs.vs_certificate.specs.declared.members.Rules.{Rules}
 use Rattle.vs_elaborate.specs.vs_scopes.specs.Texts.{shown_byte}
 use Rattle.vs_certified.specs.declared.fault.CertifiedFault.{CertifiedFault}
 use Rattle.vs_certified.specs.declared.fault.CertifiedFault.TheVariants.{Simulation, Certificate, Rejected}
@@ -54,7 +55,7 @@ abbrev pub IsTooLong : Proposal → Type 0
 IsTooLong (Made c) = certificates.max_len < length (compact_text (value_of c))
 IsTooLong (NotMade r) = ⊥
 
--- the text of a certificate that is made passes each test of a certificate's text, and reads as that certificate
-abbrev pub ReadsBack : Proposal → Type 0
-ReadsBack (Made c) = certificates.Passes (compact_text (value_of c)) (value_of c)
-ReadsBack (NotMade r) = Unit {0}
+-- the text of a certificate that is made passes each test of a certificate's text by these rules, and reads as that certificate
+abbrev pub ReadsBack : Rules → Proposal → Type 0
+ReadsBack rules (Made c) = certificates.PassesBy (certificates.other_by rules) (compact_text (value_of c)) (value_of c)
+ReadsBack rules (NotMade r) = Unit {0}

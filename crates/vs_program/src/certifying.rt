@@ -16,8 +16,8 @@ use vs_certified::CertifiedFault;
 use vs_certified::vs_simulate::design_of;
 use vs_outputs::{Late, OutputFile};
 use vs_program_words::Call;
-use vs_program_words::vs_certificate::{CertFault, ClaimedGrain, written_reads_back};
-use vs_race::vs_propose::{Proposal, propose};
+use vs_program_words::vs_certificate::{CertFault, ClaimedGrain, Rules, written_reads_back};
+use vs_race::vs_propose::{Proposal, propose_by};
 
 /// What is proposed, and its line.
 #[derive(Drop)]
@@ -30,17 +30,18 @@ pub(crate) struct ProposalLine {
 #[tactic(auto, using(crate::proofs::Proposing::reads_back))]
 pub(crate) fn proposed<'s>(
     alloc: Global,
+    rules: Rules,
     top: &str,
     grain: ClaimedGrain,
     source: &'s [u8],
 ) -> Result<ProposalLine, CertifiedFault<'s>>
-    ensures ok { IfOk result (HasProposed source.entry.now top.now grain) }
-    ensures err { IfErr result (λ fault. MakingFails source.entry.now top.now grain fault) }
+    ensures ok { IfOk result (HasProposed rules source.entry.now top.now grain) }
+    ensures err { IfErr result (λ fault. MakingFails rules source.entry.now top.now grain fault) }
     ensures before { IfErr result (λ fault. is_before_run fault ≡ true) }
 {
     written_reads_back();
     let design = design_of(alloc, source, top.as_bytes())?;
-    let proposal = propose(alloc, &design, grain)?;
+    let proposal = propose_by(alloc, &design, rules, grain)?;
     let line = proposal_line(alloc, &proposal)?;
     if is_too_long(&proposal, &line) {
         return Err(CertifiedFault::Certificate(CertFault::NotJson));

@@ -24,7 +24,7 @@ use vs_certified::vs_kernel::RunFault;
 use vs_certified::vs_simulate::SimFault;
 use vs_outputs::{Late, OutputFile, ROOM, Sheet};
 use vs_preprocess::{Library, Shelf};
-use vs_program_words::vs_certificate::ClaimedGrain;
+use vs_program_words::vs_certificate::{ClaimedGrain, Rules};
 use vs_program_words::{Call, Subcommand, read_words};
 use vs_race::{Unwatched, Watch};
 use vs_targets::{target_of, with_target};
@@ -170,7 +170,7 @@ fn read_input<L: Library, R: Read + Drop>(
 {
     match (call.subcommand, call.certificate) {
         (Subcommand::RunCertified(_), None) => read_both(alloc, input),
-        (Subcommand::Check(_), None) => read_both(alloc, input),
+        (Subcommand::Check(_, _), None) => read_both(alloc, input),
         (_, Some(name)) => {
             let certificate = read_certificate(alloc, library, name)?;
             let source = read_source(alloc, input)?;
@@ -264,8 +264,8 @@ fn answer_kept<O: Write + Drop, F: OutputFile + Drop, E: Write, W: Watch>(
         None => return answer_shown(alloc, call, kept, writers, watch, err),
         Some(name) => name,
     };
-    if let Subcommand::Certify(top, grain) = call.subcommand {
-        return certify_in_file(alloc, call, kept, top, grain, name, writers, err);
+    if let Subcommand::Certify(top, grain, rules) = call.subcommand {
+        return certify_in_file(alloc, call, kept, rules, top, grain, name, writers, err);
     }
     answer_in_file(alloc, call, kept, name, writers, watch, err)
 }
@@ -330,16 +330,17 @@ fn certify_in_file<O: Write + Drop, F: OutputFile + Drop, E: Write>(
     alloc: Global,
     call: &Call,
     kept: &Kept,
+    rules: Rules,
     top: &str,
     grain: ClaimedGrain,
     name: &str,
     writers: Writers<O, F>,
     err: &mut E,
 ) -> (u8, Writers<O, F>)
-    ensures { EndsMaking kept.now.source.items top.now grain (held_of O.contents F.bytes writers)
+    ensures { EndsMaking rules kept.now.source.items top.now grain (held_of O.contents F.bytes writers)
         (held_of O.contents F.bytes result.1) result.0 }
 {
-    match proposed(alloc, top, grain, &kept.source) {
+    match proposed(alloc, rules, top, grain, &kept.source) {
         Ok(found) => {
             let (whole, writers) = write_proposed(&found, name, writers);
             let done = Done::Proposed(found.proposal);

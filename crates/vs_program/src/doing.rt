@@ -1,7 +1,7 @@
 //! What a call does with the bytes of its input.
 ghost use Rattle.std.specs.Prelude.{◌≡◌, IfOk, IfErr, OnOk, true, false};
 ghost use Rattle.std.specs.Io.KnownBytes.{Appends};
-ghost use Rattle.vs_certified.specs.Certified.{CertifyingFails, is_before_run};
+ghost use Rattle.vs_certified.specs.Certified.{CertifyingFailsBy, is_before_run};
 ghost use Rattle.vs_certified.specs.vs_simulate.specs.Honesty.{SimulationFails, is_refusal};
 ghost use Rattle.vs_certified.specs.vs_simulate.specs.declared.fault.SimFault.TheVariants.{Run};
 ghost use Rattle.vs_certified.specs.vs_kernel.specs.declared.outcome.RunFault.TheVariants.{Write};
@@ -22,9 +22,9 @@ use vs_certified::vs_cert_check::Verdict;
 use vs_certified::vs_kernel::{Outcome, RunFault};
 use vs_certified::vs_simulate::{Policy, SimFault, list_design, simulate};
 use vs_certified::vs_vcd_writing::{Sink, WriteFault, write_all};
-use vs_certified::{CertifiedFault, certified, judge};
+use vs_certified::{CertifiedFault, certified_by, judge_by};
 use vs_preprocess::Places;
-use vs_program_words::vs_certificate::ClaimedGrain;
+use vs_program_words::vs_certificate::{ClaimedGrain, Rules};
 use vs_program_words::{Call, Choice, Hunt, Order, OutputText, Outputs, Request, Subcommand};
 use vs_race::vs_propose::Proposal;
 use vs_race::{Race, Watch};
@@ -134,7 +134,8 @@ fn run_certified<'s, S: Sink, V: Sink>(
 ) -> Result<Outcome, CertifiedFault<'s>>
     ensures ok { IfOk result (λ outcome. WroteCertified texts source.entry.now certificate.now request.entry
         outcome (S.bytes shown.old) (S.bytes shown.new) (V.bytes dump.old) (V.bytes dump.new)) }
-    ensures err { IfErr result (λ fault. CertifyingFails source.entry.now request.entry.top.now certificate.now fault) }
+    ensures err { IfErr result (λ fault.
+        CertifyingFailsBy request.entry.rules source.entry.now request.entry.top.now certificate.now fault) }
     ensures refused { IfErr result (λ fault. is_before_run fault ≡ true → (shown.new ≡ shown.old) × (dump.new ≡ dump.old)) }
     ensures begun { IfErr result (λ fault. is_before_run fault ≡ false →
         HasBegunCertifiedText texts source.entry.now certificate.now request.entry
@@ -147,10 +148,12 @@ fn run_certified<'s, S: Sink, V: Sink>(
         steps,
         order: _,
         text: _,
+        rules,
     } = request;
     match texts {
-        Texts::Both => certified(
+        Texts::Both => certified_by(
             alloc,
+            rules,
             source,
             top.as_bytes(),
             certificate,
@@ -159,8 +162,9 @@ fn run_certified<'s, S: Sink, V: Sink>(
             dump,
             shown,
         ),
-        Texts::One(OutputText::Dump) => certified(
+        Texts::One(OutputText::Dump) => certified_by(
             alloc,
+            rules,
             source,
             top.as_bytes(),
             certificate,
@@ -169,8 +173,9 @@ fn run_certified<'s, S: Sink, V: Sink>(
             shown,
             &mut dropped,
         ),
-        Texts::One(OutputText::Lines) => certified(
+        Texts::One(OutputText::Lines) => certified_by(
             alloc,
+            rules,
             source,
             top.as_bytes(),
             certificate,
@@ -196,18 +201,19 @@ pub(crate) fn show<'s, S: Sink>(shown: &mut S, line: &[u8]) -> Result<(), SimFau
 // Judges a certificate; the line of the verdict goes to the sink.
 fn tell_verdict<'s, S: Sink>(
     alloc: Global,
+    rules: Rules,
     top: &str,
     source: &'s [u8],
     certificate: &[u8],
     shown: &mut S,
 ) -> Result<Verdict, CertifiedFault<'s>>
-    ensures ok { IfOk result (λ v. WroteVerdict source.entry.now top.now certificate.now v (S.bytes shown.old) (S.bytes shown.new)) }
-    ensures err { IfErr result (λ fault. CheckingFails source.entry.now top.now certificate.now fault) }
+    ensures ok { IfOk result (λ v. WroteVerdict rules source.entry.now top.now certificate.now v (S.bytes shown.old) (S.bytes shown.new)) }
+    ensures err { IfErr result (λ fault. CheckingFails rules source.entry.now top.now certificate.now fault) }
     ensures refused { IfErr result (λ fault. is_before_run fault ≡ true → shown.new ≡ shown.old) }
     ensures begun { IfErr result (λ fault. is_before_run fault ≡ false →
-        HasBegunVerdict source.entry.now top.now certificate.now (S.bytes shown.old) (S.bytes shown.new)) }
+        HasBegunVerdict rules source.entry.now top.now certificate.now (S.bytes shown.old) (S.bytes shown.new)) }
 {
-    let verdict = judge(alloc, source, top.as_bytes(), certificate)?;
+    let verdict = judge_by(alloc, rules, source, top.as_bytes(), certificate)?;
     let line = verdict_line(alloc, &verdict)?;
     show(shown, &line)?;
     Ok(verdict)
@@ -216,18 +222,19 @@ fn tell_verdict<'s, S: Sink>(
 // Proposes a certificate; its line, or that of why there is none, goes to the sink.
 fn tell_proposal<'s, S: Sink>(
     alloc: Global,
+    rules: Rules,
     top: &str,
     grain: ClaimedGrain,
     source: &'s [u8],
     shown: &mut S,
 ) -> Result<Proposal, CertifiedFault<'s>>
-    ensures ok { IfOk result (λ p. WroteProposal source.entry.now top.now grain p (S.bytes shown.old) (S.bytes shown.new)) }
-    ensures err { IfErr result (λ fault. MakingFails source.entry.now top.now grain fault) }
+    ensures ok { IfOk result (λ p. WroteProposal rules source.entry.now top.now grain p (S.bytes shown.old) (S.bytes shown.new)) }
+    ensures err { IfErr result (λ fault. MakingFails rules source.entry.now top.now grain fault) }
     ensures refused { IfErr result (λ fault. is_before_run fault ≡ true → shown.new ≡ shown.old) }
     ensures begun { IfErr result (λ fault. is_before_run fault ≡ false →
-        HasBegunProposal source.entry.now top.now grain (S.bytes shown.old) (S.bytes shown.new)) }
+        HasBegunProposal rules source.entry.now top.now grain (S.bytes shown.old) (S.bytes shown.new)) }
 {
-    let found = proposed(alloc, top, grain, source)?;
+    let found = proposed(alloc, rules, top, grain, source)?;
     show(shown, &found.line)?;
     Ok(found.proposal)
 }
@@ -242,11 +249,12 @@ fn seek_race<'s, S: Sink, V: Sink, W: Watch>(
     dumps: &mut Dumps<V>,
     watch: &mut W,
 ) -> Result<Race, SimFault<'s>>
-    ensures ok { IfOk result (λ r. WroteRace kept.entry.now.source.items hunt.entry.top.now r (S.bytes shown.old) (S.bytes shown.new)) }
+    ensures ok { IfOk result (λ r.
+        WroteRace hunt.entry.rules kept.entry.now.source.items hunt.entry.top.now r (S.bytes shown.old) (S.bytes shown.new)) }
     ensures err { IfErr result (λ fault. SimulationFails kept.entry.now.source.items hunt.entry.top.now fault) }
     ensures refused { IfErr result (λ fault. is_refusal fault ≡ true → (shown.new ≡ shown.old) × (dumps.new ≡ dumps.old)) }
     ensures begun { IfErr result (λ fault. is_refusal fault ≡ false →
-        HasBegunRace kept.entry.now.source.items hunt.entry.top.now (S.bytes shown.old) (S.bytes shown.new)) }
+        HasBegunRace hunt.entry.rules kept.entry.now.source.items hunt.entry.top.now (S.bytes shown.old) (S.bytes shown.new)) }
 {
     let source = kept.source.as_slice();
     let places = kept.places.as_ref();
@@ -278,7 +286,8 @@ pub(crate) fn do_call<'s, S: Sink, V: Sink, W: Watch>(
     ensures ok { IfOk result (λ done.
         HasWritten kept.entry.now.source.items kept.entry.now.certificate.items call.now.outputs call.now.subcommand done
         (S.bytes shown.old) (S.bytes shown.new) (V.bytes dumps.old.first) (V.bytes dumps.new.first)) }
-    ensures err { IfErr result (λ fault. CallFails kept.entry.now.source.items kept.entry.now.certificate.items call.now.subcommand fault) }
+    ensures err { IfErr result (λ fault.
+        CallFails kept.entry.now.source.items kept.entry.now.certificate.items call.now.subcommand fault) }
     ensures refused { IfErr result (λ fault. is_before_run fault ≡ true → (shown.new ≡ shown.old) × (dumps.new ≡ dumps.old)) }
     ensures begun { IfErr result (λ fault. is_before_run fault ≡ false →
         HasBegunWriting kept.entry.now.source.items kept.entry.now.certificate.items call.now.outputs call.now.subcommand
@@ -299,12 +308,12 @@ pub(crate) fn do_call<'s, S: Sink, V: Sink, W: Watch>(
             let outcome = run_certified(alloc, request, texts, source, certificate, shown, dump)?;
             Ok(Done::Ran(outcome))
         }
-        Subcommand::Check(top) => {
-            let verdict = tell_verdict(alloc, top, source, certificate, shown)?;
+        Subcommand::Check(top, rules) => {
+            let verdict = tell_verdict(alloc, rules, top, source, certificate, shown)?;
             Ok(Done::Judged(verdict))
         }
-        Subcommand::Certify(top, grain) => {
-            let proposal = tell_proposal(alloc, top, grain, source, shown)?;
+        Subcommand::Certify(top, grain, rules) => {
+            let proposal = tell_proposal(alloc, rules, top, grain, source, shown)?;
             Ok(Done::Proposed(proposal))
         }
         Subcommand::Race(hunt) => {

@@ -108,7 +108,7 @@ fn read_input<L: Library, R: Read + Drop>(
     ensures { IfOk result (λ x. IsCertificateFor call.now.subcommand call.now.certificate (R.remaining input) x.0.items) }
 {
     match (call.subcommand, call.certificate) {
-        (Subcommand::RunCertified(_) | Subcommand::Check(_), None) => {
+        (Subcommand::RunCertified(_) | Subcommand::Check(_, _), None) => {
             let certificate = read_first(alloc, input, CERTIFICATE_LIMIT)?;
             Ok((certificate, None))
         }

@@ -14,9 +14,10 @@ use vs_elaborate::vs_scopes::push_bytes;
 use vs_messages::vs_explain::{Asked, explain_pair};
 use vs_messages::{explained, push_sources};
 use vs_preprocess::Places;
+use vs_program_words::vs_certificate::Rules;
 use vs_program_words::{Call, Hunt, Sources};
 use vs_race::vs_propose::Proposal;
-use vs_race::{LineWitness, Missed, Race, Search, Span, Watch, Witness, race, write_dumps};
+use vs_race::{LineWitness, Missed, Race, Search, Span, Watch, Witness, race_by, write_dumps};
 
 /// How many orders are tried where a race is sought for a design without a certificate.
 const TRIES: u64 = 100;
@@ -323,14 +324,22 @@ pub(crate) fn tell_race<'s, S: Sink, W: Watch>(
     shown: &mut S,
     watch: &mut W,
 ) -> Result<Race, SimFault<'s>>
-    ensures ok { IfOk result (λ r. WroteRace source.entry.now hunt.entry.top.now r (S.bytes shown.old) (S.bytes shown.new)) }
+    ensures ok { IfOk result (λ r.
+        WroteRace hunt.entry.rules source.entry.now hunt.entry.top.now r (S.bytes shown.old) (S.bytes shown.new)) }
     ensures err { IfErr result (λ fault. SimulationFails source.entry.now hunt.entry.top.now fault) }
     ensures refused { IfErr result (λ fault. is_refusal fault ≡ true → shown.new ≡ shown.old) }
     ensures begun { IfErr result (λ fault. is_refusal fault ≡ false →
-        HasBegunRace source.entry.now hunt.entry.top.now (S.bytes shown.old) (S.bytes shown.new)) }
+        HasBegunRace hunt.entry.rules source.entry.now hunt.entry.top.now (S.bytes shown.old) (S.bytes shown.new)) }
 {
     let search = search_of(hunt);
-    let found = race(alloc, source, hunt.top.as_bytes(), &search, watch)?;
+    let found = race_by(
+        alloc,
+        hunt.rules,
+        source,
+        hunt.top.as_bytes(),
+        &search,
+        watch,
+    )?;
     let text = race_text(alloc, source, call, places, &found, hunt.top, &search)?;
     show(shown, &text)?;
     Ok(found)
@@ -375,18 +384,19 @@ pub(crate) fn tell_race_pair<'s, S: Sink, V: Sink, W: Watch>(
     other: &mut V,
     watch: &mut W,
 ) -> Result<Race, SimFault<'s>>
-    ensures ok { IfOk result (λ r. WroteRace source.entry.now hunt.entry.top.now r (S.bytes shown.old) (S.bytes shown.new)) }
+    ensures ok { IfOk result (λ r.
+        WroteRace hunt.entry.rules source.entry.now hunt.entry.top.now r (S.bytes shown.old) (S.bytes shown.new)) }
     ensures dumps { IfOk result (λ r. WroteDumps source.entry.now hunt.entry.top.now r hunt.entry.steps.count
         (V.bytes first.old) (V.bytes first.new) (V.bytes other.old) (V.bytes other.new)) }
     ensures err { IfErr result (λ fault. SimulationFails source.entry.now hunt.entry.top.now fault) }
     ensures refused { IfErr result (λ fault. is_refusal fault ≡ true →
         (shown.new ≡ shown.old) × (first.new ≡ first.old) × (other.new ≡ other.old)) }
     ensures begun { IfErr result (λ fault. is_refusal fault ≡ false →
-        HasBegunRace source.entry.now hunt.entry.top.now (S.bytes shown.old) (S.bytes shown.new)) }
+        HasBegunRace hunt.entry.rules source.entry.now hunt.entry.top.now (S.bytes shown.old) (S.bytes shown.new)) }
 {
     let search = search_of(hunt);
     let top = hunt.top.as_bytes();
-    let found = race(alloc, source, top, &search, watch)?;
+    let found = race_by(alloc, hunt.rules, source, top, &search, watch)?;
     let text = race_text(alloc, source, call, places, &found, hunt.top, &search)?;
     let steps = hunt.steps.count;
     write_pair(alloc, source, top, &found, steps, first, other)?;
@@ -411,6 +421,7 @@ fn usual_search() -> Search
 /// What is told of a race of a design for which no certificate was made: the race, where one is found within 100 orders of at most 100,000 steps.
 pub(crate) fn sought_race<W: Watch>(
     alloc: Global,
+    rules: Rules,
     source: &[u8],
     call: &Call,
     places: Option<&Places>,
@@ -418,7 +429,7 @@ pub(crate) fn sought_race<W: Watch>(
     watch: &mut W,
 ) -> Result<Vec<u8>, AllocError> {
     let search = usual_search();
-    let Ok(found) = race(alloc, source, top.as_bytes(), &search, watch) else {
+    let Ok(found) = race_by(alloc, rules, source, top.as_bytes(), &search, watch) else {
         return Err(AllocError);
     };
     let mut text = Vec::new(alloc);

@@ -26,7 +26,7 @@ use vs_messages::{
     tell_long_certificate, tell_rejected, tell_source, tell_unproved,
 };
 use vs_preprocess::{Places, Refusal, STANDARD_INPUT};
-use vs_program_words::vs_certificate::to_json;
+use vs_program_words::vs_certificate::{Rules, to_json};
 use vs_program_words::{Call, Order, Request, Sources, Subcommand, WordsFault};
 use vs_race::vs_propose::{Proposal, Refusal as Unproved};
 use vs_race::{Race, Unwatched};
@@ -154,7 +154,17 @@ fn extent_of(call: &Call, has_files: bool) -> Extent {
 
 // Whether a call takes a certificate.
 fn takes_certificate(asked: Subcommand) -> bool {
-    matches!(asked, Subcommand::RunCertified(_) | Subcommand::Check(_))
+    matches!(asked, Subcommand::RunCertified(_) | Subcommand::Check(_, _))
+}
+
+// The rules by which a call reads or makes certificates; the narrow ones, where it does neither.
+fn rules_of(asked: Subcommand) -> Rules {
+    match asked {
+        Subcommand::RunCertified(request) => request.rules,
+        Subcommand::Check(_, rules) | Subcommand::Certify(_, _, rules) => rules,
+        Subcommand::Race(hunt) => hunt.rules,
+        Subcommand::Run(_) | Subcommand::Elab(_) | Subcommand::Preprocess => Rules::Narrow,
+    }
 }
 
 // The words of a call that name its files.
@@ -194,6 +204,7 @@ fn given_of<'g>(
         certificate_name: name.as_bytes(),
         is_in_front: takes_certificate(call.subcommand) && !has_file,
         files,
+        rules: rules_of(call.subcommand),
         extent: extent_of(call, kept.places.is_some()),
     }
 }
@@ -282,7 +293,16 @@ fn tell_not_made<E: Write>(
 fn tell_sought<E: Write>(alloc: Global, call: &Call, kept: &Kept, err: &mut E) {
     let places = kept.places.as_ref();
     let top = top_of(call.subcommand);
-    if let Ok(text) = sought_race(alloc, &kept.source, call, places, top, &mut Unwatched) {
+    let rules = rules_of(call.subcommand);
+    if let Ok(text) = sought_race(
+        alloc,
+        rules,
+        &kept.source,
+        call,
+        places,
+        top,
+        &mut Unwatched,
+    ) {
         let _ = err.write_all(&text);
     }
 }

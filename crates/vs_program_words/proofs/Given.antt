@@ -122,19 +122,6 @@ elab_gives word words free is e = record {
   short = flag_given elab_built elab_fits words e (codes "short") refl (defaulted elab_built elab_fits words e (codes "short") refl);
 }
 
-abbrev check_built : Shape
-check_built = built_below (check_options false)
-
-check_fits : RulesFit Passed check_built.rules
-check_fits = ((refl, (refl, λ v e. ((λ n. absurd cc), (λ f. absurd cc)))), ((refl, (refl, λ v e. ((λ n. absurd cc), (λ f. absurd cc)))), ((refl, (refl, λ v e. ((λ n. absurd cc), (λ f. flag_passed v e)))), ((refl, (refl, λ v e. ((λ n. absurd cc), (λ f. flag_passed v e)))), ((refl, (refl, λ v e. ((λ n. absurd cc), (λ f. absurd cc)))), ((refl, (refl, λ v e. ((λ n. absurd cc), (λ f. absurd cc)))), ((refl, (refl, λ v e. ((λ n. absurd cc), (λ f. absurd cc)))), (tt, tt))))))))
-
-check_gives : Gives check_built
-check_gives word words free is e = record {
-  own = tt;
-  explain = flag_given check_built check_fits words e (codes "explain") refl (defaulted check_built check_fits words e (codes "explain") refl);
-  short = flag_given check_built check_fits words e (codes "short") refl (defaulted check_built check_fits words e (codes "short") refl);
-}
-
 abbrev preprocess_built : Shape
 preprocess_built = built_below preprocess_options
 
@@ -146,24 +133,6 @@ preprocess_gives word words free is e = record {
   own = tt;
   explain = flag_given preprocess_built preprocess_fits words e (codes "explain") refl (defaulted preprocess_built preprocess_fits words e (codes "explain") refl);
   short = flag_given preprocess_built preprocess_fits words e (codes "short") refl (defaulted preprocess_built preprocess_fits words e (codes "short") refl);
-}
-
-abbrev race_built : Shape
-race_built = built_below (race_options false)
-
-race_fits : RulesFit Passed race_built.rules
-race_fits = ((refl, (refl, λ v e. ((λ n. absurd cc), (λ f. absurd cc)))), ((refl, (refl, λ v e. ((λ n. absurd cc), (λ f. absurd cc)))), ((refl, (refl, λ v e. ((λ n. passed v e), (λ f. absurd cc)))), ((refl, (refl, λ v e. ((λ n. passed v e), (λ f. absurd cc)))), ((refl, (refl, λ v e. ((λ n. passed v e), (λ f. absurd cc)))), ((refl, (refl, λ v e. ((λ n. passed v e), (λ f. absurd cc)))), ((refl, (refl, λ v e. ((λ n. absurd cc), (λ f. absurd cc)))), ((refl, (refl, λ v e. ((λ n. absurd cc), (λ f. flag_passed v e)))), ((refl, (refl, λ v e. ((λ n. absurd cc), (λ f. flag_passed v e)))), ((refl, (refl, λ v e. ((λ n. absurd cc), (λ f. absurd cc)))), ((refl, (refl, λ v e. ((λ n. absurd cc), (λ f. absurd cc)))), ((refl, (refl, λ v e. ((λ n. absurd cc), (λ f. absurd cc)))), (tt, tt)))))))))))))
-
-race_gives : Gives race_built
-race_gives word words free is e = record {
-  own = record {
-    steps = number_given race_built race_fits words e (codes "steps") refl (defaulted race_built race_fits words e (codes "steps") refl);
-    tries = number_given race_built race_fits words e (codes "tries") refl (defaulted race_built race_fits words e (codes "tries") refl);
-    seed = number_given race_built race_fits words e (codes "seed") refl (defaulted race_built race_fits words e (codes "seed") refl);
-    start = number_given race_built race_fits words e (codes "from") refl (defaulted race_built race_fits words e (codes "from") refl);
-  };
-  explain = flag_given race_built race_fits words e (codes "explain") refl (defaulted race_built race_fits words e (codes "explain") refl);
-  short = flag_given race_built race_fits words e (codes "short") refl (defaulted race_built race_fits words e (codes "short") refl);
 }
 
 -- a name that isn't `help` isn't that of the subcommand `help`
@@ -182,12 +151,12 @@ no_help name free e = go (bytes_eq (codes "help") name) refl e
 help_gives : Gives help_built
 help_gives word words free is e = absurd (no_help word free is)
 
-module _ (orders texts grains : Words) where
+module _ (orders texts grains rules : Words) where
   abbrev run_built : Shape
-  run_built = built_below (run_options false orders texts)
+  run_built = built_below (run_options false orders texts rules)
 
   run_fits : RulesFit Passed run_built.rules
-  run_fits = ((refl, (refl, λ v e. ((λ n. absurd cc), (λ f. absurd cc)))), ((refl, (refl, λ v e. ((λ n. absurd cc), (λ f. absurd cc)))), ((refl, (refl, λ v e. ((λ n. passed v e), (λ f. absurd cc)))), ((refl, (refl, λ v e. ((λ n. absurd cc), (λ f. absurd cc)))), ((refl, (refl, λ v e. ((λ n. absurd cc), (λ f. absurd cc)))), ((refl, (refl, λ v e. ((λ n. absurd cc), (λ f. absurd cc)))), ((refl, (refl, λ v e. ((λ n. absurd cc), (λ f. flag_passed v e)))), ((refl, (refl, λ v e. ((λ n. absurd cc), (λ f. absurd cc)))), ((refl, (refl, λ v e. ((λ n. absurd cc), (λ f. flag_passed v e)))), ((refl, (refl, λ v e. ((λ n. absurd cc), (λ f. flag_passed v e)))), ((refl, (refl, λ v e. ((λ n. absurd cc), (λ f. absurd cc)))), ((refl, (refl, λ v e. ((λ n. absurd cc), (λ f. absurd cc)))), ((refl, (refl, λ v e. ((λ n. absurd cc), (λ f. absurd cc)))), (tt, tt))))))))))))))
+  run_fits = ((refl, (refl, λ v e. ((λ n. absurd cc), (λ f. absurd cc)))), ((refl, (refl, λ v e. ((λ n. absurd cc), (λ f. absurd cc)))), ((refl, (refl, λ v e. ((λ n. passed v e), (λ f. absurd cc)))), ((refl, (refl, λ v e. ((λ n. absurd cc), (λ f. absurd cc)))), ((refl, (refl, λ v e. ((λ n. absurd cc), (λ f. absurd cc)))), ((refl, (refl, λ v e. ((λ n. absurd cc), (λ f. absurd cc)))), ((refl, (refl, λ v e. ((λ n. absurd cc), (λ f. flag_passed v e)))), ((refl, (refl, λ v e. ((λ n. absurd cc), (λ f. absurd cc)))), ((refl, (refl, λ v e. ((λ n. absurd cc), (λ f. absurd cc)))), ((refl, (refl, λ v e. ((λ n. absurd cc), (λ f. flag_passed v e)))), ((refl, (refl, λ v e. ((λ n. absurd cc), (λ f. flag_passed v e)))), ((refl, (refl, λ v e. ((λ n. absurd cc), (λ f. absurd cc)))), ((refl, (refl, λ v e. ((λ n. absurd cc), (λ f. absurd cc)))), ((refl, (refl, λ v e. ((λ n. absurd cc), (λ f. absurd cc)))), (tt, tt)))))))))))))))
 
   run_gives : Gives run_built
   run_gives word words free is e = record {
@@ -195,28 +164,64 @@ module _ (orders texts grains : Words) where
       steps = number_given run_built run_fits words e (codes "steps") refl (defaulted run_built run_fits words e (codes "steps") refl);
       out = word_given run_built run_fits words e (codes "out") (defaulted run_built run_fits words e (codes "out") refl);
       cert = flag_given run_built run_fits words e (codes "cert") refl (defaulted run_built run_fits words e (codes "cert") refl);
+      rules = word_given run_built run_fits words e (codes "rules") (defaulted run_built run_fits words e (codes "rules") refl);
     };
     explain = flag_given run_built run_fits words e (codes "explain") refl (defaulted run_built run_fits words e (codes "explain") refl);
     short = flag_given run_built run_fits words e (codes "short") refl (defaulted run_built run_fits words e (codes "short") refl);
   }
 
   abbrev certify_built : Shape
-  certify_built = built_below (certify_options false grains)
+  certify_built = built_below (certify_options false grains rules)
 
   certify_fits : RulesFit Passed certify_built.rules
-  certify_fits = ((refl, (refl, λ v e. ((λ n. absurd cc), (λ f. absurd cc)))), ((refl, (refl, λ v e. ((λ n. absurd cc), (λ f. absurd cc)))), ((refl, (refl, λ v e. ((λ n. absurd cc), (λ f. flag_passed v e)))), ((refl, (refl, λ v e. ((λ n. absurd cc), (λ f. absurd cc)))), ((refl, (refl, λ v e. ((λ n. absurd cc), (λ f. flag_passed v e)))), ((refl, (refl, λ v e. ((λ n. absurd cc), (λ f. flag_passed v e)))), ((refl, (refl, λ v e. ((λ n. absurd cc), (λ f. absurd cc)))), ((refl, (refl, λ v e. ((λ n. absurd cc), (λ f. absurd cc)))), ((refl, (refl, λ v e. ((λ n. absurd cc), (λ f. absurd cc)))), (tt, tt))))))))))
+  certify_fits = ((refl, (refl, λ v e. ((λ n. absurd cc), (λ f. absurd cc)))), ((refl, (refl, λ v e. ((λ n. absurd cc), (λ f. absurd cc)))), ((refl, (refl, λ v e. ((λ n. absurd cc), (λ f. absurd cc)))), ((refl, (refl, λ v e. ((λ n. absurd cc), (λ f. flag_passed v e)))), ((refl, (refl, λ v e. ((λ n. absurd cc), (λ f. absurd cc)))), ((refl, (refl, λ v e. ((λ n. absurd cc), (λ f. flag_passed v e)))), ((refl, (refl, λ v e. ((λ n. absurd cc), (λ f. flag_passed v e)))), ((refl, (refl, λ v e. ((λ n. absurd cc), (λ f. absurd cc)))), ((refl, (refl, λ v e. ((λ n. absurd cc), (λ f. absurd cc)))), ((refl, (refl, λ v e. ((λ n. absurd cc), (λ f. absurd cc)))), (tt, tt)))))))))))
 
   certify_gives : Gives certify_built
   certify_gives word words free is e = record {
-    own = word_given certify_built certify_fits words e (codes "grain") (defaulted certify_built certify_fits words e (codes "grain") refl);
+    own = record {
+      grain = word_given certify_built certify_fits words e (codes "grain") (defaulted certify_built certify_fits words e (codes "grain") refl);
+      rules = word_given certify_built certify_fits words e (codes "rules") (defaulted certify_built certify_fits words e (codes "rules") refl);
+    };
     explain = flag_given certify_built certify_fits words e (codes "explain") refl (defaulted certify_built certify_fits words e (codes "explain") refl);
     short = flag_given certify_built certify_fits words e (codes "short") refl (defaulted certify_built certify_fits words e (codes "short") refl);
+  }
+
+  abbrev check_built : Shape
+  check_built = built_below (check_options false rules)
+
+  check_fits : RulesFit Passed check_built.rules
+  check_fits = ((refl, (refl, λ v e. ((λ n. absurd cc), (λ f. absurd cc)))), ((refl, (refl, λ v e. ((λ n. absurd cc), (λ f. absurd cc)))), ((refl, (refl, λ v e. ((λ n. absurd cc), (λ f. absurd cc)))), ((refl, (refl, λ v e. ((λ n. absurd cc), (λ f. flag_passed v e)))), ((refl, (refl, λ v e. ((λ n. absurd cc), (λ f. flag_passed v e)))), ((refl, (refl, λ v e. ((λ n. absurd cc), (λ f. absurd cc)))), ((refl, (refl, λ v e. ((λ n. absurd cc), (λ f. absurd cc)))), ((refl, (refl, λ v e. ((λ n. absurd cc), (λ f. absurd cc)))), (tt, tt)))))))))
+
+  check_gives : Gives check_built
+  check_gives word words free is e = record {
+    own = word_given check_built check_fits words e (codes "rules") (defaulted check_built check_fits words e (codes "rules") refl);
+    explain = flag_given check_built check_fits words e (codes "explain") refl (defaulted check_built check_fits words e (codes "explain") refl);
+    short = flag_given check_built check_fits words e (codes "short") refl (defaulted check_built check_fits words e (codes "short") refl);
+  }
+
+  abbrev race_built : Shape
+  race_built = built_below (race_options false rules)
+
+  race_fits : RulesFit Passed race_built.rules
+  race_fits = ((refl, (refl, λ v e. ((λ n. absurd cc), (λ f. absurd cc)))), ((refl, (refl, λ v e. ((λ n. absurd cc), (λ f. absurd cc)))), ((refl, (refl, λ v e. ((λ n. passed v e), (λ f. absurd cc)))), ((refl, (refl, λ v e. ((λ n. passed v e), (λ f. absurd cc)))), ((refl, (refl, λ v e. ((λ n. passed v e), (λ f. absurd cc)))), ((refl, (refl, λ v e. ((λ n. passed v e), (λ f. absurd cc)))), ((refl, (refl, λ v e. ((λ n. absurd cc), (λ f. absurd cc)))), ((refl, (refl, λ v e. ((λ n. absurd cc), (λ f. absurd cc)))), ((refl, (refl, λ v e. ((λ n. absurd cc), (λ f. flag_passed v e)))), ((refl, (refl, λ v e. ((λ n. absurd cc), (λ f. flag_passed v e)))), ((refl, (refl, λ v e. ((λ n. absurd cc), (λ f. absurd cc)))), ((refl, (refl, λ v e. ((λ n. absurd cc), (λ f. absurd cc)))), ((refl, (refl, λ v e. ((λ n. absurd cc), (λ f. absurd cc)))), (tt, tt))))))))))))))
+
+  race_gives : Gives race_built
+  race_gives word words free is e = record {
+    own = record {
+      steps = number_given race_built race_fits words e (codes "steps") refl (defaulted race_built race_fits words e (codes "steps") refl);
+      tries = number_given race_built race_fits words e (codes "tries") refl (defaulted race_built race_fits words e (codes "tries") refl);
+      seed = number_given race_built race_fits words e (codes "seed") refl (defaulted race_built race_fits words e (codes "seed") refl);
+      start = number_given race_built race_fits words e (codes "from") refl (defaulted race_built race_fits words e (codes "from") refl);
+      rules = word_given race_built race_fits words e (codes "rules") (defaulted race_built race_fits words e (codes "rules") refl);
+    };
+    explain = flag_given race_built race_fits words e (codes "explain") refl (defaulted race_built race_fits words e (codes "explain") refl);
+    short = flag_given race_built race_fits words e (codes "short") refl (defaulted race_built race_fits words e (codes "short") refl);
   }
 
   -- ---- the whole table
 
   abbrev table : App
-  table = built (options_of false orders texts grains)
+  table = built (options_of false orders texts grains rules)
 
   table_gives : AllGive table.subs
   table_gives = (run_gives, (check_gives, (certify_gives, (race_gives, (elab_gives, (preprocess_gives, (help_gives, tt)))))))
@@ -243,9 +248,9 @@ module _ (orders texts grains : Words) where
   entered_given None free some e = absurd cc
   entered_given (Some p) free some e = found_given table.subs table_gives p free some e
 
-  options_given : (words : List Text) → fault_of (options_of false orders texts grains) words ≡ [] → IsGiven (subcommand_of (options_of false orders texts grains) words)
+  options_given : (words : List Text) → fault_of (options_of false orders texts grains rules) words ≡ [] → IsGiven (subcommand_of (options_of false orders texts grains rules) words)
   options_given words e =
-      let rest = argument_words (options_of false orders texts grains) words in
+      let rest = argument_words (options_of false orders texts grains rules) words in
       let end = walk table.top.rules (names_of table) nothing_held rest in
       let parts = level_parts table.top (names_of table) nothing_held rest (is_some (entered table end.stopped)) (entered_fault table end.stopped) e in
       entered_given end.stopped (walk_stops table.top (names_of table) refl (walk_from nothing_held) rest parts.0 tt)
@@ -255,5 +260,5 @@ module _ (orders texts grains : Words) where
 pub words_given : (a : App) → AreOptions false a → (words : List Text) → fault_of a words ≡ [] → (name : Text) (rows : List Row) → subcommand_of a words ≡ Some (name, rows)
     → AreAllGiven (name_of name) (λ option. first_of option rows) (λ option. one_of option rows)
 words_given a o words e name rows is =
-    let given = options_given o.orders o.texts o.grains words (ap (λ (x : App). fault_of x words) (sym o.options) ∙ e) in
+    let given = options_given o.orders o.texts o.grains o.rules words (ap (λ (x : App). fault_of x words) (sym o.options) ∙ e) in
     subst IsGiven (ap (λ (x : App). subcommand_of x words) (sym o.options) ∙ is) given

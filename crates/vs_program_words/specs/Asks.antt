@@ -7,6 +7,8 @@ use Rattle.clap.specs.declared.error.kind.ErrorKind.{ErrorKind}
 use Rattle.clap.specs.declared.error.kind.ErrorKind.TheVariants.{OutOfMemory}
 use Rattle.vs_certificate.specs.declared.members.ClaimedGrain.{ClaimedGrain}
 use Rattle.vs_certificate.specs.declared.members.ClaimedGrain.TheVariants.{Block, Statement}
+use Rattle.vs_certificate.specs.declared.members.Rules.{Rules}
+use Rattle.vs_certificate.specs.declared.members.Rules.TheVariants.{Narrow, Wide}
 use Rattle.vs_program_words.specs.Choices.{is_choices}
 use Rattle.vs_design.specs.declared.timescale.TimeUnit.{TimeUnit}
 use Rattle.vs_program_words.specs.FileWords.{names_file}
@@ -41,6 +43,11 @@ abbrev pub grain_named : Option (List ℕ) → ClaimedGrain
 grain_named None = Block
 grain_named (Some word) = if bytes_eq word (codes "statement") then Statement else Block
 
+-- the rules that a word names
+abbrev pub rules_named : Option (List ℕ) → Rules
+rules_named None = Narrow
+rules_named (Some word) = if bytes_eq word (codes "wide") then Wide else Narrow
+
 -- the value of an option by its name, where it has one
 abbrev pub Values : Type 0
 Values = List ℕ → Option (List ℕ)
@@ -67,6 +74,7 @@ pub record Asks (words values : Values) (moment : ℕ) (named : Order) (q : Requ
   pub steps : IsNumber (values (codes "steps")) q.steps.count
   pub order : q.order ≡ named
   pub text : q.text ≡ text_named (words (codes "out"))
+  pub rules : q.rules ≡ rules_named (words (codes "rules"))
 
 -- whether an order other than the first one is asked for
 abbrev pub has_order : Order → Bool
@@ -88,10 +96,16 @@ pub record AsksCertified (words values : Values) (until : ℕ) (order : Order) (
   pub certificate : has_certificate words values ≡ true
   pub first : has_order order ≡ false
 
--- a certificate of this top and grain
-pub record AsksCertificate (words : Values) (name : List ℕ) (g : ClaimedGrain) : Type 0 where
+-- the verdict on a certificate of this top, by these rules
+pub record AsksVerdict (words : Values) (name : List ℕ) (by : Rules) : Type 0 where
+  pub top : name ≡ top_named (words (codes "top"))
+  pub rules : by ≡ rules_named (words (codes "rules"))
+
+-- a certificate of this top and grain, by these rules
+pub record AsksCertificate (words : Values) (name : List ℕ) (g : ClaimedGrain) (by : Rules) : Type 0 where
   pub top : name ≡ top_named (words (codes "top"))
   pub grain : g ≡ grain_named (words (codes "grain"))
+  pub rules : by ≡ rules_named (words (codes "rules"))
 
 -- the words and the other values of the options of `vsim race` ask for this, with this moment
 pub record AsksRace (words values : Values) (moment : ℕ) (q : Hunt) : Type 0 where
@@ -101,6 +115,7 @@ pub record AsksRace (words values : Values) (moment : ℕ) (q : Hunt) : Type 0 w
   pub tries : IsNumber (values (codes "tries")) q.tries.count
   pub seed : IsNumber (values (codes "seed")) q.seed.count
   pub start : IsNumber (values (codes "from")) q.from.count
+  pub rules : q.rules ≡ rules_named (words (codes "rules"))
 
 -- the subcommands
 pub data Name : Type 0 where
@@ -122,8 +137,8 @@ name_of name = if bytes_eq name (codes "preprocess") then preprocess
 abbrev pub AsksAs : Name → Values → Values → ℕ → Order → Subcommand → Type 0
 AsksAs run words values until order (Run q) = Asks words values until order q × (has_certificate words values ≡ false)
 AsksAs run words values until order (RunCertified q) = AsksCertified words values until order q
-AsksAs check words values until order (Check top) = top.now ≡ top_named (words (codes "top"))
-AsksAs certify words values until order (Certify top grain) = AsksCertificate words top.now grain
+AsksAs check words values until order (Check top rules) = AsksVerdict words top.now rules
+AsksAs certify words values until order (Certify top grain rules) = AsksCertificate words top.now grain rules
 AsksAs race words values until order (Race q) = AsksRace words values until q
 AsksAs elab words values until order (Elab top) = top.now ≡ top_named (words (codes "top"))
 AsksAs preprocess words values until order Preprocess = Unit {0}

@@ -11,7 +11,8 @@ values_behind word = if bytes_eq word (codes "--vcd-pair") then 2
     else (if bytes_eq word (codes "--policy") then 1 else (if bytes_eq word (codes "--out") then 1
     else (if bytes_eq word (codes "--vcd") then 1 else (if bytes_eq word (codes "--certificate") then 1
     else (if bytes_eq word (codes "--grain") then 1 else (if bytes_eq word (codes "--tries") then 1
-    else (if bytes_eq word (codes "--seed") then 1 else (if bytes_eq word (codes "--from") then 1 else 0))))))))))))))
+    else (if bytes_eq word (codes "--seed") then 1 else (if bytes_eq word (codes "--from") then 1
+    else (if bytes_eq word (codes "--rules") then 1 else 0)))))))))))))))
 
 -- whether a word that is no option's value is a file's name: `-` is one, and what doesn't begin so
 abbrev pub is_file : List ℕ → Bool

@@ -2,7 +2,7 @@
 use Rattle.std.specs.Prelude.{ℕ, ◌≡◌, ◌||◌, true, Option, Some, None, List, codes, is_some}
 use Rattle.std.specs.Str.{bytes_eq}
 use Rattle.clap.specs.Words.{IsUnsignedIn}
-use Rattle.vs_program_words.specs.Asks.{Name, Values, certify, race, run}
+use Rattle.vs_program_words.specs.Asks.{Name, Values, certify, check, race, run}
 
 -- there is a text, of a number from 0 to 2^62 - 1
 abbrev pub IsCount : Option (List ℕ) → Type 0
@@ -19,19 +19,27 @@ pub record AreGiven (words values : Values) : Type 0 where
   pub steps : IsCount (values (codes "steps"))
   pub out : is_some (words (codes "out")) ≡ true
   pub cert : IsFlag (values (codes "cert"))
+  pub rules : is_some (words (codes "rules")) ≡ true
+
+-- those of `vsim certify`
+pub record AreGivenToCertify (words : Values) : Type 0 where
+  pub grain : is_some (words (codes "grain")) ≡ true
+  pub rules : is_some (words (codes "rules")) ≡ true
 
 -- those of `vsim race`
-pub record AreGivenToRace (values : Values) : Type 0 where
+pub record AreGivenToRace (words values : Values) : Type 0 where
   pub steps : IsCount (values (codes "steps"))
   pub tries : IsCount (values (codes "tries"))
   pub seed : IsCount (values (codes "seed"))
   pub start : IsCount (values (codes "from"))
+  pub rules : is_some (words (codes "rules")) ≡ true
 
 -- the options of a subcommand that it alone has have their values
 abbrev pub AreGivenAs : Name → Values → Values → Type 0
 AreGivenAs run words values = AreGiven words values
-AreGivenAs certify words values = is_some (words (codes "grain")) ≡ true
-AreGivenAs race words values = AreGivenToRace values
+AreGivenAs check words values = is_some (words (codes "rules")) ≡ true
+AreGivenAs certify words values = AreGivenToCertify words
+AreGivenAs race words values = AreGivenToRace words values
 AreGivenAs _ words values = Unit {0}
 
 -- all options of a subcommand that have a default have their values

@@ -61,6 +61,10 @@ out_option texts = choice_option (codes "out") texts (codes "lines")
 abbrev pub grain_option : Words → Rule
 grain_option grains = choice_option (codes "grain") grains (codes "block")
 
+-- the rules of certificates
+abbrev pub rules_option : Words → Rule
+rules_option words = choice_option (codes "rules") words (codes "narrow")
+
 -- the flag that says that a certificate is the first line of the input
 abbrev pub cert_option : Rule
 cert_option = flag_option (codes "cert")
@@ -117,28 +121,30 @@ some_files_option = record files_option { required = true }
 abbrev pub shared_rules : Rule → List Rule
 shared_rules files = explain_option ∷ short_option ∷ define_option ∷ folder_option ∷ files ∷ []
 
--- `run`, with the words of `--policy` and of `--out`
-abbrev pub run_rules : Bool → Words → Words → List Rule
-run_rules strict orders texts =
+-- `run`, with the words of `--policy`, of `--out` and of `--rules`
+abbrev pub run_rules : Bool → Words → Words → Words → List Rule
+run_rules strict orders texts words =
     top_option strict ∷ until_option strict ∷ steps_option ∷ policy_option strict orders ∷ out_option texts ∷ dump_option ∷ cert_option
-    ∷ certificate_option ∷ []
+    ∷ certificate_option ∷ rules_option words ∷ []
 
-abbrev pub run_options : Bool → Words → Words → Shape
-run_options strict orders texts = record (new_shape (codes "run")) { rules = run_rules strict orders texts ++ shared_rules files_option }
+abbrev pub run_options : Bool → Words → Words → Words → Shape
+run_options strict orders texts words =
+    record (new_shape (codes "run")) { rules = run_rules strict orders texts words ++ shared_rules files_option }
 
--- `check`
-abbrev pub check_rules : Bool → List Rule
-check_rules strict = top_option strict ∷ certificate_option ∷ []
+-- `check`, with the words of `--rules`
+abbrev pub check_rules : Bool → Words → List Rule
+check_rules strict words = top_option strict ∷ certificate_option ∷ rules_option words ∷ []
 
-abbrev pub check_options : Bool → Shape
-check_options strict = record (new_shape (codes "check")) { rules = check_rules strict ++ shared_rules files_option }
+abbrev pub check_options : Bool → Words → Shape
+check_options strict words = record (new_shape (codes "check")) { rules = check_rules strict words ++ shared_rules files_option }
 
--- `certify`, with the words of `--grain`
-abbrev pub certify_rules : Bool → Words → List Rule
-certify_rules strict grains = top_option strict ∷ grain_option grains ∷ race_option ∷ output_option ∷ []
+-- `certify`, with the words of `--grain` and of `--rules`
+abbrev pub certify_rules : Bool → Words → Words → List Rule
+certify_rules strict grains words = top_option strict ∷ grain_option grains ∷ rules_option words ∷ race_option ∷ output_option ∷ []
 
-abbrev pub certify_options : Bool → Words → Shape
-certify_options strict grains = record (new_shape (codes "certify")) { rules = certify_rules strict grains ++ shared_rules files_option }
+abbrev pub certify_options : Bool → Words → Words → Shape
+certify_options strict grains words =
+    record (new_shape (codes "certify")) { rules = certify_rules strict grains words ++ shared_rules files_option }
 
 -- `elab`
 abbrev pub elab_options : Bool → Shape
@@ -148,24 +154,25 @@ elab_options strict = record (new_shape (codes "elab")) { rules = top_option str
 abbrev pub preprocess_options : Shape
 preprocess_options = record (new_shape (codes "preprocess")) { rules = output_option ∷ shared_rules some_files_option }
 
--- `race`
-abbrev pub race_rules : Bool → List Rule
-race_rules strict =
-    top_option strict ∷ until_option strict ∷ steps_option ∷ tries_option ∷ seed_option ∷ from_option ∷ pair_option ∷ []
+-- `race`, with the words of `--rules`
+abbrev pub race_rules : Bool → Words → List Rule
+race_rules strict words =
+    top_option strict ∷ until_option strict ∷ steps_option ∷ tries_option ∷ seed_option ∷ from_option ∷ pair_option
+    ∷ rules_option words ∷ []
 
-abbrev pub race_options : Bool → Shape
-race_options strict = record (new_shape (codes "race")) { rules = race_rules strict ++ shared_rules files_option }
+abbrev pub race_options : Bool → Words → Shape
+race_options strict words = record (new_shape (codes "race")) { rules = race_rules strict words ++ shared_rules files_option }
 
 -- `vsim`, with its version, of whose subcommands one is asked for
 abbrev pub bare_options : App
 bare_options = record { top = record (new_shape (codes "vsim")) { has_version = true; subcommand_required = true }; subs = [] }
 
 -- the same, with its subcommands
-abbrev pub options_of : Bool → Words → Words → Words → App
-options_of strict orders texts grains = record {
+abbrev pub options_of : Bool → Words → Words → Words → Words → App
+options_of strict orders texts grains words = record {
   top = record bare_options.top { is_leaf = false };
-  subs = run_options strict orders texts ∷ check_options strict ∷ certify_options strict grains ∷ race_options strict ∷ elab_options strict
-      ∷ preprocess_options ∷ [];
+  subs = run_options strict orders texts words ∷ check_options strict words ∷ certify_options strict grains words
+      ∷ race_options strict words ∷ elab_options strict ∷ preprocess_options ∷ [];
 }
 
 -- the table of all options: the strict one, by which the top and the moment can't be left out, or the one by which they can
@@ -173,7 +180,9 @@ pub record AreOptions (strict : Bool) (a : App) : Type 0 where
   pub orders : Words
   pub texts : Words
   pub grains : Words
+  pub rules : Words
   pub order_words : map (λ w. w.now) orders.now ≡ codes "fifo" ∷ codes "lifo" ∷ []
   pub text_words : map (λ w. w.now) texts.now ≡ codes "lines" ∷ codes "vcd" ∷ []
   pub grain_words : map (λ w. w.now) grains.now ≡ codes "block" ∷ codes "statement" ∷ []
-  pub options : a ≡ options_of strict orders texts grains
+  pub rules_words : map (λ w. w.now) rules.now ≡ codes "narrow" ∷ codes "wide" ∷ []
+  pub options : a ≡ options_of strict orders texts grains rules

@@ -4,7 +4,7 @@ ghost use Rattle.clap.specs.Words.{app_of, new_app, rule_of, shape_of, with_rule
 ghost use Rattle.vs_program_words.specs.Options.{AreOptions, certify_options, check_options, choice_option, elab_options, preprocess_options};
 ghost use Rattle.vs_program_words.specs.Options.{bare_options, certificate_option, explain_option, file_option, flag_option, number_option, option_of};
 ghost use Rattle.vs_program_words.specs.Options.{certify_rules, check_rules, output_option, pair_option, policy_option, race_options, race_rules, run_options};
-ghost use Rattle.vs_program_words.specs.Options.{run_rules, from_option, seed_option, steps_option, top_option, tries_option, until_option};
+ghost use Rattle.vs_program_words.specs.Options.{rules_option, run_rules, from_option, seed_option, steps_option, top_option, tries_option, until_option};
 ghost use Rattle.vs_program_words.specs.Options.{define_option, files_option, folder_option, letter_option, shared_rules, short_option, some_files_option};
 
 use clap::{Arg, ArgAction, Command};
@@ -85,6 +85,8 @@ static ORDERS: [&str; 2] = ["fifo", "lifo"];
 static TEXTS: [&str; 2] = ["lines", "vcd"];
 
 static GRAINS: [&str; 2] = ["block", "statement"];
+
+static RULES: [&str; 2] = ["narrow", "wide"];
 
 // An option `--name` with one value.
 fn option<'a>(alloc: Global, name: &'a str, help: &'a str) -> Arg<'a>
@@ -210,6 +212,16 @@ fn policy<'a>(alloc: Global, strict: bool, orders: &'a [&'a str]) -> Arg<'a>
     } else {
         option(alloc, "policy", HELP).default_value("fifo")
     }
+}
+
+// The option with the rules by which certificates are read and made.
+fn rules<'a>(alloc: Global, words: &'a [&'a str]) -> Arg<'a>
+    ensures option { rule_of result ≡ rules_option words.entry }
+    ensures local { result.global ≡ false }
+{
+    const HELP: &str =
+        "Which certificates there are: of versions 1 and 2, or by wide also of version 3";
+    choice(alloc, "rules", HELP, words, "narrow")
 }
 
 // An option with the name of a file.
@@ -406,11 +418,15 @@ fn elab_command<'a>(alloc: Global, strict: bool) -> Result<Command<'a>, AllocErr
     )
 }
 
-// `check`.
-fn check_command<'a>(alloc: Global, strict: bool) -> Result<Command<'a>, AllocError>
-    ensures { IfOk result (λ c. shape_of c ≡ check_options strict) }
+// `check`, with the words that its option takes.
+fn check_command<'a>(
+    alloc: Global,
+    strict: bool,
+    words: &'a [&'a str],
+) -> Result<Command<'a>, AllocError>
+    ensures { IfOk result (λ c. shape_of c ≡ check_options strict words.entry) }
 {
-    let own = vec![in alloc; top(alloc, strict), certificate(alloc)]?;
+    let own = vec![in alloc; top(alloc, strict), certificate(alloc), rules(alloc, words)]?;
     let options = with_shared(alloc, own, files(alloc))?;
     command_of(
         alloc,
@@ -421,13 +437,14 @@ fn check_command<'a>(alloc: Global, strict: bool) -> Result<Command<'a>, AllocEr
     )
 }
 
-// `certify`, with the words that its option takes.
+// `certify`, with the words that its options take.
 fn certify_command<'a>(
     alloc: Global,
     strict: bool,
     grains: &'a [&'a str],
+    words: &'a [&'a str],
 ) -> Result<Command<'a>, AllocError>
-    ensures { IfOk result (λ c. shape_of c ≡ certify_options strict grains.entry) }
+    ensures { IfOk result (λ c. shape_of c ≡ certify_options strict grains.entry words.entry) }
 {
     let grain = choice(
         alloc,
@@ -441,7 +458,13 @@ fn certify_command<'a>(
         "race",
         "Where none is made, also look for a race, and explain it",
     );
-    let own = vec![in alloc; top(alloc, strict), grain, race, output(alloc)]?;
+    let own = vec![in alloc;
+        top(alloc, strict),
+        grain,
+        rules(alloc, words),
+        race,
+        output(alloc),
+    ]?;
     let options = with_shared(alloc, own, files(alloc))?;
     command_of(
         alloc,
@@ -458,8 +481,9 @@ fn run_list<'a>(
     strict: bool,
     orders: &'a [&'a str],
     texts: &'a [&'a str],
+    words: &'a [&'a str],
 ) -> Result<Vec<Arg<'a>>, AllocError>
-    ensures rules { IfOk result (λ list. map rule_of list.items ≡ run_rules strict orders.entry texts.entry) }
+    ensures rules { IfOk result (λ list. map rule_of list.items ≡ run_rules strict orders.entry texts.entry words.entry) }
     ensures local { IfOk result (λ list. All (λ a. a.global ≡ false) list.items) }
 {
     let out = choice(
@@ -488,6 +512,7 @@ fn run_list<'a>(
         dump,
         cert,
         certificate(alloc),
+        rules(alloc, words),
     ]?;
     Ok(list)
 }
@@ -498,17 +523,22 @@ fn run_command<'a>(
     strict: bool,
     orders: &'a [&'a str],
     texts: &'a [&'a str],
+    words: &'a [&'a str],
 ) -> Result<Command<'a>, AllocError>
-    ensures { IfOk result (λ c. shape_of c ≡ run_options strict orders.entry texts.entry) }
+    ensures { IfOk result (λ c. shape_of c ≡ run_options strict orders.entry texts.entry words.entry) }
 {
-    let own = run_list(alloc, strict, orders, texts)?;
+    let own = run_list(alloc, strict, orders, texts, words)?;
     let options = with_shared(alloc, own, files(alloc))?;
     command_of(alloc, "run", "Runs a design", AFTER_RUN, options)
 }
 
-// The options that `race` alone has.
-fn race_list<'a>(alloc: Global, strict: bool) -> Result<Vec<Arg<'a>>, AllocError>
-    ensures rules { IfOk result (λ list. map rule_of list.items ≡ race_rules strict) }
+// The options that `race` alone has, with the words that one takes.
+fn race_list<'a>(
+    alloc: Global,
+    strict: bool,
+    words: &'a [&'a str],
+) -> Result<Vec<Arg<'a>>, AllocError>
+    ensures rules { IfOk result (λ list. map rule_of list.items ≡ race_rules strict words.entry) }
     ensures local { IfOk result (λ list. All (λ a. a.global ≡ false) list.items) }
 {
     let list = vec![in alloc;
@@ -519,15 +549,20 @@ fn race_list<'a>(alloc: Global, strict: bool) -> Result<Vec<Arg<'a>>, AllocError
         seed(alloc),
         from(alloc),
         pair(alloc),
+        rules(alloc, words),
     ]?;
     Ok(list)
 }
 
-// `race`.
-fn race_command<'a>(alloc: Global, strict: bool) -> Result<Command<'a>, AllocError>
-    ensures { IfOk result (λ c. shape_of c ≡ race_options strict) }
+// `race`, with the words that its option takes.
+fn race_command<'a>(
+    alloc: Global,
+    strict: bool,
+    words: &'a [&'a str],
+) -> Result<Command<'a>, AllocError>
+    ensures { IfOk result (λ c. shape_of c ≡ race_options strict words.entry) }
 {
-    let own = race_list(alloc, strict)?;
+    let own = race_list(alloc, strict, words)?;
     let options = with_shared(alloc, own, files(alloc))?;
     command_of(
         alloc,
@@ -565,14 +600,18 @@ fn bare_command<'a>(alloc: Global) -> Command<'a>
 pub(crate) fn vsim_command<'a>(alloc: Global, strict: bool) -> Result<Command<'a>, AllocError>
     ensures { IfOk result (λ c. AreOptions strict (app_of c)) }
 {
+    let words = RULES.as_slice();
     let command = bare_command(alloc);
     let command = with_command(
         command,
-        run_command(alloc, strict, ORDERS.as_slice(), TEXTS.as_slice()),
+        run_command(alloc, strict, ORDERS.as_slice(), TEXTS.as_slice(), words),
     )?;
-    let command = with_command(command, check_command(alloc, strict))?;
-    let command = with_command(command, certify_command(alloc, strict, GRAINS.as_slice()))?;
-    let command = with_command(command, race_command(alloc, strict))?;
+    let command = with_command(command, check_command(alloc, strict, words))?;
+    let command = with_command(
+        command,
+        certify_command(alloc, strict, GRAINS.as_slice(), words),
+    )?;
+    let command = with_command(command, race_command(alloc, strict, words))?;
     let command = with_command(command, elab_command(alloc, strict))?;
     with_command(command, preprocess_command(alloc))
 }

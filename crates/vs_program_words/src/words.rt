@@ -2,7 +2,7 @@
 ghost use Rattle.std.specs.Prelude.{◌≡◌, ◌++◌, ◌&&◌, ◌||◌, not, ℕ, List, [], IfErr, IfOk, IsErrAnd, MatchOption, Some, codes, false, is_some, map, option_map, true, unwrap_or};
 ghost use Rattle.clap.specs.Words.{first_value, found_of, matched_of, one_text, raw_values};
 ghost use Rattle.vs_program_words.specs.Asks.{AskInVain, Asks, AsksAs, AsksFor, AsksRace, NamesFiles, NamesOutputs, WordsAsk, WordsFail, is_dump};
-ghost use Rattle.vs_program_words.specs.Asks.{CallFails, IsInVain, IsPolicy, IsPolicyIn, LooseFails, flag_named, grain_named, has_certificate};
+ghost use Rattle.vs_program_words.specs.Asks.{CallFails, IsInVain, IsPolicy, IsPolicyIn, LooseFails, flag_named, grain_named, has_certificate, rules_named};
 ghost use Rattle.vs_program_words.specs.Asks.{has_moment, has_ticks, has_top, lacks_top, name_of, run};
 ghost use Rattle.vs_program_words.specs.FileWords.{due_behind, is_file, is_named, names_file, values_behind};
 ghost use Rattle.vs_program_words.specs.Choices.{is_choices};
@@ -17,7 +17,7 @@ use crate::options::vsim_command;
 use clap::error::ErrorKind;
 use clap::{ArgMatches, Error};
 use std::alloc::{AllocError, Global};
-use vs_certificate::ClaimedGrain;
+use vs_certificate::{ClaimedGrain, Rules};
 use vs_design::{Ticks, TimeUnit};
 
 /// Which text goes to standard output.
@@ -53,6 +53,8 @@ pub struct Request<'a> {
     pub order: Order,
     /// The text that is asked for.
     pub text: OutputText,
+    /// Which certificates a run takes that takes one.
+    pub rules: Rules,
 }
 
 /// What the words of `vsim race` ask for.
@@ -70,6 +72,8 @@ pub struct Hunt<'a> {
     pub seed: Ticks,
     /// The moment before which the first order is kept.
     pub from: Ticks,
+    /// Which certificates there are, of which the first try makes one.
+    pub rules: Rules,
 }
 
 /// What the words of a call ask for.
@@ -79,10 +83,10 @@ pub enum Subcommand<'a> {
     Run(Request<'a>),
     /// `vsim run --cert`: a run, in the order `Fifo`, of a design whose certificate is accepted.
     RunCertified(Request<'a>),
-    /// `vsim check`: the verdict on a certificate of the design with this top.
-    Check(&'a str),
-    /// `vsim certify`: a certificate of the design with this top, at this grain.
-    Certify(&'a str, ClaimedGrain),
+    /// `vsim check`: the verdict on a certificate of the design with this top, by these rules.
+    Check(&'a str, Rules),
+    /// `vsim certify`: a certificate of the design with this top, at this grain, by these rules.
+    Certify(&'a str, ClaimedGrain, Rules),
     /// `vsim race`: two orders of events under which the design has different values.
     Race(Hunt<'a>),
     /// `vsim elab`: the listing of the design with this top.
@@ -273,6 +277,17 @@ fn top_of<'a>(matches: &ArgMatches<'a>) -> &'a str
     matches.get_str("top").unwrap_or("")
 }
 
+// The rules that the matches ask for, in a subcommand that has them.
+fn rules_of(matches: &ArgMatches) -> Rules
+    requires { is_some (first_value (found_of matches.now) (codes "rules")) ≡ true }
+    ensures { result ≡ rules_named (first_value (found_of matches.now) (codes "rules")) }
+{
+    match matches.get_str("rules").unwrap() {
+        "wide" => Rules::Wide,
+        _ => Rules::Narrow,
+    }
+}
+
 // What the matches of `run` ask for.
 fn request_of<'a>(matches: &ArgMatches<'a>, until: Ticks, order: Order) -> Request<'a>
     requires { AreGiven (first_value (found_of matches.now)) (one_text (found_of matches.now)) }
@@ -288,6 +303,7 @@ fn request_of<'a>(matches: &ArgMatches<'a>, until: Ticks, order: Order) -> Reque
         steps: number_of(matches, "steps"),
         order,
         text,
+        rules: rules_of(matches),
     }
 }
 
@@ -335,7 +351,7 @@ fn run_of<'a>(
 
 // What the matches of `race` ask for.
 fn hunt_of<'a>(matches: &ArgMatches<'a>, until: Ticks) -> Hunt<'a>
-    requires { AreGivenToRace (one_text (found_of matches.now)) }
+    requires { AreGivenToRace (first_value (found_of matches.now)) (one_text (found_of matches.now)) }
     ensures { AsksRace (first_value (found_of matches.now)) (one_text (found_of matches.now)) until.count result }
 {
     Hunt {
@@ -345,6 +361,7 @@ fn hunt_of<'a>(matches: &ArgMatches<'a>, until: Ticks) -> Hunt<'a>
         tries: number_of(matches, "tries"),
         seed: number_of(matches, "seed"),
         from: number_of(matches, "from"),
+        rules: rules_of(matches),
     }
 }
 
@@ -376,8 +393,8 @@ fn subcommand_of<'a>(
     match name {
         "preprocess" => Ok(Subcommand::Preprocess),
         "elab" => Ok(Subcommand::Elab(top_of(matches))),
-        "check" => Ok(Subcommand::Check(top_of(matches))),
-        "certify" => Ok(Subcommand::Certify(top_of(matches), grain_of(matches))),
+        "check" => Ok(Subcommand::Check(top_of(matches), rules_of(matches))),
+        "certify" => Ok(Subcommand::Certify(top_of(matches), grain_of(matches), rules_of(matches))),
         "race" => Ok(Subcommand::Race(hunt_of(matches, until))),
         _ => run_of(matches, until, order),
     }
@@ -530,6 +547,7 @@ fn values_behind(word: &str) -> usize
         "--tries" => 1,
         "--seed" => 1,
         "--from" => 1,
+        "--rules" => 1,
         _ => 0,
     }
 }

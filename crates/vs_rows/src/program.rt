@@ -95,9 +95,10 @@ fn called_on_pieces(words: &str, pieces: &str, text: &mut Text) {
     }
 }
 
-/// A source for which a certificate is to be made at grain block: the verdict on what is made, or why it isn't.
-fn made(top: &str, source: &[u8], text: &mut Text) {
-    let certificate = run(text.alloc(), &["vsim", "certify", "--top", top], source);
+/// A source for which a certificate is to be made by rules, at grain block: the verdict on what is made, or why it isn't.
+fn made(top: &str, rules: &str, source: &[u8], text: &mut Text) {
+    let words = ["vsim", "certify", "--rules", rules, "--top", top];
+    let certificate = run(text.alloc(), &words, source);
     if certificate.status != 0 {
         return put_answer(&certificate, text);
     }
@@ -105,10 +106,8 @@ fn made(top: &str, source: &[u8], text: &mut Text) {
     if both.extend_from_slice(source).is_err() {
         return text.leave_out();
     }
-    put_answer(
-        &run(text.alloc(), &["vsim", "check", "--top", top], &both),
-        text,
-    );
+    let words = ["vsim", "check", "--rules", rules, "--top", top];
+    put_answer(&run(text.alloc(), &words, &both), text);
 }
 
 impl Answers for Calls {
@@ -119,7 +118,8 @@ impl Answers for Calls {
             "pieces" => called_on_pieces(rest, question, text),
             "refused" => refused(question.as_bytes(), text),
             "cut" => cut(question.as_bytes(), text),
-            "made" => made(rest, question.as_bytes(), text),
+            "made" => made(rest, "narrow", question.as_bytes(), text),
+            "wide" => made(rest, "wide", question.as_bytes(), text),
             _ => expressions::answer(words, question, text),
         }
     }

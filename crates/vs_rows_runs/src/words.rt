@@ -23,6 +23,9 @@ const MISUSED: &[&str] = &[
     "vsim check --top t --until 1",
     "vsim certify --top t --grain process",
     "vsim certify --top t --cert",
+    "vsim certify --top t --rules broad",
+    "vsim check --top t --rules wide --rules wide",
+    "vsim elab --top t --rules wide",
     "vsim race --top t",
     "vsim race --top t --until 1 --tries many",
 ];

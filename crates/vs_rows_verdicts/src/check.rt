@@ -1,16 +1,25 @@
-//! Rows of verdicts: a certificate on the first line and a design after it, with the answer of the checker.
+//! Rows of verdicts: a certificate on the first line and a design after it, with the answer of the checker. Behind the top `wide` may stand: then
+//! certificates of version 3 are read too.
 use std::alloc::Global;
-use vs_cert_check::{Verdict, check};
-use vs_certificate::{Certificate, from_json};
+use vs_cert_check::{Verdict, check_by};
+use vs_certificate::{Certificate, Rules, from_json_by};
 use vs_design::Design;
 use vs_elaborate::elaborate;
 use vs_lexer::lex;
 use vs_parser::parse;
-use vs_row_files::{Answers, Text};
+use vs_row_files::{Answers, Text, first_and_rest};
 
 /// Who checks.
 #[derive(Clone, Copy)]
 pub(crate) struct Checks;
+
+/// The rules of a word.
+pub(crate) fn rules_of(word: &str) -> Rules {
+    match word {
+        "wide" => Rules::Wide,
+        _ => Rules::Narrow,
+    }
+}
 
 /// The design that a source and a top define, where they define one.
 fn design_of(alloc: Global, source: &[u8], top: &[u8]) -> Option<Design> {
@@ -26,20 +35,12 @@ fn design_of(alloc: Global, source: &[u8], top: &[u8]) -> Option<Design> {
     }
 }
 
-/// The certificate that a text has, where no test of its form and limits fails.
-fn certificate_of(alloc: Global, line: &[u8]) -> Option<Certificate> {
-    match from_json(alloc, line) {
-        Ok(certificate) => Some(certificate),
-        Err(_) => None,
-    }
-}
-
 /// Puts the verdict on a certificate of a design.
-fn put_verdict(design: &Design, certificate: &Certificate, text: &mut Text) {
-    if !certificate.is_sound() {
+fn put_verdict(design: &Design, rules: Rules, certificate: &Certificate, text: &mut Text) {
+    if !certificate.is_sound_by(rules) {
         return text.put(b"not sound");
     }
-    match check(text.alloc(), design, certificate) {
+    match check_by(text.alloc(), design, rules, certificate) {
         Ok(Verdict::Yes) => text.put(b"yes"),
         Ok(Verdict::No(rule, place)) => {
             text.put(b"no K");
@@ -53,13 +54,15 @@ fn put_verdict(design: &Design, certificate: &Certificate, text: &mut Text) {
 
 impl Answers for Checks {
     fn answer(&self, words: &str, question: &str, text: &mut Text) {
-        let (line, source) = question.split_once("\n").unwrap_or((question, ""));
+        let (line, source) = first_and_rest(question, "\n");
+        let (top, by) = first_and_rest(words, " ");
+        let rules = rules_of(by);
         let alloc = text.alloc();
-        let certificate = certificate_of(alloc, line.as_bytes());
-        let design = design_of(alloc, source.as_bytes(), words.as_bytes());
+        let certificate = from_json_by(alloc, rules, line.as_bytes());
+        let design = design_of(alloc, source.as_bytes(), top.as_bytes());
         match (&design, &certificate) {
-            (Some(design), Some(certificate)) => put_verdict(design, certificate, text),
-            (Some(_), None) => text.put(b"no certificate"),
+            (Some(design), Ok(certificate)) => put_verdict(design, rules, certificate, text),
+            (Some(_), Err(fault)) => text.put(fault.text().as_bytes()),
             (None, _) => text.put(b"no design"),
         }
         text.put(b"\n");

@@ -1,6 +1,7 @@
 //! Rows of explanations: refused sources, broken rules, bytes that are no certificate and step limits, with the text that says what is wrong.
+use crate::check::rules_of;
 use std::alloc::{AllocError, Global};
-use vs_certificate::from_json;
+use vs_certificate::{Rules, from_json_by};
 use vs_explain::vs_simulate::list_design;
 use vs_explain::{
     Further, Offender, Stands, explain, explain_after, explain_certificate, explain_limit,
@@ -47,6 +48,7 @@ fn refused_after(alloc: Global, top: &str, question: &str) -> Result<Vec<u8>, Al
 /// What is said of a certificate, on the first line, whose rule of this number is broken at a place of the source after it.
 fn broken(
     alloc: Global,
+    rules: Rules,
     words: &str,
     question: &str,
     further: Further,
@@ -59,27 +61,28 @@ fn broken(
         number: number.parse().ok().unwrap_or(0),
         place: place.as_bytes(),
     };
-    let explained = explain_rule(alloc, source.as_bytes(), top.as_bytes(), offender, further)?;
+    let (text, name) = (source.as_bytes(), top.as_bytes());
+    let explained = explain_rule(alloc, text, name, rules, offender, further)?;
     explained.plain(alloc, source.as_bytes(), certificate.as_bytes())
 }
 
 /// What is said of the further subjects that break rules of a certificate, on the first line, behind what is said of the one of this rule and name.
 fn others(alloc: Global, words: &str, question: &str) -> Result<Vec<u8>, AllocError> {
-    let first = broken(alloc, words, question, Further::Left)?;
-    let all = broken(alloc, words, question, Further::Told)?;
+    let first = broken(alloc, Rules::Narrow, words, question, Further::Left)?;
+    let all = broken(alloc, Rules::Narrow, words, question, Further::Told)?;
     match all.strip_prefix(first.as_slice()) {
         Some(others) => Vec::from_slice(alloc, others),
         None => Ok(all),
     }
 }
 
-/// What is said of bytes that are no certificate; nothing of those that are one.
-fn malformed(alloc: Global, question: &str) -> Result<Vec<u8>, AllocError> {
-    match from_json(alloc, question.as_bytes()) {
+/// What is said of bytes that are no certificate which is read by these rules; nothing of those that are one.
+fn malformed(alloc: Global, rules: Rules, question: &str) -> Result<Vec<u8>, AllocError> {
+    match from_json_by(alloc, rules, question.as_bytes()) {
         Ok(_) => Ok(Vec::new(alloc)),
         Err(fault) => {
             let certificate = question.as_bytes();
-            let explained = explain_certificate(alloc, certificate, Stands::First, fault)?;
+            let explained = explain_certificate(alloc, certificate, rules, Stands::First, fault)?;
             explained.plain(alloc, &[], certificate)
         }
     }
@@ -105,9 +108,10 @@ impl Answers for Explains {
         let alloc = text.alloc();
         let (kind, rest) = first_and_rest(words, " ");
         let explained = match kind {
-            "rule" => broken(alloc, rest, question, Further::Left),
+            "rule" => broken(alloc, Rules::Narrow, rest, question, Further::Left),
+            "wide" => broken(alloc, Rules::Wide, rest, question, Further::Left),
             "others" => others(alloc, rest, question),
-            "certificate" => malformed(alloc, question),
+            "certificate" => malformed(alloc, rules_of(rest), question),
             "limit" => limited(alloc, rest, question),
             "after" => refused_after(alloc, rest, question),
             _ => refused(alloc, rest, question),

@@ -1,16 +1,17 @@
 //! Rows of proposals: designs, and whether a certificate is made for them; families of designs, and how many of them have one.
 mod families;
 
+use crate::check::rules_of;
 use families::put_design;
 use std::alloc::{AllocError, Global};
-use vs_cert_check::{Verdict, check};
+use vs_cert_check::{Verdict, check_by};
 use vs_design::Design;
 use vs_elaborate::elaborate;
 use vs_lexer::lex;
 use vs_parser::parse;
-use vs_propose::vs_certificate::{Certificate, ClaimedGrain, from_json, to_json};
-use vs_propose::{Proposal, propose};
-use vs_row_files::{Answers, Text};
+use vs_propose::vs_certificate::{Certificate, ClaimedGrain, Rules, from_json_by, to_json};
+use vs_propose::{Proposal, propose_by};
+use vs_row_files::{Answers, Text, first_and_rest};
 
 /// Who proposes.
 #[derive(Clone, Copy)]
@@ -34,27 +35,38 @@ fn design_of(alloc: Global, source: &[u8], top: &[u8]) -> Option<Design> {
 fn is_accepted(
     alloc: Global,
     design: &Design,
+    rules: Rules,
     certificate: &Certificate,
 ) -> Result<bool, AllocError> {
     let line = to_json(alloc, certificate)?;
-    let Ok(read) = from_json(alloc, &line) else {
+    let Ok(read) = from_json_by(alloc, rules, &line) else {
         return Ok(false);
     };
-    if !read.is_sound() {
+    if !read.is_sound_by(rules) {
         return Ok(false);
     }
-    Ok(matches!(check(alloc, design, &read)?, Verdict::Yes))
+    let verdict = check_by(alloc, design, rules, &read)?;
+    Ok(matches!(verdict, Verdict::Yes))
 }
 
-/// Puts whether a certificate is made for a design.
-fn put_proposal(design: &Design, grain: ClaimedGrain, text: &mut Text) -> Result<(), AllocError> {
-    match propose(text.alloc(), design, grain)? {
+/// Puts whether a certificate is made for a design, and of which version where that may be 3.
+fn put_proposal(
+    design: &Design,
+    rules: Rules,
+    grain: ClaimedGrain,
+    text: &mut Text,
+) -> Result<(), AllocError> {
+    match propose_by(text.alloc(), design, rules, grain)? {
         Proposal::Made(certificate) => {
-            text.put(if is_accepted(text.alloc(), design, &certificate)? {
+            text.put(if is_accepted(text.alloc(), design, rules, &certificate)? {
                 b"made"
             } else {
                 b"lost"
             });
+            if matches!(rules, Rules::Wide) {
+                text.put(b" of version ");
+                text.put_shown(certificate.version.number());
+            }
         }
         Proposal::NotMade(refusal) => {
             text.put(b"not made K");
@@ -67,11 +79,11 @@ fn put_proposal(design: &Design, grain: ClaimedGrain, text: &mut Text) -> Result
 }
 
 /// Puts the answer for a source.
-fn put_row(top: &str, grain: ClaimedGrain, source: &[u8], text: &mut Text) {
+fn put_row(top: &str, rules: Rules, grain: ClaimedGrain, source: &[u8], text: &mut Text) {
     match design_of(text.alloc(), source, top.as_bytes()) {
         None => text.put(b"no design"),
         Some(design) => {
-            if put_proposal(&design, grain, text).is_err() {
+            if put_proposal(&design, rules, grain, text).is_err() {
                 text.leave_out();
             }
         }
@@ -86,7 +98,7 @@ fn is_made(family: &str, n: u64, h: u64, alloc: Global) -> bool {
         return false;
     };
     let mut answer = Text::new(alloc);
-    put_row("t", ClaimedGrain::Block, bytes, &mut answer);
+    put_row("t", Rules::Narrow, ClaimedGrain::Block, bytes, &mut answer);
     match answer.whole() {
         Ok(b"made") => true,
         _ => false,
@@ -114,10 +126,12 @@ fn number(word: &str) -> u64 {
 
 impl Answers for Proposes {
     fn answer(&self, words: &str, question: &str, text: &mut Text) {
-        let (first, second) = words.split_once(" ").unwrap_or((words, ""));
-        match second {
-            "block" => put_row(first, ClaimedGrain::Block, question.as_bytes(), text),
-            "statement" => put_row(first, ClaimedGrain::Statement, question.as_bytes(), text),
+        let (first, second) = first_and_rest(words, " ");
+        let (grain, by) = first_and_rest(second, " ");
+        let (source, rules) = (question.as_bytes(), rules_of(by));
+        match grain {
+            "block" => put_row(first, rules, ClaimedGrain::Block, source, text),
+            "statement" => put_row(first, rules, ClaimedGrain::Statement, source, text),
             _ => {
                 let (sizes, halves) = question.split_once(" ").unwrap_or((question, "1"));
                 put_family(first, number(sizes), number(halves), text);

@@ -36,8 +36,8 @@ IsNoSource text =
 abbrev pub top_of : Subcommand → List ℕ
 top_of (Run q) = q.top.now
 top_of (RunCertified q) = q.top.now
-top_of (Check top) = top.now
-top_of (Certify top grain) = top.now
+top_of (Check top rules) = top.now
+top_of (Certify top grain rules) = top.now
 top_of (Race q) = q.top.now
 top_of (Elab top) = top.now
 top_of Preprocess = []
@@ -53,11 +53,11 @@ abbrev pub IsAt : Subcommand → Subcommand → List ℕ → ℕ → Type 0
 IsAt (Run q) (Run r) top until =
     (r.top.now ≡ top) × (r.until.count ≡ until) × (r.steps ≡ q.steps) × (r.order ≡ q.order) × (r.text ≡ q.text)
 IsAt (RunCertified q) (RunCertified r) top until =
-    (r.top.now ≡ top) × (r.until.count ≡ until) × (r.steps ≡ q.steps) × (r.order ≡ q.order) × (r.text ≡ q.text)
-IsAt (Check t) (Check u) top until = u.now ≡ top
-IsAt (Certify t g) (Certify u h) top until = (u.now ≡ top) × (h ≡ g)
+    (r.top.now ≡ top) × (r.until.count ≡ until) × (r.steps ≡ q.steps) × (r.order ≡ q.order) × (r.text ≡ q.text) × (r.rules ≡ q.rules)
+IsAt (Check t a) (Check u b) top until = (u.now ≡ top) × (b ≡ a)
+IsAt (Certify t g a) (Certify u h b) top until = (u.now ≡ top) × (h ≡ g) × (b ≡ a)
 IsAt (Race q) (Race r) top until = (r.top.now ≡ top) × (r.until.count ≡ until) × (r.steps ≡ q.steps) × (r.tries ≡ q.tries)
-    × (r.seed ≡ q.seed) × (r.from ≡ q.from)
+    × (r.seed ≡ q.seed) × (r.from ≡ q.from) × (r.rules ≡ q.rules)
 IsAt (Elab t) (Elab u) top until = u.now ≡ top
 IsAt Preprocess Preprocess top until = Unit {0}
 IsAt _ _ top until = ⊥

@@ -50,8 +50,8 @@ pub fn top_of<'a>(subcommand: Subcommand<'a>) -> &'a str
     match subcommand {
         Subcommand::Run(request) => request.top,
         Subcommand::RunCertified(request) => request.top,
-        Subcommand::Check(top) => top,
-        Subcommand::Certify(top, _) => top,
+        Subcommand::Check(top, _) => top,
+        Subcommand::Certify(top, _, _) => top,
         Subcommand::Race(hunt) => hunt.top,
         Subcommand::Elab(top) => top,
         Subcommand::Preprocess => "",
@@ -85,8 +85,8 @@ fn subcommand_at<'a>(subcommand: Subcommand<'a>, top: &'a str, until: Ticks) -> 
             until,
             ..request
         }),
-        Subcommand::Check(_) => Subcommand::Check(top),
-        Subcommand::Certify(_, grain) => Subcommand::Certify(top, grain),
+        Subcommand::Check(_, rules) => Subcommand::Check(top, rules),
+        Subcommand::Certify(_, grain, rules) => Subcommand::Certify(top, grain, rules),
         Subcommand::Race(hunt) => Subcommand::Race(Hunt { top, until, ..hunt }),
         Subcommand::Elab(_) => Subcommand::Elab(top),
         Subcommand::Preprocess => Subcommand::Preprocess,

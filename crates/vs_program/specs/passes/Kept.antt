@@ -9,6 +9,7 @@ use Rattle.vs_program.specs.Statuses.{proposal_status, refusal_status, target_st
 use Rattle.vs_program.specs.Texts.{ReadsBack, proposal_line}
 use Rattle.vs_program.specs.passes.Proposing.{WroteLine}
 use Rattle.vs_program_words.specs.vs_certificate.specs.declared.members.ClaimedGrain.{ClaimedGrain}
+use Rattle.vs_program_words.specs.vs_certificate.specs.declared.members.Rules.{Rules}
 use Rattle.vs_race.specs.vs_propose.specs.declared.proposal.Proposal.{Proposal}
 use Rattle.vs_preprocess.specs.Limits.{text_limit}
 use Rattle.vs_program.specs.Ends.{CallFails, EndsWith, HasBegunWriting, HasWritten, Held, IsOpen, IsProposed, KeepsAll, MakingFails}
@@ -46,11 +47,12 @@ pub data EndsHere (certificate bytes : List ℕ) (o : Outputs) (call : Subcomman
 
 -- how a call ends that makes a certificate for a file, for the design that bytes and a top define: by its line, all of it or not, or by a fault
 -- that is told before any of it is written
-pub data EndsMaking (bytes top : List ℕ) (grain : ClaimedGrain) (old new : Held) (status : ℕ) : Type 0 where
-  with_line : (p : Proposal) (lost : List ℕ) → IsProposed bytes top grain p → ReadsBack p → WroteLine p (proposal_line p) lost old new →
-      ((lost ≡ []) × (status ≡ proposal_status p)) ⊎ (status ≡ 3) → EndsMaking bytes top grain old new status
-  without_line : (fault : CertifiedFault) → MakingFails bytes top grain fault → is_before_run fault ≡ true → KeepsAll old new →
-      (status ≡ refusal_status fault) ⊎ (status ≡ 3) → EndsMaking bytes top grain old new status
+pub data EndsMaking (rules : Rules) (bytes top : List ℕ) (grain : ClaimedGrain) (old new : Held) (status : ℕ) : Type 0 where
+  with_line : (p : Proposal) (lost : List ℕ) → IsProposed rules bytes top grain p → ReadsBack rules p →
+      WroteLine p (proposal_line p) lost old new →
+      ((lost ≡ []) × (status ≡ proposal_status p)) ⊎ (status ≡ 3) → EndsMaking rules bytes top grain old new status
+  without_line : (fault : CertifiedFault) → MakingFails rules bytes top grain fault → is_before_run fault ≡ true → KeepsAll old new →
+      (status ≡ refusal_status fault) ⊎ (status ≡ 3) → EndsMaking rules bytes top grain old new status
 
 -- how a call ends with these bytes, by what its writers hold before and after it
 abbrev pub EndsKept : List ℕ → List ℕ → Outputs → Subcommand → Held → Held → ℕ → Type 0
@@ -64,7 +66,7 @@ EndsMeant certificate text call old new status =
 
 -- whether a call makes a certificate
 abbrev pub makes_certificate : Subcommand → Bool
-makes_certificate (Certify top grain) = true
+makes_certificate (Certify top grain rules) = true
 makes_certificate call = false
 
 -- a run goes to the greatest moment

@@ -5,6 +5,7 @@ use Rattle.serde_json.specs.Written.{compact_text}
 use Rattle.vs_program_words.specs.vs_certificate.specs.JsonValue.{value_of}
 use Rattle.vs_program_words.specs.vs_certificate.specs.Reading.{max_len}
 use Rattle.vs_program_words.specs.vs_certificate.specs.declared.members.ClaimedGrain.{ClaimedGrain}
+use Rattle.vs_program_words.specs.vs_certificate.specs.declared.members.Rules.{Rules}
 use Rattle.vs_race.specs.vs_propose.specs.declared.proposal.Proposal.{Proposal}
 use Rattle.vs_race.specs.vs_propose.specs.declared.proposal.Proposal.TheVariants.{Made, NotMade}
 use Rattle.vs_program.specs.Ends.{Held, IsProposed}
@@ -17,9 +18,9 @@ IsShort (Made c) = length (compact_text (value_of c)) ≤ max_len
 IsShort (NotMade r) = Unit {0}
 
 -- what is proposed for the design that bytes and a top define, with its line; the text of a certificate is one that is read again
-pub record HasProposed (bytes top : List ℕ) (grain : ClaimedGrain) (p : ProposalLine) : Type 0 where
-  pub proposed : IsProposed bytes top grain p.proposal
-  pub reads_back : ReadsBack p.proposal
+pub record HasProposed (rules : Rules) (bytes top : List ℕ) (grain : ClaimedGrain) (p : ProposalLine) : Type 0 where
+  pub proposed : IsProposed rules bytes top grain p.proposal
+  pub reads_back : ReadsBack rules p.proposal
   pub line : p.line.items ≡ proposal_line p.proposal
 
 -- a line was written, but for bytes at its end: that of a certificate to a file, and that of why there is none to standard output

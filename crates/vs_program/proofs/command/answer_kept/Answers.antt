@@ -11,7 +11,7 @@ returns-in-None g c =
 pub returns-in-Certify : goal.returns-in-Certify
 returns-in-Certify g c =
     let call = c.args.call.now in
-    ends_making c.args.kept.now.certificate.items c.args.kept.now.source.items _ call.outputs call.subcommand c.in-Certify.top c.in-Certify.grain c.in-Some.name _ _ _
+    ends_making c.in-Certify.rules c.args.kept.now.certificate.items c.args.kept.now.source.items _ call.outputs call.subcommand c.in-Certify.top c.in-Certify.grain c.in-Some.name _ _ _
     c.in-Some.is c.in-Certify.is refl c.certify_in_file.ensures
 
 pub returns : goal.returns

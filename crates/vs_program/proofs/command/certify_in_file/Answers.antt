@@ -4,7 +4,7 @@ use Rattle.vs_program.proofs.command.certify_in_file.Goals as goal
 
 pub returns-in-Ok : goal.returns-in-Ok
 returns-in-Ok g c =
-    ends_lined c.args.kept.now.source.items c.args.top.now c.args.grain c.in-Ok.found c.write_proposed-whole.result.0 _ _ _ (rw c.deref.ensures.value at c.in-Ok.ensures.ok)
+    ends_lined c.args.rules c.args.kept.now.source.items c.args.top.now c.args.grain c.in-Ok.found c.write_proposed-whole.result.0 _ _ _ (rw c.deref.ensures.value at c.in-Ok.ensures.ok)
     c.write_proposed-whole.ensures c.tell_proposed.ensures
 
 pub returns-in-Err : goal.returns-in-Err

@@ -6,5 +6,5 @@ use Rattle.vs_program.proofs.doing.seek_race.Goals as goal
 
 pub returns-in-Some-clause-begun : goal.returns-in-Some-clause-begun
 returns-in-Some-clause-begun g c = subst (λ (s : List ℕ). IfErr c.tell_race_pair.result (λ fault. is_refusal fault ≡ false →
-    HasBegunRace s c.args.hunt.top.now (g.S.Sink.bytes c.args.shown.now) (g.S.Sink.bytes c.tell_race_pair.new.shown)))
+    HasBegunRace c.args.hunt.rules s c.args.hunt.top.now (g.S.Sink.bytes c.args.shown.now) (g.S.Sink.bytes c.tell_race_pair.new.shown)))
     c.as_slice-source.ensures.value c.tell_race_pair.ensures.begun

@@ -1,5 +1,5 @@
 use Rattle.std.proofs.Common.{◌∙◌, ℕ, List, subst}
-use Rattle.vs_certified.specs.Judged.{IsJudged}
+use Rattle.vs_certified.specs.Judged.{IsJudgedBy}
 use Rattle.vs_certified.specs.vs_vcd_writing.specs.Sinks.{AppendsPart}
 use Rattle.vs_program.proofs.Fails.{if_err}
 use Rattle.vs_program.proofs.doing.tell_verdict.Goals as goal
@@ -7,7 +7,7 @@ use Rattle.vs_program.proofs.doing.tell_verdict.Goals as goal
 pub returns-in_err-show-clause-begun : goal.returns-in_err-show-clause-begun
 returns-in_err-show-clause-begun g c = if_err c.from_residual-in_err-show.result _ (λ e running. record {
   verdict = c.in_ok-verdict.verdict;
-  judged = subst (λ (t : List ℕ). IsJudged c.args.source.now t c.args.certificate.now c.in_ok-verdict.verdict) c.as_bytes.ensures.value c.in_ok-verdict.ensures.judged;
+  judged = subst (λ (t : List ℕ). IsJudgedBy c.args.rules c.args.source.now t c.args.certificate.now c.in_ok-verdict.verdict) c.as_bytes.ensures.value c.in_ok-verdict.ensures.judged;
   begun = subst (λ (l : List ℕ). AppendsPart (g.S.Sink.bytes c.args.shown.now) (g.S.Sink.bytes c.show.new.shown) l) (c.deref.ensures.value ∙ c.in_ok-line.ensures)
       c.in_err-show.ensures.err.1;
 })

@@ -13,4 +13,5 @@ returns-clause-rules c =
       c.file-dump.ensures.option,
       c.flag-cert.ensures.option,
       c.certificate.ensures.option,
+      c.rules.ensures.option,
     ) refl
