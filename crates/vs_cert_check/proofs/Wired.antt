@@ -3,7 +3,8 @@ use Rattle.std.proofs.Common.{◌≡◌, ℕ, zero, suc, ◌+◌, ◌<◌, ◌�
 use Rattle.std.proofs.lemmas.Option.{none-some, slice_get_cases}
 use Rattle.std.proofs.lemmas.Bool.{false≢true}
 use Rattle.vs_design.specs.Parts.{Parts}
-use Rattle.vs_rules_of_starts.specs.vs_rules.specs.Claims.{Claims, Kind, Start, block, edges, delays, IsBlock, is_block_kind, blocks_of, kind_for, kind_of}
+use Rattle.vs_rules_of_starts.specs.vs_rules.specs.Claims.{Claims, Kind, Start, block, edges, delays, mixed}
+use Rattle.vs_rules_of_starts.specs.vs_rules.specs.Claims.{IsBlock, is_block_kind, blocks_of, kind_for, kind_of}
 use Rattle.vs_rules_of_starts.specs.vs_rules.specs.Verdict.{numbers}
 use Rattle.vs_rules_of_processes.specs.vs_drivers.specs.Wires.{IsWiringOf, wiring}
 use Rattle.vs_cert_check.specs.Marks.{marks_of}
@@ -14,6 +15,7 @@ told None = (λ yes. absurd (false≢true yes), λ h. absurd (none-some (block h
 told (Some (block start)) = (λ yes. (start, refl), λ h. refl)
 told (Some edges) = (λ yes. absurd (false≢true yes), λ h. ap is_block_kind h.1)
 told (Some (delays lists)) = (λ yes. absurd (false≢true yes), λ h. ap is_block_kind h.1)
+told (Some (mixed lists)) = (λ yes. absurd (false≢true yes), λ h. ap is_block_kind h.1)
 
 -- marks of numbers from one on
 mark_at : (f : ℕ → Bool) (first n i : ℕ) → i < n → slice_index_or (map f (numbers first n)) i false ≡ f (first + i)

@@ -8,7 +8,7 @@ use Rattle.vs_cert_check.specs.declared.verdict.Verdict.{Verdict}
 use Rattle.vs_cert_check.specs.declared.verdict.Verdict.TheVariants.{Yes, No}
 
 -- of a design with its certificate: for every moment, all permitted executions at the certificate's grain that are complete to it have the same trace;
--- and where the certificate says so, each process of kind edge or delay prints the same lines by `$display`, in the same order, in each slot
+-- and where the certificate says so, each process of another kind than comb prints the same lines by `$display`, in the same order, in each slot
 pub record IsIndependent (d : Parts) (c : Claims) : Type 0 where
   pub traces : Independent c.grain d
   pub lines : c.displays ≡ true → DisplaysAlike c.grain d (λ i. not (blocks_of d c i))

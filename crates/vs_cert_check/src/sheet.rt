@@ -87,7 +87,7 @@ fn keeps_of_process(alloc: Global, sheet: &Sheet, rule: usize, i: usize) -> Resu
         3 => keeps_process_order(alloc, sheet.facts, sheet.cones, i),
         4 => keeps_block(alloc, sheet.facts, i),
         6 => keeps_edges(alloc, sheet.slots, i),
-        7 => keeps_delays(alloc, sheet.facts, i),
+        7 => keeps_delays(alloc, sheet.slots, i),
         8 => keeps_readings(alloc, sheet.slots, sheet.classes, sheet.cones, i),
         9 => sheet.first_slot.keeps_first_slot(alloc, i),
         _ => Ok(true),

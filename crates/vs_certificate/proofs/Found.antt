@@ -1,11 +1,11 @@
 -- What is found under a name, where it passes a test.
-use Rattle.std.proofs.Common.{◌≡◌, inl, inr, ℕ, Bool, true, false, ◌||◌, List, ◌∷◌, Option, Some, None, codes, true≢false, refl, ap, sym}
+use Rattle.std.proofs.Common.{◌≡◌, inl, inr, ℕ, Bool, true, false, ◌||◌, List, ◌∷◌, Option, Some, None, codes, true≢false, refl, ap, sym, ◌∙◌}
 use Rattle.std.proofs.lemmas.Bool.{and_parts, eqb-true, or_cases}
 use Rattle.std.proofs.lemmas.Slice.Eq.{bytes_eq-Decides}
 use Rattle.std.specs.Option.{option_map_or}
 use Rattle.serde_json.specs.Data.{Data, unsigned, negative, float, null, boolean, number, string, array, object, no_items, item}
 use Rattle.serde_json.specs.Find.{get}
-use Rattle.vs_certificate.specs.Shape.{is_word, is_empty_list, is_list, is_text, is_number, is_flag, is_grain, is_start, passes_at, has_names, names_of_one, is_edge_signal, is_signal_entry, is_process_entry, is_combinational, is_edge_process, is_delay_process, is_version_one, is_of_later, is_version_two, is_version_three, is_certificate}
+use Rattle.vs_certificate.specs.Shape.{is_word, is_empty_list, is_list, is_text, is_number, is_flag, is_grain, is_start, passes_at, has_names, names_of_one, is_edge_signal, is_signal_entry, is_process_entry, is_combinational, is_edge_process, is_timed_process, is_times_process, is_version_one, is_of_later, is_version_two, is_version_three, is_certificate}
 
 word_found : (o : Option Data) (word : List ℕ) → option_map_or (is_word word) o false ≡ true → o ≡ Some (string word)
 word_found None word h = absurd (true≢false (sym h))
@@ -86,16 +86,29 @@ edge_parts d h =
     let b = and_parts _ _ a.0 in
     record { kind = get-is_word (codes "kind") (codes "edge") d b.0; slots = get-is_empty_list (codes "slots") d b.1; start = get-is_word (codes "start") (codes "none") d a.1 }
 
-pub record DelayParts (numeric : Data → Bool) (d : Data) : Type 0 where
-  pub kind : get (codes "kind") d ≡ Some (string (codes "delay"))
+pub record TimedParts (numeric : Data → Bool) (d : Data) : Type 0 where
   pub slots : passes_at (is_list (is_list numeric)) (codes "slots") d ≡ true
   pub start : get (codes "start") d ≡ Some (string (codes "none"))
 
-pub delay_parts : (numeric : Data → Bool) (d : Data) → is_delay_process numeric d ≡ true → DelayParts numeric d
-delay_parts numeric d h =
+timed_parts : (word : List ℕ) (numeric : Data → Bool) (d : Data) → is_timed_process word numeric d ≡ true → TimedParts numeric d
+timed_parts word numeric d h =
     let a = and_parts _ _ h in
     let b = and_parts _ _ a.0 in
-    record { kind = get-is_word (codes "kind") (codes "delay") d b.0; slots = b.1; start = get-is_word (codes "start") (codes "none") d a.1 }
+    record { slots = b.1; start = get-is_word (codes "start") (codes "none") d a.1 }
+
+pub times_parts : (numeric : Data → Bool) (d : Data) → is_times_process numeric d ≡ true → TimedParts numeric d
+times_parts numeric d h = elim (or_cases (is_timed_process (codes "delay") numeric d) (is_timed_process (codes "mixed") numeric d) h) [
+  | inl delay ↦ timed_parts (codes "delay") numeric d delay
+  | inr mixed ↦ timed_parts (codes "mixed") numeric d mixed
+]
+
+-- what waits for times and isn't of kind delay is mixed
+pub mixed_word : (numeric : Data → Bool) (d : Data) → is_times_process numeric d ≡ true → passes_at (is_word (codes "delay")) (codes "kind") d ≡ false
+    → get (codes "kind") d ≡ Some (string (codes "mixed"))
+mixed_word numeric d h other = elim (or_cases (is_timed_process (codes "delay") numeric d) (is_timed_process (codes "mixed") numeric d) h) [
+  | inl delay ↦ absurd (true≢false (sym (and_parts _ _ (and_parts _ _ delay).0).0 ∙ other))
+  | inr mixed ↦ get-is_word (codes "kind") (codes "mixed") d (and_parts _ _ (and_parts _ _ mixed).0).0
+]
 
 pub record VersionOneParts (d : Data) : Type 0 where
   pub names : has_names names_of_one d ≡ true

@@ -71,6 +71,8 @@ plain_slots most modulus small (kinds.Combinational start) h = tt
 plain_slots most modulus small kinds.Edge h = tt
 plain_slots most modulus small (kinds.Delay slots) h =
     plain_slots_items most modulus small slots.items (and_parts (is_within 65536 (slots_value (kinds.Delay slots))) (all_items (are_residues most modulus) (items_of (map residues_value slots.items))) h).1
+plain_slots most modulus small (kinds.Mixed slots) h =
+    plain_slots_items most modulus small slots.items (and_parts (is_within 65536 (slots_value (kinds.Mixed slots))) (all_items (are_residues most modulus) (items_of (map residues_value slots.items))) h).1
 
 -- ---- words
 
@@ -104,6 +106,7 @@ plain_kind_word : (kind : ClaimedKind) → IsPlain (string (kind_word kind))
 plain_kind_word (kinds.Combinational start) = IsUtf8-are_ascii _ refl
 plain_kind_word kinds.Edge = IsUtf8-are_ascii _ refl
 plain_kind_word (kinds.Delay slots) = IsUtf8-are_ascii _ refl
+plain_kind_word (kinds.Mixed slots) = IsUtf8-are_ascii _ refl
 
 plain_start : (kind : ClaimedKind) → IsPlain (start_value kind)
 plain_start (kinds.Combinational starts.Cold) = IsUtf8-are_ascii _ refl
@@ -111,6 +114,7 @@ plain_start (kinds.Combinational starts.Sources) = IsUtf8-are_ascii _ refl
 plain_start (kinds.Combinational starts.Starter) = IsUtf8-are_ascii _ refl
 plain_start kinds.Edge = IsUtf8-are_ascii _ refl
 plain_start (kinds.Delay slots) = IsUtf8-are_ascii _ refl
+plain_start (kinds.Mixed slots) = IsUtf8-are_ascii _ refl
 
 -- ---- entries
 
@@ -152,6 +156,7 @@ formed_kind name (kinds.Combinational starts.Sources) = refl
 formed_kind name (kinds.Combinational starts.Starter) = refl
 formed_kind name kinds.Edge = refl
 formed_kind name (kinds.Delay slots) = rw (formed_list residues_value (is_list is_whole) formed_residues slots.items) refl
+formed_kind name (kinds.Mixed slots) = rw (formed_list residues_value (is_list is_whole) formed_residues slots.items) refl
 
 formed_process : (p : ProcessEntry) → is_process_entry is_whole (process_value p) ≡ true
 formed_process p = formed_kind p.name p.kind
@@ -160,11 +165,13 @@ shallow_slots : (kind : ClaimedKind) → depth (outline (slots_value kind)) ≤ 
 shallow_slots (kinds.Combinational start) = omega arith
 shallow_slots kinds.Edge = omega arith
 shallow_slots (kinds.Delay slots) = shallow_list residues_value 1 (λ r. shallow_list whole_value 0 (λ n. omega arith) r.items) slots.items
+shallow_slots (kinds.Mixed slots) = shallow_list residues_value 1 (λ r. shallow_list whole_value 0 (λ n. omega arith) r.items) slots.items
 
 shallow_start : (kind : ClaimedKind) → depth (outline (start_value kind)) ≤ 0
 shallow_start (kinds.Combinational start) = omega arith
 shallow_start kinds.Edge = omega arith
 shallow_start (kinds.Delay slots) = omega arith
+shallow_start (kinds.Mixed slots) = omega arith
 
 shallow_process : (p : ProcessEntry) → depth (outline (process_value p)) ≤ 3
 shallow_process p = omega (arith, shallow_slots p.kind, shallow_start p.kind)
@@ -177,19 +184,29 @@ have_kinds version ps = list_all (λ (p : ProcessEntry). has_kind version p.kind
 abbrev have_modes : Version → List SignalEntry → Bool
 have_modes version ss = list_all (λ (s : SignalEntry). has_mode version s.mode) ss
 
--- no start `starter`, no mode `both`
+-- no start `starter`, no kind `mixed`, no mode `both`
 abbrev starter_free : List ProcessEntry → Bool
 starter_free ps = all_items (lacks (codes "start") (codes "starter")) (items_of (map process_value ps))
+
+abbrev mixed_free : List ProcessEntry → Bool
+mixed_free ps = all_items (lacks (codes "kind") (codes "mixed")) (items_of (map process_value ps))
 
 abbrev both_free : List SignalEntry → Bool
 both_free ss = all_items (lacks (codes "mode") (codes "both")) (items_of (map signal_value ss))
 
-kind_one : (k : ClaimedKind) → not (is_word (codes "starter") (start_value k)) ≡ has_kind versions.One k
+kind_one : (k : ClaimedKind) → (not (is_word (codes "starter") (start_value k)) && not (is_word (codes "mixed") (string (kind_word k)))) ≡ has_kind versions.One k
 kind_one (kinds.Combinational starts.Cold) = refl
 kind_one (kinds.Combinational starts.Sources) = refl
 kind_one (kinds.Combinational starts.Starter) = refl
 kind_one kinds.Edge = refl
 kind_one (kinds.Delay slots) = refl
+kind_one (kinds.Mixed slots) = refl
+
+kind_two : (displays : Bool) (k : ClaimedKind) → not (is_word (codes "mixed") (string (kind_word k))) ≡ has_kind (versions.Two displays) k
+kind_two displays (kinds.Combinational start) = refl
+kind_two displays kinds.Edge = refl
+kind_two displays (kinds.Delay slots) = refl
+kind_two displays (kinds.Mixed slots) = refl
 
 mode_one : (m : SignalMode) → not (is_word (codes "both") (mode_value m)) ≡ has_mode versions.One m
 mode_one modes.Net = refl
@@ -209,9 +226,19 @@ mode_two displays modes.Blocking = refl
 mode_two displays modes.Private = refl
 mode_two displays modes.Both = refl
 
-kinds_one : (ps : List ProcessEntry) → starter_free ps ≡ have_kinds versions.One ps
+-- of two lists of tests the first two tests, and the others
+crossed : (a b x y : Bool) → ((a && x) && (b && y)) ≡ ((a && b) && (x && y))
+crossed true true x y = refl
+crossed true false true y = refl
+crossed true false false y = refl
+crossed false b x y = refl
+
+kinds_one : (ps : List ProcessEntry) → (starter_free ps && mixed_free ps) ≡ have_kinds versions.One ps
 kinds_one [] = refl
-kinds_one (p ∷ ps) = ap₂ (λ a b. a && b) (kind_one p.kind) (kinds_one ps)
+kinds_one (p ∷ ps) =
+    let starter = not (is_word (codes "starter") (start_value p.kind)) in
+    let mixed = not (is_word (codes "mixed") (string (kind_word p.kind))) in
+    crossed starter mixed (starter_free ps) (mixed_free ps) ∙ ap₂ (λ a b. a && b) (kind_one p.kind) (kinds_one ps)
 
 modes_one : (ss : List SignalEntry) → both_free ss ≡ have_modes versions.One ss
 modes_one [] = refl
@@ -221,9 +248,9 @@ modes_two : (displays : Bool) (ss : List SignalEntry) → both_free ss ≡ have_
 modes_two displays [] = refl
 modes_two displays (s ∷ ss) = ap₂ (λ a b. a && b) (mode_two displays s.mode) (modes_two displays ss)
 
-kinds_two : (displays : Bool) (ps : List ProcessEntry) → have_kinds (versions.Two displays) ps ≡ true
+kinds_two : (displays : Bool) (ps : List ProcessEntry) → mixed_free ps ≡ have_kinds (versions.Two displays) ps
 kinds_two displays [] = refl
-kinds_two displays (p ∷ ps) = kinds_two displays ps
+kinds_two displays (p ∷ ps) = ap₂ (λ a b. a && b) (kind_two displays p.kind) (kinds_two displays ps)
 
 kinds_three : (displays : Bool) (ps : List ProcessEntry) → have_kinds (versions.Three displays) ps ≡ true
 kinds_three displays [] = refl
@@ -324,13 +351,14 @@ shared_by (versions.Three displays) c = shared_later 3 displays c
 formed_by : (version : Version) (c : Certificate) → have_words version c ≡ true → is_certificate is_whole (value_by version c) ≡ true
 formed_by versions.One c own =
     let parts = and_parts (have_kinds versions.One c.processes.items) (have_modes versions.One c.signals.items) own in
-    let kinds : starter_free c.processes.items ≡ true = kinds_one c.processes.items ∙ parts.0 in
+    let kinds = and_parts (starter_free c.processes.items) (mixed_free c.processes.items) (kinds_one c.processes.items ∙ parts.0) in
     let modes : both_free c.signals.items ≡ true = modes_one c.signals.items ∙ parts.1 in
-    rw (shared_by versions.One c, kinds, modes) refl
+    rw (shared_by versions.One c, kinds.0, kinds.1, modes) refl
 formed_by (versions.Two displays) c own =
     let parts = and_parts (have_kinds (versions.Two displays) c.processes.items) (have_modes (versions.Two displays) c.signals.items) own in
+    let kinds : mixed_free c.processes.items ≡ true = kinds_two displays c.processes.items ∙ parts.0 in
     let modes : both_free c.signals.items ≡ true = modes_two displays c.signals.items ∙ parts.1 in
-    rw (shared_by (versions.Two displays) c, modes) refl
+    rw (shared_by (versions.Two displays) c, kinds, modes) refl
 formed_by (versions.Three displays) c own = rw (shared_by (versions.Three displays) c) refl
 
 -- of three tests, the last two of which fail, the first holds; of three whose first and last fail, the second
@@ -348,12 +376,16 @@ both_hold a b p q = rw (p, q) refl
 -- what has the form of a certificate has the words of its version
 words_by : (version : Version) (c : Certificate) → is_certificate is_whole (value_by version c) ≡ true → have_words version c ≡ true
 words_by versions.One c h =
-    let own : (starter_free c.processes.items && both_free c.signals.items) ≡ true = only_first _ (and_parts (has_shared is_whole (value_by versions.One c)) _ h).1 in
-    let parts = and_parts (starter_free c.processes.items) (both_free c.signals.items) own in
-    both_hold _ _ (sym (kinds_one c.processes.items) ∙ parts.0) (sym (modes_one c.signals.items) ∙ parts.1)
+    let own : (starter_free c.processes.items && (both_free c.signals.items && mixed_free c.processes.items)) ≡ true =
+    only_first _ (and_parts (has_shared is_whole (value_by versions.One c)) _ h).1 in
+    let parts = and_parts (starter_free c.processes.items) (both_free c.signals.items && mixed_free c.processes.items) own in
+    let narrow = and_parts (both_free c.signals.items) (mixed_free c.processes.items) parts.1 in
+    both_hold _ _ (sym (kinds_one c.processes.items) ∙ both_hold _ _ parts.0 narrow.1) (sym (modes_one c.signals.items) ∙ narrow.0)
 words_by (versions.Two displays) c h =
-    let own : both_free c.signals.items ≡ true = only_second _ (and_parts (has_shared is_whole (value_by (versions.Two displays) c)) _ h).1 in
-    both_hold _ _ (kinds_two displays c.processes.items) (sym (modes_two displays c.signals.items) ∙ own)
+    let own : (both_free c.signals.items && mixed_free c.processes.items) ≡ true =
+    only_second _ (and_parts (has_shared is_whole (value_by (versions.Two displays) c)) _ h).1 in
+    let narrow = and_parts (both_free c.signals.items) (mixed_free c.processes.items) own in
+    both_hold _ _ (sym (kinds_two displays c.processes.items) ∙ narrow.1) (sym (modes_two displays c.signals.items) ∙ narrow.0)
 words_by (versions.Three displays) c h = both_hold _ _ (kinds_three displays c.processes.items) (modes_three displays c.signals.items)
 
 shallow_later : (number : ℕ) (displays : Bool) (c : Certificate) → depth (outline (later_value number displays c)) ≤ max_depth

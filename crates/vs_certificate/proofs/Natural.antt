@@ -1,10 +1,10 @@
 -- Within the limits no number is negative.
-use Rattle.std.proofs.Common.{◌≡◌, ℕ, ◌+◌, Bool, true, false, ◌&&◌, ◌||◌, nat_le, nat_lt, Option, Some, None, codes, is_some, option_and_then, true≢false, refl, ap, sym, ◌∙◌}
-use Rattle.std.proofs.lemmas.Bool.{and_parts, false_from_ne_true}
+use Rattle.std.proofs.Common.{◌≡◌, inl, inr, List, ℕ, ◌+◌, Bool, true, false, ◌&&◌, ◌||◌, nat_le, nat_lt, Option, Some, None, codes, is_some, option_and_then, true≢false, refl, ap, sym, ◌∙◌}
+use Rattle.std.proofs.lemmas.Bool.{and_parts, or_cases, false_from_ne_true}
 use Rattle.std.specs.Option.{option_map_or}
 use Rattle.serde_json.specs.Data.{Data, null, boolean, number, string, array, object, Items, no_items, item}
 use Rattle.serde_json.specs.Find.{get}
-use Rattle.vs_certificate.specs.Shape.{natural, is_whole, is_natural, all_items, is_list, passes_at, is_combinational, is_edge_process, is_delay_process, is_process_entry, is_certificate}
+use Rattle.vs_certificate.specs.Shape.{natural, is_whole, is_natural, all_items, is_list, passes_at, is_combinational, is_edge_process, is_timed_process, is_times_process, is_process_entry, is_certificate}
 use Rattle.vs_certificate.specs.Limits.{items_in, rise, is_within, are_residues, are_slots, are_processes, most_residues_in, is_modulus, holds_by, is_within_limits}
 use Rattle.vs_certificate.proofs.Found.{certificate_parts}
 use Rattle.std.proofs.lemmas.Bool.{and_from as both}
@@ -16,6 +16,10 @@ Implied p q r = (d : Data) → p d ≡ true → q d ≡ true → r d ≡ true
 or_next : (b x y : Bool) → (b || x) ≡ true → (x ≡ true → y ≡ true) → (b || y) ≡ true
 or_next true x y h f = refl
 or_next false x y h f = f h
+
+either_second : (a b : Bool) → b ≡ true → (a || b) ≡ true
+either_second true b h = refl
+either_second false b h = h
 
 items_imply : (p q r : Data → Bool) → Implied p q r → (ds : Items) → all_items p ds ≡ true → all_items q ds ≡ true → all_items r ds ≡ true
 items_imply p q r f no_items h k = refl
@@ -63,16 +67,22 @@ slots_natural most modulus d h k =
 
 -- ---- processes
 
-delay_natural : (most modulus : ℕ) → Implied (is_delay_process is_whole) (passes_at (are_slots most modulus) (codes "slots")) (is_delay_process is_natural)
-delay_natural most modulus d h k =
+timed_natural : (word : List ℕ) (most modulus : ℕ) → Implied (is_timed_process word is_whole) (passes_at (are_slots most modulus) (codes "slots")) (is_timed_process word is_natural)
+timed_natural word most modulus d h k =
     let a = and_parts _ _ h in
     let b = and_parts _ _ a.0 in
     both _ _ (both _ _ b.0 (found_implies (is_list (is_list is_whole)) (are_slots most modulus) (is_list (is_list is_natural)) (slots_natural most modulus) (get (codes "slots") d) b.1 k)) a.1
 
+times_natural : (most modulus : ℕ) → Implied (is_times_process is_whole) (passes_at (are_slots most modulus) (codes "slots")) (is_times_process is_natural)
+times_natural most modulus d h k = elim (or_cases (is_timed_process (codes "delay") is_whole d) (is_timed_process (codes "mixed") is_whole d) h) [
+  | inl delay ↦ rw (timed_natural (codes "delay") most modulus d delay k) refl
+  | inr mixed ↦ either_second (is_timed_process (codes "delay") is_natural d) (is_timed_process (codes "mixed") is_natural d) (timed_natural (codes "mixed") most modulus d mixed k)
+]
+
 process_natural : (most modulus : ℕ) → Implied (is_process_entry is_whole) (passes_at (are_slots most modulus) (codes "slots")) (is_process_entry is_natural)
 process_natural most modulus d h k =
     let a = and_parts _ _ h in
-    both _ _ a.0 (or_next (is_combinational d || is_edge_process d) (is_delay_process is_whole d) (is_delay_process is_natural d) a.1 (λ delay. delay_natural most modulus d delay k))
+    both _ _ a.0 (or_next (is_combinational d || is_edge_process d) (is_times_process is_whole d) (is_times_process is_natural d) a.1 (λ times. times_natural most modulus d times k))
 
 processes_natural : (most modulus : ℕ) → Implied (is_list (is_process_entry is_whole)) (are_processes most modulus) (is_list (is_process_entry is_natural))
 processes_natural most modulus d h k =

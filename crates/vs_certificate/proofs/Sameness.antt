@@ -18,7 +18,7 @@ use Rattle.vs_certificate.specs.declared.members.Version.{Version}
 use Rattle.vs_certificate.specs.declared.members.Version.TheVariants as versions
 use Rattle.vs_certificate.specs.JsonValue.{kind_word, grain_value, mode_value, text_value, list_value, whole_value, residues_value, slots_value, start_word_value, start_value, edge_value, process_value, signal_value, members_with, object_with, shared_members, members_by, value_of}
 use Rattle.vs_certificate.specs.Shape.{is_word, is_number, passes_at, has_names, names_of_one}
-use Rattle.vs_certificate.specs.Sameness.{start_of, residues_of, edge_parts, process_parts, signal_parts, IsSame}
+use Rattle.vs_certificate.specs.Sameness.{start_of, slots_of, residues_of, edge_parts, process_parts, signal_parts, IsSame}
 
 -- ---- lists
 
@@ -89,6 +89,7 @@ start_again (kinds.Combinational starts.Sources) = refl
 start_again (kinds.Combinational starts.Starter) = refl
 start_again kinds.Edge = refl
 start_again (kinds.Delay slots) = refl
+start_again (kinds.Mixed slots) = refl
 
 start_from_value : (j k : ClaimedKind) → start_value j ≡ start_value k → start_of j ≡ start_of k
 start_from_value j k e = sym (start_again j) ∙ ap start_in e ∙ start_again k
@@ -105,19 +106,18 @@ map_itself (n ∷ ns) = ap (λ ms. n ∷ ms) (map_itself ns)
 numbers_from_value : (a b : Vec ℕ Global) → residues_value a ≡ residues_value b → a.items ≡ b.items
 numbers_from_value a b e = sym (map_itself a.items) ∙ parts_from_list whole_value (λ n. n) number_from_value a.items b.items e ∙ map_itself b.items
 
-abbrev is_delay : Data → Bool
-is_delay = is_word (codes "delay")
+slots_value_of : (k : ClaimedKind) → slots_value k ≡ list_value residues_value (slots_of k)
+slots_value_of (kinds.Combinational start) = refl
+slots_value_of kinds.Edge = refl
+slots_value_of (kinds.Delay slots) = refl
+slots_value_of (kinds.Mixed slots) = refl
 
-residues_from_value : (j k : ClaimedKind) → string (kind_word j) ≡ string (kind_word k) → slots_value j ≡ slots_value k → residues_of j ≡ residues_of k
-residues_from_value (kinds.Combinational s) (kinds.Combinational t) w e = refl
-residues_from_value (kinds.Combinational s) kinds.Edge w e = refl
-residues_from_value (kinds.Combinational s) (kinds.Delay b) w e = absurd (true≢false (sym (ap is_delay w)))
-residues_from_value kinds.Edge (kinds.Combinational t) w e = refl
-residues_from_value kinds.Edge kinds.Edge w e = refl
-residues_from_value kinds.Edge (kinds.Delay b) w e = absurd (true≢false (sym (ap is_delay w)))
-residues_from_value (kinds.Delay a) (kinds.Combinational t) w e = absurd (true≢false (ap is_delay w))
-residues_from_value (kinds.Delay a) kinds.Edge w e = absurd (true≢false (ap is_delay w))
-residues_from_value (kinds.Delay a) (kinds.Delay b) w e = ap Some (parts_from_list residues_value (λ r. r.items) numbers_from_value a.items b.items e)
+residues_from_value : (j k : ClaimedKind) → slots_value j ≡ slots_value k → residues_of j ≡ residues_of k
+residues_from_value j k e =
+    parts_from_list residues_value (λ r. r.items) numbers_from_value (slots_of j) (slots_of k) (sym (slots_value_of j) ∙ e ∙ slots_value_of k)
+
+word_from_value : (v w : List ℕ) → string v ≡ string w → v ≡ w
+word_from_value v w h = cc
 
 -- ---- entries
 
@@ -145,8 +145,9 @@ process_from_value p q h =
     let name = other_members kind in
     let slots = other_members name in
     let start = other_members slots in
-    let residues = residues_from_value p.kind q.kind (first_member kind) (first_member slots) in
-    rw (text_from_value p.name q.name (first_member name), start_from_value p.kind q.kind (first_member start), residues) refl
+    let word = word_from_value (kind_word p.kind) (kind_word q.kind) (first_member kind) in
+    let residues = residues_from_value p.kind q.kind (first_member slots) in
+    rw (text_from_value p.name q.name (first_member name), word, start_from_value p.kind q.kind (first_member start), residues) refl
 
 signal_from_value : (s t : SignalEntry) → signal_value s ≡ signal_value t → signal_parts s ≡ signal_parts t
 signal_from_value s t h =
@@ -225,16 +226,6 @@ signal_from_parts s t h =
     let writer : string_bytes s.writer ≡ string_bytes t.writer = ap (λ p. p.3) h in
     rw (mode, name, second, writer) refl
 
-abbrev kind_word_by : Option Start → Option (List (List ℕ)) → List ℕ
-kind_word_by (Some start) residues = codes "comb"
-kind_word_by None None = codes "edge"
-kind_word_by None (Some residues) = codes "delay"
-
-kind_word_of : (k : ClaimedKind) → kind_word k ≡ kind_word_by (start_of k) (residues_of k)
-kind_word_of (kinds.Combinational start) = refl
-kind_word_of kinds.Edge = refl
-kind_word_of (kinds.Delay slots) = refl
-
 abbrev start_value_by : Option Start → Data
 start_value_by (Some start) = start_word_value start
 start_value_by None = string (codes "none")
@@ -243,26 +234,20 @@ start_value_of : (k : ClaimedKind) → start_value k ≡ start_value_by (start_o
 start_value_of (kinds.Combinational start) = refl
 start_value_of kinds.Edge = refl
 start_value_of (kinds.Delay slots) = refl
+start_value_of (kinds.Mixed slots) = refl
 
 slots_from_residues : (j k : ClaimedKind) → residues_of j ≡ residues_of k → slots_value j ≡ slots_value k
-slots_from_residues (kinds.Combinational s) (kinds.Combinational t) h = refl
-slots_from_residues (kinds.Combinational s) kinds.Edge h = refl
-slots_from_residues (kinds.Combinational s) (kinds.Delay b) h = absurd cc
-slots_from_residues kinds.Edge (kinds.Combinational t) h = refl
-slots_from_residues kinds.Edge kinds.Edge h = refl
-slots_from_residues kinds.Edge (kinds.Delay b) h = absurd cc
-slots_from_residues (kinds.Delay a) (kinds.Combinational t) h = absurd cc
-slots_from_residues (kinds.Delay a) kinds.Edge h = absurd cc
-slots_from_residues (kinds.Delay a) (kinds.Delay b) h =
-    let same : map (λ r. r.items) a.items ≡ map (λ r. r.items) b.items = cc in
-    values_from_parts residues_value (λ r. r.items) (λ r s e. ap (list_value whole_value) e) a.items b.items same
+slots_from_residues j k h =
+    slots_value_of j
+    ∙ values_from_parts residues_value (λ r. r.items) (λ r s e. ap (list_value whole_value) e) (slots_of j) (slots_of k) h
+    ∙ sym (slots_value_of k)
 
 process_from_parts : (p q : ProcessEntry) → process_parts p ≡ process_parts q → process_value p ≡ process_value q
 process_from_parts p q h =
     let name : string_bytes p.name ≡ string_bytes q.name = ap (λ r. r.0) h in
-    let start : start_of p.kind ≡ start_of q.kind = ap (λ r. r.1) h in
-    let residues : residues_of p.kind ≡ residues_of q.kind = ap (λ r. r.2) h in
-    let word : kind_word p.kind ≡ kind_word q.kind = kind_word_of p.kind ∙ ap₂ kind_word_by start residues ∙ sym (kind_word_of q.kind) in
+    let word : kind_word p.kind ≡ kind_word q.kind = ap (λ r. r.1) h in
+    let start : start_of p.kind ≡ start_of q.kind = ap (λ r. r.2) h in
+    let residues : residues_of p.kind ≡ residues_of q.kind = ap (λ r. r.3) h in
     let begins : start_value p.kind ≡ start_value q.kind = start_value_of p.kind ∙ ap start_value_by start ∙ sym (start_value_of q.kind) in
     rw (word, name, slots_from_residues p.kind q.kind residues, begins) refl
 

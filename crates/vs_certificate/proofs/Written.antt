@@ -18,11 +18,13 @@ slots_have_none : (kind : ClaimedKind) → has_float (slots_value kind) ≡ fals
 slots_have_none (kinds.Combinational start) = refl
 slots_have_none kinds.Edge = refl
 slots_have_none (kinds.Delay slots) = no_floats residues_value (λ r. no_floats whole_value (λ n. refl) r.items) slots.items
+slots_have_none (kinds.Mixed slots) = no_floats residues_value (λ r. no_floats whole_value (λ n. refl) r.items) slots.items
 
 start_has_none : (kind : ClaimedKind) → has_float (start_value kind) ≡ false
 start_has_none (kinds.Combinational start) = refl
 start_has_none kinds.Edge = refl
 start_has_none (kinds.Delay slots) = refl
+start_has_none (kinds.Mixed slots) = refl
 
 process_has_none : (p : ProcessEntry) → has_float (process_value p) ≡ false
 process_has_none p = rw (slots_have_none p.kind, start_has_none p.kind)

@@ -29,6 +29,7 @@ abbrev pub kind_word : ClaimedKind → List ℕ
 kind_word (kinds.Combinational start) = codes "comb"
 kind_word kinds.Edge = codes "edge"
 kind_word (kinds.Delay slots) = codes "delay"
+kind_word (kinds.Mixed slots) = codes "mixed"
 
 abbrev pub start_word : Start → List ℕ
 start_word starts.Cold = codes "cold"
@@ -81,17 +82,19 @@ whole_value n = number (unsigned n)
 abbrev pub residues_value : Vec ℕ Global → Data
 residues_value residues = list_value whole_value residues.items
 
--- a delay process has a list for each delay control, any other process none
+-- a process of kind delay or mixed has a list for each delay control, any other process none
 abbrev pub slots_value : ClaimedKind → Data
 slots_value (kinds.Combinational start) = list_value residues_value []
 slots_value kinds.Edge = list_value residues_value []
 slots_value (kinds.Delay slots) = list_value residues_value slots.items
+slots_value (kinds.Mixed slots) = list_value residues_value slots.items
 
 -- a combinational block has a start, any other process none
 abbrev pub start_value : ClaimedKind → Data
 start_value (kinds.Combinational start) = start_word_value start
 start_value kinds.Edge = string (codes "none")
 start_value (kinds.Delay slots) = string (codes "none")
+start_value (kinds.Mixed slots) = string (codes "none")
 
 -- the members of an object that tell a process's kind tell this one
 abbrev pub IsKindOf : Data → ClaimedKind → Type 0

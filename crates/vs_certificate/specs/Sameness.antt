@@ -1,6 +1,7 @@
 -- When two certificates are the same in all that is read of them: their members, entry by entry. (A vector and a text
 -- have an address besides, of which nothing is said.)
-use Rattle.std.specs.Prelude.{◌≡◌, ℕ, List, map, Option, None, Some, string_bytes}
+use Rattle.std.specs.Prelude.{◌≡◌, ℕ, List, [], map, Option, None, Some, string_bytes, Vec}
+use Rattle.std.specs.declared.alloc.Global.{Global}
 use Rattle.vs_certificate.specs.declared.members.Certificate.{Certificate}
 use Rattle.vs_certificate.specs.declared.members.EdgeSignal.{EdgeSignal}
 use Rattle.vs_certificate.specs.declared.members.ProcessEntry.{ProcessEntry}
@@ -9,26 +10,32 @@ use Rattle.vs_certificate.specs.declared.members.ClaimedKind.TheVariants as kind
 use Rattle.vs_certificate.specs.declared.members.Start.{Start}
 use Rattle.vs_certificate.specs.declared.members.SignalEntry.{SignalEntry}
 use Rattle.vs_certificate.specs.declared.members.SignalMode.{SignalMode}
+use Rattle.vs_certificate.specs.JsonValue.{kind_word}
 
 -- the start of a combinational block (profile)
 abbrev pub start_of : ClaimedKind → Option Start
 start_of (kinds.Combinational start) = Some start
 start_of kinds.Edge = None
 start_of (kinds.Delay slots) = None
+start_of (kinds.Mixed slots) = None
 
--- the residues of a process that waits for times, a list for each of its delay controls (profile)
-abbrev pub residues_of : ClaimedKind → Option (List (List ℕ))
-residues_of (kinds.Combinational start) = None
-residues_of kinds.Edge = None
-residues_of (kinds.Delay slots) = Some (map (λ residues. residues.items) slots.items)
+-- the residues of a process, a list for each delay control of one that waits for times (profile)
+abbrev pub slots_of : ClaimedKind → List (Vec ℕ Global)
+slots_of (kinds.Combinational start) = []
+slots_of kinds.Edge = []
+slots_of (kinds.Delay slots) = slots.items
+slots_of (kinds.Mixed slots) = slots.items
+
+abbrev pub residues_of : ClaimedKind → List (List ℕ)
+residues_of k = map (λ residues. residues.items) (slots_of k)
 
 -- the root and the signal (profile)
 abbrev pub edge_parts : EdgeSignal → List ℕ × List ℕ
 edge_parts e = (string_bytes e.root, string_bytes e.signal)
 
--- the name, the start and the residues (profile)
-abbrev pub process_parts : ProcessEntry → List ℕ × Option Start × Option (List (List ℕ))
-process_parts p = (string_bytes p.name, start_of p.kind, residues_of p.kind)
+-- the name, the word of the kind, the start and the residues (profile)
+abbrev pub process_parts : ProcessEntry → List ℕ × List ℕ × Option Start × List (List ℕ)
+process_parts p = (string_bytes p.name, kind_word p.kind, start_of p.kind, residues_of p.kind)
 
 -- the mode, the name, the second and the writer (profile)
 abbrev pub signal_parts : SignalEntry → SignalMode × List ℕ × List ℕ × List ℕ

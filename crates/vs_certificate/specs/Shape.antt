@@ -95,14 +95,17 @@ is_combinational d = passes_at (is_word (codes "comb")) (codes "kind") d && pass
 abbrev pub is_edge_process : Data → Bool
 is_edge_process d = passes_at (is_word (codes "edge")) (codes "kind") d && passes_at is_empty_list (codes "slots") d && passes_at (is_word (codes "none")) (codes "start") d
 
--- a process that waits for times has lists of residues for slots, and no start
-abbrev pub is_delay_process : (Data → Bool) → Data → Bool
-is_delay_process numeric d =
-    passes_at (is_word (codes "delay")) (codes "kind") d && passes_at (is_list (is_list numeric)) (codes "slots") d && passes_at (is_word (codes "none")) (codes "start") d
+-- a process of this word, which waits for times, has lists of residues for slots, and no start
+abbrev pub is_timed_process : List ℕ → (Data → Bool) → Data → Bool
+is_timed_process word numeric d = passes_at (is_word word) (codes "kind") d && passes_at (is_list (is_list numeric)) (codes "slots") d && passes_at (is_word (codes "none")) (codes "start") d
+
+-- for times alone, or for times and for edges
+abbrev pub is_times_process : (Data → Bool) → Data → Bool
+is_times_process numeric d = is_timed_process (codes "delay") numeric d || is_timed_process (codes "mixed") numeric d
 
 abbrev pub is_process_entry : (Data → Bool) → Data → Bool
 is_process_entry numeric d =
-    has_names (codes "kind" ∷ codes "name" ∷ codes "slots" ∷ codes "start" ∷ []) d && passes_at is_text (codes "name") d && (is_combinational d || is_edge_process d || is_delay_process numeric d)
+    has_names (codes "kind" ∷ codes "name" ∷ codes "slots" ∷ codes "start" ∷ []) d && passes_at is_text (codes "name") d && (is_combinational d || is_edge_process d || is_times_process numeric d)
 
 -- ---- the whole (profile)
 
@@ -124,9 +127,9 @@ has_none list name word d = passes_at (is_list (lacks name word)) list d
 abbrev pub has_no_starter : Data → Bool
 has_no_starter d = has_none (codes "processes") (codes "start") (codes "starter") d
 
--- no signal is of mode `both`
+-- no signal is of mode `both`, and no process of kind `mixed`
 abbrev pub has_narrow_words : Data → Bool
-has_narrow_words d = has_none (codes "signals") (codes "mode") (codes "both") d
+has_narrow_words d = has_none (codes "signals") (codes "mode") (codes "both") d && has_none (codes "processes") (codes "kind") (codes "mixed") d
 
 abbrev pub names_of_one : List (List ℕ)
 names_of_one = codes "edges" ∷ codes "grain" ∷ codes "modulus" ∷ codes "order" ∷ codes "processes" ∷ codes "signals" ∷ codes "version" ∷ []

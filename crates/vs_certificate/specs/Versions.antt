@@ -22,9 +22,11 @@ is_narrow versions.One = true
 is_narrow (versions.Two displays) = true
 is_narrow (versions.Three displays) = false
 
--- a version has what is claimed of a process of this kind: version 1 has no start `starter` (profile)
+-- a version has what is claimed of a process of this kind: version 1 has no start `starter`, and `mixed` is a kind of version 3 alone (profile)
 abbrev pub has_kind : Version → ClaimedKind → Bool
 has_kind versions.One (kinds.Combinational starts.Starter) = false
+has_kind versions.One (kinds.Mixed slots) = false
+has_kind (versions.Two displays) (kinds.Mixed slots) = false
 has_kind version kind = true
 
 -- and of a signal of this mode: `both` is a mode of version 3 alone (profile)

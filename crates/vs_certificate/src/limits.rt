@@ -15,15 +15,15 @@ const MAX_ENTRIES: usize = 65_536;
 const MAX_MODULUS: u64 = 1 << 32;
 
 impl Certificate {
-    /// Whether it is of version 1 or 2, the limits hold and each start and mode is one of its version. Then no test
-    /// of `from_json` fails of what is written of it, and a checker may be asked.
+    /// Whether it is of version 1 or 2, the limits hold and each start, kind and mode is one of its version. Then no
+    /// test of `from_json` fails of what is written of it, and a checker may be asked.
     pub fn is_sound(&self) -> bool
         ensures { IsTrue result ↔ IsSound (value_of self.now) }
     {
         self.version.is_narrow() && self.is_sound_wide()
     }
 
-    /// Whether the limits hold and each start and mode is one of its version, which may be 3. Then no test of
+    /// Whether the limits hold and each start, kind and mode is one of its version, which may be 3. Then no test of
     /// `from_json_wide` fails of what is written of it.
     pub fn is_sound_wide(&self) -> bool
         ensures { IsTrue result ↔ IsSoundWide (value_of self.now) }
@@ -101,7 +101,7 @@ fn are_processes_within(processes: &[ProcessEntry], modulus: u64, most: usize) -
         return false;
     }
     for process in processes {
-        if let ClaimedKind::Delay(slots) = &process.kind {
+        if let ClaimedKind::Delay(slots) | ClaimedKind::Mixed(slots) = &process.kind {
             if !are_slots_within(slots, modulus, most) {
                 return false;
             }

@@ -109,12 +109,14 @@ pub enum ClaimedKind {
     /// the modulus of the times above 0 at which that delay can end: rising, at most 64, in version 3 at most 4,096. At
     /// most 65,536 controls.
     Delay(Vec<Vec<u64>>),
+    /// A process that waits for times and for edges, with such lists too. In version 3 alone.
+    Mixed(Vec<Vec<u64>>),
 }
 
 impl Drop for ClaimedKind {
     fn drop(self) {
         match self {
-            Self::Combinational(_) | Self::Edge | Self::Delay(_) => {}
+            Self::Combinational(_) | Self::Edge | Self::Delay(_) | Self::Mixed(_) => {}
         }
     }
 }
@@ -184,13 +186,18 @@ impl Version {
         }
     }
 
-    /// Whether it has what is claimed of a process of this kind: version 1 has no start `starter`.
+    /// Whether it has what is claimed of a process of this kind: version 1 has no start `starter`, and `mixed` is a kind
+    /// of version 3 alone.
     pub(crate) fn has_kind(self, kind: &ClaimedKind) -> bool
         ensures { result ≡ Versions.has_kind self kind.now }
     {
         match self {
-            Version::One => !matches!(kind, ClaimedKind::Combinational(Start::Starter)),
-            Version::Two { .. } | Version::Three { .. } => true,
+            Version::One => !matches!(
+                kind,
+                ClaimedKind::Combinational(Start::Starter) | ClaimedKind::Mixed(_)
+            ),
+            Version::Two { .. } => !matches!(kind, ClaimedKind::Mixed(_)),
+            Version::Three { .. } => true,
         }
     }
 
@@ -244,6 +251,7 @@ impl ClaimedKind {
             ClaimedKind::Combinational(_) => "comb",
             ClaimedKind::Edge => "edge",
             ClaimedKind::Delay(_) => "delay",
+            ClaimedKind::Mixed(_) => "mixed",
         }
     }
 }

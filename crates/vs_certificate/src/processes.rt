@@ -31,7 +31,7 @@ impl JsonForm for ProcessEntry {
     fn has_form(json: &Value, numbers: Numbers) -> bool {
         has_names(json, &["kind", "name", "slots", "start"])
             && has_form_at::<String>(json, "name", numbers)
-            && (is_combinational(json) || is_edge_process(json) || is_delay_process(json, numbers))
+            && (is_combinational(json) || is_edge_process(json) || is_times_process(json, numbers))
     }
 
     fn from_value(alloc: Global, json: &Value) -> Result<ProcessEntry, AllocError> {
@@ -54,7 +54,9 @@ fn with_slots(
             let none: Vec<Vec<u64>> = Vec::new(alloc);
             with_member(alloc, members, "slots", &none)
         },
-        ClaimedKind::Delay(slots) => with_member(alloc, members, "slots", slots),
+        ClaimedKind::Delay(slots) | ClaimedKind::Mixed(slots) => {
+            with_member(alloc, members, "slots", slots)
+        },
     }
 }
 
@@ -63,7 +65,7 @@ fn start_word(kind: &ClaimedKind) -> &'static str
 {
     match kind {
         ClaimedKind::Combinational(start) => start.word(),
-        ClaimedKind::Edge | ClaimedKind::Delay(_) => "none",
+        ClaimedKind::Edge | ClaimedKind::Delay(_) | ClaimedKind::Mixed(_) => "none",
     }
 }
 
@@ -83,10 +85,16 @@ fn is_edge_process(json: &Value) -> bool
         && is_word_at(json, "start", "none")
 }
 
-fn is_delay_process(json: &Value, numbers: Numbers) -> bool
-    ensures { result ≡ Shape.is_delay_process (is_number_of numbers) (view json.now) }
+fn is_times_process(json: &Value, numbers: Numbers) -> bool
+    ensures { result ≡ Shape.is_times_process (is_number_of numbers) (view json.now) }
 {
-    is_word_at(json, "kind", "delay")
+    is_timed_process(json, "delay", numbers) || is_timed_process(json, "mixed", numbers)
+}
+
+fn is_timed_process(json: &Value, word: &str, numbers: Numbers) -> bool
+    ensures { result ≡ Shape.is_timed_process word.now (is_number_of numbers) (view json.now) }
+{
+    is_word_at(json, "kind", word)
         && has_form_at::<Vec<Vec<u64>>>(json, "slots", numbers)
         && is_word_at(json, "start", "none")
 }
@@ -94,7 +102,7 @@ fn is_delay_process(json: &Value, numbers: Numbers) -> bool
 fn kind_from_value(alloc: Global, json: &Value) -> Result<ClaimedKind, AllocError>
     requires { IsTrue (Shape.is_combinational (view json.now)
         || Shape.is_edge_process (view json.now)
-        || Shape.is_delay_process is_natural (view json.now)) }
+        || Shape.is_times_process is_natural (view json.now)) }
     ensures { IfOk result (IsKindOf (view json.now)) }
 {
     if is_combinational(json) {
@@ -104,6 +112,10 @@ fn kind_from_value(alloc: Global, json: &Value) -> Result<ClaimedKind, AllocErro
         Ok(ClaimedKind::Edge)
     } else {
         let slots = from_value_at(alloc, json, "slots")?;
-        Ok(ClaimedKind::Delay(slots))
+        if is_word_at(json, "kind", "delay") {
+            Ok(ClaimedKind::Delay(slots))
+        } else {
+            Ok(ClaimedKind::Mixed(slots))
+        }
     }
 }

@@ -137,7 +137,7 @@ fn is_of_later(json: &Value, version: u64) -> bool
 fn has_narrow_words(json: &Value) -> bool
     ensures { result ≡ Shape.has_narrow_words (view json.now) }
 {
-    has_none(json, "signals", "mode", "both")
+    has_none(json, "signals", "mode", "both") && has_none(json, "processes", "kind", "mixed")
 }
 
 /// Whether there is a list of this name, none of whose entries has this word in the member of that name.

@@ -16,8 +16,8 @@ use std::alloc::{AllocError, Global};
 /// names.
 pub fn to_json(alloc: Global, certificate: &Certificate) -> Result<Vec<u8>, AllocError>
     ensures text { IfOk result (λ text. text.items ≡ compact_text (value_of certificate.now)) }
-    // It reads as the certificate's value again, and passes each test of the reader of its version where each start
-    // and mode is one of the version, the limits hold and it isn't over 16 MiB.
+    // It reads as the certificate's value again, and passes each test of the reader of its version where each start,
+    // kind and mode is one of the version, the limits hold and it isn't over 16 MiB.
     ensures reads_back { IfOk result (λ text. has_own_words certificate.now ≡ true
         → is_within_limits (value_of certificate.now) ≡ true
         → length text.items ≤ max_len → PassesAs certificate.now text.items) }
@@ -25,8 +25,8 @@ pub fn to_json(alloc: Global, certificate: &Certificate) -> Result<Vec<u8>, Allo
     certificate.to_value(alloc)?.to_vec(alloc)
 }
 
-/// What is written of a certificate within its limits passes each test and reads as that certificate, where each start
-/// and mode is one of its version and it isn't over 16 MiB. A certificate of version 1 or 2 is read by `from_json`,
+/// What is written of a certificate within its limits passes each test and reads as that certificate, where each start,
+/// kind and mode is one of its version and it isn't over 16 MiB. A certificate of version 1 or 2 is read by `from_json`,
 /// one of version 3 by `from_json_wide`.
 pub fn written_reads_back()
     ensures { (c : Certificate) → ReadsBack c }

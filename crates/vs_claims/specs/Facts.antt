@@ -9,7 +9,7 @@ use Rattle.vs_design.specs.declared.statement.Statement.{Statement}
 use Rattle.vs_design.specs.Parts.{Parts}
 use Rattle.vs_process.specs.Stops.{IsText}
 use Rattle.vs_claims.specs.vs_rules.specs.Certificates.{claims_of, kind_from, residues_from}
-use Rattle.vs_claims.specs.vs_rules.specs.Claims.{Claims, EdgeClaim, Kind, IsDelay, HasLists, IsSignalNamed}
+use Rattle.vs_claims.specs.vs_rules.specs.Claims.{Claims, EdgeClaim, Kind, WaitsForTimes, IsSignalNamed}
 use Rattle.vs_maps.specs.Reaches.{Chart}
 
 -- a design, what a certificate claims of it, and the maps of the texts of its processes
@@ -43,10 +43,10 @@ abbrev pub kind_seen : Option (Bor ClaimedKind) → Option Kind
 kind_seen None = None
 kind_seen (Some k) = Some (kind_from k.now)
 
--- the lists of residues of a process of kind delay, where it is one
+-- the lists of residues of a process that waits for times, where it does
 abbrev pub AreListsOf : Parts → Claims → ℕ → Option (Bor (List (Vec ℕ Global))) → Type 0
-AreListsOf d c i None = IsDelay d c i → ⊥
-AreListsOf d c i (Some lists) = HasLists d c i (map residues_from lists.now)
+AreListsOf d c i None = (lists : List (List ℕ)) → WaitsForTimes d c i lists → ⊥
+AreListsOf d c i (Some lists) = WaitsForTimes d c i (map residues_from lists.now)
 
 -- the entry of this place names two signals by their numbers: the root, and the signal that copies it
 pub record IsRootAt (d : Parts) (edges : List EdgeClaim) (place root v : ℕ) : Type 0 where

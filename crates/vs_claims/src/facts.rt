@@ -5,7 +5,7 @@ ghost use Rattle.vs_design.specs.WellFormed.{WellFormed};
 ghost use Rattle.vs_claims.specs.vs_rules.specs.Certificates.{claims_of, mode_from, grain_from, name_unless_empty};
 ghost use Rattle.vs_claims.specs.vs_rules.specs.Claims.{claim_of, mode_in, writer_in, second_in, kind_of, names_process, assign_name, process_name};
 ghost use Rattle.vs_claims.specs.vs_rules.specs.Claims.{place_of, times_in, signal_names, process_names, edge_signals, edge_names};
-ghost use Rattle.vs_claims.specs.vs_rules.specs.Claims.{IsSignalNamed, IsProcessNamed, IsAssignNamed, IsWriter, IsSecond, IsBlock, IsEdge, IsDelay, IsSequential, IsRootOf, IsRoot};
+ghost use Rattle.vs_claims.specs.vs_rules.specs.Claims.{IsSignalNamed, IsProcessNamed, IsAssignNamed, IsWriter, IsSecond, IsBlock, IsEdge, IsDelay, IsMixed, WaitsForEdges, IsSequential, IsRootOf, IsRoot};
 ghost use Rattle.vs_claims.specs.vs_rules.specs.Limits.{IsWideCertificate};
 ghost use Rattle.vs_claims.specs.declared.facts.EntriesOf.TheVariants.{One};
 ghost use Rattle.vs_claims.specs.Facts.{AreCharts, AreListsOf, IsRootAt, case_of, seen, kind_seen};
@@ -13,7 +13,7 @@ ghost use Rattle.vs_claims.specs.facts_passes.Kept.{AreEntriesOf, entry_seen};
 ghost use Rattle.vs_maps.specs.Texts.{texts_of};
 
 use crate::names::Names;
-use crate::words::{displays, grain, is_block, is_edge, lists_in};
+use crate::words::{displays, grain, is_block, is_delay, is_edge, is_mixed, lists_in};
 use std::alloc::{AllocError, Global};
 use std::marker::Model;
 use vs_certificate::{Certificate, ClaimedKind, SignalEntry, SignalMode};
@@ -266,20 +266,37 @@ impl<'a> Facts<'a> {
     pub fn is_delay(&self, i: usize) -> bool
         ensures { IsTrue result ↔ IsDelay self.now.design self.now.claims i }
     {
-        lists_in(self.kind(i)).is_some()
+        is_delay(self.kind(i))
     }
 
-    /// Whether a process is claimed to wait for edges alone, or for times alone.
-    pub fn is_sequential(&self, i: usize) -> bool
-        ensures { IsTrue result ↔ IsSequential self.now.design self.now.claims i }
+    /// Whether a process is claimed to wait for times and for edges.
+    pub fn is_mixed(&self, i: usize) -> bool
+        ensures { IsTrue result ↔ IsMixed self.now.design self.now.claims i }
+    {
+        is_mixed(self.kind(i))
+    }
+
+    /// Whether a process is claimed to wait for edges, be it for times too.
+    pub fn waits_for_edges(&self, i: usize) -> bool
+        ensures { IsTrue result ↔ WaitsForEdges self.now.design self.now.claims i }
     {
         if self.is_edge(i) {
             return true;
         }
-        self.is_delay(i)
+        self.is_mixed(i)
     }
 
-    /// The lists of residues of a process of kind delay.
+    /// Whether a process is claimed to wait for edges, for times, or for both.
+    pub fn is_sequential(&self, i: usize) -> bool
+        ensures { IsTrue result ↔ IsSequential self.now.design self.now.claims i }
+    {
+        if self.is_delay(i) {
+            return true;
+        }
+        self.waits_for_edges(i)
+    }
+
+    /// The lists of residues of a process that waits for times, be it for edges too.
     pub fn lists(&self, i: usize) -> Option<&'a [Vec<u64>]>
         ensures { AreListsOf self.now.design self.now.claims i result }
     {

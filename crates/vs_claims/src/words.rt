@@ -3,7 +3,7 @@ ghost use Rattle.std.specs.Prelude.{◌≡◌, ◌↔◌, IsTrue, Some};
 ghost use Rattle.vs_claims.specs.vs_rules.specs.Certificates.{displays_from, grain_from, kind_from};
 ghost use Rattle.vs_claims.specs.vs_rules.specs.Claims.{edges};
 ghost use Rattle.vs_claims.specs.Facts.{kind_seen};
-ghost use Rattle.vs_claims.specs.facts_passes.Kept.{IsBlockKind, AreKindLists};
+ghost use Rattle.vs_claims.specs.facts_passes.Kept.{IsBlockKind, IsDelayKind, IsMixedKind, AreKindLists};
 
 use vs_certificate::{ClaimedGrain, ClaimedKind, Version};
 use vs_process::Grain;
@@ -28,7 +28,27 @@ pub(crate) fn is_edge(kind: Option<&ClaimedKind>) -> bool
     }
 }
 
-/// The lists of residues of a kind, where it is that of a process that waits for times alone.
+/// Whether it is the kind of a process that waits for times alone.
+pub(crate) fn is_delay(kind: Option<&ClaimedKind>) -> bool
+    ensures { IsTrue result ↔ IsDelayKind (kind_seen kind.entry) }
+{
+    match kind {
+        None => false,
+        Some(k) => matches!(k, ClaimedKind::Delay(_)),
+    }
+}
+
+/// Whether it is the kind of a process that waits for times and for edges.
+pub(crate) fn is_mixed(kind: Option<&ClaimedKind>) -> bool
+    ensures { IsTrue result ↔ IsMixedKind (kind_seen kind.entry) }
+{
+    match kind {
+        None => false,
+        Some(k) => matches!(k, ClaimedKind::Mixed(_)),
+    }
+}
+
+/// The lists of residues of a kind, where it is that of a process that waits for times.
 pub(crate) fn lists_in<'a>(kind: Option<&'a ClaimedKind>) -> Option<&'a [Vec<u64>]>
     ensures { AreKindLists (kind_seen kind.entry) result }
 {
@@ -44,7 +64,7 @@ fn lists_of<'a>(kind: &'a ClaimedKind) -> Option<&'a [Vec<u64>]>
 {
     match kind {
         ClaimedKind::Combinational(_) | ClaimedKind::Edge => None,
-        ClaimedKind::Delay(lists) => Some(lists),
+        ClaimedKind::Delay(lists) | ClaimedKind::Mixed(lists) => Some(lists),
     }
 }
 

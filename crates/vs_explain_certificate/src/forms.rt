@@ -120,7 +120,7 @@ impl Form {
         match self {
             Form::Name => true,
             Form::Grain => matches!(text.as_bytes(), b"block" | b"statement"),
-            Form::Kind => matches!(text.as_bytes(), b"comb" | b"delay" | b"edge"),
+            Form::Kind => is_kind(rules, text),
             Form::Start => matches!(text.as_bytes(), b"none" | b"cold" | b"sources" | b"starter"),
             Form::Mode => is_mode(rules, text),
             _ => false,
@@ -159,7 +159,10 @@ impl Form {
             },
             Form::Flag => "`true` or `false`",
             Form::Grain => "`\"block\"` or `\"statement\"`",
-            Form::Kind => "`\"comb\"`, `\"delay\"` or `\"edge\"`",
+            Form::Kind => match rules {
+                Rules::Narrow => "`\"comb\"`, `\"delay\"` or `\"edge\"`",
+                Rules::Wide => "`\"comb\"`, `\"delay\"`, `\"edge\"` or `\"mixed\"`",
+            },
             Form::Start => "`\"none\"`, `\"cold\"`, `\"sources\"` or `\"starter\"`",
             Form::Mode => match rules {
                 Rules::Narrow =>
@@ -168,6 +171,15 @@ impl Form {
                     "`\"net\"`, `\"unwritten\"`, `\"comb\"`, `\"nonblocking\"`, `\"blocking\"`, `\"private\"` or `\"both\"`",
             },
         }
+    }
+}
+
+/// Whether a text is a kind of a version that is read by these rules.
+fn is_kind(rules: Rules, text: &str) -> bool {
+    match text.as_bytes() {
+        b"comb" | b"delay" | b"edge" => true,
+        b"mixed" => matches!(rules, Rules::Wide),
+        _ => false,
     }
 }
 

@@ -166,15 +166,20 @@ fn put_why(page: &mut Page, rules: Rules, why: Why) {
             page.put(form.words(rules));
             page.put(" is wanted.\n");
         }
-        Why::AgainstKind => page.put(
-            "This goes against the kind of its process: `slots` of a `delay` alone aren't empty, and the start of a `comb` alone isn't `none`.\n",
-        ),
+        Why::AgainstKind => page.put(match rules {
+            Rules::Narrow =>
+                "This goes against the kind of its process: `slots` of a `delay` alone aren't empty, and the start of a `comb` alone isn't `none`.\n",
+            Rules::Wide =>
+                "This goes against the kind of its process: `slots` of a `delay` or `mixed` alone aren't empty, and the start of a `comb` alone isn't `none`.\n",
+        }),
         Why::AgainstVersion => page.put(
             "Version 1 has no such thing: write `\"version\":2`, and whether it has `displays`.\n",
         ),
-        Why::OfLater => page.put(
-            "Versions 1 and 2 have no such mode: write `\"version\":3`, and whether it has `displays`.\n",
-        ),
+        Why::OfLater(form) => page.put(if form == Form::Kind {
+            "Versions 1 and 2 have no such kind: write `\"version\":3`, and whether it has `displays`.\n"
+        } else {
+            "Versions 1 and 2 have no such mode: write `\"version\":3`, and whether it has `displays`.\n"
+        }),
         Why::Long(most) => {
             page.put("This entry is one too many: the list has at most ");
             page.put_shown(most);

@@ -45,8 +45,8 @@ pub(crate) enum Why {
     AgainstKind,
     /// Version 1 has no such thing.
     AgainstVersion,
-    /// Only version 3 has such a mode.
-    OfLater,
+    /// Only version 3 has such a kind or mode.
+    OfLater(Form),
     /// The list has too many entries: more than so many.
     Long(usize),
     /// A residue doesn't rise, or isn't below the modulus.
@@ -142,7 +142,9 @@ struct Walk<'c> {
     flaw: Option<Flaw>,
     /// Where a process has a start that version 1 lacks.
     starter: Option<usize>,
-    /// Where a signal has a mode that version 3 alone has.
+    /// Where a process has the kind that version 3 alone has.
+    mixed: Option<usize>,
+    /// Where a signal has the mode that version 3 alone has.
     both: Option<usize>,
     /// What is seen of the members of the whole.
     version: Option<usize>,
@@ -195,8 +197,8 @@ fn kind_flaw(members: &Members) -> Option<Flaw> {
     let slots = seen_at(members, SLOTS)?;
     let start = seen_at(members, START)?;
     let is_block = kind.text == "comb";
-    let wants_none = kind.text == "delay";
-    let has_lists = slots.count > 0 && !wants_none;
+    let may_have_lists = kind.text == "delay" || kind.text == "mixed";
+    let has_lists = slots.count > 0 && !may_have_lists;
     let has_start = start.text != "none";
     first_of(
         flaw_if(has_lists, slots.place, Why::AgainstKind),
@@ -304,9 +306,10 @@ impl<'c> Walk<'c> {
     fn version_flaw(&self, members: &Members, end: usize) -> Option<Flaw> {
         let version = seen_at(members, VERSION)?;
         let displays = seen_at(members, DISPLAYS);
-        let later = match self.both {
-            Some(place) => flaw_if(version.text != "3", place, Why::OfLater),
-            None => None,
+        let later = match (self.mixed, self.both) {
+            (Some(place), _) => flaw_if(version.text != "3", place, Why::OfLater(Form::Kind)),
+            (None, Some(place)) => flaw_if(version.text != "3", place, Why::OfLater(Form::Mode)),
+            (None, None) => None,
         };
         if version.text != "1" {
             let mut missing = [false; MOST_MEMBERS];
@@ -340,6 +343,13 @@ impl<'c> Walk<'c> {
                 }
             }
         }
+        if form == Form::Process && self.mixed.is_none() {
+            if let Some(kind) = seen_at(members, KIND) {
+                if kind.text == "mixed" {
+                    self.mixed = Some(kind.place);
+                }
+            }
+        }
         if form == Form::Signal && self.both.is_none() {
             if let Some(mode) = seen_at(members, MODE) {
                 if mode.text == "both" {
@@ -368,7 +378,10 @@ impl<'c> Walk<'c> {
                 frame.member = number;
                 frame.wanted = wanted;
                 match wanted {
-                    Form::Processes => self.starter = None,
+                    Form::Processes => {
+                        self.starter = None;
+                        self.mixed = None;
+                    }
                     Form::Signals => self.both = None,
                     _ => {}
                 }
@@ -462,6 +475,7 @@ pub(crate) fn walk_over(
         frames: Vec::new(alloc),
         flaw: None,
         starter: None,
+        mixed: None,
         both: None,
         version: None,
         is_third: false,

@@ -51,6 +51,7 @@ pub fn kind_word(kind: &ClaimedKind) -> &'static str {
         ClaimedKind::Combinational(_) => "comb",
         ClaimedKind::Edge => "edge",
         ClaimedKind::Delay(_) => "delay",
+        ClaimedKind::Mixed(_) => "mixed",
     }
 }
 

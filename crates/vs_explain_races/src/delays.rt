@@ -1,5 +1,6 @@
-//! K8: a process waits for delays and for edges, or the lists of a certificate lack a time.
+//! K8: a process waits for delays and for edges where it may not, or the lists of a certificate lack a time.
 
+use crate::waits::mixed_lists;
 use std::alloc::{AllocError, Global};
 use vs_certificate::ClaimedKind;
 use vs_design::ProcessKind;
@@ -9,6 +10,9 @@ use vs_explain_writers::vs_explain_facts::{
 };
 use vs_explain_writers::vs_explain_outline::{Page, found, put_marked};
 use vs_explain_writers::{Site, is_finish, mark_site, put_residues, put_rule, put_site, text_at};
+
+/// What mends a certificate of version 3 that isn't of this source.
+const ANEW_BY_WIDE: &str = "Make the certificate anew of this source: `vsim certify --rules wide`.";
 
 /// Why a process has both kinds of wait.
 #[derive(Clone, Copy, PartialEq, Eq)]
@@ -103,13 +107,22 @@ fn put_mix(page: &mut Page, question: Question, process: usize, text: &TextFacts
     for number in [first, delay.max(event)] {
         mark_site(page, question, Site { process, number });
     }
-    page.put("K8: a process waits by `#` or by `@`, not by both. ");
+    let is_third = question.certificate.version.number() == 3;
+    page.put(if is_third {
+        "K8: a process of kind `delay` waits by `#` alone, one of kind `mixed` by `@` too. "
+    } else {
+        "K8: a process waits by `#` or by `@`, not by both. "
+    });
     page.put(if first == delay {
         "This one waits for a delay, and then for an event.\n"
     } else {
         "This one waits for an event, and then for a delay.\n"
     });
-    page.put(remedy_of(mix_of(text, delay, event)));
+    page.put(if is_third {
+        ANEW_BY_WIDE
+    } else {
+        remedy_of(mix_of(text, delay, event))
+    });
     page.put("\n");
     true
 }
@@ -196,12 +209,23 @@ fn put_claims(page: &mut Page, question: Question) {
     }
 }
 
-/// The lists that a certificate claims of a process.
+/// The lists that a certificate claims of a process that waits for times alone.
 fn lists_of<'q>(question: Question<'q>) -> Option<&'q [Vec<u64>]> {
     match &process_of(question.certificate, question.place)?.kind {
         ClaimedKind::Delay(lists) => Some(lists),
         _ => None,
     }
+}
+
+/// Puts that the lists of a process that waits for edges too lack a time.
+fn put_unclosed(page: &mut Page, question: Question) {
+    put_marked(page, question.text, question.place);
+    put_rule(page, 8);
+    page.put(
+        "This one is of kind `mixed`. From its start, from a delay or from an edge it comes to a delay that can end at a residue which its list lacks, or there aren't as many lists as delays.\n",
+    );
+    page.put(ANEW_BY_WIDE);
+    page.put("\n");
 }
 
 /// Puts what is wrong with the lists of a process.
@@ -225,6 +249,9 @@ pub fn put_delays(page: &mut Page, question: Question) {
     let Some(text) = text_at(question, process) else {
         return;
     };
+    if mixed_lists(question).is_some() {
+        return put_unclosed(page, question);
+    }
     if text.kind != TextKind::Both || !put_mix(page, question, process, text) {
         put_stale(page, question, process, text);
     }

@@ -1,9 +1,10 @@
 //! K7: more than one edge can wake a process in a time slot, or a process waits for a change that is no edge.
 
 use std::alloc::{AllocError, Global};
+use vs_certificate::ClaimedKind;
 use vs_design::vs_logic4::Edge;
 use vs_design::{ProcessKind, Statement};
-use vs_explain_writers::vs_explain_facts::{Course, Question, TextFacts, TextKind};
+use vs_explain_writers::vs_explain_facts::{Course, Question, TextFacts, TextKind, process_of};
 use vs_explain_writers::vs_explain_outline::{Page, found, put_marked};
 use vs_explain_writers::{
     ClockForm, Site, common, edge_of, form_of, has_clocks, mark_site, mark_term, push_edge,
@@ -293,6 +294,86 @@ fn put_apart(page: &mut Page, question: Question, text: &TextFacts) {
     );
 }
 
+/// The lists that a certificate claims of a process that waits for times and for edges.
+pub(crate) fn mixed_lists<'q>(question: Question<'q>) -> Option<&'q [Vec<u64>]> {
+    match &process_of(question.certificate, question.place)?.kind {
+        ClaimedKind::Mixed(lists) => Some(lists),
+        _ => None,
+    }
+}
+
+/// Whether an edge of a signal can come at a residue of one of some lists.
+fn comes_at(
+    alloc: Global,
+    question: Question,
+    signal: usize,
+    lists: &[Vec<u64>],
+) -> Result<bool, AllocError> {
+    let mut residues = Vec::new(alloc);
+    push_edge(
+        &mut residues,
+        question.certificate,
+        question.facts.path(signal),
+    )?;
+    for list in lists {
+        for residue in list {
+            if residues.contains(residue) {
+                return Ok(true);
+            }
+        }
+    }
+    Ok(false)
+}
+
+/// The first term of a process whose edge can come where one of its delays ends, by the lists of these.
+fn arrival_of(
+    alloc: Global,
+    question: Question,
+    text: &TextFacts,
+    lists: &[Vec<u64>],
+) -> Result<Option<usize>, AllocError> {
+    for (index, term) in text.terms.iter().enumerate() {
+        if comes_at(alloc, question, term.term.range.signal, lists)? {
+            return Ok(Some(index));
+        }
+    }
+    Ok(None)
+}
+
+/// Puts that a process comes from a delay to an event control when its edge can come.
+fn put_arrival(
+    page: &mut Page,
+    question: Question,
+    process: usize,
+    text: &TextFacts,
+    index: usize,
+) {
+    mark_term(page, question, process, index);
+    page.put(
+        "K7: where a process comes from a delay to an event control, the edge doesn't come in that time slot: whether the process waits by then is a choice. By the certificate a delay of this one can end when one of these edges comes:\n",
+    );
+    for term in &text.terms {
+        put_term_times(page, question, term.term.edge, term.term.range.signal);
+    }
+    page.put(
+        "Let the delay end between the edges, as `#12` in place of `#10`; or count edges in its place: `repeat (n) @(posedge clk);`.\n",
+    );
+}
+
+/// Puts why no two edges were found at one time.
+fn put_unmet(page: &mut Page, question: Question, process: usize, text: &TextFacts) {
+    let lists = mixed_lists(question).unwrap_or(&[]);
+    let arrival = arrival_of(page.alloc(), question, text, lists);
+    match found(page, arrival) {
+        Some(Some(index)) => put_arrival(page, question, process, text, index),
+        Some(None) => {
+            put_marked(page, question.text, question.place);
+            put_apart(page, question, text)
+        }
+        None => {}
+    }
+}
+
 /// Puts the residues at which an edge of a signal can come.
 fn put_term_times(page: &mut Page, question: Question, edge: Edge, signal: usize) {
     let mut residues = Vec::new(page.alloc());
@@ -330,10 +411,7 @@ pub fn put_waits(page: &mut Page, question: Question) {
     let meeting = first_meeting(page.alloc(), question, &course, text);
     match found(page, meeting) {
         Some(Some(meeting)) => put_meeting(page, question, &course, process, &meeting),
-        Some(None) => {
-            put_marked(page, question.text, question.place);
-            put_apart(page, question, text)
-        }
+        Some(None) => put_unmet(page, question, process, text),
         None => {}
     }
 }

@@ -28,7 +28,7 @@ fn push_delays(
     name: &[u8],
 ) -> Result<(), AllocError> {
     if let Some(entry) = process_of(certificate, name) {
-        if let ClaimedKind::Delay(lists) = &entry.kind {
+        if let ClaimedKind::Delay(lists) | ClaimedKind::Mixed(lists) = &entry.kind {
             return push_lists(residues, lists);
         }
     }

@@ -15,6 +15,7 @@ use Rattle.vs_design.specs.WellFormed.{WellFormed}
 use Rattle.vs_design.specs.Writes.{names}
 use Rattle.vs_process.specs.Nexts.{erased}
 use Rattle.vs_process.specs.Places.{Todo, Place, going, sleeping, inactive, waiting, ended, is_going}
+use Rattle.vs_independence.specs.vs_process.specs.Executions.{is_level}
 use Rattle.vs_independence.specs.vs_process.specs.States.{State, AssignState, start}
 use Rattle.vs_independence.specs.vs_process.proofs.Assigns.{link_of, driven}
 use Rattle.vs_independence.specs.vs_process.proofs.WellFormed.{net_of, variable_undriven}
@@ -25,7 +26,7 @@ use Rattle.vs_rules.specs.vs_threads.specs.Threads.{Thread, turn, iterate, write
 use Rattle.vs_rules.specs.vs_threads.proofs.Feeds.{into_named}
 use Rattle.vs_rules.specs.vs_threads.proofs.Threads.{is_stopped}
 use Rattle.vs_rules.specs.Claims.{Name, writer_in}
-use Rattle.vs_rules.specs.Claims.{Claims, Kind, kind_of, blocks_of, IsWriter, IsSecond, IsEdge, IsDelay, IsSequential, HasKind, HasMode, signal_name, IsRootOf, IsRoot as IsRootClaimed}
+use Rattle.vs_rules.specs.Claims.{Claims, blocks_of, IsWriter, IsSecond, IsDelay, WaitsForEdges, IsSequential, HasKind, HasMode, signal_name, IsRootOf, IsRoot as IsRootClaimed}
 use Rattle.vs_rules.specs.Constants.{bit_of, Gives}
 use Rattle.vs_rules.specs.Paths.{IsPoint, IsSlot0, IsLate, IsHot, HasTerm, WritesNow, WritesLater, Writes}
 use Rattle.vs_rules.specs.Drivers.{IsSource}
@@ -36,16 +37,17 @@ use Rattle.vs_rules.specs.vs_threads.specs.Threads.{Fired, found, opening, is_ti
 use Rattle.vs_independence.specs.Discipline.{Reaches, KeepsApart}
 use Rattle.vs_rules.specs.vs_threads.specs.Blocks.{puts_out}
 use Rattle.vs_independence.specs.Discipline as a
-use Rattle.vs_law_rules.proofs.Beginning.{AllStopped}
+use Rattle.vs_law_rules.proofs.Beginning.{AllStopped, delay_timed}
 use Rattle.vs_law_rules.proofs.Cones.{ControlNames, clash, out_writes, into_writes, source_of, reach_cone, reach_root}
 use Rattle.vs_law_rules.specs.Laws.{ClockTurns}
-use Rattle.vs_law_rules.proofs.Fire.{Begun, Walking, zero_less, timed_walks, timed_writes, seq_found, not_block, role, closed, stands_found, bit_digit}
+use Rattle.vs_law_rules.proofs.Fire.{Begun, Walking, zero_less, timed_walks, timed_writes, seq_found, sequential_of, closed, stands_found, bit_digit}
 use Rattle.vs_rules.specs.vs_threads.proofs.Links.{root_bit}
 use Rattle.vs_law_rules.proofs.Early.{found_waits, thread_hears, timed_hears}
-use Rattle.vs_law_rules.proofs.Firing.{one_writer, one_second, writes_as, Rooted, rooted, none_fires, view_bit, same_digits}
+use Rattle.vs_law_rules.proofs.Firing.{one_writer, one_second, writes_as, Rooted, rooted, none_fires, fires_at, view_bit, same_digits}
 use Rattle.vs_law_rules.proofs.Lasts.{Last, Bitwise, bit_iterate}
 use Rattle.vs_law_rules.proofs.Texts.{writes_now, writes_later}
-use Rattle.vs_law_rules.proofs.Threads.{waiting_timed, heard_term, heard_edge, heard_level, zero_or, Opened, opened, thread_walks, writes_walks, makes_walks, Looks, no_looks, reads_walks, Reading, reading}
+use Rattle.vs_law_rules.proofs.Threads.{waiting_timed, heard_term, hears_edges, hears_level, zero_or, Opened, opened, thread_walks, writes_walks, makes_walks, Looks, no_looks, reads_walks, Reading, reading}
+use Rattle.vs_law_rules.proofs.Resumed.{Resumed, resumed, resumed_mixed, resumed_runs, resumed_waits}
 use Rattle.vs_law_rules.proofs.Walks.{At, at_zero, at_later, Here, Heard, Stands, Wrote, Made}
 
 -- ---- two that write one signal are one
@@ -100,7 +102,7 @@ first_read d c b g i u r k seq s reads reach = by_reach r refl reach
 -- what a process reads where another one's write reaches
 data Read (d : Parts) (c : Claims) (b : State) (i j u : ℕ) (r : BitRange) (k : Todo) : Type 0 where
   its_own : j ≡ i → (u ≡ r.signal) ⊎ (IsHot d i u k → ⊥) → Read d c b i j u r k
-  its_edge : 0 < b.time → IsOwnEdge d c i r.signal → IsWriter d c u j → HasWriteSlot d c u (b.time % c.modulus) → HasSlot d c i k (b.time % c.modulus) → Read d c b i j u r k
+  its_edge : 0 < b.time → IsOwnEdge d c i r.signal k → IsWriter d c u j → HasWriteSlot d c u (b.time % c.modulus) → HasSlot d c i k (b.time % c.modulus) → Read d c b i j u r k
 
 read_at : (d : Parts) (c : Claims) (b : State) → Begun d c b → ControlNames d c → (i j u : ℕ) (r : BitRange) (k l : Todo) → IsSequential d c i → IsSequential d c j → Here d c i b.time k → Here d c j b.time l → Reads d c k r →
     Reaches d (blocks_of d c) u r → WritesNow d l u → Read d c b i j u r k
@@ -131,20 +133,26 @@ reach_signal d c b g u _ kind (a.here r e) = (kind.0, ap (slice_get d.signals) e
 reach_signal d c b g u _ kind (a.through q r j x reach is reads into) = let net = net_of d g.formed j x r.signal is (into_named d x.target r into) in (net.0, net.1)
 reach_signal d c b g u _ kind (a.past q r k reach blk con puts) = let v = writes_variable d g.formed k r.signal (into_writes d k r puts) in (v.0, v.1)
 
--- a process of kind edge reads its own edge signal: it was fired by it
-fired_by : (d : Parts) (c : Claims) (b : State) → Begun d c b → ClockTurns d c b → (i j u : ℕ) (r : BitRange) (th : Thread) (is : IsThread d (blocks_of d c) b i th) → IsSequential d c i → Looks c th.place r → 0 < b.time →
-    HasKind true d u → IsOwnEdge d c i r.signal → Reaches d (blocks_of d c) u r → HasWriteSlot d c u (b.time % c.modulus) → IsFiredBy d (blocks_of d c) b i th is r.signal
-fired_by d c b g clocks i j u r th is seq reads up kind own reach slot = by_input is.input refl is.may is.is
+-- what reaches an edge signal that a process reads is its root
+own_root : (d : Parts) (c : Claims) (b : State) → Begun d c b → (i u : ℕ) (r : BitRange) (k : Todo) → HasKind true d u → IsOwnEdge d c i r.signal k → Reaches d (blocks_of d c) u r → Rooted d c u r.signal
+own_root d c b g i u r k kind own reach =
+    let s = reach_signal d c b g u r kind reach in
+    let entry = entry_root d c g.rules r.signal s.0.path.items (ap signal_name s.1) (record { process = i; term = own.term; has = own.has; edge = own.edge; of = own.of }) in
+    let six = g.rules.roots r.signal in
+    let sound = six.root entry.0 entry.1 in
+    let same : u ≡ entry.0 = reach_root d c b g u entry.0 r.signal r kind sound (six.copies entry.0 entry.1) refl reach in
+    record { is = subst (λ n. IsRootOf d c n r.signal) (sym same) entry.1; sound = subst (IsSoundRoot d c) (sym same) sound }
+
+-- a process reads its own edge signal: it was fired by it
+fired_by : (d : Parts) (c : Claims) (b : State) → Begun d c b → ClockTurns d c b → (i u : ℕ) (r : BitRange) (th : Thread) (is : IsThread d (blocks_of d c) b i th) → IsSequential d c i → Looks c th.place r → (rd : Reading d c i b.time r th.place) →
+    0 < b.time → Rooted d c u r.signal → IsOwnEdge d c i r.signal rd.k → HasWriteSlot d c u (b.time % c.modulus) → IsFiredBy d (blocks_of d c) b i th is r.signal
+fired_by d c b g clocks i u r th is seq looks rd up root own slot = by_input is.input refl is.may is.is
   where
     blocks : ℕ → Bool
     blocks = blocks_of d c
 
-    edge : IsEdge d c i
-    edge = by_kind seq
-      where
-        by_kind : IsSequential d c i → IsEdge d c i
-        by_kind (inl e) = e
-        by_kind (inr delay) = absurd ((g.rules.residues i).no_event own.has.control own.has.behind own.has.number own.has.terms delay own.has.point own.has.goes)
+    edge : WaitsForEdges d c i
+    edge = hears_edges d c g.rules i own.term seq own.has
 
     -- it waited, or had ended
     no_reads : (p : Place) → is_stopped p ≡ true → Looks c p r → ⊥
@@ -154,29 +162,27 @@ fired_by d c b g clocks i j u r th is seq reads up kind own reach slot = by_inpu
     no_reads (waiting terms k) h looks = no_looks c r looks
     no_reads ended h looks = no_looks c r looks
 
-    rest : is_stopped (found blocks b i) ≡ true
-    rest = subst (λ (p : Place). is_stopped p ≡ true) (sym (seq_found d c b i seq)) (g.begin.edges_rest i edge (λ e. zero_less b.time up (ap (λ (s : State). s.time) e)))
+    -- or it goes on behind a delay control
+    delayed : Resumed d c i b.time th.place → ⊥
+    delayed h =
+        let mix = resumed_mixed d c g.rules i b.time th.place edge h in
+        own.undelayed mix.0 u (b.time % c.modulus) mix.1 root.is slot (resumed_runs d c g.rules i b.time mix.0 th.place rd.k mix.1 h (rd.led h.behind h.led))
 
     by_input : (input : Option Fired) → is.input ≡ input → MayOpen d blocks b i input → iterate is.count (turn b.time i) (opening blocks b i input) ≡ th → IsFiredBy d blocks b i th is r.signal
-    by_input None e may same =
-        let still : th ≡ opening blocks b i None = sym same ∙ Rattle.vs_law_rules.proofs.Fire.stopped_iterate b.time i is.count (opening blocks b i None) rest in
-        absurd (no_reads (found blocks b i) rest (subst (λ (p : Place). Looks c p r) (ap (λ (t : Thread). t.place) still) reads))
+    by_input None e may same = absurd (elim (resumed d c b g i is.count seq (λ e. zero_less b.time up (ap (λ (s : State). s.time) e)) th same) [
+      | inl on ↦ delayed on
+      | inr rests ↦ no_reads th.place rests.1 looks
+    ])
     by_input (Some f) e may same =
-        let heard : Heard d i may.terms (erased may.todo) = subst (Stands d c i b.time) may.at (subst (Stands d c i b.time) (sym (seq_found d c b i seq)) (stands_found d c b g i seq)) in
-        let o = opened d c b g clocks i f seq may.terms (erased may.todo) may.term heard may.is may.fires (λ first. absurd (found_waits d blocks b first i may.terms may.todo may.at)) in
-        (f, e, same_signal f o)
+        let heard : Heard d i may.terms (erased may.todo) = subst (Stands d c i b.time) may.at (stands_found d c b g i seq) in
+        let has = heard_term d i may.terms (erased may.todo) may.term heard may.is in
+        (f, e, same_signal f (opened d c b g clocks i f seq may.term has may.fires (λ first. absurd (found_waits d blocks b first i may.terms may.todo may.at))))
       where
         same_signal : (f : Fired) → Opened d c b i f → f.signal ≡ r.signal
         same_signal f o =
-            let s = reach_signal d c b g u r kind reach in
-            let entry = entry_root d c g.rules r.signal s.0.path.items (ap signal_name s.1) (record { process = i; term = own.term; has = own.has; edge = own.edge; of = own.of }) in
-            let six = g.rules.roots r.signal in
-            let same : u ≡ entry.0 = reach_root d c b g u entry.0 r.signal r kind (six.root entry.0 entry.1) (six.copies entry.0 entry.1) refl reach in
-            let one : o.fires.root ≡ entry.0 =
-            own.apart entry.0 o.fires.root (b.time % c.modulus) entry.1 (subst (λ n. HasWriteSlot d c n (b.time % c.modulus)) same slot)
-            (record { term = o.term; has = o.has; is_root = o.fires.is_root; fires = o.fires }) in
+            let one : o.fires.root ≡ u = own.apart u o.fires.root (b.time % c.modulus) root.is slot (record { term = o.term; has = o.has; is_root = o.fires.is_root; fires = o.fires }) in
             sym o.of
-            ∙ sym ((g.rules.edges i).one_signal own.term o.term entry.0 edge own.has o.has (subst (IsRootOf d c entry.0) (sym own.of) entry.1) (subst (λ n. IsRootOf d c n o.term.range.signal) one o.fires.is_root))
+            ∙ sym ((g.rules.edges i).one_signal own.term o.term u edge own.has o.has (subst (IsRootOf d c u) (sym own.of) root.is) (subst (λ n. IsRootOf d c n o.term.range.signal) one o.fires.is_root))
             ∙ own.of
 
 -- ---- roots
@@ -185,29 +191,13 @@ fired_by d c b g clocks i j u r th is seq reads up kind own reach slot = by_inpu
 abbrev pub HeardStands : Parts → Type 0
 HeardStands d = (i : ℕ) (p : Process) (v : ℕ) → slice_get d.processes i ≡ Some p → listens p.body v ≡ true → (t : EventTerm) × HasTerm d i t × (t.range.signal ≡ v)
 
-pub sequential_of : (d : Parts) (c : Claims) (b : State) → Begun d c b → (i : ℕ) (p : Process) → slice_get d.processes i ≡ Some p → blocks_of d c i ≡ false → IsSequential d c i
-sequential_of d c b g i p is free = by_kind (kind_of d c i) refl
-  where
-    by_kind : (o : Option Kind) → kind_of d c i ≡ o → IsSequential d c i
-    by_kind (Some (Rattle.vs_rules.specs.Claims.block s)) e = absurd (true≢false (sym (ap Rattle.vs_rules.specs.Claims.is_block_kind e) ∙ free))
-    by_kind (Some Rattle.vs_rules.specs.Claims.edges) e = inl e
-    by_kind (Some (Rattle.vs_rules.specs.Claims.delays lists)) e = inr (lists, e)
-    by_kind None e =
-        absurd (Rattle.vs_law_rules.proofs.Fire.times_one c.processes p.name.items (sym (ap (Rattle.vs_rules.specs.Claims.kind_for c) is) ∙ e)
-        ((g.rules.names_processes i).listed p.name.items (ap Rattle.vs_rules.specs.Claims.process_name is)).once)
-
 -- the root of a signal that is heard is one that the certificate names
 root_claimed : (d : Parts) (c : Claims) (b : State) → Begun d c b → HeardStands d → (root : ℕ) → IsRoot d (blocks_of d c) root → (v : ℕ) × Rooted d c root v
 root_claimed d c b g stands root h =
-    let seq = sequential_of d c b g h.heard.number h.heard.process h.heard.is h.heard.other in
-    let term = stands h.heard.number h.heard.process h.signal h.heard.is h.heard.hears in
-    by_kind seq term.0 term.1 term.2
-  where
-    by_kind : IsSequential d c h.heard.number → (t : EventTerm) → HasTerm d h.heard.number t → t.range.signal ≡ h.signal → (v : ℕ) × Rooted d c root v
-    by_kind (inr delay) t has of = absurd ((g.rules.residues h.heard.number).no_event has.control has.behind has.number has.terms delay has.point has.goes)
-    by_kind (inl edge) t has of =
-        let level = heard_level d c b g h.heard.number has.terms has.behind t edge (record { control = has.control; number = has.number; point = has.point; way = has.goes }) has.is in
-        (t.range.signal, rooted d c b g h.heard.number t has level root (subst (Copies d root) (sym of) h.copies))
+    let i = h.heard.number in
+    let seq = sequential_of d c g.rules i h.heard.process h.heard.is h.heard.other in
+    let term = stands i h.heard.process h.signal h.heard.is h.heard.hears in
+    (term.0.range.signal, rooted d c b g i term.0 term.1 (hears_level d c g.rules i term.0 seq term.1) root (subst (Copies d root) (sym term.2) h.copies))
 
 -- where all have stopped no thread writes, and none updates
 stopped_none : (d : Parts) (c : Claims) (b : State) → Begun d c b → AllStopped b → (i : ℕ) (th : Thread) → IsThread d (blocks_of d c) b i th → th ≡ opening (blocks_of d c) b i None
@@ -239,7 +229,7 @@ root_timed d c b g clocks heard i root th h is w = by_first g.begin.first
         let writer = writes_as d c b g b.time i root wrote.k up wrote.here wrote.writes in
         let known = (root_claimed d c b g heard root h).1.sound.writer in
         let kind : IsDelay d c i = subst (IsDelay d c) (one_writer d c g.formed root known.0 i known.1 writer) known.2 in
-        subst (λ (p : Place). is_timed p ≡ true) (sym place) (g.begin.delays i kind).timed
+        delay_timed d c i b.time kind (g.rules.residues i) (found (blocks_of d c) b i) (stands_found d c b g i walking.sequential)
     by_first (inr (inr still)) = absurd (false≢true (subst (λ t. writes t root ≡ true) (stopped_none d c b g still i th is) w))
 
 -- and by no `<=`
@@ -289,7 +279,7 @@ root_once d c b g heard i root th later h is that w x = by_at (zero_or b.time)
     first = opening blocks b i None
 
     stands : Stands d c i b.time first.place
-    stands = subst (Stands d c i b.time) (sym (seq_found d c b i seq)) (stands_found d c b g i seq)
+    stands = stands_found d c b g i seq
 
     bit : Rattle.vs_rules.specs.vs_threads.specs.Edges.IsBit d root
     bit = root_bit d root h.signal h.copies
@@ -329,8 +319,8 @@ root_once d c b g heard i root th later h is that w x = by_at (zero_or b.time)
         ∙ ap (λ (t : Thread). slice_get t.view root) that.is
 
 -- a process that waits for nothing where the slot begins is fired by nothing
-unfired : (d : Parts) (c : Claims) (b : State) → Begun d c b → (i : ℕ) (th : Thread) (f : Fired) → IsTimed (blocks_of d c) b i th → Awaits d (blocks_of d c) b th f → ⊥
-unfired d c b g i th f is w = elim (timed_walks d c b g i th is) [
+unfired : (d : Parts) (c : Claims) (b : State) → Begun d c b → ClockTurns d c b → (i : ℕ) (th : Thread) (f : Fired) → IsTimed (blocks_of d c) b i th → Awaits d (blocks_of d c) b th f → ⊥
+unfired d c b g clocks i th f is w = elim (timed_walks d c b g i th is) [
   | inl walking ↦ walks walking
   | inr idle ↦ idles idle
 ]
@@ -341,32 +331,36 @@ unfired d c b g i th f is w = elim (timed_walks d c b g i th is) [
     idles : th ≡ opening blocks b i None → ⊥
     idles e = waiting_timed (found blocks b i) w.terms w.todo (sym (ap (λ (t : Thread). t.place) e) ∙ w.at) is.timed
 
-    rests : is_stopped (found blocks b i) ≡ true → ⊥
-    rests h = idles (sym is.is ∙ Rattle.vs_law_rules.proofs.Fire.stopped_iterate b.time i is.count (opening blocks b i None) h)
-
     walks : Walking d c i b.time th → ⊥
     walks walking = by_first g.begin.first
       where
-        heard : Heard d i w.terms (erased w.todo)
-        heard = subst (Stands d c i b.time) w.at walking.walked.stands
+        seq : IsSequential d c i
+        seq = walking.sequential
 
-        edge : IsEdge d c i
-        edge = heard_edge d c b g i w.terms (erased w.todo) walking.sequential heard
+        has : HasTerm d i w.term
+        has = heard_term d i w.terms (erased w.todo) w.term (subst (Stands d c i b.time) w.at walking.walked.stands) w.is
 
-        place : found blocks b i ≡ get_or b.places i ended
-        place = seq_found d c b i walking.sequential
+        level : is_level w.term ≡ false
+        level = hears_level d c g.rules i w.term seq has
+
+        -- it goes on behind a delay control
+        delayed : 0 < b.time → Resumed d c i b.time (waiting w.terms w.todo) → ⊥
+        delayed up h =
+            resumed_waits d c g.rules i b.time w.terms w.todo (resumed_mixed d c g.rules i b.time (waiting w.terms w.todo) (hears_edges d c g.rules i w.term seq has) h) h
+            (w.term, w.is, fires_at d c b g clocks i w.term f has level w.fires up)
 
         by_first : (b ≡ start d) ⊎ ((0 < b.time) ⊎ AllStopped b) → ⊥
-        by_first (inl e) =
-            none_fires d c b g i w.term f (heard_term d i w.terms (erased w.todo) w.term heard w.is) (heard_level d c b g i w.terms (erased w.todo) w.term edge heard w.is) w.fires
-            (λ first. timed_hears d blocks b first i th is w.terms w.todo w.term w.at w.is) (ap (λ (s : State). s.time) e)
-        by_first (inr (inl up)) = rests (subst (λ (p : Place). is_stopped p ≡ true) (sym place) (g.begin.edges_rest i edge (λ e. zero_less b.time up (ap (λ (s : State). s.time) e))))
-        by_first (inr (inr still)) = rests (subst (λ (p : Place). is_stopped p ≡ true) (sym place) (still i))
+        by_first (inl e) = none_fires d c b g i w.term f has level w.fires (λ first. timed_hears d blocks b first i th is w.terms w.todo w.term w.at w.is) (ap (λ (s : State). s.time) e)
+        by_first (inr (inl up)) = elim (resumed d c b g i is.count seq (λ e. zero_less b.time up (ap (λ (s : State). s.time) e)) th is.is) [
+          | inl on ↦ delayed up (subst (Resumed d c i b.time) w.at on)
+          | inr rests ↦ idles rests.0
+        ]
+        by_first (inr (inr still)) = idles (sym is.is ∙ Rattle.vs_law_rules.proofs.Fire.stopped_iterate b.time i is.count (opening blocks b i None) (ap is_stopped (seq_found d c b i seq) ∙ still i))
 
 -- a process is fired by terms of one signal
 opened_by : (d : Parts) (c : Claims) (b : State) → Begun d c b → ClockTurns d c b → (i : ℕ) (th : Thread) (f : Fired) → IsThread d (blocks_of d c) b i th → Awaits d (blocks_of d c) b th f → Opened d c b i f
 opened_by d c b g clocks i th f is w = elim (thread_walks d c b g clocks i th is) [
-  | inl walking ↦ opened d c b g clocks i f walking.sequential w.terms (erased w.todo) w.term (subst (Stands d c i b.time) w.at walking.walked.stands) w.is w.fires
+  | inl walking ↦ opened d c b g clocks i f walking.sequential w.term (heard_term d i w.terms (erased w.todo) w.term (subst (Stands d c i b.time) w.at walking.walked.stands) w.is) w.fires
       (λ first. thread_hears d (blocks_of d c) b first i th is w.terms w.todo w.term w.at w.is)
   | inr idle ↦ absurd (Rattle.vs_law_rules.proofs.Threads.ended_waits w.terms w.todo (sym (ap (λ (t : Thread). t.place) idle.0 ∙ idle.1) ∙ w.at))
 ]
@@ -383,13 +377,6 @@ fired_by_one d c b g clocks i th other f h is that w x =
     sym one.of ∙ seven.one_signal one.term two.term two.fires.root one.edge one.has two.has (subst (λ n. IsRootOf d c n one.term.range.signal) root one.fires.is_root) two.fires.is_root ∙ two.of
 
 -- ---- all
-
--- no process of kind edge writes a root
-edge_root : (d : Parts) (c : Claims) (i : ℕ) → IsEdge d c i → IsDelay d c i → ⊥
-edge_root d c i edge delay = by_kinds (sym edge ∙ delay.1)
-  where
-    by_kinds : Some Rattle.vs_rules.specs.Claims.edges ≡ Some (Rattle.vs_rules.specs.Claims.delays delay.0) → ⊥
-    by_kinds e = cc e
 
 pub reads_others : (d : Parts) (c : Claims) (b : State) → Begun d c b → ClockTurns d c b → ControlNames d c → (i k u : ℕ) (r : BitRange) (th other : Thread) (is : IsThread d (blocks_of d c) b i th) → IsThread d (blocks_of d c) b k other →
     Looks c th.place r → writes other u ≡ true → Reaches d (blocks_of d c) u r → (k ≡ i) ⊎ IsFiredBy d (blocks_of d c) b i th is r.signal
@@ -411,7 +398,8 @@ reads_others d c b g clocks names i k u r th other is that reads wrote reach =
     by_read : Read d c b i k u r rd.k → (k ≡ i) ⊎ IsFiredBy d (blocks_of d c) b i th is r.signal
     by_read (its_own same own) = inl same
     by_read (its_edge up edge writer at_u slot) =
-        inr (fired_by d c b g clocks i k u r th is one.sequential reads up (writes_variable d g.formed k u (writes_now d k w.k u w.here.point w.writes)) edge reach at_u)
+        let root = own_root d c b g i u r rd.k (writes_variable d g.formed k u (writes_now d k w.k u w.here.point w.writes)) edge reach in
+        inr (fired_by d c b g clocks i u r th is one.sequential reads rd up root edge at_u)
 
 pub reads_own : (d : Parts) (c : Claims) (b : State) → Begun d c b → ClockTurns d c b → ControlNames d c → (i u : ℕ) (r : BitRange) (th : Thread) → IsThread d (blocks_of d c) b i th →
     Looks c th.place r → writes th u ≡ true → Reaches d (blocks_of d c) u r → u ≡ r.signal
@@ -427,22 +415,13 @@ reads_own d c b g clocks names i u r th is reads wrote reach =
     w : Wrote d c i b.time u
     w = one.walked.wrote u wrote
 
-    by_kind : IsSequential d c i → IsOwnEdge d c i r.signal → IsEdge d c i
-    by_kind (inl e) own = e
-    by_kind (inr delay) own = absurd ((g.rules.residues i).no_event own.has.control own.has.behind own.has.number own.has.terms delay own.has.point own.has.goes)
-
     by_read : Read d c b i i u r rd.k → u ≡ r.signal
     by_read (its_own same (inl own)) = own
     by_read (its_own same (inr cold)) = absurd (cold (rd.hot u (one.walked.hot u wrote)))
     by_read (its_edge up own writer at_u slot) =
-        let kind = writes_variable d g.formed i u (writes_now d i w.k u w.here.point w.writes) in
-        let s = reach_signal d c b g u r kind reach in
-        let entry = entry_root d c g.rules r.signal s.0.path.items (ap signal_name s.1) (record { process = i; term = own.term; has = own.has; edge = own.edge; of = own.of }) in
-        let six = g.rules.roots r.signal in
-        let sound = six.root entry.0 entry.1 in
-        let same : u ≡ entry.0 = reach_root d c b g u entry.0 r.signal r kind sound (six.copies entry.0 entry.1) refl reach in
-        let delay : IsDelay d c i = subst (IsDelay d c) (one_writer d c g.formed entry.0 sound.writer.0 i sound.writer.1 (subst (λ n. IsWriter d c n i) same writer)) sound.writer.2 in
-        absurd (edge_root d c i (by_kind one.sequential own) delay)
+        let known = (own_root d c b g i u r rd.k (writes_variable d g.formed i u (writes_now d i w.k u w.here.point w.writes)) own reach).sound.writer in
+        let delay : IsDelay d c i = subst (IsDelay d c) (one_writer d c g.formed u known.0 i known.1 writer) known.2 in
+        absurd ((g.rules.residues i).no_event own.has.control own.has.behind own.has.number own.has.terms delay own.has.point own.has.goes)
 
 alone_out : (d : Parts) (c : Claims) (b : State) → Begun d c b → ClockTurns d c b → (i k v : ℕ) (th : Thread) → IsThread d (blocks_of d c) b i th → blocks_of d c k ≡ true → puts_out d k v ≡ true → writes th v ≡ false
 alone_out d c b g clocks i k v th is blk puts = elim (cases_Bool (writes th v)) [
@@ -516,6 +495,6 @@ keeps_apart d c b g clocks names heard = record {
   root_timed = λ i root th h is w. root_timed d c b g clocks heard i root th h is w;
   root_once = λ i root th later h is that w x. root_once d c b g heard i root th later h is that w x;
   root_now = λ i root th h is m. root_now d c b g clocks heard i root th h is m;
-  unfired = λ i th f is w. unfired d c b g i th f is w;
+  unfired = λ i th f is w. unfired d c b g clocks i th f is w;
   fired_by_one = λ i th other f h is that w x. fired_by_one d c b g clocks i th other f h is that w x;
 }

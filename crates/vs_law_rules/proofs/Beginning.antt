@@ -4,7 +4,6 @@ use Rattle.std.proofs.Math.ListN.{get_or-map}
 use Rattle.std.proofs.lemmas.Bool.{cond_both, eqb-true, eqb-false, false≢true}
 use Rattle.vs_independence.specs.vs_process.specs.vs_edges.specs.Waking.{wake_any}
 use Rattle.vs_design.specs.declared.design.Process.{Process}
-use Rattle.vs_design.specs.declared.statement.EventTerm.{EventTerm}
 use Rattle.vs_design.specs.Parts.{Parts}
 use Rattle.vs_design.specs.Stores.{Store}
 use Rattle.vs_process.specs.declared.gait.Gait.{Gait}
@@ -13,28 +12,21 @@ use Rattle.vs_process.specs.Nexts.{erased, erased_next}
 use Rattle.vs_process.specs.Landings.{todo_behind}
 use Rattle.vs_process.specs.Places.{Todo, Place, going, sleeping, inactive, waiting, ended, active_at, stepped_gait, start_place, flat, is_going, is_inactive, todo_of}
 use Rattle.vs_process.specs.Steps.{Next, on, after, wait, step}
-use Rattle.vs_independence.specs.vs_process.specs.declared.moves.Grain.{Grain}
-use Rattle.vs_independence.specs.vs_process.specs.declared.moves.Move.{Move}
-use Rattle.vs_independence.specs.vs_process.specs.declared.moves.Move.TheVariants.{Step, Evaluate, Propagate, Make, Rouse, Activate, EndSlot}
-use Rattle.vs_independence.specs.vs_process.specs.States.{State, start, place_behind, paused, roused, woken_at, wakened}
-use Rattle.vs_independence.specs.vs_process.specs.Executions.{after as reached, Legal, ends, next_time, slot_behind, places_at, time_at}
-use Rattle.vs_independence.specs.vs_process.proofs.Times.{enabled_of}
-use Rattle.vs_independence.specs.Discipline.{IsAtStart, BeginsSlot}
+use Rattle.vs_independence.specs.vs_process.specs.States.{State, start, place_behind, roused, woken_at, wakened}
+use Rattle.vs_independence.specs.vs_process.specs.Executions.{ends, next_time, slot_behind, places_at, time_at}
 use Rattle.vs_rules.specs.vs_threads.proofs.Threads.{is_stopped, stopped_from}
 use Rattle.vs_independence.proofs.Making.{none_get}
-use Rattle.vs_independence.proofs.InnerMoves.{AtEnd, at_end}
-use Rattle.vs_independence.proofs.Times.{is_after}
+use Rattle.vs_independence.proofs.InnerMoves.{AtEnd}
+use Rattle.vs_independence.proofs.Times.{is_after, after_next, get_from_all}
 use Rattle.vs_rules.specs.Points.{Goes, Point, first_todo}
 use Rattle.vs_rules.proofs.Points.{erased_flat, step_follows}
-use Rattle.vs_rules.specs.Claims.{kind_of, Claims, Kind, IsEdge, IsDelay, HasLists, IsSequential}
+use Rattle.vs_rules.specs.Claims.{kind_of, Claims, Kind, IsEdge, IsDelay, HasMixedLists, WaitsForEdges, WaitsForTimes, IsSequential}
 use Rattle.vs_rules.specs.Paths.{Path, begins, goes, is_zero_time, IsPoint, RunsBehind}
-use Rattle.vs_rules.specs.Slots.{Ends, HasSlot}
+use Rattle.vs_rules.specs.Slots.{Ends, DelayEnds, EdgeEnds, RunsByDelays, RunsByEdges, HasSlot}
 use Rattle.vs_rules.specs.Rules.{K7, K8}
 use Rattle.vs_rules.specs.vs_threads.specs.Threads.{is_timed}
-use Rattle.vs_law_rules.specs.Laws.{TimeRises}
-use Rattle.vs_law_rules.proofs.Boundary.{IsSteady, holds_after}
-use Rattle.vs_law_rules.proofs.Walks.{point_on, at_zero, at_later, Heard, Stands, Closed, stands_active, stands_step, stands_roused}
-use Rattle.vs_independence.proofs.Inner.{timed_active}
+use Rattle.vs_law_rules.proofs.Boundary.{IsSteady}
+use Rattle.vs_law_rules.proofs.Walks.{point_on, at_zero, Heard, Delayed, delayed_here, Stands, Closed, stands_active, stands_step, stands_roused}
 
 -- ---- paths lead to points
 
@@ -50,13 +42,35 @@ runs_point d i can_end k r h = path_point d i _ (todo_behind h.next) k (point_on
 
 -- ---- residues are closed
 
-closed_delay : (d : Parts) (c : Claims) (i : ℕ) (lists : List (List ℕ)) → HasLists d c i lists → K8 d c i → Closed d c i
-closed_delay d c i lists e r = record {
-  from_start = λ k l number ticks s g up.
-      subst (λ (kind : Option Kind). Ends d c i kind (after number ticks l) (ticks % c.modulus)) (sym e) (r.from_start lists k l number ticks e s g up);
-  from_residue = λ k l number ticks q h g.
-      subst (λ (kind : Option Kind). Ends d c i kind (after number ticks l) ((q + ticks) % c.modulus)) (sym e)
-      (r.from_residue lists k l number ticks q e (subst (λ (kind : Option Kind). RunsBehind d i (Ends d c i kind) k q) e h) g);
+-- a delay control of a process that waits for times ends where its list says
+delay_ends : (d : Parts) (c : Claims) (i : ℕ) (lists : List (List ℕ)) → WaitsForTimes d c i lists → (next : Next) (r : ℕ) → DelayEnds d i lists next r → Ends d c i (kind_of d c i) next r
+delay_ends d c i lists (inl e) next r h = subst (λ (kind : Option Kind). Ends d c i kind next r) (sym e) h
+delay_ends d c i lists (inr e) next r h = subst (λ (kind : Option Kind). Ends d c i kind next r) (sym e) (inl h)
+
+-- an event control of a process that waits for edges ends where a term of it fires
+pub edge_ends : (d : Parts) (c : Claims) (i : ℕ) → WaitsForEdges d c i → (next : Next) (r : ℕ) → EdgeEnds d c next r → Ends d c i (kind_of d c i) next r
+edge_ends d c i (inl e) next r h = subst (λ (kind : Option Kind). Ends d c i kind next r) (sym e) h
+edge_ends d c i (inr m) next r h = subst (λ (kind : Option Kind). Ends d c i kind next r) (sym m.1) (inr h)
+
+-- a run slot of a process that waits for times is one of its delay controls, or, where it is mixed, of its event controls
+slot_sort : (d : Parts) (c : Claims) (i : ℕ) (lists : List (List ℕ)) → WaitsForTimes d c i lists → (k : Todo) (r : ℕ) → HasSlot d c i k r →
+    RunsByDelays d i lists k r ⊎ (HasMixedLists d c i lists × RunsByEdges d c i k r)
+slot_sort d c i lists (inl e) k r h = inl (subst (λ (kind : Option Kind). RunsBehind d i (Ends d c i kind) k r) e h)
+slot_sort d c i lists (inr e) k r h = by_start (subst (λ (kind : Option Kind). RunsBehind d i (Ends d c i kind) k r) e h)
+  where
+    by_start : RunsBehind d i (Ends d c i (Some (Kind.mixed lists))) k r → RunsByDelays d i lists k r ⊎ (HasMixedLists d c i lists × RunsByEdges d c i k r)
+    by_start h = elim h.starts [
+      | inl delay ↦ inl (record { at = h.at; next = h.next; point = h.point; goes = h.goes; starts = delay; path = h.path })
+      | inr edge ↦ inr (e, record { at = h.at; next = h.next; point = h.point; goes = h.goes; starts = edge; path = h.path })
+    ]
+
+closed_times : (d : Parts) (c : Claims) (i : ℕ) (lists : List (List ℕ)) → WaitsForTimes d c i lists → K8 d c i → Closed d c i
+closed_times d c i lists is r = record {
+  from_start = λ k l number ticks s g up. delay_ends d c i lists is (after number ticks l) (ticks % c.modulus) (r.from_start lists k l number ticks is s g up);
+  from_residue = λ k l number ticks q h g. delay_ends d c i lists is (after number ticks l) ((q + ticks) % c.modulus) (elim (slot_sort d c i lists is k q h) [
+    | inl delays ↦ r.from_residue lists k l number ticks q is delays g
+    | inr edges ↦ r.from_edge lists k l number ticks q edges.0 edges.1 g
+  ]);
 }
 
 closed_edge : (d : Parts) (c : Claims) (i : ℕ) → IsEdge d c i → K7 d c i → Closed d c i
@@ -67,73 +81,74 @@ closed_edge d c i e r = record {
 
 pub closed_of : (d : Parts) (c : Claims) (i : ℕ) → IsSequential d c i → K7 d c i → K8 d c i → Closed d c i
 closed_of d c i (inl e) r7 r8 = closed_edge d c i e r7
-closed_of d c i (inr lists) r7 r8 = closed_delay d c i lists.0 lists.1 r8
+closed_of d c i (inr (inl delay)) r7 r8 = closed_times d c i delay.0 (inl delay.1) r8
+closed_of d c i (inr (inr mix)) r7 r8 = closed_times d c i mix.0 (inr mix.1) r8
 
--- ---- a process of kind delay
+-- ---- from slot to slot
 
--- it stands where the rules say, and waits for no event
-pub record Waits (d : Parts) (c : Claims) (i time : ℕ) (p : Place) : Type 0 where
-  pub stands : Stands d c i time p
-  pub timed : is_timed p ≡ true
+-- a slot above time 0 finds a process stopped, or behind a delay control that has just ended
+abbrev pub Resumes : Parts → Claims → ℕ → ℕ → Place → Type 0
+Resumes d c i time (going gait k) = Delayed d c i time (erased k)
+Resumes d c i time (inactive k) = ⊥
+Resumes d c i time (sleeping due k) = Unit {0}
+Resumes d c i time (waiting terms k) = Unit {0}
+Resumes d c i time ended = Unit {0}
 
-timed_paused : (time ticks : ℕ) (k : Todo) → is_timed (paused time ticks k) ≡ true
-timed_paused time ticks k = cond_both (ticks == 0) (inactive k) (sleeping (time + ticks) k) (λ p. is_timed p ≡ true) (λ e. refl) (λ e. refl)
+stopped_resumes : (d : Parts) (c : Claims) (i time : ℕ) (p : Place) → is_stopped p ≡ true → Resumes d c i time p
+stopped_resumes d c i time (going gait k) still = absurd (false≢true still)
+stopped_resumes d c i time (inactive k) still = absurd (false≢true still)
+stopped_resumes d c i time (sleeping due k) still = tt
+stopped_resumes d c i time (waiting terms k) still = tt
+stopped_resumes d c i time ended still = tt
 
-timed_behind : (d : Parts) (c : Claims) (i time : ℕ) → ((k l : Todo) (number : ℕ) (terms : List EventTerm) → IsPoint d i k → Goes k (wait number terms l) → ⊥) →
-    (gait : Gait) (k : Todo) (next : Next) → IsPoint d i (erased k) → Goes (erased k) (erased_next next) → is_timed (place_behind (going gait k) time next) ≡ true
-timed_behind d c i time no_event gait k (on l) p g = timed_active (stepped_gait gait) l
-timed_behind d c i time no_event gait k (after number ticks l) p g = timed_paused time ticks l
-timed_behind d c i time no_event gait k (wait number terms l) p g = absurd (no_event (erased k) (erased l) number terms p g)
-
-timed_roused : (p : Place) → is_timed p ≡ true → is_timed (roused p) ≡ true
-timed_roused (going gait k) h = h
-timed_roused (inactive k) h = timed_active Woken k
-timed_roused (sleeping due k) h = h
-timed_roused (waiting terms k) h = h
-timed_roused ended h = h
+resumes_active : (d : Parts) (c : Claims) (i time : ℕ) (k : Todo) → Delayed d c i time (erased k) → Resumes d c i time (active_at Woken k)
+resumes_active d c i time [] h = tt
+resumes_active d c i time (x ∷ rest) h = h
 
 -- what has stopped, at the next slot
-woken_stands : (d : Parts) (c : Claims) (i time t : ℕ) (p : Place) → is_stopped p ≡ true → is_after t p ≡ true → Stands d c i time p → Stands d c i t (woken_at t p)
+woken_stands : (d : Parts) (c : Claims) (i time t : ℕ) (p : Place) → is_stopped p ≡ true → is_after t p ≡ true → Stands d c i time p → Stands d c i t (woken_at t p) × Resumes d c i t (woken_at t p)
 woken_stands d c i time t (going gait k) still up h = absurd (false≢true still)
 woken_stands d c i time t (inactive k) still up h = absurd (false≢true still)
-woken_stands d c i time t (waiting terms k) still up h = h
-woken_stands d c i time t ended still up h = h
+woken_stands d c i time t (waiting terms k) still up h = (h, tt)
+woken_stands d c i time t ended still up h = (tt, tt)
 woken_stands d c i time t (sleeping due k) still up h =
-    cond_both (due == t) (active_at Woken k) (sleeping due k) (Stands d c i t)
+    cond_both (due == t) (active_at Woken k) (sleeping due k) (λ p. Stands d c i t p × Resumes d c i t p)
     (λ e. let is : due ≡ t = eqb-true due t e in
     let less : time < due = h.up in
     let later : 0 < t = omega (arith, is, less) in
-    stands_active d c i t Woken k (record { point = h.point; at = at_later later h.late (subst (λ n. HasSlot d c i (erased k) (n % c.modulus)) is h.slot) }))
+    let ended_now = subst (λ n. Delayed d c i n (erased k)) is h.delayed in
+    (stands_active d c i t Woken k (delayed_here d c i t (erased k) later ended_now), resumes_active d c i t k ended_now))
     (λ e. let ne : due ≡ t → ⊥ = eqb-false due t e in
     let le : t ≤ due = leb-true t due up in
-    record { point = h.point; up = omega (arith, ne, le); late = h.late; slot = h.slot })
+    (record { up = omega (arith, ne, le); delayed = h.delayed }, tt))
 
-woken_timed : (t : ℕ) (p : Place) → is_timed p ≡ true → is_timed (woken_at t p) ≡ true
-woken_timed t (going gait k) h = h
-woken_timed t (inactive k) h = h
-woken_timed t (waiting terms k) h = h
-woken_timed t ended h = h
-woken_timed t (sleeping due k) h = cond_both (due == t) (active_at Woken k) (sleeping due k) (λ p. is_timed p ≡ true) (λ e. timed_active Woken k) (λ e. refl)
+-- ---- a process of kind delay
 
-wakened_timed : (d : Parts) (c : Claims) (i time : ℕ) (old new : Store) (p : Place) → Waits d c i time p → Waits d c i time (wakened old new p)
-wakened_timed d c i time old new (going gait k) h = h
-wakened_timed d c i time old new (inactive k) h = h
-wakened_timed d c i time old new (sleeping due k) h = h
-wakened_timed d c i time old new ended h = h
-wakened_timed d c i time old new (waiting terms k) h = absurd (false≢true h.timed)
+-- it waits for no event
+pub delay_timed : (d : Parts) (c : Claims) (i time : ℕ) → IsDelay d c i → K8 d c i → (p : Place) → Stands d c i time p → is_timed p ≡ true
+delay_timed d c i time kind r (going gait k) h = refl
+delay_timed d c i time kind r (inactive k) h = refl
+delay_timed d c i time kind r (sleeping due k) h = refl
+delay_timed d c i time kind r (waiting terms k) h = absurd (r.no_event h.control (erased k) h.number terms kind h.point h.way)
+delay_timed d c i time kind r ended h = refl
 
-pub delay_steady : (d : Parts) (c : Claims) (i : ℕ) → IsDelay d c i → Closed d c i → K8 d c i → IsSteady (Waits d c i)
+-- so it stands where the rules say in every execution
+pub delay_steady : (d : Parts) (c : Claims) (i : ℕ) → IsDelay d c i → Closed d c i → K8 d c i → IsSteady (Stands d c i)
 delay_steady d c i kind closed r = record {
-  steps = λ time gait k store h. record {
-    stands = stands_step d c i closed time gait k store h.stands;
-    timed = timed_behind d c i time (λ k l number terms p g. r.no_event k l number terms kind p g) gait k (step k store time).next h.stands.point (step_follows k store time);
-  };
-  rouses = λ time p h. record { stands = stands_roused d c i time p h.stands; timed = timed_roused p h.timed };
-  wakes = λ time old new p h. wakened_timed d c i time old new p h;
-  goes_on = λ time t p still up h. record { stands = woken_stands d c i time t p still up h.stands; timed = woken_timed t p h.timed };
+  steps = λ time gait k store h. stands_step d c i closed time gait k store h;
+  rouses = λ time p h. stands_roused d c i time p h;
+  wakes = λ time old new p h. wakes time old new p h;
+  goes_on = λ time t p still up h. (woken_stands d c i time t p still up h).0;
 }
+  where
+    wakes : (time : ℕ) (old new : Store) (p : Place) → Stands d c i time p → Stands d c i time (wakened old new p)
+    wakes time old new (going gait k) h = h
+    wakes time old new (inactive k) h = h
+    wakes time old new (sleeping due k) h = h
+    wakes time old new ended h = h
+    wakes time old new (waiting terms k) h = absurd (r.no_event h.control (erased k) h.number terms kind h.point h.way)
 
--- ---- a process of kind edge
+-- ---- a process without delay controls
 
 -- it is at a point of its text, and sleeps at no delay
 abbrev pub Placed : Parts → ℕ → ℕ → Place → Type 0
@@ -183,9 +198,6 @@ placed_steady d i no_delay = record {
   wakes = λ time old new p h. placed_wakened d i time old new p h;
   goes_on = λ time t p still up h. placed_later d i time t p h;
 }
-
-edge_steady : (d : Parts) (c : Claims) (i : ℕ) → IsEdge d c i → K7 d c i → IsSteady (Placed d i)
-edge_steady d c i kind r = placed_steady d i (λ k l number ticks p g. r.no_delay k l number ticks kind p g)
 
 -- ---- the start
 
@@ -252,12 +264,13 @@ abbrev pub AllStopped : State → Type 0
 AllStopped b = (i : ℕ) → is_stopped (get_or b.places i ended) ≡ true
 
 pub record Beginning (d : Parts) (c : Claims) (b : State) : Type 0 where
-  pub delays : (i : ℕ) → IsDelay d c i → Waits d c i b.time (get_or b.places i ended)
-  pub edges : (i : ℕ) → IsEdge d c i → Placed d i b.time (get_or b.places i ended)
+  pub stands : (i : ℕ) → IsSequential d c i → Stands d c i b.time (get_or b.places i ended)
   -- it is the first slot, or a later one, or all have stopped for good
   pub first : (b ≡ start d) ⊎ ((0 < b.time) ⊎ AllStopped b)
-  -- above time 0 a process of kind edge has stopped
-  pub edges_rest : (i : ℕ) → IsEdge d c i → (b ≡ start d → ⊥) → is_stopped (get_or b.places i ended) ≡ true
+  pub resumes : (i : ℕ) → IsSequential d c i → (b ≡ start d → ⊥) → Resumes d c i b.time (get_or b.places i ended)
+
+pub first_beginning : (d : Parts) (c : Claims) → Beginning d c (start d)
+first_beginning d c = record { stands = λ i seq. start_stands d c i; first = inl refl; resumes = λ i seq ne. absurd (ne refl) }
 
 pub still_at_end : (s : State) → AtEnd s → AllStopped s
 still_at_end s e i = stopped_from (get_or s.places i ended) (none_get is_going s.places i ended refl e.quiet.going) (none_get is_inactive s.places i ended refl e.inactive)
@@ -286,35 +299,18 @@ first_behind s e up = at_next (ends s) (next_time s) refl
     at_next false None is = inr (still_at_end s e)
     at_next false (Some t) is = let less : s.time < t = up t is in inl (omega (arith, less))
 
-begin_first : (grain : Grain) (d : Parts) → TimeRises grain d → (moves : List Move) → Legal grain d moves → IsAtStart moves → (reached d moves ≡ start d) ⊎ ((0 < (reached d moves).time) ⊎ AllStopped (reached d moves))
-begin_first grain d up [] l a = inl refl
-begin_first grain d up (Step i ∷ moves) l a = absurd a
-begin_first grain d up (Evaluate j ∷ moves) l a = absurd a
-begin_first grain d up (Propagate j ∷ moves) l a = absurd a
-begin_first grain d up (Make i ∷ moves) l a = absurd a
-begin_first grain d up (Rouse ∷ moves) l a = absurd a
-begin_first grain d up (Activate ∷ moves) l a = absurd a
-begin_first grain d up (EndSlot ∷ moves) l a = inr (first_behind (reached d moves) (at_end (reached d moves) (enabled_of grain d (reached d moves) EndSlot l.1).1) (λ t is. up moves t l is))
-
-begin_rests : (grain : Grain) (d : Parts) (c : Claims) (i : ℕ) → IsEdge d c i → K7 d c i → (moves : List Move) → Legal grain d moves → IsAtStart moves → (reached d moves ≡ start d → ⊥) →
-    is_stopped (get_or (reached d moves).places i ended) ≡ true
-begin_rests grain d c i kind r [] l a ne = absurd (ne refl)
-begin_rests grain d c i kind r (Step j ∷ moves) l a ne = absurd a
-begin_rests grain d c i kind r (Evaluate j ∷ moves) l a ne = absurd a
-begin_rests grain d c i kind r (Propagate j ∷ moves) l a ne = absurd a
-begin_rests grain d c i kind r (Make j ∷ moves) l a ne = absurd a
-begin_rests grain d c i kind r (Rouse ∷ moves) l a ne = absurd a
-begin_rests grain d c i kind r (Activate ∷ moves) l a ne = absurd a
-begin_rests grain d c i kind r (EndSlot ∷ moves) l a ne =
-    end_rests d i (reached d moves) (at_end (reached d moves) (enabled_of grain d (reached d moves) EndSlot l.1).1)
-    (holds_after grain d (Placed d i) (edge_steady d c i kind r) i (beginning_placed d c i (get_or (start d).places i ended) (start_stands d c i) (start_begins d.processes i)) moves l.0)
-
-pub beginning : (grain : Grain) (d : Parts) (c : Claims) → TimeRises grain d → ((i : ℕ) → K7 d c i) → ((i : ℕ) → K8 d c i) → (b : State) → BeginsSlot grain d b → Beginning d c b
-beginning grain d c up r7 r8 b h = subst (Beginning d c) h.is (record {
-  delays = λ i kind. holds_after grain d (Waits d c i) (delay_steady d c i kind (closed_of d c i (inr kind) (r7 i) (r8 i)) (r8 i)) i
-      (record { stands = start_stands d c i; timed = start_timed d i }) h.moves h.legal;
-  edges = λ i kind. holds_after grain d (Placed d i) (edge_steady d c i kind (r7 i)) i
-      (beginning_placed d c i (get_or (start d).places i ended) (start_stands d c i) (start_begins d.processes i)) h.moves h.legal;
-  first = begin_first grain d up h.moves h.legal h.at_start;
-  edges_rest = λ i kind ne. begin_rests grain d c i kind (r7 i) h.moves h.legal h.at_start ne;
-})
+-- where a slot has ended with each process where the rules say, the next one begins so
+pub next_beginning : (d : Parts) (c : Claims) (s : State) → AtEnd s → ((t : ℕ) → next_time s ≡ Some t → s.time < t) → ((i : ℕ) → IsSequential d c i → Stands d c i s.time (get_or s.places i ended)) → Beginning d c (slot_behind s)
+next_beginning d c s e up h = record {
+  stands = λ i seq. (at_next i (h i seq) (ends s) (next_time s) refl).0;
+  first = inr (first_behind s e up);
+  resumes = λ i seq ne. (at_next i (h i seq) (ends s) (next_time s) refl).1;
+}
+  where
+    at_next : (i : ℕ) → Stands d c i s.time (get_or s.places i ended) → (over : Bool) (next : Option ℕ) → next_time s ≡ next →
+        Stands d c i (time_at over next s.time) (get_or (places_at over next s.places) i ended) × Resumes d c i (time_at over next s.time) (get_or (places_at over next s.places) i ended)
+    at_next i h true next is = (h, stopped_resumes d c i s.time (get_or s.places i ended) (still_at_end s e i))
+    at_next i h false None is = (h, stopped_resumes d c i s.time (get_or s.places i ended) (still_at_end s e i))
+    at_next i h false (Some t) is =
+        subst (λ p. Stands d c i t p × Resumes d c i t p) (sym (get_or-map (woken_at t) s.places i ended))
+        (woken_stands d c i s.time t (get_or s.places i ended) (still_at_end s e i) (get_from_all (is_after t) s.places ended refl (after_next s t is) i) h)

@@ -15,7 +15,7 @@ use Rattle.vs_rules.specs.vs_threads.specs.Bits.{meet_in}
 use Rattle.vs_rules.specs.vs_threads.proofs.Bits.{meets_of}
 use Rattle.vs_rules.specs.vs_threads.proofs.Feeds.{into_named}
 use Rattle.vs_rules.specs.vs_threads.proofs.Lists.{contains_at, place_of}
-use Rattle.vs_rules.specs.Claims.{Claims, Kind, Start, block, edges, delays, kind_of, is_block_kind, blocks_of, IsBlock, IsDelay, IsSequential, IsWriter, IsSecond, HasKind}
+use Rattle.vs_rules.specs.Claims.{Claims, Kind, Start, block, edges, delays, mixed, kind_of, is_block_kind, blocks_of, IsBlock, IsDelay, IsSequential, IsWriter, IsSecond, HasKind}
 use Rattle.vs_rules.specs.Paths.{writes_of, Writes}
 use Rattle.vs_rules.specs.Drivers.{assign, block as block_driver, IsSource, InCone, Names}
 use Rattle.vs_rules.specs.Drivers as v
@@ -37,11 +37,12 @@ block_of None h = absurd (false≢true h)
 block_of (Some (block s)) h = (s, refl)
 block_of (Some edges) h = absurd (false≢true h)
 block_of (Some (delays lists)) h = absurd (false≢true h)
+block_of (Some (mixed lists)) h = absurd (false≢true h)
 
 pub is_block : (d : Parts) (c : Claims) (k : ℕ) → blocks_of d c k ≡ true → IsBlock d c k
 is_block d c k h = block_of (kind_of d c k) h
 
--- no process of kind edge or delay writes what a block writes
+-- no process of another kind writes what a block writes
 pub clash : (d : Parts) (c : Claims) (b : State) → Begun d c b → (i k v : ℕ) → IsSequential d c i → Writes d i v → blocks_of d c k ≡ true → Writes d k v → ⊥
 clash d c b g i k v seq wi blk wk = by_roles (r.named i wi) (r.named k wk)
   where
@@ -53,7 +54,7 @@ clash d c b g i k v seq wi blk wk = by_roles (r.named i wi) (r.named k wk)
     by_roles (inr x) y = r.no_block i k x (is_block d c k blk) wk
     by_roles (inl x) (inr y) = r.no_block k k y (is_block d c k blk) wk
 
--- a signal with a writer of kind edge or delay is written by no block
+-- a signal with a writer of another kind is written by no block
 pub writer_alone : (d : Parts) (c : Claims) (b : State) → Begun d c b → (i k v : ℕ) → IsSequential d c i → IsWriter d c v i → blocks_of d c k ≡ true → Writes d k v → ⊥
 writer_alone d c b g i k v seq writer blk wk = by_role ((g.rules.writers v).named k wk)
   where
@@ -62,7 +63,7 @@ writer_alone d c b g i k v seq writer blk wk = by_role ((g.rules.writers v).name
     by_role (inr x) = (g.rules.writers v).no_block k k x (is_block d c k blk) wk
 
 pub delay_alone : (d : Parts) (c : Claims) (b : State) → Begun d c b → (i k v : ℕ) → IsDelay d c i → IsWriter d c v i → blocks_of d c k ≡ true → Writes d k v → ⊥
-delay_alone d c b g i k v kind writer blk wk = writer_alone d c b g i k v (inr kind) writer blk wk
+delay_alone d c b g i k v kind writer blk wk = writer_alone d c b g i k v (inr (inl kind)) writer blk wk
 
 -- a block that writes into a range writes its signal
 pub into_writes : (d : Parts) (k : ℕ) (r : BitRange) → puts_into d k r ≡ true → Writes d k r.signal

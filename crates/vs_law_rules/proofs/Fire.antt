@@ -18,26 +18,24 @@ use Rattle.vs_design.specs.Stores.{Store, changed_at, chosen_bits, chosen_words,
 use Rattle.vs_design.specs.WellFormed.{WellFormed}
 use Rattle.vs_independence.specs.vs_process.specs.vs_edges.specs.Waking.{lowest_digit, is_edge_of, wakes, wakes_by}
 use Rattle.vs_independence.specs.vs_process.specs.vs_eval.specs.Laws.{digit_of, digit_in}
-use Rattle.vs_process.specs.Places.{Place, going, sleeping, inactive, waiting, ended, is_going}
+use Rattle.vs_process.specs.Places.{Place, ended, is_going}
 use Rattle.vs_independence.specs.vs_process.specs.Executions.{is_level}
-use Rattle.vs_independence.specs.vs_process.specs.States.{State, start}
+use Rattle.vs_independence.specs.vs_process.specs.States.{State}
 use Rattle.vs_independence.specs.vs_process.proofs.Assigns.{AssignsSound}
 use Rattle.vs_independence.specs.vs_process.proofs.Stores.{shape}
-use Rattle.vs_rules.specs.vs_threads.specs.Threads.{Thread, turn_at, turn, iterate, writes}
+use Rattle.vs_rules.specs.vs_threads.specs.Threads.{Thread, turn, iterate, writes}
 use Rattle.vs_rules.specs.vs_threads.proofs.Settle.{AllIdle}
 use Rattle.vs_rules.specs.vs_threads.proofs.Threads.{is_stopped}
 use Rattle.vs_rules.specs.Claims.{Name, times_in}
-use Rattle.vs_rules.specs.Claims.{Claims, Kind, block, edges, delays, ProcessClaim, kind_in, kind_for, kind_of, is_block_kind, blocks_of, claim_of, IsWriter, IsSecond, IsEdge, IsDelay, HasLists, IsSequential, IsSignalNamed, process_names, IsRootOf, IsRoot}
+use Rattle.vs_rules.specs.Claims.{Claims, Kind, block, edges, delays, mixed, ProcessClaim, kind_in, kind_for, kind_of, is_block_kind, blocks_of, IsSequential}
 use Rattle.vs_rules.specs.Constants.{bit_of, Gives, IsKnown, IsClock}
 use Rattle.vs_rules.specs.Constants as k
 use Rattle.vs_rules.specs.Slots.{counts, phase}
-use Rattle.vs_rules.specs.vs_threads.specs.Edges.{one_bit, IsBit, Copies}
+use Rattle.vs_rules.specs.vs_threads.specs.Edges.{one_bit}
 use Rattle.vs_rules.specs.vs_threads.specs.Threads.{found, opening, IsTimed}
-use Rattle.vs_rules.specs.vs_threads.specs.Edges as a
 use Rattle.vs_rules.specs.Verdict.{Keeping}
-use Rattle.vs_law_rules.proofs.Beginning.{Beginning, Placed, AllStopped, closed_of, start_stands}
+use Rattle.vs_law_rules.proofs.Beginning.{Beginning, AllStopped, closed_of}
 use Rattle.vs_law_rules.proofs.Walks.{Stands, Closed, Walked, walked_iterate}
-use Rattle.vs_rules.specs.vs_threads.proofs.Links.{copies_bit, root_bit}
 use Rattle.vs_rules.specs.vs_threads.proofs.Threads.{stopped_stays as stopped_turn}
 
 -- ---- what is known where a slot begins
@@ -70,21 +68,47 @@ ended_where b p e = subst (λ x. (if x then ended else p) ≡ ended) (sym e) ref
 found_where : (b : Bool) (p : Place) → b ≡ false → (if b then ended else p) ≡ p
 found_where b p e = subst (λ x. (if x then ended else p) ≡ p) (sym e) refl
 
--- a process is of kind edge or delay, or has nothing to do as a thread
+-- a process is of kind edge, delay or mixed, or of kind comb, or has no entry
+sort_of : (d : Parts) (c : Claims) (i : ℕ) (o : Option Kind) → kind_of d c i ≡ o → IsSequential d c i ⊎ ((blocks_of d c i ≡ true) ⊎ (kind_of d c i ≡ None))
+sort_of d c i (Some (block s)) e = inr (inl (ap is_block_kind e))
+sort_of d c i (Some edges) e = inl (inl e)
+sort_of d c i (Some (delays lists)) e = inl (inr (inl (lists, e)))
+sort_of d c i (Some (mixed lists)) e = inl (inr (inr (lists, e)))
+sort_of d c i None e = inr (inr e)
+
+-- one of the design has an entry
+entered : (d : Parts) (c : Claims) → Keeping d c → (i : ℕ) (p : Process) → slice_get d.processes i ≡ Some p → kind_of d c i ≡ None → ⊥
+entered d c r i p is e =
+    times_one c.processes p.name.items (sym (ap (kind_for c) is) ∙ e) ((r.names_processes i).listed p.name.items (ap (λ (o : Option Process). Rattle.vs_rules.specs.Claims.process_name o) is)).once
+
+-- one that is not of kind comb is of kind edge, delay or mixed
+pub sequential_of : (d : Parts) (c : Claims) → Keeping d c → (i : ℕ) (p : Process) → slice_get d.processes i ≡ Some p → blocks_of d c i ≡ false → IsSequential d c i
+sequential_of d c r i p is free = elim (sort_of d c i (kind_of d c i) refl) [
+  | inl seq ↦ seq
+  | inr more ↦ absurd (elim more [
+    | inl blk ↦ true≢false (sym blk ∙ free)
+    | inr none ↦ entered d c r i p is none
+  ])
+]
+
+-- so is each, or it has nothing to do as a thread
 pub role : (d : Parts) (c : Claims) (b : State) → Begun d c b → (i : ℕ) → IsSequential d c i ⊎ (found (blocks_of d c) b i ≡ ended)
-role d c b g i = by_kind (kind_of d c i) refl (slice_get d.processes i) refl
+role d c b g i = elim (sort_of d c i (kind_of d c i) refl) [
+  | inl seq ↦ inl seq
+  | inr more ↦ inr (elim more [
+    | inl blk ↦ ended_where (blocks_of d c i) (get_or b.places i ended) blk
+    | inr none ↦ by_process none (slice_get d.processes i) refl
+  ])
+]
   where
-    by_kind : (o : Option Kind) → kind_of d c i ≡ o → (p : Option Process) → slice_get d.processes i ≡ p → IsSequential d c i ⊎ (found (blocks_of d c) b i ≡ ended)
-    by_kind (Some (block s)) e p is = inr (ended_where (blocks_of d c i) (get_or b.places i ended) (ap is_block_kind e))
-    by_kind (Some edges) e p is = inl (inl e)
-    by_kind (Some (delays lists)) e p is = inl (inr (lists, e))
-    by_kind None e None is = inr (cond_both (blocks_of d c i) ended (get_or b.places i ended) (λ x. x ≡ ended) (λ h. refl) (λ h. g.absent i is))
-    by_kind None e (Some p) is =
-        absurd (times_one c.processes p.name.items (sym (ap (kind_for c) is) ∙ e) ((g.rules.names_processes i).listed p.name.items (ap (λ (o : Option Process). Rattle.vs_rules.specs.Claims.process_name o) is)).once)
+    by_process : kind_of d c i ≡ None → (p : Option Process) → slice_get d.processes i ≡ p → found (blocks_of d c) b i ≡ ended
+    by_process e None is = cond_both (blocks_of d c i) ended (get_or b.places i ended) (λ x. x ≡ ended) (λ h. refl) (λ h. g.absent i is)
+    by_process e (Some p) is = absurd (entered d c g.rules i p is e)
 
 pub not_block : (d : Parts) (c : Claims) (i : ℕ) → IsSequential d c i → blocks_of d c i ≡ false
 not_block d c i (inl e) = ap is_block_kind e
-not_block d c i (inr lists) = ap is_block_kind lists.1
+not_block d c i (inr (inl delay)) = ap is_block_kind delay.1
+not_block d c i (inr (inr mix)) = ap is_block_kind mix.1
 
 pub seq_found : (d : Parts) (c : Claims) (b : State) (i : ℕ) → IsSequential d c i → found (blocks_of d c) b i ≡ get_or b.places i ended
 seq_found d c b i seq = found_where (blocks_of d c i) (get_or b.places i ended) (not_block d c i seq)
@@ -92,26 +116,12 @@ seq_found d c b i seq = found_where (blocks_of d c i) (get_or b.places i ended) 
 pub closed : (d : Parts) (c : Claims) (b : State) → Begun d c b → (i : ℕ) → IsSequential d c i → Closed d c i
 closed d c b g i seq = closed_of d c i seq (g.rules.edges i) (g.rules.residues i)
 
--- what has stopped where it waits or has ended
-rests : (d : Parts) (c : Claims) (i time : ℕ) (p : Place) → Placed d i time p → is_stopped p ≡ true → Stands d c i time p
-rests d c i time (going gait k) h s = absurd (false≢true s)
-rests d c i time (inactive k) h s = absurd h
-rests d c i time (sleeping due k) h s = absurd h
-rests d c i time (waiting terms k) h s = h
-rests d c i time ended h s = tt
-
 pub zero_less : (n : ℕ) → 0 < n → n ≡ 0 → ⊥
 zero_less n up z = omega (arith, up, z)
 
 -- where the slot finds it, a process stands as the rules say
-pub stands_found : (d : Parts) (c : Claims) (b : State) → Begun d c b → (i : ℕ) → IsSequential d c i → Stands d c i b.time (get_or b.places i ended)
-stands_found d c b g i (inr kind) = (g.begin.delays i kind).stands
-stands_found d c b g i (inl kind) = by_first g.begin.first
-  where
-    by_first : (b ≡ start d) ⊎ ((0 < b.time) ⊎ AllStopped b) → Stands d c i b.time (get_or b.places i ended)
-    by_first (inl e) = subst (λ (s : State). Stands d c i s.time (get_or s.places i ended)) (sym e) (start_stands d c i)
-    by_first (inr (inl up)) = rests d c i b.time (get_or b.places i ended) (g.begin.edges i kind) (g.begin.edges_rest i kind (λ e. zero_less b.time up (ap (λ (s : State). s.time) e)))
-    by_first (inr (inr still)) = rests d c i b.time (get_or b.places i ended) (g.begin.edges i kind) (still i)
+pub stands_found : (d : Parts) (c : Claims) (b : State) → Begun d c b → (i : ℕ) → IsSequential d c i → Stands d c i b.time (found (blocks_of d c) b i)
+stands_found d c b g i seq = subst (Stands d c i b.time) (sym (seq_found d c b i seq)) (g.begin.stands i seq)
 
 -- ---- threads that do nothing
 
@@ -135,7 +145,7 @@ timed_walks d c b g i th is = by_role (role d c b g i)
     by_role (inl seq) = inl (record {
       sequential = seq;
       walked = subst (Walked d c i b.time) is.is
-          (walked_iterate d c i (closed d c b g i seq) b.time is.count first refl refl (subst (Stands d c i b.time) (sym (seq_found d c b i seq)) (stands_found d c b g i seq)));
+          (walked_iterate d c i (closed d c b g i seq) b.time is.count first refl refl (stands_found d c b g i seq));
     })
     by_role (inr e) = inr (sym is.is ∙ stopped_iterate b.time i is.count first (ap is_stopped e))
 

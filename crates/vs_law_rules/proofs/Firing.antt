@@ -33,12 +33,12 @@ use Rattle.vs_rules.specs.vs_threads.specs.Edges.{one_bit, IsBit, Copies}
 use Rattle.vs_rules.specs.vs_threads.specs.Threads.{Fired, given, opening, IsTimed, Fires as Wakes}
 use Rattle.vs_law_rules.proofs.Beginning.{AllStopped}
 use Rattle.vs_law_rules.specs.Laws.{ClockTurns}
-use Rattle.vs_law_rules.proofs.Fire.{Begun, Walking, timed_writes, stopped_writes, closed, seq_found, stands_found, bit_shape, bit_digit, edge_of, edge_counts, edge_phase, zero_less}
+use Rattle.vs_law_rules.proofs.Fire.{Begun, Walking, timed_writes, stopped_writes, closed, stands_found, bit_shape, bit_digit, edge_of, edge_counts, edge_phase, zero_less}
 use Rattle.vs_rules.specs.vs_threads.proofs.Links.{copies_bit, root_bit}
 use Rattle.vs_law_rules.proofs.Lasts.{Last, Bitwise, bit_iterate}
 use Rattle.vs_law_rules.proofs.Roots.{entry_root, one_root, copies_signal}
 use Rattle.vs_law_rules.proofs.Texts.{writes_now}
-use Rattle.vs_law_rules.proofs.Walks.{At, at_zero, at_later, Here, Stands}
+use Rattle.vs_law_rules.proofs.Walks.{At, at_zero, at_later, Here}
 
 -- ---- writers
 
@@ -105,7 +105,7 @@ root_write d c b g root w by value bit timed wrote is one =
     let first = opening (blocks_of d c) b w None in
     let seq = walking.sequential in
     let bits = subst (Bitwise d c w b.time root) timed.is
-    (bit_iterate d c w (closed d c b g w seq) b.time timed.count root first found.0 refl refl (subst (Stands d c w b.time) (sym (seq_found d c b w seq)) (stands_found d c b g w seq))
+    (bit_iterate d c w (closed d c b g w seq) b.time timed.count root first found.0 refl refl (stands_found d c b g w seq)
     (bit_digit b.store root found.0 found.1)) in
     record { walking = walking; last = bits.last wrote; old = found.0; digit = one.0; is = is ∙ ap (λ x. Some x) one.1 }
 

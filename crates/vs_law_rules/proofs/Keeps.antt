@@ -10,7 +10,7 @@ use Rattle.vs_design.specs.WellFormed.{WellFormed}
 use Rattle.vs_independence.specs.vs_process.proofs.ProcessLists.{map_at}
 use Rattle.vs_rules.specs.Claims.{Name, names_process, writer_in, second_in}
 use Rattle.vs_rules.specs.Points as p
-use Rattle.vs_rules.specs.Claims.{Claims, Kind, IsSignalNamed, IsAssignNamed, IsProcessNamed, signal_name, assign_name, process_name, claim_for, claim_of, kind_for, kind_of, mode_in, all_names, IsRootOf, IsSecond, IsSequential}
+use Rattle.vs_rules.specs.Claims.{Claims, Kind, IsSignalNamed, IsAssignNamed, IsProcessNamed, signal_name, assign_name, process_name, claim_for, claim_of, kind_for, kind_of, mode_in, all_names, IsRootOf, IsSecond, WaitsForEdges, WaitsForTimes, IsSequential}
 use Rattle.vs_rules.specs.Paths.{is_plain, Writes}
 use Rattle.vs_rules.specs.Drivers.{Driver}
 use Rattle.vs_rules.specs.Drivers as x
@@ -97,7 +97,16 @@ no_kind d c i kind none is = none-some kind (sym (ap (kind_for c) none) ∙ is)
 
 no_sequential : (d : Parts) (c : Claims) (i : ℕ) → Past d.processes i → IsSequential d c i → ⊥
 no_sequential d c i none (inl edge) = no_kind d c i Kind.edges none edge
-no_sequential d c i none (inr lists) = no_kind d c i (Kind.delays lists.0) none lists.1
+no_sequential d c i none (inr (inl delay)) = no_kind d c i (Kind.delays delay.0) none delay.1
+no_sequential d c i none (inr (inr mix)) = no_kind d c i (Kind.mixed mix.0) none mix.1
+
+no_edges : (d : Parts) (c : Claims) (i : ℕ) → Past d.processes i → WaitsForEdges d c i → ⊥
+no_edges d c i none (inl edge) = no_kind d c i Kind.edges none edge
+no_edges d c i none (inr mix) = no_kind d c i (Kind.mixed mix.0) none mix.1
+
+no_times : (d : Parts) (c : Claims) (i : ℕ) (lists : List (List ℕ)) → Past d.processes i → WaitsForTimes d c i lists → ⊥
+no_times d c i lists none (inl delay) = no_kind d c i (Kind.delays lists) none delay
+no_times d c i lists none (inr mix) = no_kind d c i (Kind.mixed lists) none mix
 
 no_writes : (d : Parts) → WellFormed d → (i v : ℕ) → Past d.signals v → Writes d i v → ⊥
 no_writes d formed i v none w = let there = writes_variable d formed i v w in none-some there.0 (sym none ∙ there.1)
@@ -152,18 +161,20 @@ past_5 d c i none = record {
 
 past_7 : (d : Parts) (c : Claims) (i : ℕ) → Past d.processes i → K7 d c i
 past_7 d c i none = record {
-  events = λ k l number terms edge point go. absurd (no_kind d c i Kind.edges none edge);
+  events = λ k l number terms edge point go. absurd (no_edges d c i none edge);
   no_delay = λ k l number ticks edge point go. no_kind d c i Kind.edges none edge;
-  one_signal = λ t u root edge has hus a b. absurd (no_kind d c i Kind.edges none edge);
-  apart = λ one other r edge a b. absurd (no_kind d c i Kind.edges none edge);
+  one_signal = λ t u root edge has hus a b. absurd (no_edges d c i none edge);
+  apart = λ one other r edge a b. absurd (no_edges d c i none edge);
+  arrives = λ lists delay event r is a b e. no_kind d c i (Kind.mixed lists) none is;
 }
 
 past_8 : (d : Parts) (c : Claims) (i : ℕ) → Past d.processes i → K8 d c i
 past_8 d c i none = record {
   no_event = λ k l number terms delay point go. no_kind d c i (Kind.delays delay.0) none delay.1;
-  one_each = λ lists is. absurd (no_kind d c i (Kind.delays lists) none is);
-  from_start = λ lists k l number ticks is s g up. absurd (no_kind d c i (Kind.delays lists) none is);
-  from_residue = λ lists k l number ticks r is s g. absurd (no_kind d c i (Kind.delays lists) none is);
+  one_each = λ lists is. absurd (no_times d c i lists none is);
+  from_start = λ lists k l number ticks is s g up. absurd (no_times d c i lists none is);
+  from_residue = λ lists k l number ticks r is s g. absurd (no_times d c i lists none is);
+  from_edge = λ lists k l number ticks r is s g. absurd (no_kind d c i (Kind.mixed lists) none is);
 }
 
 past_10p : (d : Parts) (c : Claims) (i : ℕ) → Past d.processes i → K10_Process d c i

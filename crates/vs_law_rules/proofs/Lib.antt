@@ -10,6 +10,7 @@ pub mod Lasts
 pub mod Fire
 pub mod Firing
 pub mod Threads
+pub mod Resumed
 pub mod Variables
 pub mod Waits
 pub mod Cones
@@ -30,6 +31,8 @@ pub mod Turning
 pub mod Seconds
 pub mod Phases
 pub mod Started
+pub mod Begins
+pub mod Runs
 pub mod Ruled
 pub mod Keeps
 pub mod Rises

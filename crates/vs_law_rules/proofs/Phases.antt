@@ -12,7 +12,7 @@ use Rattle.vs_design.specs.declared.statement.Statement.TheOpen.{Statement-F}
 use Rattle.vs_design.specs.declared.statement.Statement.TheViews.{roll-Statement, roll-out-Statement}
 use Rattle.vs_design.specs.Parts.{Parts}
 use Rattle.vs_design.specs.Stores.{Store, put}
-use Rattle.vs_design.specs.WellFormed.{WellFormed, counts_from, is_body_of, is_sound_process, is_sound_statement, numbers}
+use Rattle.vs_design.specs.WellFormed.{WellFormed, is_sound_statement}
 use Rattle.vs_design.specs.Writes.{Write}
 use Rattle.vs_process.specs.Drafts.{flat_all}
 use Rattle.vs_process.specs.declared.gait.Gait.{Gait}
@@ -26,7 +26,6 @@ use Rattle.vs_independence.specs.vs_process.specs.declared.moves.Grain.{Grain}
 use Rattle.vs_independence.specs.vs_process.specs.declared.moves.Move.{Move}
 use Rattle.vs_independence.specs.vs_process.specs.States.{State, start, roused, wakened, woken_at, place_behind}
 use Rattle.vs_independence.specs.vs_process.specs.Executions.{after as reached, Legal}
-use Rattle.vs_independence.specs.vs_process.proofs.ProcessLists.{all_slice}
 use Rattle.vs_independence.specs.vs_process.proofs.WellFormed.{variable_undriven}
 use Rattle.vs_rules.specs.vs_threads.specs.Threads.{store_behind, Thread, opening, writes, IsTimed}
 use Rattle.vs_rules.specs.vs_threads.proofs.Threads.{is_stopped}
@@ -37,7 +36,7 @@ use Rattle.vs_law_rules.specs.Laws.{TimeRises, ClockTurns}
 use Rattle.vs_rules.specs.Paths.{Writes, IsSlot0, WritesNow, Path, begins, is_zero_time, statement_now, todo_now}
 use Rattle.vs_rules.specs.Rules.{IsOneBit, CopiesRoot}
 use Rattle.vs_rules.specs.Rules as r
-use Rattle.vs_law_rules.proofs.Beginning.{Waits, delay_steady, closed_of, start_stands, start_timed, still_at_end}
+use Rattle.vs_law_rules.proofs.Beginning.{delay_steady, closed_of, start_stands, still_at_end}
 use Rattle.vs_law_rules.proofs.Boundary.{holds_after}
 use Rattle.vs_law_rules.proofs.Clocks.{Bared, bare_flat, flat_inside, Loop, loop_of}
 use Rattle.vs_law_rules.proofs.Fire.{zero_less, bit_digit, seq_found}
@@ -208,10 +207,10 @@ first_seen grain d c T root up writer S j second first =
         by_at (at_zero same s) = (root.rules.writers T.root).first_alone j T.process k second writer s now
         by_at (at_later later late slot) = zero_less time later z
 
-    waits : (moves : List Move) → Legal grain d moves → Waits d c T.process (reached d moves).time (get_or (reached d moves).places T.process ended)
-    waits moves l =
-        holds_after grain d (Waits d c T.process) (delay_steady d c T.process kind (closed_of d c T.process (inr kind) (root.rules.edges T.process) (root.rules.residues T.process)) (root.rules.residues T.process)) T.process
-        (record { stands = start_stands d c T.process; timed = start_timed d T.process }) moves l
+    stands : (moves : List Move) → Legal grain d moves → Stands d c T.process (reached d moves).time (get_or (reached d moves).places T.process ended)
+    stands moves l =
+        holds_after grain d (Stands d c T.process) (delay_steady d c T.process kind (closed_of d c T.process (inr (inl kind)) (root.rules.edges T.process) (root.rules.residues T.process)) (root.rules.residues T.process)) T.process
+        (start_stands d c T.process) moves l
 
     stays : (moves : List Move) → Legal grain d moves → (time i : ℕ) (gait : Gait) (k : Todo) (p : Place) (store : Store) (w : Write) → (reached d moves).time ≡ time → slice_get (reached d moves).places i ≡ Some (going gait k) →
         WritesNow d (erased k) T.root → (j ≡ i → ⊥) → First d T S time p store → First d T S time p (put store w)
@@ -224,7 +223,7 @@ first_seen grain d c T root up writer S j second first =
         by_role z (inl other) =
             let same : i ≡ T.process = one_writer d c root.formed T.root i T.process other writer in
             let place : get_or (reached d moves).places T.process ended ≡ going gait k = ap (λ n. get_or (reached d moves).places n ended) (sym same) ∙ get_or_from_slice_get (reached d moves).places i (going gait k) ended is in
-            silent (reached d moves).time (erased k) (subst (Stands d c T.process (reached d moves).time) place (waits moves l).stands) now (at ∙ z)
+            silent (reached d moves).time (erased k) (subst (Stands d c T.process (reached d moves).time) place (stands moves l)) now (at ∙ z)
     stays moves l time i gait k (sleeping due todo) store w at is now ne h = absurd h
     stays moves l time i gait k (inactive todo) store w at is now ne h = absurd h
     stays moves l time i gait k (waiting terms todo) store w at is now ne h = absurd h
@@ -275,7 +274,7 @@ phase_at : (grain : Grain) (d : Parts) (c : Claims) (b : State) → BeginsSlot g
 phase_at grain d c b h T P before kind seen by timed wrote =
     subst (λ (t : Thread). Has d T b.time t.view) timed.is
     (thread_has d T P before b.time T.process timed.count (opening (blocks_of d c) b T.process None) refl
-    (subst (λ p. Clocked d T P b.time p b.store) (sym (seq_found d c b T.process (inr kind))) (subst (λ (s : State). Seen (Clocked d T P) T.process s) h.is (seen h.moves h.legal)))
+    (subst (λ p. Clocked d T P b.time p b.store) (sym (seq_found d c b T.process (inr (inl kind)))) (subst (λ (s : State). Seen (Clocked d T P) T.process s) h.is (seen h.moves h.legal)))
     (subst (λ (t : Thread). writes t T.root ≡ true) (sym timed.is) wrote))
 
 -- all that is given

@@ -145,9 +145,9 @@ now_later d v [] {x} is now = none-some x is
 now_later d v (perform s ∷ rest) {x} is now = statement_apart d (out-Statement s) v x is now
 now_later d v (turns m s ∷ rest) {x} is now = none-some x is
 
--- its writer is of kind edge or delay
+-- its writer is of kind edge, delay or mixed
 seq_of : (d : Parts) (c : Claims) (g w : ℕ) → MayStart d c g w → IsSequential d c w
-seq_of d c g w (inl may) = inr may.1
+seq_of d c g w (inl may) = inr (inl may.1)
 seq_of d c g w (inr may) = may.2
 
 -- ---- along the turns of the process that starts the block

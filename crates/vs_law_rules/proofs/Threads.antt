@@ -8,7 +8,7 @@ use Rattle.vs_design.specs.Parts.{Parts}
 use Rattle.vs_process.specs.declared.gait.Gait.TheVariants.{Woken}
 use Rattle.vs_process.specs.Nexts.{erased}
 use Rattle.vs_process.specs.Places.{perform, turns, Todo, Place, going, sleeping, inactive, waiting, ended}
-use Rattle.vs_process.specs.Steps.{wait}
+use Rattle.vs_process.specs.Steps.{Next, wait}
 use Rattle.vs_independence.specs.vs_process.specs.Executions.{is_level}
 use Rattle.vs_independence.specs.vs_process.specs.States.{State, start, triggered}
 use Rattle.vs_independence.specs.vs_process.proofs.ProcessLists.{none_at}
@@ -16,17 +16,19 @@ use Rattle.vs_rules.specs.vs_threads.specs.Threads.{Thread, turn, iterate, write
 use Rattle.vs_rules.specs.vs_threads.proofs.Lists.{place_of}
 use Rattle.vs_rules.specs.vs_threads.proofs.Threads.{is_stopped}
 use Rattle.vs_rules.proofs.Points.{erased_reads}
-use Rattle.vs_rules.specs.Claims.{Claims, Kind, blocks_of, IsEdge, IsSequential}
-use Rattle.vs_rules.specs.Paths.{begins, IsHot, HasTerm, IsHeardAtStart}
+use Rattle.vs_rules.specs.Claims.{Claims, blocks_of, WaitsForEdges, IsSequential}
+use Rattle.vs_rules.specs.Verdict.{Keeping}
+use Rattle.vs_rules.specs.Paths.{Path, is_zero_time, IsHot, HasTerm, IsHeardAtStart}
 use Rattle.vs_rules.specs.Rules.{Reads}
-use Rattle.vs_rules.specs.Slots.{Fires, Ends}
+use Rattle.vs_rules.specs.Slots.{Fires}
 use Rattle.vs_rules.specs.vs_threads.specs.Threads.{Fired, found, opening, is_timed, Fires as Wakes, MayOpen, IsThread}
 use Rattle.vs_law_rules.specs.Laws.{ClockTurns}
-use Rattle.vs_law_rules.proofs.Fire.{Begun, Walking, role, seq_found, closed, stands_found, stopped_iterate}
-use Rattle.vs_law_rules.proofs.Early.{found_waits}
+use Rattle.vs_law_rules.proofs.Beginning.{edge_ends}
+use Rattle.vs_law_rules.proofs.Fire.{Begun, Walking, role, closed, stands_found, stopped_iterate}
+use Rattle.vs_law_rules.proofs.Early.{LedFrom, found_waits}
 use Rattle.vs_law_rules.proofs.Firing.{none_fires, fires_at}
 use Rattle.vs_law_rules.proofs.Texts.{none_in}
-use Rattle.vs_law_rules.proofs.Walks.{point_on, at_later, Here, Heard, HotAt, Stands, Walked, walked_iterate, stands_active}
+use Rattle.vs_law_rules.proofs.Walks.{point_on, late_behind, slot_behind, at_later, Here, Heard, HotAt, Stands, Walked, walked_iterate, stands_active}
 
 -- ---- what waits
 
@@ -40,15 +42,16 @@ waiting_timed p terms k e h = false≢true (subst (λ (q : Place). is_timed q �
 pub heard_term : (d : Parts) (i : ℕ) (terms : List EventTerm) (k : Todo) (t : EventTerm) → Heard d i terms k → Contains terms t → HasTerm d i t
 heard_term d i terms k t h is = record { control = h.control; number = h.number; terms = terms; behind = k; point = h.point; goes = h.way; is = is }
 
--- a process that waits for terms of its text is of kind edge, and they are edge terms
-pub heard_edge : (d : Parts) (c : Claims) (b : State) → Begun d c b → (i : ℕ) (terms : List EventTerm) (k : Todo) → IsSequential d c i → Heard d i terms k → IsEdge d c i
-heard_edge d c b g i terms k (inl edge) h = edge
-heard_edge d c b g i terms k (inr delay) h = absurd ((g.rules.residues i).no_event h.control k h.number terms delay h.point h.way)
+-- a process with an event control is of kind edge or mixed, and its terms are edge terms
+pub hears_edges : (d : Parts) (c : Claims) → Keeping d c → (i : ℕ) (t : EventTerm) → IsSequential d c i → HasTerm d i t → WaitsForEdges d c i
+hears_edges d c r i t (inl edge) h = inl edge
+hears_edges d c r i t (inr (inl delay)) h = absurd ((r.residues i).no_event h.control h.behind h.number h.terms delay h.point h.goes)
+hears_edges d c r i t (inr (inr mix)) h = inr mix
 
-pub heard_level : (d : Parts) (c : Claims) (b : State) → Begun d c b → (i : ℕ) (terms : List EventTerm) (k : Todo) (t : EventTerm) → IsEdge d c i → Heard d i terms k → Contains terms t → is_level t ≡ false
-heard_level d c b g i terms k t edge h is =
-    let there = place_of terms t is in
-    none_at is_level terms there.0 t there.1 ((g.rules.edges i).events h.control k h.number terms edge h.point h.way)
+pub hears_level : (d : Parts) (c : Claims) → Keeping d c → (i : ℕ) (t : EventTerm) → IsSequential d c i → HasTerm d i t → is_level t ≡ false
+hears_level d c r i t seq h =
+    let there = place_of h.terms t h.is in
+    none_at is_level h.terms there.0 t there.1 ((r.edges i).events h.control h.behind h.number h.terms (hears_edges d c r i t seq h) h.point h.goes)
 
 pub zero_or : (n : ℕ) → (n ≡ 0) ⊎ (0 < n)
 zero_or zero = inl refl
@@ -58,54 +61,46 @@ zero_or (suc n) = inr (omega arith)
 
 -- what fired a thread
 pub record Opened (d : Parts) (c : Claims) (b : State) (i : ℕ) (f : Fired) : Type 0 where
-  pub edge : IsEdge d c i
+  pub edge : WaitsForEdges d c i
   pub up : 0 < b.time
   pub term : EventTerm
   pub has : HasTerm d i term
   pub of : term.range.signal ≡ f.signal
   pub fires : Fires d c term (b.time % c.modulus)
 
-pub opened : (d : Parts) (c : Claims) (b : State) → Begun d c b → ClockTurns d c b → (i : ℕ) (f : Fired) → IsSequential d c i → (terms : List EventTerm) (k : Todo) (t : EventTerm) → Heard d i terms k → Contains terms t →
+pub opened : (d : Parts) (c : Claims) (b : State) → Begun d c b → ClockTurns d c b → (i : ℕ) (f : Fired) → IsSequential d c i → (t : EventTerm) → HasTerm d i t →
     Wakes d (blocks_of d c) b t f → (b ≡ start d → IsHeardAtStart d i t) → Opened d c b i f
-opened d c b g clocks i f seq terms k t h is w first = at_time (zero_or b.time)
+opened d c b g clocks i f seq t has w first = at_time (zero_or b.time)
   where
-    edge : IsEdge d c i
-    edge = heard_edge d c b g i terms k seq h
-
-    has : HasTerm d i t
-    has = heard_term d i terms k t h is
-
     level : is_level t ≡ false
-    level = heard_level d c b g i terms k t edge h is
+    level = hears_level d c g.rules i t seq has
 
     at_time : (b.time ≡ 0) ⊎ (0 < b.time) → Opened d c b i f
     at_time (inl z) = absurd (none_fires d c b g i t f has level w first z)
-    at_time (inr up) = record { edge = edge; up = up; term = t; has = has; of = w.term; fires = fires_at d c b g clocks i t f has level w up }
+    at_time (inr up) = record { edge = hears_edges d c g.rules i t seq has; up = up; term = t; has = has; of = w.term; fires = fires_at d c b g clocks i t f has level w up }
 
 triggered_stands : (d : Parts) (c : Claims) (b : State) → Begun d c b → ClockTurns d c b → (i : ℕ) (f : Fired) → IsSequential d c i → (p : Place) (terms : List EventTerm) (k : Todo) (t : EventTerm) → p ≡ waiting terms k →
     Stands d c i b.time p → Contains terms t → Wakes d (blocks_of d c) b t f → (b ≡ start d → ⊥) → Stands d c i b.time (triggered p)
 triggered_stands d c b g clocks i f seq p terms k t e stands is w late =
     subst (λ (q : Place). Stands d c i b.time (triggered q)) (sym e)
     (stands_active d c i b.time Woken k (record {
-      point = point_on d i heard.control (wait heard.number terms (erased k)) heard.point heard.way;
-      at = at_later o.up
-          (record { at = heard.control; next = wait heard.number terms (erased k); point = heard.point; goes = heard.way; starts = refl; path = begins })
-          (record {
-            at = heard.control;
-            next = wait heard.number terms (erased k);
-            point = heard.point;
-            goes = heard.way;
-            starts = subst (λ (kind : Option Kind). Ends d c i kind (wait heard.number terms (erased k)) (b.time % c.modulus)) (sym o.edge)
-                (t, is, fires_at d c b g clocks i t f (heard_term d i terms (erased k) t heard is) (heard_level d c b g i terms (erased k) t o.edge heard is) w o.up);
-            path = begins;
-          });
+      point = point_on d i heard.control next heard.point heard.way;
+      at = at_later o.up (late_behind d i heard.control next heard.point heard.way refl)
+          (slot_behind d c i heard.control next (b.time % c.modulus) heard.point heard.way
+          (edge_ends d c i o.edge next (b.time % c.modulus) (t, is, fires_at d c b g clocks i t f has (hears_level d c g.rules i t seq has) w o.up)));
     }))
   where
     heard : Heard d i terms (erased k)
     heard = subst (Stands d c i b.time) e stands
 
+    next : Next
+    next = wait heard.number terms (erased k)
+
+    has : HasTerm d i t
+    has = heard_term d i terms (erased k) t heard is
+
     o : Opened d c b i f
-    o = opened d c b g clocks i f seq terms (erased k) t heard is w (λ first. absurd (late first))
+    o = opened d c b g clocks i f seq t has w (λ first. absurd (late first))
 
 -- a thread walks, or has nothing to do
 pub thread_walks : (d : Parts) (c : Claims) (b : State) → Begun d c b → ClockTurns d c b → (i : ℕ) (th : Thread) → IsThread d (blocks_of d c) b i th → Walking d c i b.time th ⊎ (th ≡ opening (blocks_of d c) b i None) × (found (blocks_of d c) b i ≡ ended)
@@ -114,15 +109,12 @@ thread_walks d c b g clocks i th is = by_role (role d c b g i)
     blocks : ℕ → Bool
     blocks = blocks_of d c
 
-    stands : IsSequential d c i → Stands d c i b.time (found blocks b i)
-    stands seq = subst (Stands d c i b.time) (sym (seq_found d c b i seq)) (stands_found d c b g i seq)
-
     by_input : IsSequential d c i → (input : Option Fired) → MayOpen d blocks b i input → iterate is.count (turn b.time i) (opening blocks b i input) ≡ th → Walked d c i b.time th
-    by_input seq None may e = subst (Walked d c i b.time) e (walked_iterate d c i (closed d c b g i seq) b.time is.count (opening blocks b i None) refl refl (stands seq))
+    by_input seq None may e = subst (Walked d c i b.time) e (walked_iterate d c i (closed d c b g i seq) b.time is.count (opening blocks b i None) refl refl (stands_found d c b g i seq))
     by_input seq (Some f) may e =
         subst (Walked d c i b.time) e
         (walked_iterate d c i (closed d c b g i seq) b.time is.count (opening blocks b i (Some f)) refl refl
-        (triggered_stands d c b g clocks i f seq (found blocks b i) may.terms may.todo may.term may.at (stands seq) may.is may.fires
+        (triggered_stands d c b g clocks i f seq (found blocks b i) may.terms may.todo may.term may.at (stands_found d c b g i seq) may.is may.fires
         (λ first. found_waits d blocks b first i may.terms may.todo may.at)))
 
     by_ended : found blocks b i ≡ ended → (input : Option Fired) → MayOpen d blocks b i input → iterate is.count (turn b.time i) (opening blocks b i input) ≡ th → th ≡ opening blocks b i None
@@ -173,6 +165,7 @@ pub record Reading (d : Parts) (c : Claims) (i time : ℕ) (r : BitRange) (p : P
   pub here : Here d c i time k
   pub reads : Reads d c k r
   pub hot : (u : ℕ) → HotAt d i u p → IsHot d i u k
+  pub led : (from : Todo) → LedFrom from p → Path is_zero_time from k
 
 pub reading : (d : Parts) (c : Claims) (i time : ℕ) (r : BitRange) (p : Place) → Stands d c i time p → Looks c p r → Reading d c i time r p
 reading d c i time r (going gait k) h (inl reads) = record {
@@ -180,12 +173,14 @@ reading d c i time r (going gait k) h (inl reads) = record {
   here = h;
   reads = inl (subst (λ rs. Contains rs r) (sym (erased_reads k)) reads, tt);
   hot = λ u hot. hot;
+  led = λ from led. led;
 }
 reading d c i time r (going gait k) h (inr (displays, shows)) = record {
   k = erased k;
   here = h;
   reads = inr (displays, (subst (λ rs. Contains rs r) (sym (erased_shows k)) shows, tt));
   hot = λ u hot. hot;
+  led = λ from led. led;
 }
 reading d c i time r (sleeping due k) h looks = absurd (no_looks c r looks)
 reading d c i time r (inactive k) h looks = absurd (no_looks c r looks)

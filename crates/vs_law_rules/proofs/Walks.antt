@@ -39,11 +39,19 @@ pub record Here (d : Parts) (c : Claims) (i time : ℕ) (k : Todo) : Type 0 wher
   pub point : IsPoint d i k
   pub at : At d c i time k
 
+-- behind a delay control of its text, of more than zero ticks, that can end then
+pub record Delayed (d : Parts) (c : Claims) (i due : ℕ) (k : Todo) : Type 0 where
+  pub control : Todo
+  pub number : ℕ
+  pub ticks : ℕ
+  pub point : IsPoint d i control
+  pub way : Goes control (after number ticks k)
+  pub above : 0 < ticks
+  pub ends : Ends d c i (kind_of d c i) (after number ticks k) (due % c.modulus)
+
 pub record Asleep (d : Parts) (c : Claims) (i time due : ℕ) (k : Todo) : Type 0 where
-  pub point : IsPoint d i k
   pub up : time < due
-  pub late : IsLate d i k
-  pub slot : HasSlot d c i k (due % c.modulus)
+  pub delayed : Delayed d c i due k
 
 -- it waits behind an event control of its text
 pub record Heard (d : Parts) (i : ℕ) (terms : List EventTerm) (k : Todo) : Type 0 where
@@ -77,7 +85,7 @@ late_behind d i k next p g pauses = record { at = k; next = next; point = p; goe
 slot_on : (d : Parts) (c : Claims) (i : ℕ) (k l : Todo) (r : ℕ) → HasSlot d c i k r → Goes k (on l) → HasSlot d c i l r
 slot_on d c i k l r h g = record { at = h.at; next = h.next; point = h.point; goes = h.goes; starts = h.starts; path = goes k l (on l) h.path g refl refl }
 
-slot_behind : (d : Parts) (c : Claims) (i : ℕ) (k : Todo) (next : Next) (r : ℕ) → IsPoint d i k → Goes k next → Ends d c i (kind_of d c i) next r → HasSlot d c i (todo_behind next) r
+pub slot_behind : (d : Parts) (c : Claims) (i : ℕ) (k : Todo) (next : Next) (r : ℕ) → IsPoint d i k → Goes k next → Ends d c i (kind_of d c i) next r → HasSlot d c i (todo_behind next) r
 slot_behind d c i k next r p g e = record { at = k; next = next; point = p; goes = g; starts = e; path = begins }
 
 pub stands_active : (d : Parts) (c : Claims) (i time : ℕ) (gait : Gait) (k : Todo) → Here d c i time (erased k) → Stands d c i time (active_at gait k)
@@ -101,12 +109,19 @@ here_zero d c i closed time number k l h g = record { point = point_on d i k (af
         (slot_behind d c i k (after number 0 l) (time % c.modulus) h.point g
         (subst (Ends d c i (kind_of d c i) (after number 0 l)) (mod_sum time 0 c.modulus ∙ ap (λ n. n % c.modulus) (add-zero time)) (closed.from_residue k l number 0 (time % c.modulus) slot g)))
 
+-- where it can be then
+pub delayed_here : (d : Parts) (c : Claims) (i time : ℕ) (k : Todo) → 0 < time → Delayed d c i time k → Here d c i time k
+delayed_here d c i time k up h =
+    let next = after h.number h.ticks k in
+    record {
+      point = point_on d i h.control next h.point h.way;
+      at = at_later up (late_behind d i h.control next h.point h.way refl) (slot_behind d c i h.control next (time % c.modulus) h.point h.way h.ends);
+    }
+
 asleep_after : (d : Parts) (c : Claims) (i : ℕ) → Closed d c i → (time number ticks : ℕ) (k l : Todo) → 0 < ticks → Here d c i time k → Goes k (after number ticks l) → Asleep d c i time (time + ticks) l
 asleep_after d c i closed time number ticks k l up h g = record {
-  point = point_on d i k (after number ticks l) h.point g;
   up = omega (arith, up);
-  late = late_behind d i k (after number ticks l) h.point g refl;
-  slot = slot_behind d c i k (after number ticks l) ((time + ticks) % c.modulus) h.point g (ends_of h.at);
+  delayed = record { control = k; number = number; ticks = ticks; point = h.point; way = g; above = up; ends = ends_of h.at };
 }
   where
     ends_of : At d c i time k → Ends d c i (kind_of d c i) (after number ticks l) ((time + ticks) % c.modulus)

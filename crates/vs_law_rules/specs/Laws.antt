@@ -87,7 +87,7 @@ ClocksTurn = (grain : Grain) (d : Parts) (c : Claims) → WellFormed d → Disci
 abbrev pub RulesMakeIndependent : Type 0
 RulesMakeIndependent = (d : Parts) (c : Claims) → WellFormed d → Disciplined d c → Independent c.grain d
 
--- nor, where its certificate says so, do the lines, and their order, that a process of kind edge or delay prints by `$display` in a slot
+-- nor, where its certificate says so, do the lines, and their order, that a process of another kind than comb prints by `$display` in a slot
 abbrev pub RulesMakeDisplaysAlike : Type 0
 RulesMakeDisplaysAlike =
     (d : Parts) (c : Claims) → WellFormed d → Disciplined d c → c.displays ≡ true → DisplaysAlike c.grain d (λ i. not (blocks_of d c i))

@@ -1,27 +1,28 @@
 -- A rule that a design keeps, one keeps that says the same: those that aren't of combinational blocks alone.
-use Rattle.std.proofs.Common.{◌≡◌, ℕ, ◌%◌, ◌+◌, ◌⊎◌, true, false, Some, length, ap, sym, subst, ◌∙◌, inl, inr}
+use Rattle.std.proofs.Common.{◌≡◌, ℕ, ◌%◌, ◌+◌, ◌⊎◌, true, false, Some, length, refl, ap, sym, subst, ◌∙◌, inl, inr}
 use Rattle.vs_design.specs.declared.range.BitRange.{BitRange}
 use Rattle.vs_design.specs.Parts.{Parts}
 use Rattle.vs_design.specs.Uses.{reads, writes}
 use Rattle.vs_threads.specs.vs_process.specs.Numbers.{number_next}
 use Rattle.vs_threads.specs.vs_process.specs.Places.{Todo}
-use Rattle.vs_threads.specs.vs_process.specs.Steps.{after}
+use Rattle.vs_threads.specs.vs_process.specs.Steps.{Next, after}
 use Rattle.vs_elab_statements.specs.vs_elab_listed.specs.Outlines.{Declared}
 use Rattle.vs_rules.specs.Claims.{Name, Mode, net, unwritten, combinational, nonblocking, blocking, private, both, Claims, writer_in, second_in, IsBlock, IsDelay, IsSequential}
 use Rattle.vs_rules.specs.Constants.{bit_of}
 use Rattle.vs_rules.specs.Drivers.{Driver, block}
+use Rattle.vs_rules.specs.Points.{Goes}
 use Rattle.vs_rules.specs.Paths.{Bit, any_way, is_plain, is_zero_time, IsPoint, IsHot, WritesNow, reads_of}
-use Rattle.vs_rules.specs.Rules.{K1_Signal, K1_Assign, K1_Process, K1_Name, K2, HasWriter, NeverNow, NeverLater, MayBlock, IsPrivate, IsAsModeSays, K3, IsDriven, IsCovered, K4, IsEdgeSignal, IsOneBit, IsCopy, CopiesRoot, itself, copy, IsSoundRoot, K6, K7, K8, IsOwnRead, IsOwnEdge, AreApart, K9, FiresNone, K10_Signal, BlockNeeds, needs, shows, K10_Process}
-use Rattle.vs_rules.specs.Slots.{HasSlot}
+use Rattle.vs_rules.specs.Rules.{K1_Signal, K1_Assign, K1_Process, K1_Name, K2, HasWriter, NeverNow, NeverLater, MayBlock, IsPrivate, IsAsModeSays, K3, IsDriven, IsCovered, K4, IsEdgeSignal, IsOneBit, IsCopy, CopiesRoot, itself, copy, IsSoundRoot, K6, Arrives, K7, K8, IsOwnRead, IsOwnEdge, AreApart, K9, FiresNone, K10_Signal, BlockNeeds, needs, shows, K10_Process}
+use Rattle.vs_rules.specs.Slots.{DelayEnds, RunsByDelays, HasSlot}
 use Rattle.vs_law_source.proofs.Clocks.{sizes}
 use Rattle.vs_law_source.proofs.Cones.{texts_read, texts_control, writes_as, bit_as, driver_as, driver_reads_as, driver_needs_as, stands_before_as, writes_bit_as, source_as, blocking_as, cone_as}
 use Rattle.vs_law_source.proofs.Designs.{Twins, back, signal_there, assign_there}
 use Rattle.vs_law_source.proofs.Done.{listed_as, number_same, writes_now_as, writes_later_as, writes_any_as, shows_now_as, reads_as, gives_digit_as, HasNumber, read_number, write_number}
-use Rattle.vs_law_source.proofs.Named.{signal_named_as, process_named_as, assign_named_as, claims_same, writer_as, second_as, mode_as, kind_as, block_as, edge_as, lists_as, delay_as, sequential_as, root_of_as, root_as}
-use Rattle.vs_law_source.proofs.Slots.{delay_ends_as, runs_by_delays_as, has_slot_as, slot_point, write_slot_as, fires_of_as}
-use Rattle.vs_law_source.proofs.Todos.{AlikeTodo, both_after, todo_turned}
+use Rattle.vs_law_source.proofs.Named.{signal_named_as, process_named_as, assign_named_as, claims_same, writer_as, second_as, mode_as, kind_as, block_as, edge_as, delay_as, mixed_lists_as, mixed_as, waits_for_edges_as, waits_for_times_as, sequential_as, root_of_as, root_as}
+use Rattle.vs_law_source.proofs.Slots.{delay_ends_as, edge_ends_as, runs_by_delays_as, runs_by_edges_as, has_slot_as, slot_point, write_slot_as, fires_of_as}
+use Rattle.vs_law_source.proofs.Todos.{AlikeTodo, AlikeNext, both_after, goes_as, todo_turned}
 use Rattle.vs_law_source.proofs.Trees.{whole_as, whole_target_as}
-use Rattle.vs_law_source.proofs.Walks.{TwinOf, goes_after_as, goes_wait_as, point_as, slot0_as, prologue_as, slot0_point, late_as, hot_as, from_point, heard_at_start_as, term_as, one_here}
+use Rattle.vs_law_source.proofs.Walks.{TwinOf, path_as, zero_same, goes_after_as, goes_wait_as, point_as, slot0_as, prologue_as, slot0_point, late_as, hot_as, from_point, heard_at_start_as, term_as, one_here}
 
 -- one of two, as one of two others
 pub either_as : {A B C D : Type 0} → (A → C) → (B → D) → A ⊎ B → C ⊎ D
@@ -86,7 +87,8 @@ never_later_as {d} {d'} t v i h = λ k p w. let q = point_as (back t) i k p in h
 
 may_block_as : {d d' : Parts} → Twins d d' → (c : Claims) (i : ℕ) → MayBlock d c i → MayBlock d' c i
 may_block_as t c i (inl h) = inl (delay_as t c i h)
-may_block_as t c i (inr h) = inr (h.0, edge_as t c i h.1)
+may_block_as t c i (inr (inl h)) = inr (inl (h.0, edge_as t c i h.1))
+may_block_as t c i (inr (inr h)) = inr (inr (mixed_as t c i h))
 
 private_as : {d d' : Parts} → Twins d d' → (v i : ℕ) → IsPrivate d v i → IsPrivate d' v i
 private_as {d} {d'} t v i h =
@@ -189,6 +191,40 @@ k6_as t c v h =
 
 -- ---- K7
 
+-- the way from a delay control to an event control, in what says the same
+record ArrivesToo (d : Parts) (i : ℕ) (one other : Next) : Type 0 where
+  delay : Next
+  event : Next
+  is : Arrives d i delay event
+  same : AlikeNext one delay
+  same_event : AlikeNext other event
+
+arrives_as : {d d' : Parts} → Twins d d' → (i : ℕ) (delay event : Next) → Arrives d i delay event → ArrivesToo d' i delay event
+arrives_as t i delay event h =
+    let p = point_as t i h.from h.point in
+    let m = goes_after_as h.from p.to h.behind h.number h.ticks p.same (subst (Goes h.from) h.delay_is h.goes) in
+    let q = path_as is_zero_time zero_same h.behind m.to h.to m.same h.path in
+    let e = goes_as h.to q.to event q.same h.waits in
+    record {
+      delay = after h.number h.ticks m.to;
+      event = e.to;
+      is = record {
+        from = p.to;
+        number = h.number;
+        ticks = h.ticks;
+        behind = m.to;
+        delay_is = refl;
+        point = p.is;
+        goes = m.is;
+        above = h.above;
+        to = q.to;
+        path = q.is;
+        waits = e.goes;
+      };
+      same = subst (λ (n : Next). AlikeNext n (after h.number h.ticks m.to)) (sym h.delay_is) (both_after h.number h.ticks h.behind m.to m.same);
+      same_event = e.same;
+    }
+
 pub k7_as : {d d' : Parts} → Twins d d' → (c : Claims) (i : ℕ) → K7 d c i → K7 d' c i
 k7_as t c i h =
     let u = back t in
@@ -196,14 +232,17 @@ k7_as t c i h =
       events = λ k l number terms e p g.
           let q = point_as u i k p in
           let m = goes_wait_as k q.to l number terms q.same g in
-          h.events q.to m.to number terms (edge_as u c i e) q.is m.is;
+          h.events q.to m.to number terms (waits_for_edges_as u c i e) q.is m.is;
       no_delay = λ k l number ticks e p g.
           let q = point_as u i k p in
           let m = goes_after_as k q.to l number ticks q.same g in
           h.no_delay q.to m.to number ticks (edge_as u c i e) q.is m.is;
       one_signal = λ one other root e a b r s.
-          h.one_signal one other root (edge_as u c i e) (term_as u i one a) (term_as u i other b) (root_of_as u c root one.range.signal r) (root_of_as u c root other.range.signal s);
-      apart = λ one other r e a b. h.apart one other r (edge_as u c i e) (fires_of_as u c i one r a) (fires_of_as u c i other r b);
+          h.one_signal one other root (waits_for_edges_as u c i e) (term_as u i one a) (term_as u i other b) (root_of_as u c root one.range.signal r) (root_of_as u c root other.range.signal s);
+      apart = λ one other r e a b. h.apart one other r (waits_for_edges_as u c i e) (fires_of_as u c i one r a) (fires_of_as u c i other r b);
+      arrives = λ lists delay event r e a x y.
+          let m = arrives_as u i delay event a in
+          h.arrives lists m.delay m.event r (mixed_lists_as u c i lists e) m.is (delay_ends_as u i lists delay m.delay r m.same x) (edge_ends_as u c event m.event r m.same_event y);
     }
 
 -- ---- K8
@@ -216,31 +255,25 @@ k8_as t c i h =
           let q = point_as u i k p in
           let m = goes_wait_as k q.to l number terms q.same g in
           h.no_event q.to m.to number terms (delay_as u c i e) q.is m.is;
-      one_each = λ lists e. h.one_each lists (lists_as u c i lists e) ∙ ap length (texts_control t i);
+      one_each = λ lists e. h.one_each lists (waits_for_times_as u c i lists e) ∙ ap length (texts_control t i);
       from_start = λ lists k l number ticks e o g above.
           let q = slot0_as u i k o in
           let m = goes_after_as k q.to l number ticks q.same g in
           delay_ends_as t i lists (after number ticks m.to) (after number ticks l) (ticks % c.modulus) (both_after number ticks m.to l (todo_turned l m.to m.same))
-          (h.from_start lists q.to m.to number ticks (lists_as u c i lists e) q.is m.is above);
+          (h.from_start lists q.to m.to number ticks (waits_for_times_as u c i lists e) q.is m.is above);
       from_residue = λ lists k l number ticks r e o g.
           let q = runs_by_delays_as u i lists k r o in
           let m = goes_after_as k q.to l number ticks q.same g in
           delay_ends_as t i lists (after number ticks m.to) (after number ticks l) ((r + ticks) % c.modulus) (both_after number ticks m.to l (todo_turned l m.to m.same))
-          (h.from_residue lists q.to m.to number ticks r (lists_as u c i lists e) q.is m.is);
+          (h.from_residue lists q.to m.to number ticks r (waits_for_times_as u c i lists e) q.is m.is);
+      from_edge = λ lists k l number ticks r e o g.
+          let q = runs_by_edges_as u c i k r o in
+          let m = goes_after_as k q.to l number ticks q.same g in
+          delay_ends_as t i lists (after number ticks m.to) (after number ticks l) ((r + ticks) % c.modulus) (both_after number ticks m.to l (todo_turned l m.to m.same))
+          (h.from_edge lists q.to m.to number ticks r (mixed_lists_as u c i lists e) q.is m.is);
     }
 
 -- ---- K9
-
-own_edge_as : {d d' : Parts} → Twins d d' → (c : Claims) (i v : ℕ) → IsOwnEdge d c i v → IsOwnEdge d' c i v
-own_edge_as t c i v h =
-    let u = back t in
-    record {
-      term = h.term;
-      has = term_as t i h.term h.has;
-      edge = h.edge;
-      of = h.of;
-      apart = λ root other r e w f. h.apart root other r (root_of_as u c root v e) (write_slot_as u c root r w) (fires_of_as u c i other r f);
-    }
 
 -- a point of one design, and what says the same in the other, at which a statement with a number stands
 module _ (d d' : Parts) (t : Twins d d') (i : ℕ) (k : Todo) (n : HasNumber k) (q : TwinOf k (IsPoint d i)) where
@@ -261,12 +294,27 @@ module _ (d d' : Parts) (t : Twins d d') (i : ℕ) (k : Todo) (n : HasNumber k) 
       let z = has_slot_as (back t) c i k r s in
       h r (write_slot_as (back t) c u r w) (subst (λ (m : Todo). HasSlot d c i m r) (same_point z.to (slot_point d c i z.to r z.is) z.same) z.is)
 
+  own_edge_as : (c : Claims) (v : ℕ) → IsOwnEdge d c i v q.to → IsOwnEdge d' c i v k
+  own_edge_as c v h =
+      let u = back t in
+      record {
+        term = h.term;
+        has = term_as t i h.term h.has;
+        edge = h.edge;
+        of = h.of;
+        apart = λ root other r e w f. h.apart root other r (root_of_as u c root v e) (write_slot_as u c root r w) (fires_of_as u c i other r f);
+        undelayed = λ lists root r e o w s.
+            let z = runs_by_delays_as u i lists k r s in
+            h.undelayed lists root r (mixed_lists_as u c i lists e) (root_of_as u c root v o) (write_slot_as u c root r w)
+            (subst (λ (m : Todo). RunsByDelays d i lists m r) (same_point z.to (from_point d i (λ at next. DelayEnds d i lists next r) is_plain z.to z.is) z.same) z.is);
+      }
+
 pub k9_as : {d d' : Parts} → Twins d d' → (c : Claims) (i : ℕ) → K9 d c i → K9 d' c i
 k9_as {d} {d'} t c i h = record {
   fixed = λ k r u s p n b o.
       let q = point_as (back t) i k p in
       let m = read_number d' c k r n in
-      either_as (own_read_as d d' t i k m q c u r.signal) (either_as (own_edge_as t c i r.signal) (apart_as d d' t i k m q c u))
+      either_as (own_read_as d d' t i k m q c u r.signal) (either_as (own_edge_as d d' t i k m q c r.signal) (apart_as d d' t i k m q c u))
       (h.fixed q.to r u (sequential_as (back t) c i s) q.is (reads_as d' d c k q.to r q.same n) (blocking_as (back t) c u b) (cone_as (back t) c u r o));
 }
 

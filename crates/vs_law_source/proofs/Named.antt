@@ -9,7 +9,7 @@ use Rattle.vs_design.specs.Kinds.{is_variable}
 use Rattle.vs_design.specs.Parts.{Parts}
 use Rattle.vs_elab_statements.specs.vs_elab_listed.specs.Outlines.{Declared}
 use Rattle.vs_elab_laws.specs.Same.{SameAssign}
-use Rattle.vs_rules.specs.Claims.{Name, Mode, Start, Claims, SignalClaim, signal_name, process_name, assign_name, IsSignalNamed, IsProcessNamed, IsAssignNamed, names_process, signal_claim, claim_for, claim_of, writer_in, second_in, mode_in, IsWriter, IsSecond, HasMode, HasKind, kind_in, kind_for, kind_of, HasStart, IsBlock, IsEdge, HasLists, IsDelay, IsSequential, IsRootOf, IsRoot}
+use Rattle.vs_rules.specs.Claims.{Name, Mode, Start, Claims, SignalClaim, signal_name, process_name, assign_name, IsSignalNamed, IsProcessNamed, IsAssignNamed, names_process, signal_claim, claim_for, claim_of, writer_in, second_in, mode_in, IsWriter, IsSecond, HasMode, HasKind, kind_in, kind_for, kind_of, HasStart, IsBlock, IsEdge, HasLists, IsDelay, HasMixedLists, IsMixed, WaitsForEdges, WaitsForTimes, IsSequential, IsRootOf, IsRoot}
 use Rattle.vs_law_source.proofs.Designs.{SameSignal, AlikeProcess, Twins, signals_alike, assigns_alike, processes_alike, signal_there}
 
 -- ---- names
@@ -102,9 +102,24 @@ lists_as t c i lists h = sym (kinds_same t c i) ∙ h
 pub delay_as : {d d' : Parts} → Twins d d' → (c : Claims) (i : ℕ) → IsDelay d c i → IsDelay d' c i
 delay_as t c i h = (h.0, lists_as t c i h.0 h.1)
 
+pub mixed_lists_as : {d d' : Parts} → Twins d d' → (c : Claims) (i : ℕ) (lists : List (List ℕ)) → HasMixedLists d c i lists → HasMixedLists d' c i lists
+mixed_lists_as t c i lists h = sym (kinds_same t c i) ∙ h
+
+pub mixed_as : {d d' : Parts} → Twins d d' → (c : Claims) (i : ℕ) → IsMixed d c i → IsMixed d' c i
+mixed_as t c i h = (h.0, mixed_lists_as t c i h.0 h.1)
+
+pub waits_for_edges_as : {d d' : Parts} → Twins d d' → (c : Claims) (i : ℕ) → WaitsForEdges d c i → WaitsForEdges d' c i
+waits_for_edges_as t c i (inl h) = inl (edge_as t c i h)
+waits_for_edges_as t c i (inr h) = inr (mixed_as t c i h)
+
+pub waits_for_times_as : {d d' : Parts} → Twins d d' → (c : Claims) (i : ℕ) (lists : List (List ℕ)) → WaitsForTimes d c i lists → WaitsForTimes d' c i lists
+waits_for_times_as t c i lists (inl h) = inl (lists_as t c i lists h)
+waits_for_times_as t c i lists (inr h) = inr (mixed_lists_as t c i lists h)
+
 pub sequential_as : {d d' : Parts} → Twins d d' → (c : Claims) (i : ℕ) → IsSequential d c i → IsSequential d' c i
 sequential_as t c i (inl h) = inl (edge_as t c i h)
-sequential_as t c i (inr h) = inr (delay_as t c i h)
+sequential_as t c i (inr (inl h)) = inr (inl (delay_as t c i h))
+sequential_as t c i (inr (inr h)) = inr (inr (mixed_as t c i h))
 
 -- ---- entries of edge terms
 

@@ -1,16 +1,16 @@
 -- Run slots, write slots and firing slots of designs that say the same.
-use Rattle.std.proofs.Common.{ℕ, Option, Some, None, List, subst}
+use Rattle.std.proofs.Common.{ℕ, Option, Some, None, List, subst, inl, inr}
 use Rattle.std.specs.List.{Contains}
 use Rattle.vs_design.specs.vs_logic4.specs.declared.edge.Edge.{Edge}
 use Rattle.vs_design.specs.declared.statement.EventTerm.{EventTerm}
 use Rattle.vs_design.specs.Parts.{Parts}
 use Rattle.vs_threads.specs.vs_process.specs.Places.{Todo}
 use Rattle.vs_threads.specs.vs_process.specs.Steps.{Next}
-use Rattle.vs_rules.specs.Claims.{Claims, Kind, block, edges, delays, kind_of}
+use Rattle.vs_rules.specs.Claims.{Claims, Kind, block, edges, delays, mixed, kind_of}
 use Rattle.vs_rules.specs.Constants.{bit_of}
 use Rattle.vs_rules.specs.Controls.{list_of}
 use Rattle.vs_rules.specs.Paths.{is_plain, IsPoint}
-use Rattle.vs_rules.specs.Slots.{DelayEnds, RunsByDelays, InPhase, Fires, EdgeEnds, Ends, HasSlot, HasWriteSlot, FiresOf}
+use Rattle.vs_rules.specs.Slots.{DelayEnds, RunsByDelays, InPhase, Fires, EdgeEnds, RunsByEdges, Ends, HasSlot, HasWriteSlot, FiresOf}
 use Rattle.vs_law_source.proofs.Clocks.{clock_as}
 use Rattle.vs_law_source.proofs.Cones.{texts_control}
 use Rattle.vs_law_source.proofs.Designs.{Twins, back}
@@ -55,16 +55,22 @@ fires_as {d} {d'} t c term r h =
 
 -- ---- of any process
 
-edge_ends_as : {d d' : Parts} → Twins d d' → (c : Claims) (next next' : Next) (r : ℕ) → AlikeNext next next' → EdgeEnds d c next r → EdgeEnds d' c next' r
+pub edge_ends_as : {d d' : Parts} → Twins d d' → (c : Claims) (next next' : Next) (r : ℕ) → AlikeNext next next' → EdgeEnds d c next r → EdgeEnds d' c next' r
 edge_ends_as t c _ _ r (both_on l l' k) h = absurd h
 edge_ends_as t c _ _ r (both_after number ticks l l' k) h = absurd h
 edge_ends_as t c _ _ r (both_wait number terms l l' k) h = (h.0, h.1, fires_as t c h.0 r h.2)
+
+pub runs_by_edges_as : {d d' : Parts} → Twins d d' → (c : Claims) (i : ℕ) (k : Todo) (r : ℕ) → RunsByEdges d c i k r → TwinOf k (λ (m : Todo). RunsByEdges d' c i m r)
+runs_by_edges_as {d} {d'} t c i k r h =
+    path_from_as t i (λ at next. EdgeEnds d c next r) (λ at next. EdgeEnds d' c next r) (λ a a' next next' p n e. edge_ends_as t c next next' r n e) is_plain plain_same k h
 
 ends_as : {d d' : Parts} → Twins d d' → (c : Claims) (i : ℕ) (kind : Option Kind) (next next' : Next) (r : ℕ) → AlikeNext next next' → Ends d c i kind next r → Ends d' c i kind next' r
 ends_as t c i None next next' r n h = absurd h
 ends_as t c i (Some (block start)) next next' r n h = absurd h
 ends_as t c i (Some edges) next next' r n h = edge_ends_as t c next next' r n h
 ends_as t c i (Some (delays lists)) next next' r n h = delay_ends_as t i lists next next' r n h
+ends_as t c i (Some (mixed lists)) next next' r n (inl h) = inl (delay_ends_as t i lists next next' r n h)
+ends_as t c i (Some (mixed lists)) next next' r n (inr h) = inr (edge_ends_as t c next next' r n h)
 
 pub has_slot_as : {d d' : Parts} → Twins d d' → (c : Claims) (i : ℕ) (k : Todo) (r : ℕ) → HasSlot d c i k r → TwinOf k (λ (m : Todo). HasSlot d' c i m r)
 has_slot_as {d} {d'} t c i k r h =

@@ -93,7 +93,7 @@ plain_same _ _ (both_on l l' r) = refl
 plain_same _ _ (both_after number ticks l l' r) = refl
 plain_same _ _ (both_wait number terms l l' r) = refl
 
-zero_same : (next next' : Next) → AlikeNext next next' → is_zero_time next ≡ is_zero_time next'
+pub zero_same : (next next' : Next) → AlikeNext next next' → is_zero_time next ≡ is_zero_time next'
 zero_same _ _ (both_on l l' r) = refl
 zero_same _ _ (both_after number ticks l l' r) = refl
 zero_same _ _ (both_wait number terms l l' r) = refl

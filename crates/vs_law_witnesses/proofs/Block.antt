@@ -35,7 +35,7 @@ use Rattle.vs_rules.specs.Limits.{IsCertificate}
 use Rattle.vs_rules.specs.Verdict.{Keeping}
 use Rattle.vs_law_witnesses.specs.Names.{assign_in_t, process_in_t, signal_in_t}
 use Rattle.vs_law_witnesses.specs.Block.{ABlockKeepsTheRules, block_claims, ABlockAtANetKeepsTheRules, change_of, copied, follower, following, heard, no_ticks, order_of, the_net_assign, updated, watched, watching}
-use Rattle.vs_law_witnesses.proofs.Certificates.{no_lists, sound_lists}
+use Rattle.vs_law_witnesses.proofs.Certificates.{lists_unmixed, edge_unmixed, no_lists, none_mixed, sound_lists}
 use Rattle.vs_law_witnesses.proofs.Kept.{keeps_rules}
 use Rattle.vs_law_witnesses.proofs.Texts.{controls_later, differ, numbers_event, numbers_forever, numbers_later, one_in, sound_event, sound_forever, sound_later, value_operand}
 use Rattle.vs_law_witnesses.proofs.BlockPoints.{updating, copying, Spot, Early, way_at, spot_at, early_spot, early_at, prologue_at, early_now, Wrote, wrote, wrote_who, made, updated_where, read_at, needs, quiet, event, no_pause, ends_never, named_is, has_change, names_a, no_edge_signal, written_same, written, first_writes, second_writes, reads_are, no_writer, none_second, is_writer, no_second, start_is, block_is, no_edge, lists_are, no_sequential_read, no_root, source_a, shape_at, unwritten, copy_goes_on, heard_apart, block_writes}
@@ -210,7 +210,7 @@ writers g net start v = record {
 modes : (g : Global) (net : Bool) (start : Start) (v : ℕ) → K3 (following g net) (block_claims net start) v
 modes g net start zero mode is =
     subst (IsAsModeSays (following g net) (block_claims net start) 0) (same_Some nonblocking mode is)
-    (0, refl, (inr ([], refl), λ k point w. never_now k (wrote g net 0 0 k (spot_at g net 0 k point) w)))
+    (0, refl, (inr (inl ([], refl)), λ k point w. never_now k (wrote g net 0 0 k (spot_at g net 0 k point) w)))
   where
     never_now : (k : Todo) → Wrote g net 0 k 0 → ⊥
     never_now k w = absurd (differ 0 1 refl (wrote_who g net 0 0 k w))
@@ -303,10 +303,11 @@ roots g net start v = record {
 
 waits_for : (g : Global) (net : Bool) (start : Start) (i : ℕ) → K7 (following g net) (block_claims net start) i
 waits_for g net start i = record {
-  events = λ k l number ts edge point goes. absurd (no_edge g net start i edge);
+  events = λ k l number ts edge point goes. absurd (no_edge g net start i (edge_unmixed (following g net) (block_claims net start) i refl edge));
   no_delay = λ k l number ticks edge point goes. no_edge g net start i edge;
-  one_signal = λ t u root edge has also is is_too. absurd (no_edge g net start i edge);
-  apart = λ one other r edge fires fires_too. absurd (no_edge g net start i edge);
+  one_signal = λ t u root edge has also is is_too. absurd (no_edge g net start i (edge_unmixed (following g net) (block_claims net start) i refl edge));
+  apart = λ one other r edge fires fires_too. absurd (no_edge g net start i (edge_unmixed (following g net) (block_claims net start) i refl edge));
+  arrives = λ lists delay event r is a b e. none_mixed (following g net) (block_claims net start) i lists refl is;
 }
 
 residues : (g : Global) (net : Bool) (start : Start) (i : ℕ) → K8 (following g net) (block_claims net start) i
@@ -314,11 +315,12 @@ residues g net start i = record {
   no_event = λ k l number ts delay point goes.
       absurd (differ 0 1 refl (sym (lists_are g net start i delay.0 delay.1).0 ∙ (event g net i k l number ts point goes).process));
   one_each = λ lists is.
-      let there = lists_are g net start i lists is in
+      let there = lists_are g net start i lists (lists_unmixed (following g net) (block_claims net start) i lists refl is) in
       sym (ap length there.1) ∙ sym (ap length (controls_at i there.0));
   from_start = λ lists k l number ticks is slot goes above. absurd (no_pause g net i k l number ticks (early_spot g net i k (early_at g net i k slot)) goes);
   from_residue = λ lists k l number ticks r is runs goes.
       absurd (ends_never g net i runs.at runs.next (way_at g net i runs.at runs.next (spot_at g net i runs.at runs.point) runs.goes) lists r runs.starts);
+  from_edge = λ lists k l number ticks r is runs goes. absurd (none_mixed (following g net) (block_claims net start) i lists refl is);
 }
   where
     controls_at : (n : ℕ) → n ≡ 0 → controls_of (following g net) n ≡ []
@@ -505,6 +507,7 @@ certificate net start = record {
   displays = λ one. absurd (differ 2 1 refl one);
   starts = λ p one has is. differ 2 1 refl one;
   narrow = inr (no_both net);
+  unmixed = inr refl;
   above = lit< tt;
   below = lit≤ tt;
   few_edges = lit≤ tt;

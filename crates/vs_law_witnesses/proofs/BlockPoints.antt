@@ -24,6 +24,7 @@ use Rattle.vs_process.specs.Steps.{Next, on, after, wait}
 use Rattle.vs_rules.specs.vs_threads.specs.Blocks.{outputs}
 use Rattle.vs_law_witnesses.specs.Race.{bit, operand, target, the_bit}
 use Rattle.vs_law_witnesses.specs.Mirror.{one_of}
+use Rattle.vs_law_witnesses.proofs.Certificates.{none_mixed}
 use Rattle.vs_law_witnesses.proofs.Race.{reads_number, reads_operand}
 use Rattle.vs_rules.specs.Claims.{names_process, Kind, Start, claim_of, second_in, writer_in, IsWriter, IsSecond, HasLists, HasStart, IsBlock, IsEdge, IsSequential, IsRootOf}
 use Rattle.vs_rules.specs.Drivers.{IsSource, Names}
@@ -371,7 +372,8 @@ lists_are g net start (suc (suc i)) lists e = absurd (none-some (Kind.delays lis
 
 pub no_sequential_read : (g : Global) (net : Bool) (start : Start) (i : ℕ) (k : Todo) (r : BitRange) → IsSequential (following g net) (block_claims net start) i → IsRead g net i r → ⊥
 no_sequential_read g net start i k r (inl edge) read = no_edge g net start i edge
-no_sequential_read g net start i k r (inr delay) read = absurd (differ 1 0 refl (read.process ∙ (lists_are g net start i delay.0 delay.1).0))
+no_sequential_read g net start i k r (inr (inl delay)) read = absurd (differ 1 0 refl (read.process ∙ (lists_are g net start i delay.0 delay.1).0))
+no_sequential_read g net start i k r (inr (inr mix)) read = none_mixed (following g net) (block_claims net start) i mix.0 refl mix.1
 
 pub no_root : (g : Global) (net : Bool) (start : Start) (root v : ℕ) → IsRootOf (following g net) (block_claims net start) root v → ⊥
 no_root g net start root v h = none-some h.entry h.is

@@ -1,10 +1,13 @@
 -- What a reader of certificates asks of one, by the kinds of its processes.
-use Rattle.std.proofs.Common.{◌≡◌, ℕ, zero, suc, List, [], ◌∷◌, slice_get, subst, lit≤}
+use Rattle.std.proofs.Common.{◌≡◌, ◌⊎◌, ℕ, zero, suc, false, if◌then◌else◌, Option, Some, None, List, [], ◌∷◌, slice_get, sym, ◌∙◌, ap, subst, inl, inr, lit≤}
+use Rattle.std.proofs.lemmas.Bool.{cases_Bool, or_parts, true≢false}
 use Rattle.std.proofs.lemmas.Option.{none-some, same_Some}
-use Rattle.std.specs.List.{Contains}
-use Rattle.std.specs.Prelude.{Some}
+use Rattle.std.specs.List.{Contains, list_any}
+use Rattle.std.specs.Str.{bytes_eq}
+use Rattle.vs_design.specs.declared.design.Process.{Process}
+use Rattle.vs_design.specs.Parts.{Parts}
 use Rattle.vs_rules.specs.vs_threads.proofs.Lists.{place_of}
-use Rattle.vs_rules.specs.Claims.{Kind, ProcessClaim, Start}
+use Rattle.vs_rules.specs.Claims.{Claims, Name, Kind, ProcessClaim, Start, is_mixed, has_mixed, kind_in as kind_named, kind_for, HasLists, HasMixedLists, IsEdge, WaitsForEdges, WaitsForTimes}
 use Rattle.vs_rules.specs.Limits.{AreLists, AreResidues}
 use Rattle.vs_law_rules.proofs.Texts.{none_in}
 use Rattle.vs_law_witnesses.proofs.Texts.{one_in}
@@ -33,9 +36,17 @@ abbrev pub HasSoundLists : ℕ → Kind → Type 0
 HasSoundLists modulus (Kind.block start) = Unit {0}
 HasSoundLists modulus Kind.edges = Unit {0}
 HasSoundLists modulus (Kind.delays lists) = AreLists 64 modulus lists
+HasSoundLists modulus (Kind.mixed lists) = AreLists 64 modulus lists
 
-pub sound_lists : (modulus : ℕ) (ps : List ProcessClaim) → AllKinds (HasSoundLists modulus) ps → (p : ProcessClaim) (lists : List (List ℕ)) → Contains ps p → p.kind ≡ Kind.delays lists → AreLists 64 modulus lists
-sound_lists modulus ps all p lists has is = let there = place_of ps p has in subst (HasSoundLists modulus) is (kind_in (HasSoundLists modulus) ps all there.0 p there.1)
+pub sound_lists : (modulus : ℕ) (ps : List ProcessClaim) → AllKinds (HasSoundLists modulus) ps → (p : ProcessClaim) (lists : List (List ℕ)) → Contains ps p →
+    (p.kind ≡ Kind.delays lists) ⊎ (p.kind ≡ Kind.mixed lists) → AreLists 64 modulus lists
+sound_lists modulus ps all p lists has is =
+    let there = place_of ps p has in
+    let sound = kind_in (HasSoundLists modulus) ps all there.0 p there.1 in
+    elim is [
+      | inl delay ↦ subst (HasSoundLists modulus) delay sound
+      | inr mix ↦ subst (HasSoundLists modulus) mix sound
+    ]
 
 -- ---- starts
 
@@ -50,3 +61,30 @@ HasNoStarter _ = Unit {0}
 
 pub no_starters : (ps : List ProcessClaim) → AllKinds HasNoStarter ps → (p : ProcessClaim) → Contains ps p → p.kind ≡ Kind.block Start.starter → ⊥
 no_starters ps all p has is = let there = place_of ps p has in subst HasNoStarter is (kind_in HasNoStarter ps all there.0 p there.1)
+
+-- ---- no process of kind mixed
+
+unmixed_in : (ps : List ProcessClaim) (name : Name) (lists : List (List ℕ)) → list_any (λ (p : ProcessClaim). is_mixed p.kind) ps ≡ false → kind_named ps name ≡ Some (Kind.mixed lists) → ⊥
+unmixed_in [] name lists none is = none-some (Kind.mixed lists) is
+unmixed_in (p ∷ ps) name lists none is =
+    let parts = or_parts (is_mixed p.kind) (list_any (λ (p : ProcessClaim). is_mixed p.kind) ps) none in
+    elim (cases_Bool (bytes_eq p.name name)) [
+      | inl hit ↦ true≢false (sym (ap is_mixed (same_Some p.kind (Kind.mixed lists) (subst (λ b. (if b then Some p.kind else kind_named ps name) ≡ Some (Kind.mixed lists)) hit is))) ∙ parts.0)
+      | inr miss ↦ unmixed_in ps name lists parts.1 (subst (λ b. (if b then Some p.kind else kind_named ps name) ≡ Some (Kind.mixed lists)) miss is)
+    ]
+
+-- where no entry has it, no process is of it
+pub none_mixed : (d : Parts) (c : Claims) (i : ℕ) (lists : List (List ℕ)) → has_mixed c ≡ false → HasMixedLists d c i lists → ⊥
+none_mixed d c i lists none is = by_process (slice_get d.processes i) is
+  where
+    by_process : (o : Option Process) → kind_for c o ≡ Some (Kind.mixed lists) → ⊥
+    by_process None is = none-some (Kind.mixed lists) is
+    by_process (Some p) is = unmixed_in c.processes p.name.items lists none is
+
+pub edge_unmixed : (d : Parts) (c : Claims) (i : ℕ) → has_mixed c ≡ false → WaitsForEdges d c i → IsEdge d c i
+edge_unmixed d c i none (inl edge) = edge
+edge_unmixed d c i none (inr mix) = absurd (none_mixed d c i mix.0 none mix.1)
+
+pub lists_unmixed : (d : Parts) (c : Claims) (i : ℕ) (lists : List (List ℕ)) → has_mixed c ≡ false → WaitsForTimes d c i lists → HasLists d c i lists
+lists_unmixed d c i lists none (inl delay) = delay
+lists_unmixed d c i lists none (inr mix) = absurd (none_mixed d c i lists none mix)

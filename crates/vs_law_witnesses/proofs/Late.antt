@@ -28,7 +28,7 @@ use Rattle.vs_rules.specs.Slots.{Ends, Fires}
 use Rattle.vs_rules.specs.Limits.{IsCertificate}
 use Rattle.vs_rules.specs.Verdict.{Keeping}
 use Rattle.vs_law_witnesses.specs.Names.{process_in_t, signal_in_t}
-use Rattle.vs_law_witnesses.proofs.Certificates.{one_list, sound_lists}
+use Rattle.vs_law_witnesses.proofs.Certificates.{lists_unmixed, none_mixed, one_list, sound_lists}
 use Rattle.vs_law_witnesses.proofs.Kept.{keeps_rules}
 use Rattle.vs_law_witnesses.proofs.Texts.{differ, ends_there, numbers_delay, numbers_event, other_name, sound_delay, sound_event}
 use Rattle.vs_law_witnesses.specs.Mirror.{one_of}
@@ -273,7 +273,7 @@ modes g grain zero mode is =
     subst (IsAsModeSays (reading_late g) (reading_late_claims grain) 0) (same_Some blocking mode is)
     (0, refl, (inl ((1 ∷ []) ∷ [], refl), λ k point w. updates g 0 0 k (spot_at g 0 k point) w))
 modes g grain (suc zero) mode is =
-    subst (IsAsModeSays (reading_late g) (reading_late_claims grain) 1) (same_Some blocking mode is) (1, refl, (inr (inl refl, refl), λ k point w. updates g 1 1 k (spot_at g 1 k point) w))
+    subst (IsAsModeSays (reading_late g) (reading_late_claims grain) 1) (same_Some blocking mode is) (1, refl, (inr (inl (inl refl, refl)), λ k point w. updates g 1 1 k (spot_at g 1 k point) w))
 modes g grain (suc (suc zero)) mode is =
     subst (IsAsModeSays (reading_late g) (reading_late_claims grain) 2) (same_Some blocking mode is)
     (2, refl, (inl ((2 ∷ []) ∷ [], refl), λ k point w. updates g 2 2 k (spot_at g 2 k point) w))
@@ -349,6 +349,7 @@ waits g grain i = record {
   one_signal = λ t u root edge has also is is_too. (root_is g grain root t.range.signal is).1 ∙ sym (root_is g grain root u.range.signal is_too).1;
   apart = λ one other r edge fires also.
       (root_is g grain one fires.term.range.signal fires.is_root).0 ∙ sym (root_is g grain other also.term.range.signal also.is_root).0;
+  arrives = λ lists delay event r is a b e. none_mixed (reading_late g) (reading_late_claims grain) i lists refl is;
 }
   where
     delays_not : {ticks : ℕ} → i ≡ 1 → (i ≡ 0) × (1 ≡ ticks) ⊎ (i ≡ 2) × (2 ≡ ticks) → ⊥
@@ -380,13 +381,14 @@ from_start g i number ticks lists of here = ends of here.which
 residues : (g : Global) (grain : Grain) (i : ℕ) → K8 (reading_late g) (reading_late_claims grain) i
 residues g grain i = record {
   no_event = λ k l number ts delay point goes. never_waits (event g i k l number ts point goes).process (lists_are g grain i delay.0 delay.1);
-  one_each = λ lists is. one_control g i lists (lists_are g grain i lists is);
+  one_each = λ lists is. one_control g i lists (lists_are g grain i lists (lists_unmixed (reading_late g) (reading_late_claims grain) i lists refl is));
   from_start = λ lists k l number ticks is slot goes above.
-      from_start g i number ticks lists (lists_are g grain i lists is) (pause g i k l number ticks (early_spot g i k (early_at g i k slot)) goes);
+      from_start g i number ticks lists (lists_are g grain i lists (lists_unmixed (reading_late g) (reading_late_claims grain) i lists refl is)) (pause g i k l number ticks (early_spot g i k (early_at g i k slot)) goes);
   from_residue = λ lists k l number ticks r is runs goes.
       let behind = runs_behind g i runs.at k runs.next (way_at g i runs.at runs.next (spot_at g i runs.at runs.point) runs.goes) lists r runs.starts runs.path in
       let no_way : on [] ≡ after number ticks l = behind_plain g k (after number ticks l) behind goes in
       cc;
+  from_edge = λ lists k l number ticks r is runs goes. absurd (none_mixed (reading_late g) (reading_late_claims grain) i lists refl is);
 }
   where
     never_waits : {lists : List (List ℕ)} → i ≡ 1 → ListsOf i lists → ⊥
@@ -467,6 +469,7 @@ certificate grain = record {
   displays = λ one. absurd (differ 2 1 refl one);
   starts = λ p one has is. differ 2 1 refl one;
   narrow = inr refl;
+  unmixed = inr refl;
   above = lit< tt;
   below = lit≤ tt;
   few_edges = lit≤ tt;

@@ -31,7 +31,7 @@ use Rattle.vs_rules.specs.Blocks.{K5, K11, IsCold, StaysCold, Starts, Unwritten,
 use Rattle.vs_rules.specs.Limits.{IsCertificate}
 use Rattle.vs_rules.specs.Verdict.{Keeping}
 use Rattle.vs_law_witnesses.specs.Mixer.{AMixerKeepsTheRules, inputs_set, mixing, mixing_claims, process_in_m, process_of_m, signal_in_m}
-use Rattle.vs_law_witnesses.proofs.Certificates.{HasNoStarter, no_lists, no_starters, sound_lists}
+use Rattle.vs_law_witnesses.proofs.Certificates.{HasNoStarter, lists_unmixed, edge_unmixed, no_lists, no_starters, none_mixed, sound_lists}
 use Rattle.vs_law_witnesses.proofs.Kept.{keeps_rules}
 use Rattle.vs_law_witnesses.proofs.Texts.{controls_block, controls_later, differ, each_in, numbers_block, numbers_event, numbers_forever, numbers_later, reads_between, size_between, sound_block, sound_event, sound_forever, sound_later, value_between, value_operand}
 use Rattle.vs_law_witnesses.proofs.MixerPoints.{Written, t_listed, block_is, block_writes, conjoining, conjoins_inputs, conjoins_plain, conjunction, disjoins_inputs, disjoins_plain, disjunction, early_at, early_now, early_spot, ends_never, event, has_term, is_writer, lists_are, named_in, no_edge, no_edge_signal, no_pause, no_root, no_second, no_sequential_read, none_second, now_who, prologue_at, quiet, reads_are, result_bit, shape_at, source_a, source_b, source_c, spot_at, start_is, the_terms, unwritten_t, unwritten_y, way_at, writes_it, written}
@@ -163,7 +163,7 @@ modes g start = at
     input : (v : ℕ) → IsWriter (mixing g) (mixing_claims start) v 0 → (mode : Mode) → Some nonblocking ≡ Some mode → IsAsModeSays (mixing g) (mixing_claims start) v mode
     input v writer mode is =
         subst (IsAsModeSays (mixing g) (mixing_claims start) v) (same_Some nonblocking mode is)
-        (0, writer, (inr ([], refl), λ k point w. differ 0 1 refl (now_who g 0 v k (spot_at g 0 k point) w)))
+        (0, writer, (inr (inl ([], refl)), λ k point w. differ 0 1 refl (now_who g 0 v k (spot_at g 0 k point) w)))
 
     result : (v : ℕ) → IsWriter (mixing g) (mixing_claims start) v 1 → (mode : Mode) → Some combinational ≡ Some mode → IsAsModeSays (mixing g) (mixing_claims start) v mode
     result v writer mode is = subst (IsAsModeSays (mixing g) (mixing_claims start) v) (same_Some combinational mode is) (1, writer, (start, refl))
@@ -261,10 +261,11 @@ roots g start v = record {
 
 waits_for : (g : Global) (start : Start) (i : ℕ) → K7 (mixing g) (mixing_claims start) i
 waits_for g start i = record {
-  events = λ k l number ts edge point goes. absurd (no_edge g start i edge);
+  events = λ k l number ts edge point goes. absurd (no_edge g start i (edge_unmixed (mixing g) (mixing_claims start) i refl edge));
   no_delay = λ k l number ticks edge point goes. no_edge g start i edge;
-  one_signal = λ t u root edge has also is is_too. absurd (no_edge g start i edge);
-  apart = λ one other r edge fires fires_too. absurd (no_edge g start i edge);
+  one_signal = λ t u root edge has also is is_too. absurd (no_edge g start i (edge_unmixed (mixing g) (mixing_claims start) i refl edge));
+  apart = λ one other r edge fires fires_too. absurd (no_edge g start i (edge_unmixed (mixing g) (mixing_claims start) i refl edge));
+  arrives = λ lists delay event r is a b e. none_mixed (mixing g) (mixing_claims start) i lists refl is;
 }
 
 residues : (g : Global) (start : Start) (i : ℕ) → K8 (mixing g) (mixing_claims start) i
@@ -272,11 +273,12 @@ residues g start i = record {
   no_event = λ k l number ts delay point goes.
       absurd (differ 0 1 refl (sym (lists_are g start i delay.0 delay.1).0 ∙ (event g i k l number ts point goes).process));
   one_each = λ lists is.
-      let there = lists_are g start i lists is in
+      let there = lists_are g start i lists (lists_unmixed (mixing g) (mixing_claims start) i lists refl is) in
       sym (ap length there.1) ∙ sym (ap length (controls_at i there.0));
   from_start = λ lists k l number ticks is slot goes above. absurd (no_pause g i k l number ticks (early_spot g i k (early_at g i k slot)) goes);
   from_residue = λ lists k l number ticks r is runs goes.
       absurd (ends_never g i runs.at runs.next (way_at g i runs.at runs.next (spot_at g i runs.at runs.point) runs.goes) lists r runs.starts);
+  from_edge = λ lists k l number ticks r is runs goes. absurd (none_mixed (mixing g) (mixing_claims start) i lists refl is);
 }
   where
     controls_at : (n : ℕ) → n ≡ 0 → controls_of (mixing g) n ≡ []
@@ -384,6 +386,7 @@ certificate start other = record {
   displays = λ one. refl;
   starts = λ p one has is. no_starters (mixing_claims start).processes (tt, (not_starter start other, tt)) p has is;
   narrow = inr refl;
+  unmixed = inr refl;
   above = lit< tt;
   below = lit≤ tt;
   few_edges = lit≤ tt;

@@ -33,6 +33,7 @@ use Rattle.vs_process.specs.Steps.{Next, on, after, wait}
 use Rattle.vs_process.proofs.Shapes.{flat-Block}
 use Rattle.vs_rules.specs.vs_threads.specs.Blocks.{outputs}
 use Rattle.vs_law_witnesses.specs.Race.{the_bit}
+use Rattle.vs_law_witnesses.proofs.Certificates.{none_mixed}
 use Rattle.vs_law_witnesses.proofs.Race.{reads_number}
 use Rattle.vs_rules.specs.Claims.{names_process, claim_of, second_in, Kind, Start, HasLists, HasStart, IsBlock, IsEdge, IsRootOf, IsSecond, IsSequential, IsWriter}
 use Rattle.vs_rules.specs.Drivers.{IsSource, Names}
@@ -437,11 +438,12 @@ lists_are g start zero lists e = (refl, cc)
 lists_are g start (suc zero) lists e = cc
 lists_are g start (suc (suc i)) lists e = absurd (none-some (Kind.delays lists) e)
 
--- what reads by `Reads` is no process of kind edge or delay
+-- what reads by `Reads` is of kind comb
 pub no_sequential_read : (g : Global) (start : Start) (i : ℕ) (k : Todo) (r : BitRange) → IsSequential (mixing g) (mixing_claims start) i → Spot g i k → Reads (mixing g) (mixing_claims start) k r → ⊥
 no_sequential_read g start i k r (inl edge) s read = no_edge g start i edge
-no_sequential_read g start i k r (inr delay) s (inl read) = differ 1 0 refl (sym (read_who g i k r s read) ∙ (lists_are g start i delay.0 delay.1).0)
-no_sequential_read g start i k r (inr delay) s (inr shown) = false≢true shown.0
+no_sequential_read g start i k r (inr (inl delay)) s (inl read) = differ 1 0 refl (sym (read_who g i k r s read) ∙ (lists_are g start i delay.0 delay.1).0)
+no_sequential_read g start i k r (inr (inl delay)) s (inr shown) = false≢true shown.0
+no_sequential_read g start i k r (inr (inr mix)) s read = none_mixed (mixing g) (mixing_claims start) i mix.0 refl mix.1
 
 pub no_root : (g : Global) (start : Start) (root v : ℕ) → IsRootOf (mixing g) (mixing_claims start) root v → ⊥
 no_root g start root v h = none-some h.entry h.is

@@ -33,7 +33,7 @@ use Rattle.vs_rules.specs.Verdict.{Keeping, Keeps, KeepsAll, Rule, Subject, k1, 
 use Rattle.vs_rules.proofs.Places.{closed_paths, closed_points}
 use Rattle.vs_law_witnesses.specs.Names.{signal_in_t, process_in_t}
 use Rattle.vs_law_witnesses.specs.RiseRules.{ARiseKeepsTheRules, AWrongModeIsTold, rise_claims}
-use Rattle.vs_law_witnesses.proofs.Certificates.{one_list, sound_lists}
+use Rattle.vs_law_witnesses.proofs.Certificates.{lists_unmixed, none_mixed, one_list, sound_lists}
 use Rattle.vs_law_witnesses.proofs.Kept.{keeps_rules, names_kept, writers_kept}
 use Rattle.vs_law_rules.proofs.Texts.{none_in}
 use Rattle.vs_law_witnesses.proofs.Texts.{controls_assign, controls_delay, differ, ends_there, no_signal, one_in, one_signal, only, other_name, plain_is_still, reads_assign, reads_delay, reads_event, reads_source, writes_assign, writes_delay, writes_event}
@@ -543,6 +543,7 @@ waits g mode grain i = record {
       ap (λ (t : EventTerm). t.range.signal) (sym (term_is g i t has).1 ∙ (term_is g i u also).1);
   apart = λ one other r edge fires fires_too.
       (root_is g mode grain one fires.term.range.signal fires.is_root).0 ∙ sym (root_is g mode grain other fires_too.term.range.signal fires_too.is_root).0;
+  arrives = λ lists delay event r is a b e. none_mixed (rising g) (rise_claims mode grain) i lists refl is;
 }
 
 -- the delay control ends at the residue 1
@@ -558,29 +559,31 @@ residues g mode grain i = record {
   no_event = λ k l number ts delay point goes.
       absurd (differ 0 1 refl (sym (lists_are g mode grain i delay.0 delay.1).0 ∙ (event g i k l number ts point goes).process));
   one_each = λ lists is.
-      let there = lists_are g mode grain i lists is in
+      let there = lists_are g mode grain i lists (lists_unmixed (rising g) (rise_claims mode grain) i lists refl is) in
       sym (ap length there.1) ∙ sym (ap length (controls_at i there.0));
   from_start = λ lists k l number ticks is slot goes above.
-      let there = lists_are g mode grain i lists is in
+      let there = lists_are g mode grain i lists (lists_unmixed (rising g) (rise_claims mode grain) i lists refl is) in
       let here = pause g i k l number ticks (early_spot g i k (early_at g i k slot)) goes in
       ends_at (controls_of (rising g) i) lists number ticks (sym (controls_at i there.0)) there.1 here.number_is here.ticks_are;
   from_residue = λ lists k l number ticks r is runs goes.
       let behind = runs_behind g i runs.at k runs.next (way_at g i runs.at runs.next (spot_at g i runs.at runs.point) runs.goes) lists r runs.starts runs.path in
       let no_way : on [] ≡ after number ticks l = behind_plain g k (after number ticks l) behind goes in
       cc;
+  from_edge = λ lists k l number ticks r is runs goes. absurd (none_mixed (rising g) (rise_claims mode grain) i lists refl is);
 }
   where
     controls_at : (n : ℕ) → n ≡ 0 → controls_of (rising g) n ≡ 0 ∷ []
     controls_at n e = ap (controls_of (rising g)) e ∙ controls g
 
 -- the process that waits for the edge reads its own edge signal
-own_edge : (g : Global) (mode : Mode) (grain : Grain) → IsOwnEdge (rising g) (rise_claims mode grain) 1 0
-own_edge g mode grain = record {
+own_edge : (g : Global) (mode : Mode) (grain : Grain) (k : Todo) → IsOwnEdge (rising g) (rise_claims mode grain) 1 0 k
+own_edge g mode grain k = record {
   term = rise;
   has = has_rise g;
   edge = refl;
   of = refl;
   apart = λ root other r is slot fires. (root_is g mode grain other fires.term.range.signal fires.is_root).0 ∙ sym (root_is g mode grain root 0 is).0;
+  undelayed = λ lists root r is root_at slot runs. none_mixed (rising g) (rise_claims mode grain) 1 lists refl is;
 }
 
 readings : (g : Global) (mode : Mode) (grain : Grain) (i : ℕ) → K9 (rising g) (rise_claims mode grain) i
@@ -588,8 +591,8 @@ readings g mode grain i = record {
   fixed = λ k r u seq point reads blocking cone. inr (inl (own_at i k r (needs g mode grain i k r (spot_at g i k point) reads)));
 }
   where
-    own_at : (i : ℕ) (k : Todo) (r : BitRange) → Read g i k r → IsOwnEdge (rising g) (rise_claims mode grain) i r.signal
-    own_at _ _ _ Read.copies = own_edge g mode grain
+    own_at : (i : ℕ) (k : Todo) (r : BitRange) → Read g i k r → IsOwnEdge (rising g) (rise_claims mode grain) i r.signal k
+    own_at _ _ _ Read.copies = own_edge g mode grain _
 
 first_roots : (g : Global) (mode : Mode) (grain : Grain) (v : ℕ) → K10_Signal (rising g) (rise_claims mode grain) v
 first_roots g mode grain v = record {
@@ -633,6 +636,7 @@ certificate grain = record {
   displays = λ one. absurd (differ 2 1 refl one);
   starts = λ p one has is. differ 2 1 refl one;
   narrow = inr refl;
+  unmixed = inr refl;
   above = lit< tt;
   below = lit≤ tt;
   few_edges = lit≤ tt;

@@ -37,7 +37,7 @@ use Rattle.vs_rules.specs.Limits.{IsCertificate}
 use Rattle.vs_rules.specs.Verdict.{Keeping}
 use Rattle.vs_law_witnesses.specs.Block.{the_net_assign}
 use Rattle.vs_law_witnesses.specs.Names.{assign_in_t, process_in_t, signal_in_t}
-use Rattle.vs_law_witnesses.proofs.Certificates.{one_list, sound_lists}
+use Rattle.vs_law_witnesses.proofs.Certificates.{lists_unmixed, none_mixed, one_list, sound_lists}
 use Rattle.vs_law_witnesses.proofs.Kept.{keeps_rules}
 use Rattle.vs_law_witnesses.proofs.Texts.{differ, ends_there, numbers_delay, numbers_event, one_in, other_name, sound_delay, sound_event}
 use Rattle.vs_law_witnesses.specs.Roots.{TwoRootsKeepTheRules, listens, prints, rise_of, sets_late, two_of, two_rises, two_rises_claims}
@@ -490,6 +490,7 @@ waits g grain i = record {
   apart = λ one other r edge fires also.
       apart one other fires.term.range.signal also.term.range.signal r (root_is g grain one fires.term.range.signal fires.is_root)
       (root_is g grain other also.term.range.signal also.is_root) (fires_at g grain fires.term r fires.fires) (fires_at g grain also.term r also.fires);
+  arrives = λ lists delay event r is a b e. none_mixed (two_rises g) (two_rises_claims grain) i lists refl is;
 }
   where
     delays_not : {ticks : ℕ} → i ≡ 2 → (i ≡ 0) × (1 ≡ ticks) ⊎ (i ≡ 1) × (2 ≡ ticks) → ⊥
@@ -528,13 +529,14 @@ from_start g i number ticks lists of here = ends of here.which
 residues : (g : Global) (grain : Grain) (i : ℕ) → K8 (two_rises g) (two_rises_claims grain) i
 residues g grain i = record {
   no_event = λ k l number ts delay point goes. never_waits (event g i k l number ts point goes).process (lists_are g grain i delay.0 delay.1);
-  one_each = λ lists is. one_control g i lists (lists_are g grain i lists is);
+  one_each = λ lists is. one_control g i lists (lists_are g grain i lists (lists_unmixed (two_rises g) (two_rises_claims grain) i lists refl is));
   from_start = λ lists k l number ticks is slot goes above.
-      from_start g i number ticks lists (lists_are g grain i lists is) (pause g i k l number ticks (early_spot g i k (early_at g i k slot)) goes);
+      from_start g i number ticks lists (lists_are g grain i lists (lists_unmixed (two_rises g) (two_rises_claims grain) i lists refl is)) (pause g i k l number ticks (early_spot g i k (early_at g i k slot)) goes);
   from_residue = λ lists k l number ticks r is runs goes.
       let behind = runs_behind g i runs.at k runs.next (way_at g i runs.at runs.next (spot_at g i runs.at runs.point) runs.goes) lists r runs.starts runs.path in
       let no_way : on [] ≡ after number ticks l = behind_plain g k (after number ticks l) behind goes in
       cc;
+  from_edge = λ lists k l number ticks r is runs goes. absurd (none_mixed (two_rises g) (two_rises_claims grain) i lists refl is);
 }
   where
     never_waits : {lists : List (List ℕ)} → i ≡ 2 → ListsOf i lists → ⊥
@@ -543,13 +545,14 @@ residues g grain i = record {
 
 -- ---- what the third process shows is its own edge signal
 
-own_edge : (g : Global) (grain : Grain) → IsOwnEdge (two_rises g) (two_rises_claims grain) 2 1
-own_edge g grain = record {
+own_edge : (g : Global) (grain : Grain) (k : Todo) → IsOwnEdge (two_rises g) (two_rises_claims grain) 2 1 k
+own_edge g grain k = record {
   term = rise_of 1;
   has = has_rise_c g;
   edge = refl;
   of = refl;
   apart = λ root other r is slot fires. same root other r (root_is g grain root 1 is) slot fires;
+  undelayed = λ lists root r is root_at slot runs. none_mixed (two_rises g) (two_rises_claims grain) 2 lists refl is;
 }
   where
     same : (root other r : ℕ) → Rooted root 1 → HasWriteSlot (two_rises g) (two_rises_claims grain) root r → FiresOf (two_rises g) (two_rises_claims grain) 2 other r → other ≡ root
@@ -564,10 +567,10 @@ own_edge g grain = record {
 readings : (g : Global) (grain : Grain) (i : ℕ) → K9 (two_rises g) (two_rises_claims grain) i
 readings g grain i = record { fixed = λ k r u seq point needs blocking cone. inr (inl (own_at i k r (spot_at g i k point) needs)) }
   where
-    own : (i : ℕ) (k : Todo) (r : BitRange) → Shown g i k r → IsOwnEdge (two_rises g) (two_rises_claims grain) i r.signal
-    own _ _ _ Shown.prints_there = own_edge g grain
+    own : (i : ℕ) (k : Todo) (r : BitRange) → Shown g i k r → IsOwnEdge (two_rises g) (two_rises_claims grain) i r.signal k
+    own _ _ _ Shown.prints_there = own_edge g grain _
 
-    own_at : (i : ℕ) (k : Todo) (r : BitRange) → Spot g i k → Reads (two_rises g) (two_rises_claims grain) k r → IsOwnEdge (two_rises g) (two_rises_claims grain) i r.signal
+    own_at : (i : ℕ) (k : Todo) (r : BitRange) → Spot g i k → Reads (two_rises g) (two_rises_claims grain) k r → IsOwnEdge (two_rises g) (two_rises_claims grain) i r.signal k
     own_at i k r s (inl reads) = absurd (reads_none g i k r s reads)
     own_at i k r s (inr shows) = own i k r (shown g i k r s shows.1)
 
@@ -617,6 +620,7 @@ certificate grain = record {
   displays = λ one. absurd (differ 2 1 refl one);
   starts = λ p one has is. differ 2 1 refl one;
   narrow = inr refl;
+  unmixed = inr refl;
   above = lit< tt;
   below = lit≤ tt;
   few_edges = lit≤ tt;

@@ -32,7 +32,7 @@ use Rattle.vs_rules.specs.Verdict.{Keeping}
 use Rattle.vs_law_witnesses.specs.Block.{no_ticks}
 use Rattle.vs_law_witnesses.specs.Names.{signal_in_t, process_in_t}
 use Rattle.vs_law_witnesses.specs.Swap.{AClockedDesignKeepsTheRules, copies_later, swap_claims, swapping_later}
-use Rattle.vs_law_witnesses.proofs.Certificates.{no_lists, no_starters, one_list, sound_lists}
+use Rattle.vs_law_witnesses.proofs.Certificates.{lists_unmixed, no_lists, no_starters, none_mixed, one_list, sound_lists}
 use Rattle.vs_law_witnesses.proofs.Kept.{keeps_rules}
 use Rattle.vs_law_witnesses.proofs.Swap.{IsSoundBody, formed, signals_of}
 use Rattle.vs_law_witnesses.proofs.Texts.{controls_assign, numbers_later, sound_later}
@@ -217,6 +217,7 @@ waits g grain i = record {
   one_signal = λ t u root edge has also is is_too. ap (λ (t : EventTerm). t.range.signal) (sym (term_is g i t has) ∙ term_is g i u also);
   apart = λ one other r edge fires fires_too.
       (root_is g grain one fires.term.range.signal fires.is_root).0 ∙ sym (root_is g grain other fires_too.term.range.signal fires_too.is_root).0;
+  arrives = λ lists delay event r is a b e. none_mixed (swapping_later g) (swap_claims grain) i lists refl is;
 }
 
 -- ---- residues
@@ -261,17 +262,18 @@ residues g grain i = record {
       let above = (side_is i there.to there.from there.side).1 in
       let small = (lists_are g grain i delay.0 delay.1).0 in
       omega (arith, far, above, small);
-  one_each = λ lists is. let there = lists_are g grain i lists is in sym (ap length there.1) ∙ each_listed g i there.0;
+  one_each = λ lists is. let there = lists_are g grain i lists (lists_unmixed (swapping_later g) (swap_claims grain) i lists refl is) in sym (ap length there.1) ∙ each_listed g i there.0;
   from_start = λ lists k l number ticks is slot goes above.
       let here = pause g i k l number ticks (early_spot g i k (early_at g i k slot)) goes in
-      subst (λ l. Contains l (ticks % 10)) (sym (ticks_end g i number lists here.process (lists_are g grain i lists is).1 here.number_is))
+      subst (λ l. Contains l (ticks % 10)) (sym (ticks_end g i number lists here.process (lists_are g grain i lists (lists_unmixed (swapping_later g) (swap_claims grain) i lists refl is)).1 here.number_is))
       (subst (λ n. Ticks (n % 10)) here.ticks_are (1, lit< tt, refl));
   from_residue = λ lists k l number ticks r is runs goes.
-      let there = (lists_are g grain i lists is).1 in
+      let there = (lists_are g grain i lists (lists_unmixed (swapping_later g) (swap_claims grain) i lists refl is)).1 in
       let way = way_at g i runs.at runs.next (spot_at g i runs.at runs.point) runs.goes in
       let here = pause g i k l number ticks (spot_path g i is_plain (todo_behind runs.next) k (spot_behind g i runs.at runs.next way) runs.path) goes in
       subst (λ l. Contains l ((r + ticks) % 10)) (sym (ticks_end g i number lists here.process there here.number_is))
       (subst (λ n. Ticks ((r + n) % 10)) here.ticks_are (tick_next r (ends_ticks g i runs.at runs.next way lists r there runs.starts)));
+  from_edge = λ lists k l number ticks r is runs goes. absurd (none_mixed (swapping_later g) (swap_claims grain) i lists refl is);
 }
 
 -- ---- reads
@@ -289,7 +291,7 @@ side_apart g grain i to from k side r slot runs =
     (wrote_who g slot.writer from slot.at (wrote g slot.writer from slot.at (spot_at g slot.writer slot.at slot.point) slot.writes))
 
 read_fixed : (g : Global) (grain : Grain) (i u : ℕ) (k : Todo) (r : BitRange) → Read i r → r.signal ≡ u →
-    IsOwnRead (swapping_later g) (swap_claims grain) i u r.signal k ⊎ (IsOwnEdge (swapping_later g) (swap_claims grain) i r.signal ⊎ AreApart (swapping_later g) (swap_claims grain) i u k)
+    IsOwnRead (swapping_later g) (swap_claims grain) i u r.signal k ⊎ (IsOwnEdge (swapping_later g) (swap_claims grain) i r.signal k ⊎ AreApart (swapping_later g) (swap_claims grain) i u k)
 read_fixed g grain _ u k _ Read.turns same = inl (subst (λ n. IsWriter (swapping_later g) (swap_claims grain) n 3) same refl, inl (sym same))
 read_fixed g grain _ u k _ (Read.copies i to from s) same = inr (inr (subst (λ n. AreApart (swapping_later g) (swap_claims grain) i n k) same (side_apart g grain i to from k s)))
 
@@ -374,6 +376,7 @@ certificate grain = record {
   displays = λ one. refl;
   starts = λ p one has is. no_starters (swap_claims grain).processes (tt, (tt, (tt, (tt, (tt, (tt, tt)))))) p has is;
   narrow = inr refl;
+  unmixed = inr refl;
   above = lit< tt;
   below = lit≤ tt;
   few_edges = lit≤ tt;

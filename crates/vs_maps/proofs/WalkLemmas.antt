@@ -6,10 +6,9 @@ use Rattle.vs_process.specs.declared.stops.TextMap as h
 use Rattle.vs_process.specs.Stops.{LeadsIn, stop_at, stop_statement, stops_tos, stops_behind, stop_view}
 use Rattle.vs_graph.specs.Reached.{Reached, AreReached, begins, goes_on}
 use Rattle.vs_maps.specs.declared.along.Along.{Along}
-use Rattle.vs_maps.specs.declared.along.Along.TheVariants.{Plain}
 use Rattle.vs_maps.specs.Reaches.{Chart, IsPlace, chart_of, places, statement_passes, stops_along, stops_steps}
 use Rattle.vs_maps.specs.Inside.{steps_in}
-use Rattle.vs_maps.specs.Walks.{WalkFrom, AreMarked, AreSeeds, HasControl, IsControlBefore}
+use Rattle.vs_maps.specs.Walks.{WalkFrom, AreMarked, AreSeeds, IsBefore}
 use Rattle.vs_maps.proofs.Join.{only, head_in, tail_in, true_if}
 
 -- ---- places
@@ -90,12 +89,12 @@ walks_are t along sort n seeds marks all reached k less =
     let f = from_seeds t along sort seeds all k in
     let r = reached k less in (λ m. f.0 (r.0 m), λ w. r.1 (f.1 w))
 
--- what a walk without a further control leads to from a control
-pub before_from : (t : Chart) (q : ℕ) (tos : List ℕ) → IsPlace t q → HasControl t q → tos ≡ stops_tos t.stops q → (r : ℕ) →
-    (Reached (stops_along Plain t.stops) tos r ↔ IsControlBefore t q r)
-before_from t q tos place control are r = from_seeds t Plain (λ x. (x ≡ q) × HasControl t x) tos all r where
-  all : AreSeeds t (λ x. (x ≡ q) × HasControl t x) tos
+-- what a walk leads to from a place of a sort
+pub before_from : (t : Chart) (along : Along) (sort : ℕ → Type 0) (q : ℕ) (tos : List ℕ) → IsPlace t q → sort q → tos ≡ stops_tos t.stops q → (r : ℕ) →
+    (Reached (stops_along along t.stops) tos r ↔ IsBefore t along sort q r)
+before_from t along sort q tos place here are r = from_seeds t along (λ x. (x ≡ q) × sort x) tos all r where
+  all : AreSeeds t (λ x. (x ≡ q) × sort x) tos
   all s = (
-    λ c. (q, place, (refl, control), subst (λ l. Contains l s) are c),
+    λ c. (q, place, (refl, here), subst (λ l. Contains l s) are c),
     λ y. subst (λ l. Contains l s) (sym are) (subst (λ p. Contains (stops_tos t.stops p) s) y.2.0 y.3),
   )

@@ -1,8 +1,8 @@
 -- Walks on a map once a way of some sort has been gone.
-use Rattle.std.specs.Prelude.{ℕ, ◌≡◌, ◌<◌, ◌↔◌, Bool, true, false, List, [], ◌∷◌, slice_index_or, IsTrue}
+use Rattle.std.specs.Prelude.{ℕ, ◌≡◌, ◌<◌, ◌↔◌, Bool, true, false, List, [], ◌∷◌, slice_index_or, IsTrue, nat_lt}
 use Rattle.std.specs.List.{Contains}
 use Rattle.vs_process.specs.Stops.{stops_tos}
-use Rattle.vs_process.specs.Ways.{Pause, none}
+use Rattle.vs_process.specs.Ways.{Pause, none, delay}
 use Rattle.vs_graph.specs.Reached.{Reached}
 use Rattle.vs_maps.specs.declared.along.Along.{Along}
 use Rattle.vs_maps.specs.declared.along.Along.TheVariants.{Any, Plain, ZeroTime}
@@ -35,9 +35,26 @@ InLate t p = WalkFrom t Any (HasControl t) p
 abbrev pub InHot : Chart → ℕ → ℕ → Type 0
 InHot t v p = WalkFrom t ZeroTime (λ q. HasSignal (now_at t q) v) p
 
+-- one along ways that count does from this place, which is of a sort
+abbrev pub IsBefore : Chart → Along → (ℕ → Type 0) → ℕ → ℕ → Type 0
+IsBefore t along sort q p = WalkFrom t along (λ x. (x ≡ q) × sort x) p
+
 -- one without a further control does from the control at this place
 abbrev pub IsControlBefore : Chart → ℕ → ℕ → Type 0
-IsControlBefore t q p = WalkFrom t Plain (λ x. (x ≡ q) × HasControl t x) p
+IsControlBefore t q p = IsBefore t Plain (HasControl t) q p
+
+-- whether a pause is a delay of more than zero ticks
+abbrev pub takes_time : Pause → Bool
+takes_time (delay number ticks) = nat_lt 0 ticks
+takes_time _ = false
+
+-- the statement at a place is such a delay
+abbrev pub HasTime : Chart → ℕ → Type 0
+HasTime t p = takes_time (pause_at t p) ≡ true
+
+-- a walk that takes no time leads to the place from the delay at this place, of more than zero ticks
+abbrev pub IsDelayBefore : Chart → ℕ → ℕ → Type 0
+IsDelayBefore t q p = IsBefore t ZeroTime (HasTime t) q p
 
 -- marks say of which numbers below one something holds
 abbrev pub AreMarked : (ℕ → Type 0) → ℕ → List Bool → Type 0

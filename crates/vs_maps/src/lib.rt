@@ -26,4 +26,4 @@ pub use tables::Tables;
 pub use uses::Uses;
 pub use vs_graph;
 pub use vs_threads;
-pub use walks::{controls_before, hot, late, marks_of, terms, walks_from};
+pub use walks::{controls_before, delays_before, hot, late, marks_of, terms, walks_from};

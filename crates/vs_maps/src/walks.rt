@@ -5,7 +5,7 @@ ghost use Rattle.vs_process.specs.Stops.{stops_tos};
 ghost use Rattle.vs_graph.specs.Clear.{AreClear};
 ghost use Rattle.vs_maps.specs.Reaches.{places, pause_view, IsPlace};
 ghost use Rattle.vs_maps.specs.Ranges.{HasSignal, HasTermAt, now_at, pause_terms};
-ghost use Rattle.vs_maps.specs.Walks.{WalkFrom, AreMarked, HasControl, InLate, InHot, IsControlBefore, is_control};
+ghost use Rattle.vs_maps.specs.Walks.{WalkFrom, AreMarked, HasControl, HasTime, InLate, InHot, IsBefore, IsControlBefore, IsDelayBefore, is_control, takes_time};
 ghost use Rattle.vs_graph.specs.Rows.{AreRows};
 ghost use Rattle.vs_design.specs.declared.statement.EventTerm.{EventTerm};
 
@@ -60,6 +60,30 @@ impl<'a> Rule for Controls<'a> {
 
     fn test(&self, _alloc: Global, i: usize) -> Result<bool, AllocError> {
         Ok(is_control(self.tables.pause(i)))
+    }
+}
+
+// Whether a pause is a delay of more than zero ticks.
+fn takes_time(pause: Pause) -> bool
+    ensures { result ≡ takes_time (pause_view pause.entry) }
+{
+    match pause {
+        Pause::Delay(_, ticks) => ticks > 0,
+        Pause::Nothing | Pause::Event(_, _) => false,
+    }
+}
+
+// Delay controls of more than zero ticks.
+#[derive(Drop)]
+struct Delays<'a> {
+    tables: &'a Tables<'a>,
+}
+
+impl<'a> Rule for Delays<'a> {
+    ghost keeps = { λ f p. HasTime f.tables.now p };
+
+    fn test(&self, _alloc: Global, i: usize) -> Result<bool, AllocError> {
+        Ok(takes_time(self.tables.pause(i)))
     }
 }
 
@@ -144,28 +168,54 @@ pub fn hot<'a>(
     walks_from(alloc, tables, Along::ZeroTime, &Writes { tables, signal })
 }
 
-// The places to which a walk without a further control leads from a place, where that is a control.
-fn places_after<'a>(
+// The places to which a walk along the ways that count leads from a place, where that keeps a rule.
+fn places_after<'a, R: Rule>(
     alloc: Global,
     tables: &'a Tables<'a>,
-    control: usize,
+    along: Along,
+    rule: &R,
+    place: usize,
     marks: &mut Vec<bool>,
 ) -> Result<Vec<usize>, AllocError>
     requires { AreClear (places tables.now) marks.old.items }
     ensures clear { OnOk result (AreClear (places tables.entry.now) marks.new.items) }
-    ensures exact { IfOk result (λ all. (p : ℕ) → (Contains all.items p ↔ IsControlBefore tables.entry.now control p)) }
+    ensures exact { IfOk result (λ all. (p : ℕ) →
+        (Contains all.items p ↔ IsBefore tables.entry.now along (R.keeps rule.now) place p)) }
 {
     tables.leads_in();
-    if control >= tables.places() {
+    if place >= tables.places() {
         return Ok(Vec::new(alloc));
     }
-    if !tables.is_point(control) {
+    if !tables.is_point(place) {
         return Ok(Vec::new(alloc));
     }
-    if !is_control(tables.pause(control)) {
+    let keeps = rule.test(alloc, place)?;
+    if !keeps {
         return Ok(Vec::new(alloc));
     }
-    tables.places_from(alloc, Along::Plain, tables.tos(control), marks)
+    tables.places_from(alloc, along, tables.tos(place), marks)
+}
+
+// For each place those that keep a rule from which a walk along the ways that count leads to it. It takes as long as these rows are, and the ways
+// of their places.
+fn rows_before<'a, R: Rule>(
+    alloc: Global,
+    tables: &'a Tables<'a>,
+    along: Along,
+    rule: &R,
+) -> Result<Rows<usize>, AllocError>
+    ensures len { IfOk result (λ table. length table ≡ places tables.entry.now) }
+    ensures exact { IfOk result (λ table.
+        AreRows (IsBefore tables.entry.now along (R.keeps rule.now)) (places tables.entry.now) (places tables.entry.now) table) }
+{
+    let count = tables.places();
+    let mut table = Rows::empty(alloc, count)?;
+    let mut marks = clear_marks(alloc, count)?;
+    for q in 0..count {
+        let after = places_after(alloc, &*tables, along, rule, q, &mut marks)?;
+        table.put_all(&after, q)?;
+    }
+    Ok(table)
 }
 
 /// For each place the controls from which a walk without a further control leads to it. It takes as long as these rows are, and the ways of their
@@ -175,14 +225,17 @@ pub fn controls_before<'a>(alloc: Global, tables: &'a Tables<'a>) -> Result<Rows
     ensures exact { IfOk result (λ table.
         AreRows (IsControlBefore tables.entry.now) (places tables.entry.now) (places tables.entry.now) table) }
 {
-    let count = tables.places();
-    let mut table = Rows::empty(alloc, count)?;
-    let mut marks = clear_marks(alloc, count)?;
-    for q in 0..count {
-        let after = places_after(alloc, &*tables, q, &mut marks)?;
-        table.put_all(&after, q)?;
-    }
-    Ok(table)
+    rows_before(alloc, tables, Along::Plain, &Controls { tables })
+}
+
+/// For each place the delay controls of more than zero ticks from which a walk that takes no time leads to it. It takes as long as these rows are,
+/// and the ways of their places.
+pub fn delays_before<'a>(alloc: Global, tables: &'a Tables<'a>) -> Result<Rows<usize>, AllocError>
+    ensures len { IfOk result (λ table. length table ≡ places tables.entry.now) }
+    ensures exact { IfOk result (λ table.
+        AreRows (IsDelayBefore tables.entry.now) (places tables.entry.now) (places tables.entry.now) table) }
+{
+    rows_before(alloc, tables, Along::ZeroTime, &Delays { tables })
 }
 
 /// The terms of all event controls of a text (IEEE 1364-2005, clause 9.7.2).

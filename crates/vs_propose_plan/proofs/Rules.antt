@@ -17,8 +17,12 @@ use Rattle.vs_design.specs.Parts.{Parts}
 use Rattle.vs_design.specs.WellFormed.{WellFormed}
 use Rattle.vs_process.specs.Steps.{wait}
 use Rattle.vs_drivers.specs.vs_rules.specs.vs_threads.specs.Blocks.{outputs_for}
-use Rattle.vs_drivers.specs.vs_rules.specs.Claims.{Name, Claims, Kind, Mode, is_both, SignalClaim, ProcessClaim, EdgeClaim, names_process, writer_in, second_in, mode_in, times_in, place_of, all_names, edge_names, names_of_edge, edge_signals, process_names, signal_names}
-use Rattle.vs_drivers.specs.vs_rules.specs.Claims.{assign_name, process_name, signal_name, claim_for, claim_of, kind_for, kind_of, IsSignalNamed, IsAssignNamed, IsProcessNamed, IsSecond, IsBlock, IsDelay, IsSequential, HasMode, HasKind, IsRootOf, IsRoot}
+use Rattle.vs_drivers.specs.vs_rules.specs.Claims.{Name, Claims, Kind, Mode, is_both, is_mixed, SignalClaim, ProcessClaim, EdgeClaim, names_process}
+use Rattle.vs_drivers.specs.vs_rules.specs.Claims.{writer_in, second_in, mode_in, times_in, place_of, all_names, edge_names, names_of_edge}
+use Rattle.vs_drivers.specs.vs_rules.specs.Claims.{edge_signals, process_names, signal_names, assign_name, process_name, signal_name, claim_for}
+use Rattle.vs_drivers.specs.vs_rules.specs.Claims.{claim_of, kind_for, kind_of, IsSignalNamed, IsAssignNamed, IsProcessNamed, IsSecond, IsBlock}
+use Rattle.vs_drivers.specs.vs_rules.specs.Claims.{IsDelay, HasMixedLists, WaitsForEdges, WaitsForTimes, IsSequential, HasMode, HasKind, IsRootOf}
+use Rattle.vs_drivers.specs.vs_rules.specs.Claims.{IsRoot}
 use Rattle.vs_drivers.specs.vs_rules.specs.Claims as k
 use Rattle.vs_drivers.specs.vs_rules.specs.Limits.{IsCertificate}
 use Rattle.vs_drivers.specs.vs_rules.specs.Paths.{Bit, IsBit, Has, Writes, HasTerm}
@@ -48,9 +52,21 @@ no_block d c still i b = no_kind d c still i (k.block b.0) b.1
 no_delay : (d : Parts) (c : Claims) → d.processes ≡ [] → (i : ℕ) → IsDelay d c i → ⊥
 no_delay d c still i lists = no_kind d c still i (k.delays lists.0) lists.1
 
+no_mixed : (d : Parts) (c : Claims) → d.processes ≡ [] → (i : ℕ) (lists : List (List ℕ)) → HasMixedLists d c i lists → ⊥
+no_mixed d c still i lists is = no_kind d c still i (k.mixed lists) is
+
 no_sequential : (d : Parts) (c : Claims) → d.processes ≡ [] → (i : ℕ) → IsSequential d c i → ⊥
 no_sequential d c still i (inl edge) = no_kind d c still i k.edges edge
-no_sequential d c still i (inr lists) = no_delay d c still i lists
+no_sequential d c still i (inr (inl lists)) = no_delay d c still i lists
+no_sequential d c still i (inr (inr lists)) = no_mixed d c still i lists.0 lists.1
+
+no_edges : (d : Parts) (c : Claims) → d.processes ≡ [] → (i : ℕ) → WaitsForEdges d c i → ⊥
+no_edges d c still i (inl edge) = no_kind d c still i k.edges edge
+no_edges d c still i (inr lists) = no_mixed d c still i lists.0 lists.1
+
+no_times : (d : Parts) (c : Claims) → d.processes ≡ [] → (i : ℕ) (lists : List (List ℕ)) → WaitsForTimes d c i lists → ⊥
+no_times d c still i lists (inl is) = no_kind d c still i (k.delays lists) is
+no_times d c still i lists (inr is) = no_mixed d c still i lists is
 
 no_writes : (d : Parts) → d.processes ≡ [] → (i v : ℕ) → Writes d i v → ⊥
 no_writes d still i v w =
@@ -271,18 +287,20 @@ keeps_6 d c order v still plain = record {
 
 keeps_7 : (d : Parts) (c : Claims) (i : ℕ) → d.processes ≡ [] → K7 d c i
 keeps_7 d c i still = record {
-  events = λ a l number terms edge. absurd (no_kind d c still i k.edges edge);
+  events = λ a l number terms edge. absurd (no_edges d c still i edge);
   no_delay = λ a l number ticks edge. absurd (no_kind d c still i k.edges edge);
-  one_signal = λ t u root edge. absurd (no_kind d c still i k.edges edge);
-  apart = λ one other r edge. absurd (no_kind d c still i k.edges edge);
+  one_signal = λ t u root edge. absurd (no_edges d c still i edge);
+  apart = λ one other r edge. absurd (no_edges d c still i edge);
+  arrives = λ lists delay event r is. absurd (no_mixed d c still i lists is);
 }
 
 keeps_8 : (d : Parts) (c : Claims) (i : ℕ) → d.processes ≡ [] → K8 d c i
 keeps_8 d c i still = record {
   no_event = λ a l number terms delay. absurd (no_delay d c still i delay);
-  one_each = λ lists is. absurd (no_kind d c still i (k.delays lists) is);
-  from_start = λ lists a l number ticks is. absurd (no_kind d c still i (k.delays lists) is);
-  from_residue = λ lists a l number ticks r is. absurd (no_kind d c still i (k.delays lists) is);
+  one_each = λ lists is. absurd (no_times d c still i lists is);
+  from_start = λ lists a l number ticks is. absurd (no_times d c still i lists is);
+  from_residue = λ lists a l number ticks r is. absurd (no_times d c still i lists is);
+  from_edge = λ lists a l number ticks r is. absurd (no_mixed d c still i lists is);
 }
 
 keeps_10 : (d : Parts) (c : Claims) (order : List ℕ) (v : ℕ) → IsPlain d c order → K10_Signal d c v
@@ -402,6 +420,7 @@ certificate d c e order formed plain o s f = record {
   displays = λ one. plain.displays;
   starts = λ q one has. absurd (none q has);
   narrow = inr (ap (λ (ss : List SignalClaim). list_any (λ (s : SignalClaim). is_both s.mode) ss) plain.signals ∙ plain_modes d.signals);
+  unmixed = inr (ap (λ (ps : List ProcessClaim). list_any (λ (p : ProcessClaim). is_mixed p.kind) ps) plain.processes);
   above = omega (arith, plain.modulus);
   below = omega (arith, plain.modulus);
   few_edges = omega (arith, ap length plain.edges);

@@ -1,8 +1,9 @@
 //! How a text comes to each place of its map.
 
+use crate::firing::Firings;
 use crate::vs_certificate::Rules;
 use std::alloc::{AllocError, Global};
-use vs_design::Statement;
+use vs_design::{EventTerm, Statement};
 use vs_process::{Stop, TextMap};
 
 // How many ways to come to one place are told apart: by wide rules as many as a list may have residues, and those without one.
@@ -22,7 +23,7 @@ pub(crate) enum Arrival {
     FirstSlot,
     /// At a time above 0, in ticks, that has this residue.
     Residue(u64),
-    /// After an event control.
+    /// After an event control; at a residue too, where one of its terms can fire.
     Woken,
 }
 
@@ -141,6 +142,45 @@ impl Walk {
         Ok(())
     }
 
+    // Comes to a place at some residues.
+    fn come_at(&mut self, place: usize, residues: &[u64]) -> Result<(), AllocError> {
+        for residue in residues {
+            self.come(place, Arrival::Residue(*residue))?;
+        }
+        Ok(())
+    }
+
+    // Comes to a place at all residues at which some terms can fire.
+    fn wake(
+        &mut self,
+        place: usize,
+        terms: &[EventTerm],
+        firings: &Firings,
+    ) -> Result<(), AllocError> {
+        for term in terms {
+            self.come_at(place, firings.of(*term))?;
+        }
+        Ok(())
+    }
+
+    // Comes out of a place, where it is an event control.
+    fn wake_from(&mut self, stop: &Stop, firings: &Firings) -> Result<(), AllocError> {
+        for to in &stop.tos {
+            self.wake(*to, terms_of(stop.statement), firings)?;
+        }
+        Ok(())
+    }
+
+    // Comes out of each event control, be it ever reached or not: the rules don't ask that.
+    fn wake_all(&mut self, map: &TextMap, firings: &Firings) -> Result<(), AllocError> {
+        for place in 0..map.stops.len().saturating_add(1) {
+            if let Some(stop) = stop_at(&map.stops, place) {
+                self.wake_from(stop, firings)?;
+            }
+        }
+        Ok(())
+    }
+
     // Goes on from a place.
     fn go(
         &mut self,
@@ -160,17 +200,30 @@ impl Walk {
     }
 }
 
-/// How a text comes to each place of its map, with residues by a modulus; none where there are too many ways. It takes as long as the map has places
-/// and ways, times how many residues there are.
+// The terms of a statement, where it is an event control.
+fn terms_of<'a>(statement: Option<&'a Statement>) -> &'a [EventTerm] {
+    match statement {
+        None => &[],
+        Some(s) => match s {
+            Statement::Event(_, terms, _) => terms,
+            _ => &[],
+        },
+    }
+}
+
+/// How a text comes to each place of its map, with residues by a modulus, and at those at which the terms of its event controls can fire; none where
+/// there are too many ways. It takes as long as the map has places and ways, times how many residues there are.
 pub(crate) fn all_arrivals(
     alloc: Global,
     map: &TextMap,
     rules: Rules,
     modulus: u64,
+    firings: &Firings,
 ) -> Result<Option<Arrivals>, AllocError> {
     let places = map.stops.len().saturating_add(1);
     let mut walk = Walk::new(alloc, places, most_arrivals(rules))?;
     walk.come(map.start, Arrival::Start)?;
+    walk.wake_all(map, firings)?;
     for _ in 0..u64::MAX {
         let Some((place, arrival)) = walk.todo.pop() else {
             break;

@@ -1,6 +1,7 @@
 //! Certificates of plans.
 ghost use Rattle.std.specs.Prelude.{◌≡◌, IfOk, IfSome};
 
+use crate::firing::{Firings, firings_of};
 use crate::plans::{EdgePlan, KindPlan, Plan, SignalPlan};
 use crate::vs_certificate::{
     Certificate, ClaimedGrain, ClaimedKind, EdgeSignal, ProcessEntry, Rules, SignalEntry, Version,
@@ -8,6 +9,14 @@ use crate::vs_certificate::{
 use crate::{text_lists, text_of};
 use std::alloc::{AllocError, Global};
 use vs_design::{Design, Process, Signal};
+
+// What the lists of processes hang on besides their texts.
+#[derive(Drop)]
+struct Residues {
+    rules: Rules,
+    modulus: u64,
+    firings: Firings,
+}
 
 // The path of a signal.
 fn signal_name(alloc: Global, design: &Design, v: usize) -> Result<String, AllocError> {
@@ -94,27 +103,45 @@ fn signal_entries(
     Ok(entries)
 }
 
+// The lists of a process; none where one has too many residues.
+fn claimed_lists(
+    alloc: Global,
+    design: &Design,
+    i: usize,
+    residues: &Residues,
+) -> Result<Option<Vec<Vec<u64>>>, AllocError> {
+    if i >= design.processes().len() {
+        return Ok(None);
+    }
+    text_lists(
+        alloc,
+        design,
+        i,
+        residues.rules,
+        residues.modulus,
+        &residues.firings,
+    )
+}
+
 // The kind of a process; none where a list has too many residues.
 fn claimed_kind(
     alloc: Global,
     design: &Design,
     i: usize,
     plan: KindPlan,
-    rules: Rules,
-    modulus: u64,
+    residues: &Residues,
 ) -> Result<Option<ClaimedKind>, AllocError> {
     match plan {
         KindPlan::Block(start) => Ok(Some(ClaimedKind::Combinational(start))),
         KindPlan::Edge => Ok(Some(ClaimedKind::Edge)),
-        KindPlan::Delay => {
-            if i >= design.processes().len() {
-                return Ok(None);
-            }
-            match text_lists(alloc, design, i, rules, modulus)? {
-                None => Ok(None),
-                Some(lists) => Ok(Some(ClaimedKind::Delay(lists))),
-            }
-        }
+        KindPlan::Delay => match claimed_lists(alloc, design, i, residues)? {
+            None => Ok(None),
+            Some(lists) => Ok(Some(ClaimedKind::Delay(lists))),
+        },
+        KindPlan::Mixed => match claimed_lists(alloc, design, i, residues)? {
+            None => Ok(None),
+            Some(lists) => Ok(Some(ClaimedKind::Mixed(lists))),
+        },
     }
 }
 
@@ -125,10 +152,9 @@ fn process_entry(
     process: &Process,
     i: usize,
     plan: KindPlan,
-    rules: Rules,
-    modulus: u64,
+    residues: &Residues,
 ) -> Result<Option<ProcessEntry>, AllocError> {
-    match claimed_kind(alloc, design, i, plan, rules, modulus)? {
+    match claimed_kind(alloc, design, i, plan, residues)? {
         None => Ok(None),
         Some(kind) => Ok(Some(ProcessEntry {
             kind,
@@ -142,20 +168,38 @@ fn process_entries(
     alloc: Global,
     design: &Design,
     plans: &[KindPlan],
-    rules: Rules,
-    modulus: u64,
+    residues: &Residues,
 ) -> Result<Option<Vec<ProcessEntry>>, AllocError> {
     let processes = design.processes();
     let mut entries = Vec::new(alloc);
     for i in 0..processes.len() {
         if i < plans.len() {
-            match process_entry(alloc, design, &processes[i], i, plans[i], rules, modulus)? {
+            match process_entry(alloc, design, &processes[i], i, plans[i], residues)? {
                 None => return Ok(None),
                 Some(entry) => entries.push(entry)?,
             }
         }
     }
     Ok(Some(entries))
+}
+
+// The residues at which the edges of roots can fire, where a process hangs on them by its lists.
+fn residues_of(
+    alloc: Global,
+    design: &Design,
+    plan: &Plan,
+    modulus: u64,
+) -> Result<Residues, AllocError> {
+    let firings = if plan.has_mixed() {
+        firings_of(alloc, design, plan, modulus)?
+    } else {
+        Firings::none(alloc)
+    };
+    Ok(Residues {
+        rules: plan.rules,
+        modulus,
+        firings,
+    })
 }
 
 // The version of a plan: 3 by wide rules, and else 1, where that has all that is claimed.
@@ -182,7 +226,8 @@ pub fn certificate_of(
 ) -> Result<Option<Certificate>, AllocError>
     ensures { IfOk result (λ o. IfSome o (λ c. c.grain ≡ grain)) }
 {
-    let Some(processes) = process_entries(alloc, design, &plan.kinds, plan.rules, modulus)? else {
+    let residues = residues_of(alloc, design, plan, modulus)?;
+    let Some(processes) = process_entries(alloc, design, &plan.kinds, &residues)? else {
         return Ok(None);
     };
     Ok(Some(Certificate {

@@ -10,6 +10,8 @@ pub enum TextKind {
     Block,
     /// It has event controls, and no delay control.
     Edge,
+    /// It has delay controls and event controls.
+    Mixed,
     /// Any other one.
     Delay,
 }
@@ -40,9 +42,11 @@ fn has_control(map: &TextMap, delay: bool) -> bool {
 pub(crate) fn kind_of(process: &Process, map: &TextMap) -> TextKind {
     if is_combinational(process) {
         TextKind::Block
-    } else if has_control(map, false) && !has_control(map, true) {
-        TextKind::Edge
-    } else {
+    } else if !has_control(map, false) {
         TextKind::Delay
+    } else if has_control(map, true) {
+        TextKind::Mixed
+    } else {
+        TextKind::Edge
     }
 }

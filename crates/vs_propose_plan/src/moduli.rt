@@ -1,6 +1,6 @@
 //! By what residues may be counted.
 
-use crate::plans::{EdgePlan, Plan};
+use crate::plans::{EdgePlan, KindPlan, Plan};
 use crate::{TextFacts, common_divisor};
 use std::alloc::{AllocError, Global};
 use vs_design::Design;
@@ -52,8 +52,12 @@ fn suggest(moduli: &mut Vec<u64>, modulus: Option<u64>) -> Result<(), AllocError
     Ok(())
 }
 
-// For each of so many signals whether a signal of an edge term copies it.
-fn root_marks(alloc: Global, signals: usize, edges: &[EdgePlan]) -> Result<Vec<bool>, AllocError> {
+/// For each of so many signals whether a signal of an edge term copies it.
+pub(crate) fn root_marks(
+    alloc: Global,
+    signals: usize,
+    edges: &[EdgePlan],
+) -> Result<Vec<bool>, AllocError> {
     let mut marks = vec![in alloc; false; signals]?;
     for edge in edges {
         if let Some(mark) = marks.get_mut(edge.root) {
@@ -80,11 +84,23 @@ fn period_of(text: &TextFacts, marks: &[bool]) -> u64 {
     }
 }
 
-// What all turns of the texts are multiples of in time: 1 where there are none.
-fn turn_of(texts: &[TextFacts], marks: &[bool]) -> Option<u64> {
+// Whether a process is to be claimed to wait for times and for edges: the time of its turns isn't that of its delays alone.
+fn is_mixed(kinds: &[KindPlan], i: usize) -> bool {
+    match kinds.get(i) {
+        None => false,
+        Some(kind) => matches!(kind, KindPlan::Mixed),
+    }
+}
+
+// What all turns of the texts are multiples of in time, but for those of mixed ones: 1 where there are none.
+fn turn_of(texts: &[TextFacts], kinds: &[KindPlan], marks: &[bool]) -> Option<u64> {
     let mut turn = 1;
-    for text in texts {
-        let period = period_of(text, marks);
+    for i in 0..texts.len() {
+        let period = if is_mixed(kinds, i) {
+            0
+        } else {
+            period_of(&texts[i], marks)
+        };
         if period > 0 {
             turn = common_multiple(turn, period)?;
         }
@@ -165,10 +181,12 @@ pub fn moduli_of(alloc: Global, design: &Design, plan: &Plan) -> Result<Vec<u64>
     let texts = plan.texts.as_slice();
     let last = last_of(texts);
     let mut moduli = Vec::new(alloc);
-    suggest(&mut moduli, turn_of(texts, &marks))?;
-    suggest(&mut moduli, turn_of(texts, &[]))?;
-    suggest_multiples(&mut moduli, turn_of(texts, &marks), last)?;
-    suggest_multiples(&mut moduli, turn_of(texts, &[]), last)?;
+    let doubled = turn_of(texts, &plan.kinds, &marks);
+    let plain = turn_of(texts, &plan.kinds, &[]);
+    suggest(&mut moduli, doubled)?;
+    suggest(&mut moduli, plain)?;
+    suggest_multiples(&mut moduli, doubled, last)?;
+    suggest_multiples(&mut moduli, plain, last)?;
     suggest_periods(&mut moduli, texts, &marks)?;
     put(&mut moduli, Some(1))?;
     for modulus in 2..=small_moduli(size_of(design, texts)) {

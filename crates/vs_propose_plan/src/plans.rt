@@ -32,6 +32,8 @@ pub enum KindPlan {
     Edge,
     /// It waits for times alone.
     Delay,
+    /// It waits for times and for edges. Version 3 alone has it.
+    Mixed,
 }
 
 /// A signal of an edge term, and the variable that it copies, by their numbers.
@@ -68,6 +70,16 @@ impl Plan {
                 .kinds
                 .iter()
                 .any(|kind| matches!(kind, KindPlan::Block(Start::Starter)))
+    }
+
+    /// Whether some process is to be claimed to wait for times and for edges.
+    pub(crate) fn has_mixed(&self) -> bool {
+        for kind in &self.kinds {
+            if matches!(kind, KindPlan::Mixed) {
+                return true;
+            }
+        }
+        false
     }
 }
 

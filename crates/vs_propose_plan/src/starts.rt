@@ -9,8 +9,8 @@ use std::alloc::{AllocError, Global};
 use vs_design::{BitRange, Design, EventTerm, Statement, event_terms};
 use vs_threads::statement_writes;
 
-// Whether one of some ranges is of a signal.
-fn is_written(written: &[BitRange], signal: usize) -> bool {
+/// Whether one of some ranges is of a signal.
+pub(crate) fn is_written(written: &[BitRange], signal: usize) -> bool {
     written.iter().any(|range| range.signal == signal)
 }
 
@@ -29,12 +29,12 @@ fn waits_for_sources(signals: &[SignalPlan], written: &[BitRange], terms: &[Even
     })
 }
 
-// Whether the writer of a starter may be of a kind: of kind edge in version 3 alone.
+// Whether the writer of a starter may be of a kind: of kind edge in version 3 alone, which alone has mixed ones.
 fn is_of_starters(kind: TextKind, rules: Rules) -> bool {
     match kind {
         TextKind::Block => false,
         TextKind::Edge => matches!(rules, Rules::Wide),
-        TextKind::Delay => true,
+        TextKind::Mixed | TextKind::Delay => true,
     }
 }
 
@@ -66,11 +66,20 @@ fn may_start(texts: &[TextFacts], signals: &[SignalPlan], v: usize, rules: Rules
     }
 }
 
+// What is claimed of a process that waits for times and for edges. Versions 1 and 2 have no kind for it.
+fn mixed_kind(rules: Rules) -> KindPlan {
+    match rules {
+        Rules::Narrow => KindPlan::Delay,
+        Rules::Wide => KindPlan::Mixed,
+    }
+}
+
 // What is claimed of a process that is no driver; of a block, before its start is known, that it is cold.
-fn kind_plan(text: &TextFacts) -> KindPlan {
+fn kind_plan(text: &TextFacts, rules: Rules) -> KindPlan {
     match text.kind {
         TextKind::Block => KindPlan::Block(Start::Cold),
         TextKind::Edge => KindPlan::Edge,
+        TextKind::Mixed => mixed_kind(rules),
         TextKind::Delay => KindPlan::Delay,
     }
 }
@@ -185,7 +194,7 @@ pub(crate) fn kind_plans(
 ) -> Result<Vec<KindPlan>, AllocError> {
     let mut kinds = Vec::new(alloc);
     for text in texts {
-        kinds.push(kind_plan(text))?;
+        kinds.push(kind_plan(text, rules))?;
     }
     if !texts.iter().any(|text| text.kind == TextKind::Block) {
         return Ok(kinds);

@@ -25,7 +25,7 @@ use Rattle.vs_certificate.specs.Versions.{has_kind, has_mode, has_own_words, is_
 use Rattle.vs_certificate.proofs.Images.{is_within-images}
 use Rattle.vs_certificate.proofs.Law.{sound_value, sound_wide, sound_narrow, own_words}
 use Rattle.vs_certificate.proofs.Natural.{limit_parts}
-use Rattle.vs_rules.specs.Claims.{ProcessClaim, SignalClaim, block, delays, starter, is_both}
+use Rattle.vs_rules.specs.Claims.{Kind, ProcessClaim, SignalClaim, block, delays, mixed, starter, is_both, is_mixed}
 use Rattle.vs_rules.specs.Certificates.{residues_from, kind_from, mode_from, process_claim, signal_claim, edge_claim, name_from, displays_from, claims_of}
 use Rattle.vs_rules.specs.Limits.{AreResidues, AreLists, IsCertificate, IsWideCertificate, IsCertificateOf, IsNarrow}
 use Rattle.vs_rules.specs.Limits as asked
@@ -91,18 +91,28 @@ lists_read most m slots l =
 
 -- ---- processes
 
-kind_asked : (most m : ℕ) (kind : ClaimedKind) (lists : List (List ℕ)) → are_slots most m (slots_value kind) ≡ true → kind_from kind ≡ delays lists → AreLists most m lists
-kind_asked most m (kinds.Combinational start) lists h e = absurd cc
-kind_asked most m kinds.Edge lists h e = absurd cc
-kind_asked most m (kinds.Delay slots) lists h e = let same : map residues_from slots.items ≡ lists = cc in subst (AreLists most m) same (lists_asked most m slots.items h)
+-- a kind has these lists
+abbrev HasListsOf : Kind → List (List ℕ) → Type 0
+HasListsOf kind lists = (kind ≡ delays lists) ⊎ (kind ≡ mixed lists)
+
+kind_asked : (most m : ℕ) (kind : ClaimedKind) (lists : List (List ℕ)) → are_slots most m (slots_value kind) ≡ true → HasListsOf (kind_from kind) lists → AreLists most m lists
+kind_asked most m (kinds.Combinational start) lists h (inl e) = absurd cc
+kind_asked most m (kinds.Combinational start) lists h (inr e) = absurd cc
+kind_asked most m kinds.Edge lists h (inl e) = absurd cc
+kind_asked most m kinds.Edge lists h (inr e) = absurd cc
+kind_asked most m (kinds.Delay slots) lists h (inl e) = let same : map residues_from slots.items ≡ lists = cc in subst (AreLists most m) same (lists_asked most m slots.items h)
+kind_asked most m (kinds.Delay slots) lists h (inr e) = absurd cc
+kind_asked most m (kinds.Mixed slots) lists h (inl e) = absurd cc
+kind_asked most m (kinds.Mixed slots) lists h (inr e) = let same : map residues_from slots.items ≡ lists = cc in subst (AreLists most m) same (lists_asked most m slots.items h)
 
 abbrev KeepsLists : ℕ → ℕ → ProcessClaim → Type 0
-KeepsLists most m p = (lists : List (List ℕ)) → p.kind ≡ delays lists → AreLists most m lists
+KeepsLists most m p = (lists : List (List ℕ)) → HasListsOf p.kind lists → AreLists most m lists
 
-kind_read : (most m : ℕ) (kind : ClaimedKind) → ((lists : List (List ℕ)) → kind_from kind ≡ delays lists → AreLists most m lists) → are_slots most m (slots_value kind) ≡ true
+kind_read : (most m : ℕ) (kind : ClaimedKind) → ((lists : List (List ℕ)) → HasListsOf (kind_from kind) lists → AreLists most m lists) → are_slots most m (slots_value kind) ≡ true
 kind_read most m (kinds.Combinational start) h = refl
 kind_read most m kinds.Edge h = refl
-kind_read most m (kinds.Delay slots) h = lists_read most m slots.items (h (map residues_from slots.items) refl)
+kind_read most m (kinds.Delay slots) h = lists_read most m slots.items (h (map residues_from slots.items) (inl refl))
+kind_read most m (kinds.Mixed slots) h = lists_read most m slots.items (h (map residues_from slots.items) (inr refl))
 
 abbrev test : ℕ → ℕ → Data → Bool
 test most m = passes_at (are_slots most m) (codes "slots")
@@ -133,12 +143,16 @@ have_modes version ss = list_all (λ (s : SignalEntry). has_mode version s.mode)
 abbrev any_both : List SignalClaim → Bool
 any_both ss = list_any (λ (s : SignalClaim). is_both s.mode) ss
 
+abbrev any_mixed : List ProcessClaim → Bool
+any_mixed ps = list_any (λ (p : ProcessClaim). is_mixed p.kind) ps
+
 start_asked : (kind : ClaimedKind) → has_kind versions.One kind ≡ true → kind_from kind ≡ block starter → ⊥
 start_asked (kinds.Combinational starts.Cold) h e = absurd cc
 start_asked (kinds.Combinational starts.Sources) h e = absurd cc
 start_asked (kinds.Combinational starts.Starter) h e = true≢false (sym h)
 start_asked kinds.Edge h e = absurd cc
 start_asked (kinds.Delay slots) h e = absurd cc
+start_asked (kinds.Mixed slots) h e = absurd cc
 
 starts_asked : (ps : List ProcessEntry) → have_kinds versions.One ps ≡ true → All IsNoStarter (map process_claim ps)
 starts_asked [] h = All-nil IsNoStarter
@@ -167,23 +181,47 @@ modes_narrow : (v : Version) (ss : List SignalEntry) → is_narrow v ≡ true �
 modes_narrow v [] n h = refl
 modes_narrow v (s ∷ ss) n h = let a = and_parts (has_mode v s.mode) (have_modes v ss) h in neither (is_both (mode_from s.mode)) (any_both (map signal_claim ss)) (mode_narrow v s.mode n a.0) (modes_narrow v ss n a.1)
 
+kind_narrow : (v : Version) (kind : ClaimedKind) → is_narrow v ≡ true → has_kind v kind ≡ true → is_mixed (kind_from kind) ≡ false
+kind_narrow v (kinds.Combinational start) n h = refl
+kind_narrow v kinds.Edge n h = refl
+kind_narrow v (kinds.Delay slots) n h = refl
+kind_narrow versions.One (kinds.Mixed slots) n h = absurd (true≢false (sym h))
+kind_narrow (versions.Two displays) (kinds.Mixed slots) n h = absurd (true≢false (sym h))
+kind_narrow (versions.Three displays) (kinds.Mixed slots) n h = absurd (true≢false (sym n))
+
+kinds_narrow : (v : Version) (ps : List ProcessEntry) → is_narrow v ≡ true → have_kinds v ps ≡ true → any_mixed (map process_claim ps) ≡ false
+kinds_narrow v [] n h = refl
+kinds_narrow v (p ∷ ps) n h =
+    let a = and_parts (has_kind v p.kind) (have_kinds v ps) h in
+    neither (is_mixed (kind_from p.kind)) (any_mixed (map process_claim ps)) (kind_narrow v p.kind n a.0) (kinds_narrow v ps n a.1)
+
 -- and the other way round
-kind_of_one : (kind : ClaimedKind) → (kind_from kind ≡ block starter → ⊥) → has_kind versions.One kind ≡ true
-kind_of_one (kinds.Combinational starts.Cold) h = refl
-kind_of_one (kinds.Combinational starts.Sources) h = refl
-kind_of_one (kinds.Combinational starts.Starter) h = absurd (h refl)
-kind_of_one kinds.Edge h = refl
-kind_of_one (kinds.Delay slots) h = refl
+kind_of_one : (kind : ClaimedKind) → (kind_from kind ≡ block starter → ⊥) → is_mixed (kind_from kind) ≡ false → has_kind versions.One kind ≡ true
+kind_of_one (kinds.Combinational starts.Cold) h n = refl
+kind_of_one (kinds.Combinational starts.Sources) h n = refl
+kind_of_one (kinds.Combinational starts.Starter) h n = absurd (h refl)
+kind_of_one kinds.Edge h n = refl
+kind_of_one (kinds.Delay slots) h n = refl
+kind_of_one (kinds.Mixed slots) h n = absurd (true≢false n)
 
-kinds_of_one : (ps : List ProcessEntry) → All IsNoStarter (map process_claim ps) → have_kinds versions.One ps ≡ true
-kinds_of_one [] h = refl
-kinds_of_one (p ∷ ps) h =
+kinds_of_one : (ps : List ProcessEntry) → All IsNoStarter (map process_claim ps) → any_mixed (map process_claim ps) ≡ false → have_kinds versions.One ps ≡ true
+kinds_of_one [] h n = refl
+kinds_of_one (p ∷ ps) h n =
     let rest = map process_claim ps in
-    both _ _ (kind_of_one p.kind (All-head IsNoStarter (process_claim p) rest h)) (kinds_of_one ps (All-tail IsNoStarter (process_claim p) rest h))
+    let a = neither_parts (is_mixed (kind_from p.kind)) (any_mixed rest) n in
+    both _ _ (kind_of_one p.kind (All-head IsNoStarter (process_claim p) rest h) a.0) (kinds_of_one ps (All-tail IsNoStarter (process_claim p) rest h) a.1)
 
-kinds_of_two : (displays : Bool) (ps : List ProcessEntry) → have_kinds (versions.Two displays) ps ≡ true
-kinds_of_two displays [] = refl
-kinds_of_two displays (p ∷ ps) = kinds_of_two displays ps
+kind_of_two : (displays : Bool) (kind : ClaimedKind) → is_mixed (kind_from kind) ≡ false → has_kind (versions.Two displays) kind ≡ true
+kind_of_two displays (kinds.Combinational start) n = refl
+kind_of_two displays kinds.Edge n = refl
+kind_of_two displays (kinds.Delay slots) n = refl
+kind_of_two displays (kinds.Mixed slots) n = absurd (true≢false n)
+
+kinds_of_two : (displays : Bool) (ps : List ProcessEntry) → any_mixed (map process_claim ps) ≡ false → have_kinds (versions.Two displays) ps ≡ true
+kinds_of_two displays [] n = refl
+kinds_of_two displays (p ∷ ps) n =
+    let a = neither_parts (is_mixed (kind_from p.kind)) (any_mixed (map process_claim ps)) n in
+    both _ _ (kind_of_two displays p.kind a.0) (kinds_of_two displays ps a.1)
 
 kinds_of_three : (displays : Bool) (ps : List ProcessEntry) → have_kinds (versions.Three displays) ps ≡ true
 kinds_of_three displays [] = refl
@@ -247,16 +285,23 @@ words_asked versions.One ss m = inr (modes_narrow versions.One ss refl m)
 words_asked (versions.Two displays) ss m = inr (modes_narrow (versions.Two displays) ss refl m)
 words_asked (versions.Three displays) ss m = inl refl
 
+kinds_asked : (v : Version) (ps : List ProcessEntry) → have_kinds v ps ≡ true → (version_number v ≡ 3) ⊎ (any_mixed (map process_claim ps) ≡ false)
+kinds_asked versions.One ps m = inr (kinds_narrow versions.One ps refl m)
+kinds_asked (versions.Two displays) ps m = inr (kinds_narrow (versions.Two displays) ps refl m)
+kinds_asked (versions.Three displays) ps m = inl refl
+
 -- by what is asked, a version has its words
 words_read : (v : Version) (ps : List ProcessEntry) (ss : List SignalEntry) → ((p : ProcessClaim) → version_number v ≡ 1 → Contains (map process_claim ps) p → p.kind ≡ block starter → ⊥) →
-    (version_number v ≡ 3) ⊎ (any_both (map signal_claim ss) ≡ false) → (have_kinds v ps && have_modes v ss) ≡ true
-words_read versions.One ps ss h (inl three) = absurd (omega (arith, three))
-words_read versions.One ps ss h (inr none) =
+    (version_number v ≡ 3) ⊎ (any_both (map signal_claim ss) ≡ false) → (version_number v ≡ 3) ⊎ (any_mixed (map process_claim ps) ≡ false) → (have_kinds v ps && have_modes v ss) ≡ true
+words_read versions.One ps ss h (inl three) unmixed = absurd (omega (arith, three))
+words_read versions.One ps ss h (inr none) (inl three) = absurd (omega (arith, three))
+words_read versions.One ps ss h (inr none) (inr unmixed) =
     let all = map process_claim ps in
-    both _ _ (kinds_of_one ps (All-weaker (Contains all) IsNoStarter (λ p c. h p refl c) all (All-contains_itself all))) (modes_of versions.One ss none)
-words_read (versions.Two displays) ps ss h (inl three) = absurd (omega (arith, three))
-words_read (versions.Two displays) ps ss h (inr none) = both _ _ (kinds_of_two displays ps) (modes_of (versions.Two displays) ss none)
-words_read (versions.Three displays) ps ss h any = both _ _ (kinds_of_three displays ps) (modes_of_three displays ss)
+    both _ _ (kinds_of_one ps (All-weaker (Contains all) IsNoStarter (λ p c. h p refl c) all (All-contains_itself all)) unmixed) (modes_of versions.One ss none)
+words_read (versions.Two displays) ps ss h (inl three) unmixed = absurd (omega (arith, three))
+words_read (versions.Two displays) ps ss h (inr none) (inl three) = absurd (omega (arith, three))
+words_read (versions.Two displays) ps ss h (inr none) (inr unmixed) = both _ _ (kinds_of_two displays ps unmixed) (modes_of (versions.Two displays) ss none)
+words_read (versions.Three displays) ps ss h any unmixed = both _ _ (kinds_of_three displays ps) (modes_of_three displays ss)
 
 -- ---- limits
 
@@ -307,6 +352,7 @@ asked_from_read IsKnown c version own limits =
       displays = none_shown c.version;
       starts = λ p e. own_asked c.version c.processes.items words.0 e p;
       narrow = words_asked c.version c.signals.items words.1;
+      unmixed = kinds_asked c.version c.processes.items words.0;
       above = omega (arith, above);
       below = leb-true c.modulus (2 ^ 32) fits.1;
       few_edges = few edge_value edge_claim 65536 c.edges.items w.edges;
@@ -330,7 +376,7 @@ read_from_asked IsKnown c is =
       processes = both _ _ (within process_value process_claim 65536 c.processes.items is.few_processes) (processes_read most c.modulus c.processes.items lists);
       signals = within signal_value signal_claim 65536 c.signals.items is.few_signals;
     } in
-    (words_read c.version c.processes.items c.signals.items is.starts is.narrow, limits_by c.version c (subst (λ (n : ℕ). AreWithin n c) (most_same c.version) w))
+    (words_read c.version c.processes.items c.signals.items is.starts is.narrow is.unmixed, limits_by c.version c (subst (λ (n : ℕ). AreWithin n c) (most_same c.version) w))
 
 pub tested_are_certificates : TestedAreCertificates
 tested_are_certificates c = (

@@ -157,7 +157,7 @@ pub data Missing (d : Parts) (i g w : ℕ) : Todo → Type 0 where
   goes_on : (k l : Todo) → Missing d i g w k → (Begins d i g k → ⊥) → Goes k (on l) → Missing d i g w l
   waits : (k l : Todo) (number : ℕ) → Missing d i g w k → Goes k (after number 0 l) → Missing d i g w l
 
--- a variable of mode nonblocking with a writer of kind delay, in version 3 of mode both too, and with one of kind edge too
+-- a variable of mode nonblocking with a writer of kind delay, in version 3 of mode both too, and with one of kind edge or mixed too
 abbrev pub MayStart : Parts → Claims → ℕ → ℕ → Type 0
 MayStart d c g w = (HasMode d c g nonblocking × IsDelay d c w) ⊎ (IsWide c × (HasMode d c g nonblocking ⊎ HasMode d c g both) × IsSequential d c w)
 

@@ -19,7 +19,7 @@ use Rattle.vs_certificate.specs.JsonValue.{version_number}
 use Rattle.vs_threads.specs.vs_process.specs.declared.moves.Grain.{Grain}
 use Rattle.vs_threads.specs.vs_process.specs.declared.moves.Grain.TheVariants as g
 use Rattle.vs_rules.specs.Claims.{Name, Mode, net, unwritten, combinational, nonblocking, blocking, private, both, Start, cold, sources, starter}
-use Rattle.vs_rules.specs.Claims.{Kind, block, edges, delays, SignalClaim, ProcessClaim, EdgeClaim, Claims}
+use Rattle.vs_rules.specs.Claims.{Kind, block, edges, delays, mixed, SignalClaim, ProcessClaim, EdgeClaim, Claims}
 
 -- ---- words
 
@@ -69,6 +69,7 @@ abbrev pub kind_from : ClaimedKind → Kind
 kind_from (kinds.Combinational start) = block (start_from start)
 kind_from kinds.Edge = edges
 kind_from (kinds.Delay slots) = delays (map residues_from slots.items)
+kind_from (kinds.Mixed slots) = mixed (map residues_from slots.items)
 
 abbrev pub process_claim : ProcessEntry → ProcessClaim
 process_claim p = record { name = name_from p.name; kind = kind_from p.kind }

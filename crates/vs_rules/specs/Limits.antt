@@ -1,7 +1,7 @@
 -- The form and the limits of a certificate (profile): what its reader asks of it before any rule is asked of a design.
 use Rattle.std.specs.Prelude.{ℕ, suc, ◌^◌, ◌≡◌, ◌==◌, ◌<◌, ◌≤◌, ◌⊎◌, ◌&&◌, Bool, true, false, if◌then◌else◌, List, [], ◌∷◌, length, nat_le, nat_lt}
 use Rattle.std.specs.List.{Contains}
-use Rattle.vs_rules.specs.Claims.{Claims, ProcessClaim, block, delays, starter, has_both}
+use Rattle.vs_rules.specs.Claims.{Claims, ProcessClaim, block, delays, mixed, starter, has_both, has_mixed}
 
 -- whether numbers rise, each at least the first one, and stay below a bound
 abbrev pub rise : ℕ → ℕ → List ℕ → Bool
@@ -28,8 +28,9 @@ pub record IsCertificateOf (IsKnown : ℕ → Type 0) (c : Claims) : Type 0 wher
   -- one of version 1 has neither `displays` nor a starter
   pub displays : c.version ≡ 1 → c.displays ≡ false
   pub starts : (p : ProcessClaim) → c.version ≡ 1 → Contains c.processes p → p.kind ≡ block starter → ⊥
-  -- one of version 1 or 2 has not the mode of version 3
+  -- one of version 1 or 2 has neither the mode of version 3 nor its kind
   pub narrow : (c.version ≡ 3) ⊎ (has_both c ≡ false)
+  pub unmixed : (c.version ≡ 3) ⊎ (has_mixed c ≡ false)
   -- the modulus is 1 to 2^32
   pub above : 0 < c.modulus
   pub below : c.modulus ≤ 2 ^ 32
@@ -39,7 +40,8 @@ pub record IsCertificateOf (IsKnown : ℕ → Type 0) (c : Claims) : Type 0 wher
   pub few_processes : length c.processes ≤ 65536
   pub few_signals : length c.signals ≤ 65536
   -- nor the lists of a process, whose residues rise below the modulus
-  pub lists : (p : ProcessClaim) (lists : List (List ℕ)) → Contains c.processes p → p.kind ≡ delays lists → AreLists (most_residues c.version) c.modulus lists
+  pub lists : (p : ProcessClaim) (lists : List (List ℕ)) → Contains c.processes p → (p.kind ≡ delays lists) ⊎ (p.kind ≡ mixed lists) →
+      AreLists (most_residues c.version) c.modulus lists
 
 abbrev pub IsNarrow : ℕ → Type 0
 IsNarrow version = (version ≡ 1) ⊎ (version ≡ 2)

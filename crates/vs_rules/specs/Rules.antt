@@ -13,16 +13,16 @@ use Rattle.vs_design.specs.Parts.{Parts}
 use Rattle.vs_design.specs.Uses.{reads, writes}
 use Rattle.vs_threads.specs.vs_process.specs.Executions.{is_level}
 use Rattle.vs_threads.specs.vs_process.specs.Places.{Todo}
-use Rattle.vs_threads.specs.vs_process.specs.Steps.{after, wait}
+use Rattle.vs_threads.specs.vs_process.specs.Steps.{Next, after, wait}
 use Rattle.vs_rules.specs.Claims.{Name, Mode, net, unwritten, combinational, nonblocking, blocking, private, both, writer_in, second_in, times_in}
 use Rattle.vs_rules.specs.Controls.{controls_of}
 use Rattle.vs_rules.specs.Points.{Goes}
-use Rattle.vs_rules.specs.Claims.{Claims, IsSignalNamed, IsProcessNamed, IsAssignNamed, claim_of, IsWriter, IsSecond, HasMode, HasKind, IsBlock, IsEdge, HasLists, IsDelay, IsSequential, IsLater, IsWide}
+use Rattle.vs_rules.specs.Claims.{Claims, IsSignalNamed, IsProcessNamed, IsAssignNamed, claim_of, IsWriter, IsSecond, HasMode, HasKind, IsBlock, IsEdge, HasLists, IsDelay, HasMixedLists, IsMixed, WaitsForEdges, WaitsForTimes, IsSequential, IsLater, IsWide}
 use Rattle.vs_rules.specs.Claims.{signal_names, process_names, edge_names, edge_signals, IsRootOf, IsRoot}
-use Rattle.vs_rules.specs.Paths.{Bit, IsBit, Has, ListsSignal, WritesNow, WritesLater, WritesAny, ReadsNow, ShowsNow, IsPoint, IsSlot0, IsPrologue, IsLate, IsHot, Writes, reads_of, HasTerm, IsHeardAtStart}
+use Rattle.vs_rules.specs.Paths.{Bit, IsBit, Has, ListsSignal, WritesNow, WritesLater, WritesAny, ReadsNow, ShowsNow, IsPoint, IsSlot0, IsPrologue, IsLate, IsHot, Path, is_zero_time, Writes, reads_of, HasTerm, IsHeardAtStart}
 use Rattle.vs_rules.specs.Drivers.{Driver, block, IsDriver, DriverReads, DriverNeeds, StandsBefore, WritesBit, IsSource, IsBlocking, InCone}
 use Rattle.vs_rules.specs.Constants.{bit_of, Gives, IsKnown, IsWhole, IsWholeTarget}
-use Rattle.vs_rules.specs.Slots.{DelayEnds, RunsByDelays, HasSlot, HasWriteSlot, FiresOf}
+use Rattle.vs_rules.specs.Slots.{DelayEnds, EdgeEnds, RunsByDelays, RunsByEdges, HasSlot, HasWriteSlot, FiresOf}
 
 -- ---- K1: each list names what it is a list of, each once, and nothing else
 
@@ -82,9 +82,9 @@ NeverNow d v i = (k : Todo) → IsPoint d i k → WritesNow d k v → ⊥
 abbrev pub NeverLater : Parts → ℕ → ℕ → Type 0
 NeverLater d v i = (k : Todo) → IsPoint d i k → WritesLater d k v → ⊥
 
--- of kind delay, or in versions 2 and 3 of kind edge
+-- of kind delay, or in versions 2 and 3 of kind edge, or in version 3 mixed
 abbrev pub MayBlock : Parts → Claims → ℕ → Type 0
-MayBlock d c i = IsDelay d c i ⊎ (IsLater c × IsEdge d c i)
+MayBlock d c i = IsDelay d c i ⊎ ((IsLater c × IsEdge d c i) ⊎ IsMixed d c i)
 
 -- no other process, no continuous assignment and no event term reads the signal; what `$display` shows is no read
 pub record IsPrivate (d : Parts) (v i : ℕ) : Type 0 where
@@ -174,36 +174,57 @@ pub record K6 (d : Parts) (c : Claims) (v : ℕ) : Type 0 where
   pub copies : (root : ℕ) → IsRootOf d c root v → CopiesRoot d root v
   pub root : (root : ℕ) → IsRootOf d c root v → IsSoundRoot d c root
 
--- ---- K7: a process of kind edge waits for edges alone, and in a slot for those of one root alone
+-- ---- K7: a process of kind edge waits for edges alone; it and a mixed one in a slot for those of one root alone
 
 -- all terms are edge terms; an `@*` before what reads nothing has no term, and so none of another sort
 abbrev pub AreEdges : List EventTerm → Type 0
 AreEdges terms = list_any is_level terms ≡ false
 
+-- a zero-time path leads from behind a delay control of a process, with more than zero ticks, to an event control
+pub record Arrives (d : Parts) (i : ℕ) (delay event : Next) : Type 0 where
+  pub from : Todo
+  pub number : ℕ
+  pub ticks : ℕ
+  pub behind : Todo
+  pub delay_is : delay ≡ after number ticks behind
+  pub point : IsPoint d i from
+  pub goes : Goes from delay
+  pub above : 0 < ticks
+  pub to : Todo
+  pub path : Path is_zero_time behind to
+  pub waits : Goes to event
+
 pub record K7 (d : Parts) (c : Claims) (i : ℕ) : Type 0 where
   -- its event controls are of edge terms
-  pub events : (k l : Todo) (number : ℕ) (terms : List EventTerm) → IsEdge d c i → IsPoint d i k → Goes k (wait number terms l) →
+  pub events : (k l : Todo) (number : ℕ) (terms : List EventTerm) → WaitsForEdges d c i → IsPoint d i k → Goes k (wait number terms l) →
       AreEdges terms
-  -- it has no delay control, of zero ticks neither
+  -- one of kind edge has no delay control, of zero ticks neither
   pub no_delay : (k l : Todo) (number ticks : ℕ) → IsEdge d c i → IsPoint d i k → Goes k (after number ticks l) → ⊥
   -- its terms of one root name one signal
-  pub one_signal : (t u : EventTerm) (root : ℕ) → IsEdge d c i → HasTerm d i t → HasTerm d i u →
+  pub one_signal : (t u : EventTerm) (root : ℕ) → WaitsForEdges d c i → HasTerm d i t → HasTerm d i u →
       IsRootOf d c root t.range.signal → IsRootOf d c root u.range.signal → t.range.signal ≡ u.range.signal
   -- the firing slots of its different roots are disjoint
-  pub apart : (one other r : ℕ) → IsEdge d c i → FiresOf d c i one r → FiresOf d c i other r → one ≡ other
+  pub apart : (one other r : ℕ) → WaitsForEdges d c i → FiresOf d c i one r → FiresOf d c i other r → one ≡ other
+  -- a mixed one that comes from a delay to an event control comes there at no residue at which that can end: whether the edge is before it or behind
+  -- it in the slot is a choice
+  pub arrives : (lists : List (List ℕ)) (delay event : Next) (r : ℕ) → HasMixedLists d c i lists → Arrives d i delay event →
+      DelayEnds d i lists delay r → EdgeEnds d c event r → ⊥
 
--- ---- K8: a process of kind delay has delay controls alone, a list of residues for each, and the lists are closed
+-- ---- K8: a process of kind delay has delay controls alone; it and a mixed one have a list of residues for each, and the lists are closed
 
 pub record K8 (d : Parts) (c : Claims) (i : ℕ) : Type 0 where
-  -- it has no event control, without terms neither
+  -- one of kind delay has no event control, without terms neither
   pub no_event : (k l : Todo) (number : ℕ) (terms : List EventTerm) → IsDelay d c i → IsPoint d i k → Goes k (wait number terms l) → ⊥
   -- there is one list for each of its delay controls
-  pub one_each : (lists : List (List ℕ)) → HasLists d c i lists → length lists ≡ length (controls_of d i)
+  pub one_each : (lists : List (List ℕ)) → WaitsForTimes d c i lists → length lists ≡ length (controls_of d i)
   -- from the start, or from a `#0` in the first slot, a next control of d ticks, above 0, can end at d modulo the modulus
-  pub from_start : (lists : List (List ℕ)) (k l : Todo) (number ticks : ℕ) → HasLists d c i lists → IsSlot0 d i k →
+  pub from_start : (lists : List (List ℕ)) (k l : Todo) (number ticks : ℕ) → WaitsForTimes d c i lists → IsSlot0 d i k →
       Goes k (after number ticks l) → 0 < ticks → DelayEnds d i lists (after number ticks l) (ticks % c.modulus)
   -- from a residue r of a control it can end at r + d modulo the modulus
-  pub from_residue : (lists : List (List ℕ)) (k l : Todo) (number ticks r : ℕ) → HasLists d c i lists → RunsByDelays d i lists k r →
+  pub from_residue : (lists : List (List ℕ)) (k l : Todo) (number ticks r : ℕ) → WaitsForTimes d c i lists → RunsByDelays d i lists k r →
+      Goes k (after number ticks l) → DelayEnds d i lists (after number ticks l) ((r + ticks) % c.modulus)
+  -- and in a mixed one from a residue r at which an event control can end
+  pub from_edge : (lists : List (List ℕ)) (k l : Todo) (number ticks r : ℕ) → HasMixedLists d c i lists → RunsByEdges d c i k r →
       Goes k (after number ticks l) → DelayEnds d i lists (after number ticks l) ((r + ticks) % c.modulus)
 
 -- ---- K9: what a process reads at a point with run slots is its own, is its edge signal, or is written at other residues
@@ -216,13 +237,16 @@ Reads d c k r = ReadsNow d k r ⊎ ((c.displays ≡ true) × ShowsNow d k r)
 abbrev pub IsOwnRead : Parts → Claims → ℕ → ℕ → ℕ → Todo → Type 0
 IsOwnRead d c i u v k = IsWriter d c u i × ((u ≡ v) ⊎ (IsHot d i u k → ⊥))
 
--- the process has an edge term of the signal, whose root is written at no residue at which a term of another root can fire
-pub record IsOwnEdge (d : Parts) (c : Claims) (i v : ℕ) : Type 0 where
+-- the process has an edge term of the signal, whose root is written at no residue at which a term of another root can fire, and in a mixed process
+-- at none at which a delay control ends from which a path without further control leads to the point
+pub record IsOwnEdge (d : Parts) (c : Claims) (i v : ℕ) (k : Todo) : Type 0 where
   pub term : EventTerm
   pub has : HasTerm d i term
   pub edge : is_level term ≡ false
   pub of : term.range.signal ≡ v
   pub apart : (root other r : ℕ) → IsRootOf d c root v → HasWriteSlot d c root r → FiresOf d c i other r → other ≡ root
+  pub undelayed : (lists : List (List ℕ)) (root r : ℕ) → HasMixedLists d c i lists → IsRootOf d c root v → HasWriteSlot d c root r →
+      RunsByDelays d i lists k r → ⊥
 
 -- the write slots of a variable and the run slots of a point have nothing in common
 abbrev pub AreApart : Parts → Claims → ℕ → ℕ → Todo → Type 0
@@ -230,7 +254,7 @@ AreApart d c i u k = (r : ℕ) → HasWriteSlot d c u r → HasSlot d c i k r �
 
 pub record K9 (d : Parts) (c : Claims) (i : ℕ) : Type 0 where
   pub fixed : (k : Todo) (r : BitRange) (u : ℕ) → IsSequential d c i → IsPoint d i k → Reads d c k r → IsBlocking d c u → InCone d c u r →
-      IsOwnRead d c i u r.signal k ⊎ (IsOwnEdge d c i r.signal ⊎ AreApart d c i u k)
+      IsOwnRead d c i u r.signal k ⊎ (IsOwnEdge d c i r.signal k ⊎ AreApart d c i u k)
 
 -- ---- K10: the first slot
 
@@ -256,10 +280,10 @@ pub data BlockNeeds (d : Parts) (c : Claims) (r : BitRange) : Type 0 where
   needs : (i : ℕ) → IsBlock d c i → DriverNeeds d (block i) r → BlockNeeds d c r
   shows : (i : ℕ) (k : Todo) → IsBlock d c i → c.displays ≡ true → IsPoint d i k → ShowsNow d k r → BlockNeeds d c r
 
--- of a process: at slot-0 points one of kind edge or delay reads variables that it alone writes; at prologue points none writes by `=` what a block
+-- of a process: at slot-0 points one of kind edge or delay, or mixed, reads variables that it alone writes; at prologue points none writes by `=` what a block
 -- hangs on
 pub record K10_Process (d : Parts) (c : Claims) (i : ℕ) : Type 0 where
-  -- what one of kind edge or delay reads at a slot-0 point is a variable
+  -- what one of kind edge or delay, or mixed, reads at a slot-0 point is a variable
   pub variable : (k : Todo) (r : BitRange) → IsSequential d c i → IsSlot0 d i k → Reads d c k r → HasKind true d r.signal
   -- that it writes
   pub written : (k : Todo) (r : BitRange) → IsSequential d c i → IsSlot0 d i k → Reads d c k r → Writes d i r.signal

@@ -1,5 +1,5 @@
 -- Run slots, write slots and firing slots: residues of times above 0.
-use Rattle.std.specs.Prelude.{ℕ, ◌+◌, ◌*◌, ◌%◌, ◌≡◌, Bool, true, false, Option, Some, None, List}
+use Rattle.std.specs.Prelude.{ℕ, ◌+◌, ◌*◌, ◌%◌, ◌≡◌, ◌⊎◌, Bool, true, false, Option, Some, None, List}
 use Rattle.std.specs.List.{Contains}
 use Rattle.vs_design.specs.vs_logic4.specs.declared.digit.Digit.{Digit}
 use Rattle.vs_design.specs.vs_logic4.specs.declared.digit.Digit.TheVariants.{Zero, One}
@@ -10,7 +10,7 @@ use Rattle.vs_design.specs.Parts.{Parts}
 use Rattle.vs_threads.specs.vs_process.specs.Places.{Todo}
 use Rattle.vs_threads.specs.vs_process.specs.Steps.{Next, on, after, wait}
 use Rattle.vs_rules.specs.Controls.{controls_of, list_of}
-use Rattle.vs_rules.specs.Claims.{Claims, Kind, block, edges, delays, kind_of, HasLists, IsWriter, IsRootOf}
+use Rattle.vs_rules.specs.Claims.{Claims, Kind, block, edges, delays, mixed, kind_of, HasLists, IsWriter, IsRootOf}
 use Rattle.vs_rules.specs.Paths.{IsPoint, WritesNow, WritesAny, HasTerm, RunsBehind}
 use Rattle.vs_rules.specs.Constants.{bit_of, Gives, IsClock}
 
@@ -70,15 +70,20 @@ EdgeEnds d c (on l) r = ⊥
 EdgeEnds d c (after number ticks l) r = ⊥
 EdgeEnds d c (wait number terms l) r = (t : EventTerm) × Contains terms t × Fires d c t r
 
+-- a point has the run slot, of event controls
+abbrev pub RunsByEdges : Parts → Claims → ℕ → Todo → ℕ → Type 0
+RunsByEdges d c i k r = RunsBehind d i (EdgeEnds d c) k r
+
 -- a control of a process of this kind can end at a residue
 abbrev pub Ends : Parts → Claims → ℕ → Option Kind → Next → ℕ → Type 0
 Ends d c i (Some (delays lists)) next r = DelayEnds d i lists next r
 Ends d c i (Some edges) next r = EdgeEnds d c next r
+Ends d c i (Some (mixed lists)) next r = DelayEnds d i lists next r ⊎ EdgeEnds d c next r
 Ends d c i (Some (block start)) next r = ⊥
 Ends d c i None next r = ⊥
 
--- a point of a process has the run slot: of the delay controls, or in one of kind edge of the event controls, from which a path without further
--- control leads there
+-- a point of a process has the run slot: of the delay controls, or in one of kind edge of the event controls, in a mixed one of both, from which a
+-- path without further control leads there
 abbrev pub HasSlot : Parts → Claims → ℕ → Todo → ℕ → Type 0
 HasSlot d c i k r = RunsBehind d i (Ends d c i (kind_of d c i)) k r
 

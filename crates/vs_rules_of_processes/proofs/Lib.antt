@@ -12,3 +12,4 @@ pub mod ResidueLemmas
 pub mod Shifts
 pub mod Kept
 pub mod Here
+pub mod ArrivalLemmas

@@ -11,7 +11,7 @@ use Rattle.vs_process.specs.Places.{perform, turns, Todo}
 use Rattle.vs_process.specs.Numbers.{number_next}
 use Rattle.vs_process.specs.Stops.{Stop, IsText}
 use Rattle.vs_rules.specs.vs_threads.specs.Threads.{todo_reads, own_shows, todo_shows}
-use Rattle.vs_rules.specs.Claims.{Claims, IsRootOf, IsSequential, edges, delays}
+use Rattle.vs_rules.specs.Claims.{Claims, IsRootOf, IsSequential, edges, delays, mixed}
 use Rattle.vs_rules.specs.Paths.{IsHot}
 use Rattle.vs_rules.specs.Rules.{K9, Reads, IsOwnRead, IsOwnEdge, AreApart}
 use Rattle.vs_claims.specs.vs_maps.specs.Reaches.{Chart, IsPlace}
@@ -25,7 +25,7 @@ use Rattle.vs_claims.specs.Facts.{Case, AreCharts}
 use Rattle.vs_rules_of_processes.specs.vs_slots.proofs.KeptLemmas.{process_of, text_of}
 use Rattle.vs_rules_of_processes.proofs.PairLemmas.{by_places}
 use Rattle.vs_rules_of_processes.specs.vs_slots.proofs.FiringLemmas.{numbered_layer}
-use Rattle.vs_rules_of_processes.specs.vs_slots.proofs.RunLemmas.{runs_are_exact}
+use Rattle.vs_rules_of_processes.specs.vs_slots.proofs.RunLemmas.{delay_runs_are_exact, runs_are_exact}
 use Rattle.vs_rules_of_processes.proofs.EdgeLemmas.{edges_are_by_places, has_chart}
 
 shows_numbered : (k : Todo) (r : BitRange) → Contains (todo_shows k) r → (n : ℕ) × (number_next k ≡ Some n)
@@ -59,7 +59,7 @@ reads_exact d c q stops start t p r = (
 -- what one may read at a place where something is done, one may at its point
 may_exact : (d : Parts) (c : Claims) (i : ℕ) (q : Process) (stops : List Stop) (start : ℕ) (is : slice_get d.processes i ≡ Some q) (t : IsText q.body stops start) (p n : ℕ) →
     number_next (t.at p) ≡ Some n → (v u : ℕ) →
-    (MayReadOf d c i (record { stops = stops; start = start }) p v u ↔ (IsOwnRead d c i u v (t.at p) ⊎ (IsOwnEdge d c i v ⊎ AreApart d c i u (t.at p))))
+    (MayReadOf d c i (record { stops = stops; start = start }) p v u ↔ (IsOwnRead d c i u v (t.at p) ⊎ (IsOwnEdge d c i v (t.at p) ⊎ AreApart d c i u (t.at p))))
 may_exact d c i q stops start is t p n has v u = (there, back) where
   hot : InHot (record { stops = stops; start = start }) u p ↔ IsHot d i u (t.at p)
   hot = hot_exact d i q stops start t is u p n has
@@ -70,27 +70,31 @@ may_exact d c i q stops start is t p n has v u = (there, back) where
   own_back : IsOwnRead d c i u v (t.at p) → OwnReadAt d c i (record { stops = stops; start = start }) p u v
   own_back y = (y.0, elim y.1 [ inl e ↦ inl e | inr cold ↦ inr (λ h. cold (hot.0 h)) ])
 
-  edge_there : OwnEdgeAt d c (record { stops = stops; start = start }) v → IsOwnEdge d c i v
+  edge_there : OwnEdgeAt d c i (record { stops = stops; start = start }) p v → IsOwnEdge d c i v (t.at p)
   edge_there y = record {
     term = y.0.0;
     has = (terms_exact d i q stops start t is y.0.0).0 y.0.1;
     edge = y.0.2;
     of = y.0.3;
     apart = λ root other r is_root slot fires. y.1 root other r is_root slot (((edges_are_by_places d c i q stops start is t).fires other r).1 fires);
+    undelayed = λ lists root r mixed is_root slot run.
+        y.2 (lists, mixed) root r is_root slot ((delay_runs_are_exact d c i q stops start is t p n r lists has (inr mixed)).1 run);
   }
 
-  edge_back : IsOwnEdge d c i v → OwnEdgeAt d c (record { stops = stops; start = start }) v
+  edge_back : IsOwnEdge d c i v (t.at p) → OwnEdgeAt d c i (record { stops = stops; start = start }) p v
   edge_back e = (
     (e.term, (terms_exact d i q stops start t is e.term).1 e.has, e.edge, e.of),
     λ root other r is_root slot fires. e.apart root other r is_root slot (((edges_are_by_places d c i q stops start is t).fires other r).0 fires),
+    λ mixed root r is_root slot run.
+        e.undelayed mixed.0 root r mixed.1 is_root slot ((delay_runs_are_exact d c i q stops start is t p n r mixed.0 has (inr mixed.1)).0 run),
   )
 
-  there : MayReadOf d c i (record { stops = stops; start = start }) p v u → IsOwnRead d c i u v (t.at p) ⊎ (IsOwnEdge d c i v ⊎ AreApart d c i u (t.at p))
+  there : MayReadOf d c i (record { stops = stops; start = start }) p v u → IsOwnRead d c i u v (t.at p) ⊎ (IsOwnEdge d c i v (t.at p) ⊎ AreApart d c i u (t.at p))
   there (inl y) = inl (own_there y)
   there (inr (inl y)) = inr (inl (edge_there y))
   there (inr (inr y)) = inr (inr (λ r slot run. y r slot ((runs_are_exact d c i q stops start is t p n r has).1 run)))
 
-  back : IsOwnRead d c i u v (t.at p) ⊎ (IsOwnEdge d c i v ⊎ AreApart d c i u (t.at p)) → MayReadOf d c i (record { stops = stops; start = start }) p v u
+  back : IsOwnRead d c i u v (t.at p) ⊎ (IsOwnEdge d c i v (t.at p) ⊎ AreApart d c i u (t.at p)) → MayReadOf d c i (record { stops = stops; start = start }) p v u
   back (inl y) = inl (own_back y)
   back (inr (inl y)) = inr (inl (edge_back y))
   back (inr (inr y)) = inr (inr (λ r slot run. y r slot ((runs_are_exact d c i q stops start is t p n r has).0 run)))
@@ -103,7 +107,7 @@ readings_are_by_places d c i q stops start is t = record { readings = λ kind. (
         let p = place_of d i q stops start t is k point in
         let reads_it : Reads d c (t.at p.0) r = subst (λ (z : Todo). Reads d c z r) (sym p.2) reads in
         let n = numbered d c (t.at p.0) r reads_it in
-        subst (λ (z : Todo). IsOwnRead d c i u r.signal z ⊎ (IsOwnEdge d c i r.signal ⊎ AreApart d c i u z)) p.2
+        subst (λ (z : Todo). IsOwnRead d c i u r.signal z ⊎ (IsOwnEdge d c i r.signal z ⊎ AreApart d c i u z)) p.2
         ((may_exact d c i q stops start is t p.0 n.0 n.1 r.signal u).0 (m p.0 p.1 r u ((reads_exact d c q stops start t p.0 r).1 reads_it) blocking cone));
   }
 
@@ -125,10 +129,11 @@ kept_readings f i t maps chart kind =
     let q = process_of f i t maps chart in
     (readings_are_by_places f.design f.claims i q.0 t.stops t.start q.1 (text_of f i q.0 t maps q.1 chart)).readings kind
 
--- a process of kind edge or delay has a chart
+-- a process that waits for edges or for times has a chart
 pub reader_chart : (f : Case) (i : ℕ) → AreCharts f.design f.charts → slice_get f.charts i ≡ None → IsSequential f.design f.claims i → ⊥
 reader_chart f i maps e (inl edge) = has_chart f i edges maps e edge
-reader_chart f i maps e (inr wait) = has_chart f i (delays wait.0) maps e wait.1
+reader_chart f i maps e (inr (inl times)) = has_chart f i (delays times.0) maps e times.1
+reader_chart f i maps e (inr (inr both)) = has_chart f i (mixed both.0) maps e both.1
 
 -- roots of a signal and terms of a process, as they are listed
 pub roots_apart_are : (d : Parts) (c : Claims) (t : Chart) (v : ℕ) (terms : List EventTerm) (roots : List ℕ) (n : ℕ) (b : Bool) → n ≡ length roots →

@@ -1,47 +1,39 @@
--- Residues at which delays can end, by how paths go on from a place.
-use Rattle.std.specs.Prelude.{ℕ, ◌+◌, ◌%◌, ◌<◌, List, [], ◌∷◌, map, ◌≡◌, length}
+-- Residues at which delays can end, of the places of a map.
+use Rattle.std.specs.Prelude.{ℕ, ◌+◌, ◌%◌, ◌<◌, List, map, ◌≡◌, length}
 use Rattle.std.specs.List.{Contains}
 use Rattle.std.specs.declared.vec.Vec.{Vec}
 use Rattle.std.specs.declared.alloc.Global.{Global}
 use Rattle.vs_design.specs.declared.statement.Statement.{Statement}
+use Rattle.vs_design.specs.Parts.{Parts}
 use Rattle.vs_process.specs.Ways.{Pause, none, delay, event}
-use Rattle.vs_process.specs.Stops.{stops_tos}
-use Rattle.vs_maps.specs.vs_graph.specs.Reached.{Reached}
 use Rattle.vs_rules.specs.Certificates.{residues_from}
+use Rattle.vs_rules.specs.Claims.{Claims, IsDelay}
 use Rattle.vs_rules.specs.Controls.{controls_in, list_of}
-use Rattle.vs_maps.specs.declared.along.Along.TheVariants.{Plain}
-use Rattle.vs_maps.specs.Reaches.{Chart, IsPlace, InSlot0, pause_at, stops_along}
+use Rattle.vs_maps.specs.Reaches.{Chart, IsPlace, InSlot0, pause_at}
+use Rattle.vs_rules_of_processes.specs.vs_slots.specs.Runs.{HasRun}
 
--- each residue of a list, after the ticks of a delay control, is in the list of the control
-abbrev pub PauseEnds : Pause → (ℕ → List ℕ) → List ℕ → ℕ → Type 0
-PauseEnds (delay number ticks) list from m = (r : ℕ) → Contains from r → Contains (list number) ((r + ticks) % m)
-PauseEnds _ list from m = Unit {0}
+-- a list has so many ticks, by the modulus, where they are above 0 and ways that take no time lead to a place from the start
+abbrev pub StartsWell : Chart → ℕ → ℕ → List ℕ → ℕ → Type 0
+StartsWell t p ticks list m = InSlot0 t p → 0 < ticks → Contains list (ticks % m)
 
--- the ticks of a delay control, above 0, are in the list of the control, by the modulus
-abbrev pub PauseStarts : Pause → (ℕ → List ℕ) → ℕ → Type 0
-PauseStarts (delay number ticks) list m = 0 < ticks → Contains (list number) (ticks % m)
-PauseStarts _ list m = Unit {0}
+-- it has each run slot of a place, after so many ticks
+abbrev pub EndsWell : Parts → Claims → ℕ → Chart → ℕ → ℕ → List ℕ → ℕ → Type 0
+EndsWell d c i t p ticks list m = (r : ℕ) → HasRun d c i t p r → Contains list ((r + ticks) % m)
 
--- each delay control to which a walk through no control leads from a place has each residue of a list, after its ticks
-abbrev pub IsClosedFrom : Chart → (ℕ → List ℕ) → ℕ → List ℕ → ℕ → Type 0
-IsClosedFrom t list m from to = (p : ℕ) → Reached (stops_along Plain t.stops) (to ∷ []) p → PauseEnds (pause_at t p) list from m
+-- a place that goes on so keeps the rule K8: where it is a delay control, by its list; it is no event control of a process of kind delay
+abbrev pub PauseIsClosed : Parts → Claims → ℕ → Chart → (ℕ → List ℕ) → ℕ → Pause → Type 0
+PauseIsClosed d c i t list p none = Unit {0}
+PauseIsClosed d c i t list p (delay number ticks) = StartsWell t p ticks (list number) c.modulus × EndsWell d c i t p ticks (list number) c.modulus
+PauseIsClosed d c i t list p (event number terms) = IsDelay d c i → IsPlace t p → ⊥
 
--- it is no event control, and where it is a delay control, the same holds from each place where it leads, with its list
-abbrev pub PauseGoesOn : Chart → (ℕ → List ℕ) → ℕ → Pause → List ℕ → Type 0
-PauseGoesOn t list m none tos = Unit {0}
-PauseGoesOn t list m (delay number ticks) tos = (to : ℕ) → Contains tos to → IsClosedFrom t list m (list number) to
-PauseGoesOn t list m (event number terms) tos = ⊥
+abbrev pub PlaceIsClosed : Parts → Claims → ℕ → Chart → (ℕ → List ℕ) → ℕ → Type 0
+PlaceIsClosed d c i t list p = PauseIsClosed d c i t list p (pause_at t p)
 
--- a place keeps the rule K8: as one of the first slot, and as a point
-abbrev pub PlaceIsClosed : Chart → (ℕ → List ℕ) → ℕ → ℕ → Type 0
-PlaceIsClosed t list m p =
-    (InSlot0 t p → PauseStarts (pause_at t p) list m) × (IsPlace t p → PauseGoesOn t list m (pause_at t p) (stops_tos t.stops p))
+-- the places of the map of a process that waits for times, with a list for each delay control by its number, keep the rule K8
+abbrev pub AreClosed : Parts → Claims → ℕ → Chart → (ℕ → List ℕ) → Type 0
+AreClosed d c i t list = (p : ℕ) → PlaceIsClosed d c i t list p
 
--- the places of the map of a process of kind delay, with a list for each delay control by its number, keep the rule K8
-abbrev pub AreClosed : Chart → (ℕ → List ℕ) → ℕ → Type 0
-AreClosed t list m = (p : ℕ) → PlaceIsClosed t list m p
-
--- a process of kind delay, by its text and its map, has one list for each delay control of the text, in the order of the text, and they are closed
-abbrev pub KeepsResidues : Chart → Statement → List (Vec ℕ Global) → ℕ → Type 0
-KeepsResidues t body lists m =
-    (length lists ≡ length (controls_in body)) × AreClosed t (list_of (controls_in body) (map residues_from lists)) m
+-- such a process, by its text and its map, has one list for each delay control of the text, in the order of the text, and they are closed
+abbrev pub KeepsResidues : Parts → Claims → ℕ → Chart → Statement → List (Vec ℕ Global) → Type 0
+KeepsResidues d c i t body lists =
+    (length lists ≡ length (controls_in body)) × AreClosed d c i t (list_of (controls_in body) (map residues_from lists))

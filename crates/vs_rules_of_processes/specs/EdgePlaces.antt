@@ -6,34 +6,46 @@ use Rattle.vs_design.specs.declared.statement.EventTerm.{EventTerm}
 use Rattle.vs_design.specs.Parts.{Parts}
 use Rattle.vs_process.specs.Stops.{Stop, IsText}
 use Rattle.vs_process.specs.Ways.{Pause, none, delay, event}
-use Rattle.vs_rules.specs.Claims.{Claims, IsEdge, IsRootOf}
+use Rattle.vs_rules.specs.Claims.{Claims, HasMixedLists, IsEdge, IsRootOf, WaitsForEdges}
+use Rattle.vs_rules.specs.Controls.{controls_of, list_of}
 use Rattle.vs_rules.specs.Rules.{AreEdges, K7}
 use Rattle.vs_rules.specs.Slots.{Fires, FiresOf}
 use Rattle.vs_claims.specs.vs_maps.specs.Reaches.{Chart, IsPlace, pause_at}
 use Rattle.vs_claims.specs.vs_maps.specs.Ranges.{HasTermAt}
+use Rattle.vs_claims.specs.vs_maps.specs.Walks.{IsDelayBefore}
+use Rattle.vs_rules_of_processes.specs.vs_slots.specs.Runs.{DelayEndsBy, TermsEnd}
 use Rattle.vs_rules_of_processes.specs.declared.edges.Term.{Term}
 
--- it goes on through no control, or waits for edges alone
-abbrev pub WaitsForEdges : Pause → Type 0
-WaitsForEdges none = Unit {0}
-WaitsForEdges (delay number ticks) = ⊥
-WaitsForEdges (event number terms) = AreEdges terms
+-- a process that may wait for edges alone goes on so: through no control, or for edges; else through a delay too
+abbrev pub MayWait : Type 0 → Pause → Type 0
+MayWait alone none = Unit {0}
+MayWait alone (delay number ticks) = alone → ⊥
+MayWait alone (event number terms) = AreEdges terms
 
 -- a term of a process, of this root, can fire at a residue
 abbrev pub FiresIn : Parts → Claims → Chart → ℕ → ℕ → Type 0
 FiresIn d c t root r = (x : EventTerm) × HasTermAt t x × IsRootOf d c root x.range.signal × Fires d c x r
 
+-- a delay control that ends at a place, by the lists of the controls, and the terms of an event control at another one have no residue in common
+abbrev pub ArrivesApart : Parts → Claims → Chart → (ℕ → List ℕ) → ℕ → ℕ → Type 0
+ArrivesApart d c t list q p = (r : ℕ) → DelayEndsBy list (pause_at t q) r → TermsEnd d c (pause_at t p) r → ⊥
+
+-- nor have any two of which a walk that takes no time leads from the one to the other
+abbrev pub AreArrivalsApart : Parts → Claims → Chart → (ℕ → List ℕ) → Type 0
+AreArrivalsApart d c t list = (q p : ℕ) → IsDelayBefore t q p → ArrivesApart d c t list q p
+
 -- the rule K7, of the places of a map
-pub record K7_Places (d : Parts) (c : Claims) (t : Chart) : Type 0 where
-  pub waits : (p : ℕ) → IsPlace t p → WaitsForEdges (pause_at t p)
+pub record K7_Places (d : Parts) (c : Claims) (i : ℕ) (t : Chart) : Type 0 where
+  pub waits : (p : ℕ) → IsPlace t p → MayWait (IsEdge d c i) (pause_at t p)
   pub one_signal : (x y : EventTerm) (root : ℕ) → HasTermAt t x → HasTermAt t y → IsRootOf d c root x.range.signal →
       IsRootOf d c root y.range.signal → x.range.signal ≡ y.range.signal
   pub apart : (one other r : ℕ) → FiresIn d c t one r → FiresIn d c t other r → one ≡ other
+  pub arrives : (lists : List (List ℕ)) → HasMixedLists d c i lists → AreArrivalsApart d c t (list_of (controls_of d i) lists)
 
--- a process of kind edge keeps the rule exactly where the places of its map do; another one keeps it
+-- a process that waits for edges keeps the rule exactly where the places of its map do; another one keeps it
 pub record EdgesByPlaces (d : Parts) (c : Claims) (i : ℕ) (t : Chart) : Type 0 where
-  pub edges : IsEdge d c i → (K7_Places d c t ↔ K7 d c i)
-  pub others : (IsEdge d c i → ⊥) → K7 d c i
+  pub edges : WaitsForEdges d c i → (K7_Places d c i t ↔ K7 d c i)
+  pub others : (WaitsForEdges d c i → ⊥) → K7 d c i
   -- terms that fire
   pub fires : (root r : ℕ) → (FiresIn d c t root r ↔ FiresOf d c i root r)
 

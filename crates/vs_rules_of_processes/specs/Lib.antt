@@ -7,4 +7,3 @@ pub mod ReadingPlaces
 pub mod FirstSlot
 pub mod Residues
 pub mod Closed
-pub mod Places

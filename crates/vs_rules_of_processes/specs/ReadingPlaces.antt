@@ -7,14 +7,14 @@ use Rattle.vs_design.specs.declared.statement.EventTerm.{EventTerm}
 use Rattle.vs_design.specs.Parts.{Parts}
 use Rattle.vs_process.specs.Stops.{Stop, IsText}
 use Rattle.vs_claims.specs.vs_process.specs.Executions.{is_level}
-use Rattle.vs_rules.specs.Claims.{Claims, IsSequential, IsRootOf, IsWriter}
+use Rattle.vs_rules.specs.Claims.{Claims, IsMixed, IsSequential, IsRootOf, IsWriter}
 use Rattle.vs_rules.specs.Drivers.{IsBlocking, InCone}
 use Rattle.vs_rules.specs.Rules.{K9}
 use Rattle.vs_rules.specs.Slots.{Fires, HasWriteSlot}
 use Rattle.vs_claims.specs.vs_maps.specs.Reaches.{Chart, IsPlace}
 use Rattle.vs_claims.specs.vs_maps.specs.Ranges.{HasTermAt, reads_at, shows_at}
 use Rattle.vs_claims.specs.vs_maps.specs.Walks.{InHot}
-use Rattle.vs_rules_of_processes.specs.vs_slots.specs.Runs.{HasRun}
+use Rattle.vs_rules_of_processes.specs.vs_slots.specs.Runs.{HasDelayRun, HasRun}
 use Rattle.vs_rules_of_processes.specs.EdgePlaces.{FiresIn}
 
 -- what counts as a read of the statement at a place
@@ -41,8 +41,12 @@ IsEdgeOf x v = (is_level x ≡ false) × (x.range.signal ≡ v)
 abbrev pub HasEdgeAt : Chart → ℕ → Type 0
 HasEdgeAt t v = (x : EventTerm) × HasTermAt t x × (is_level x ≡ false) × (x.range.signal ≡ v)
 
-abbrev pub OwnEdgeAt : Parts → Claims → Chart → ℕ → Type 0
-OwnEdgeAt d c t v = HasEdgeAt t v × RootsApart d c t v
+-- in a mixed process write slots of a signal's roots are no run slots of a place by delay controls
+abbrev pub IsUndelayed : Parts → Claims → ℕ → Chart → ℕ → ℕ → Type 0
+IsUndelayed d c i t p v = IsMixed d c i → (root r : ℕ) → IsRootOf d c root v → HasWriteSlot d c root r → HasDelayRun d c i t p r → ⊥
+
+abbrev pub OwnEdgeAt : Parts → Claims → ℕ → Chart → ℕ → ℕ → Type 0
+OwnEdgeAt d c i t p v = HasEdgeAt t v × RootsApart d c t v × IsUndelayed d c i t p v
 
 -- write slots of a variable are no run slots of a place
 abbrev pub ApartAt : Parts → Claims → ℕ → Chart → ℕ → ℕ → Type 0
@@ -50,7 +54,7 @@ ApartAt d c i t p u = (r : ℕ) → HasWriteSlot d c u r → HasRun d c i t p r 
 
 -- at a place, what is read of a blocking source is the process's own, its edge signal, or written at other residues
 abbrev pub MayReadOf : Parts → Claims → ℕ → Chart → ℕ → ℕ → ℕ → Type 0
-MayReadOf d c i t p v u = OwnReadAt d c i t p u v ⊎ (OwnEdgeAt d c t v ⊎ ApartAt d c i t p u)
+MayReadOf d c i t p v u = OwnReadAt d c i t p u v ⊎ (OwnEdgeAt d c i t p v ⊎ ApartAt d c i t p u)
 
 -- of all blocking sources of a range's cone
 abbrev pub MayReadRange : Parts → Claims → ℕ → Chart → ℕ → BitRange → Type 0
@@ -59,7 +63,7 @@ MayReadRange d c i t p r = (u : ℕ) → IsBlocking d c u → InCone d c u r →
 abbrev pub MayReadAt : Parts → Claims → ℕ → Chart → ℕ → Type 0
 MayReadAt d c i t p = (r : BitRange) (u : ℕ) → ReadsAt c t p r → IsBlocking d c u → InCone d c u r → MayReadOf d c i t p r.signal u
 
--- a process of kind edge or delay keeps the rule K9 exactly where the places of its map do; another one keeps it
+-- a process that waits for edges or for times keeps the rule K9 exactly where the places of its map do; another one keeps it
 pub record ReadingsByPlaces (d : Parts) (c : Claims) (i : ℕ) (t : Chart) : Type 0 where
   pub readings : IsSequential d c i → (((p : ℕ) → IsPlace t p → MayReadAt d c i t p) ↔ K9 d c i)
   pub others : (IsSequential d c i → ⊥) → K9 d c i

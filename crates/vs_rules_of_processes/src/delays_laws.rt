@@ -6,8 +6,7 @@ pub fn residues_by_places()
     ensures { ResiduesByPlaces }
 {}
 
-/// A process of kind delay keeps the rule K8 exactly where `keeps_residues` says so of its text, its map and its lists; a process of another kind
-/// keeps it.
+/// A process that waits for times keeps the rule K8 exactly where `keeps_residues` says so of its text, its map and its lists; another one keeps it.
 pub fn closed_are_kept()
     ensures { ClosedAreKept }
 {}

@@ -5,8 +5,9 @@ ghost use Rattle.vs_claims.specs.vs_process.specs.Executions.{is_level};
 ghost use Rattle.vs_rules.specs.Rules.{K7};
 ghost use Rattle.vs_claims.specs.vs_maps.specs.Reaches.{pause_at, pause_view, IsPlace};
 ghost use Rattle.vs_rules_of_processes.specs.declared.edges.Term as edges;
-ghost use Rattle.vs_rules_of_processes.specs.EdgePlaces.{AreKnown, AreRootsApart, IsKnown, IsOneSignal, IsPair, K7_Places, WaitsForEdges};
+ghost use Rattle.vs_rules_of_processes.specs.EdgePlaces.{AreKnown, AreRootsApart, IsKnown, IsOneSignal, IsPair, K7_Places, MayWait};
 
+use crate::arrivals::arrives_apart;
 use crate::lists::are_same;
 use crate::vs_slots::{Slots, are_apart};
 use std::alloc::{AllocError, Global};
@@ -24,25 +25,27 @@ fn has_level(terms: &[EventTerm]) -> bool
     terms.iter().any(|t| t.edge == Edge::Any)
 }
 
-// Whether ways that go on so go on through no control, or wait for edges alone.
-fn waits_for_edges(pause: Pause) -> bool
-    ensures { IsTrue result ↔ WaitsForEdges (pause_view pause.entry) }
+// Whether ways that go on so go on through no control, or wait for edges; or through a delay, where the process doesn't wait for edges alone.
+fn may_wait(pause: Pause, alone: bool) -> bool
+    ensures { IsTrue result ↔ MayWait (IsTrue alone) (pause_view pause.entry) }
 {
     match pause {
         Pause::Nothing => true,
-        Pause::Delay(_, _) => false,
+        Pause::Delay(_, _) => !alone,
         Pause::Event(_, terms) => !has_level(terms),
     }
 }
 
-// The points of a process, each of which waits for edges alone, where it waits.
+// The points of a process, each of which waits for edges, where it waits.
 #[derive(Drop)]
 struct Waits<'a> {
     tables: &'a Tables<'a>,
+    // Whether the process waits for edges alone.
+    alone: bool,
 }
 
 impl<'a> Rule for Waits<'a> {
-    ghost keeps = { λ f p. IsPlace f.tables.now p → WaitsForEdges (pause_at f.tables.now p) };
+    ghost keeps = { λ f p. IsPlace f.tables.now p → MayWait (IsTrue f.alone) (pause_at f.tables.now p) };
 
     fn test(&self, _alloc: Global, i: usize) -> Result<bool, AllocError> {
         if i >= self.tables.places() {
@@ -51,7 +54,7 @@ impl<'a> Rule for Waits<'a> {
         if !self.tables.is_point(i) {
             return Ok(true);
         }
-        Ok(waits_for_edges(self.tables.pause(i)))
+        Ok(may_wait(self.tables.pause(i), self.alone))
     }
 }
 
@@ -153,41 +156,49 @@ fn all_known<'a>(
 
 // ---- the rule
 
-// Whether the places of a process of kind edge keep the rule.
+// Whether the places of a process that waits for edges keep the rule.
 fn places_keep<'a>(
     alloc: Global,
     slots: &'a Slots<'a>,
     tables: &'a Tables<'a>,
+    i: usize,
 ) -> Result<bool, AllocError>
-    ensures { IfOk result (λ b. (IsTrue b ↔ K7_Places slots.entry.now.design slots.entry.now.claims tables.entry.now)) }
+    ensures { IfOk result (λ b. (IsTrue b ↔ K7_Places slots.entry.now.design slots.entry.now.claims i tables.entry.now)) }
 {
     tables.leads_in();
-    let waits = Waits { tables: &*tables };
+    let waits = Waits {
+        tables: &*tables,
+        alone: slots.facts().is_edge(i),
+    };
     let waiting = all_keep(alloc, &waits, tables.places())?;
     if !waiting {
         return Ok(false);
     }
     let terms = terms(alloc, &*tables)?;
     let known = all_known(alloc, &*slots, &terms)?;
-    let paired = all_pair(&known);
-    Ok(paired)
+    if !all_pair(&known) {
+        return Ok(false);
+    }
+    let apart = arrives_apart(alloc, slots, tables, i)?;
+    Ok(apart)
 }
 
-/// Whether a process keeps the rule K7: where it is of kind edge, it waits for edges alone, its terms of one root name one signal, and no two of
-/// its terms of different roots can fire at one residue. It takes as long as its text, and for any two of its terms as long as the residues at which
-/// they can fire.
+/// Whether a process keeps the rule K7: one of kind edge waits for edges alone; in it and in a mixed one terms of one root name one signal, and no
+/// two terms of different roots can fire at one residue; and a mixed one comes from no delay to an event control at a residue at which that can end.
+/// It takes as long as its text, for any two of its terms as long as the residues at which they can fire, and for each event control and each delay
+/// control from which a path that takes no time leads there, as long as the residues at which both can end.
 pub fn keeps_edges<'a>(alloc: Global, slots: &'a Slots<'a>, i: usize) -> Result<bool, AllocError>
     ensures exact { IfOk result (λ b. (IsTrue b ↔ K7 slots.entry.now.design slots.entry.now.claims i)) }
 {
     let facts = slots.facts();
     facts.maps();
-    if !facts.is_edge(i) {
+    if !facts.waits_for_edges(i) {
         return Ok(true);
     }
     match facts.tables(i) {
         None => Ok(true),
         Some(tables) => {
-            let kept = places_keep(alloc, slots, tables)?;
+            let kept = places_keep(alloc, slots, tables, i)?;
             Ok(kept)
         }
     }

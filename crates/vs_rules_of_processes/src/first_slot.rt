@@ -161,7 +161,7 @@ impl<'a> FirstSlot<'a> {
         Ok(self.none_hangs(&ranges))
     }
 
-    // Whether what a process of kind edge or delay reads in the first slot is its own.
+    // Whether what a process that waits for edges or for times reads in the first slot is its own.
     fn keeps_reads<'b>(
         &'b self,
         alloc: Global,
@@ -210,9 +210,9 @@ impl<'a> FirstSlot<'a> {
         Ok(keeps)
     }
 
-    /// Whether a process keeps the rule K10: what one of kind edge or delay reads at a point of the first slot is a variable that it alone writes;
-    /// and no `=` before its first delay writes what is in the cone of what a block needs. It takes as long as its text is, and for each read as
-    /// often as texts write what is read.
+    /// Whether a process keeps the rule K10: what one that waits for edges or for times reads at a point of the first slot is a variable that it
+    /// alone writes; and no `=` before its first delay writes what is in the cone of what a block needs. It takes as long as its text is, and for
+    /// each read as often as texts write what is read.
     pub fn keeps_first_slot(&self, alloc: Global, i: usize) -> Result<bool, AllocError>
         ensures exact { IfOk result (λ b. (IsTrue b ↔ K10_Process self.now.design self.now.claims i)) }
     {

@@ -2,6 +2,7 @@
 //! slot; and the signals that hang on variables which are written at residues.
 #![tactic(auto)]
 
+mod arrivals;
 mod classes;
 mod delays;
 mod delays_laws;

@@ -1,4 +1,4 @@
-//! The rule K9, on what processes of kind edge and delay read.
+//! The rule K9, on what processes that wait for edges or for times read.
 ghost use Rattle.std.specs.Prelude.{ℕ, ◌≡◌, ◌<◌, ◌↔◌, Some, IfOk, IsTrue, slice_get};
 ghost use Rattle.std.specs.List.{Contains};
 ghost use Rattle.vs_design.specs.declared.range.BitRange as range;
@@ -6,11 +6,13 @@ ghost use Rattle.vs_design.specs.declared.statement.EventTerm as statement;
 ghost use Rattle.vs_rules.specs.Claims.{IsWriter};
 ghost use Rattle.vs_rules.specs.Drivers.{InCone};
 ghost use Rattle.vs_rules.specs.Rules.{K9};
+ghost use Rattle.vs_rules.specs.Slots.{HasWriteSlot};
 ghost use Rattle.vs_rules_of_processes.specs.vs_drivers.specs.Wires.{IsWiringOf};
 ghost use Rattle.vs_claims.specs.vs_maps.specs.Ranges.{HasTermAt};
 ghost use Rattle.vs_claims.specs.vs_maps.specs.Reaches.{places, IsPlace};
 ghost use Rattle.vs_claims.specs.vs_maps.specs.Walks.{InHot};
-ghost use Rattle.vs_rules_of_processes.specs.ReadingPlaces.{ApartAt, IsEdgeOf, IsTermApart, MayReadAt, MayReadOf, MayReadRange, OwnEdgeAt, OwnReadAt, RootsApart};
+ghost use Rattle.vs_rules_of_processes.specs.ReadingPlaces.{ApartAt, IsEdgeOf, IsTermApart, IsUndelayed, MayReadAt, MayReadOf, MayReadRange};
+ghost use Rattle.vs_rules_of_processes.specs.ReadingPlaces.{OwnEdgeAt, OwnReadAt, RootsApart};
 
 use crate::WriteClasses;
 use crate::lists::all_are;
@@ -109,7 +111,7 @@ fn has_edge(terms: &[EventTerm], v: usize) -> bool
     false
 }
 
-// A process of kind edge or delay: its number and its tables, with the slots of the whole and their classes.
+// A process that waits for edges or for times: its number and its tables, with the slots of the whole and their classes.
 #[derive(Drop)]
 struct Reader<'a> {
     slots: &'a Slots<'a>,
@@ -140,9 +142,41 @@ impl<'a> Reader<'a> {
         Ok(all)
     }
 
-    // Whether a signal is one of an edge term of the process, whose roots are so apart.
-    fn is_own_edge(&self, alloc: Global, v: usize) -> Result<bool, AllocError>
-        ensures { IfOk result (λ b. (IsTrue b ↔ OwnEdgeAt self.now.slots.now.design self.now.slots.now.claims self.now.tables.now v)) }
+    // Whether none of some roots is written at one of some residues.
+    fn none_written(&self, roots: &[usize], residues: &[u64]) -> bool
+        ensures { IsTrue result ↔ ((root : ℕ) → Contains roots.now root →
+            (r : ℕ) → HasWriteSlot self.now.slots.now.design self.now.slots.now.claims root r → Contains residues.now r → ⊥) }
+    {
+        for root in roots {
+            if !are_apart(self.slots.write_slots(*root), residues) {
+                return false;
+            }
+        }
+        true
+    }
+
+    // Whether, where the process is mixed, write slots of a signal's roots are no run slots of a place by delay controls.
+    fn is_undelayed(&self, alloc: Global, place: usize, v: usize) -> Result<bool, AllocError>
+        requires is_chart { slice_get self.now.slots.now.charts self.now.process ≡ Some self.now.tables.now }
+        requires place { place < places self.now.tables.now }
+        ensures { IfOk result (λ b. (IsTrue b ↔
+            IsUndelayed self.now.slots.now.design self.now.slots.now.claims self.now.process self.now.tables.now place v)) }
+    {
+        let facts = self.slots.facts();
+        if !facts.is_mixed(self.process) {
+            return Ok(true);
+        }
+        let roots = facts.roots(alloc, v)?;
+        let runs = self.slots.delay_slots(alloc, self.process, place)?;
+        Ok(self.none_written(&roots, &runs))
+    }
+
+    // Whether a signal is one of an edge term of the process, whose roots are so apart, and so at a place.
+    fn is_own_edge(&self, alloc: Global, place: usize, v: usize) -> Result<bool, AllocError>
+        requires is_chart { slice_get self.now.slots.now.charts self.now.process ≡ Some self.now.tables.now }
+        requires place { place < places self.now.tables.now }
+        ensures { IfOk result (λ b. (IsTrue b ↔
+            OwnEdgeAt self.now.slots.now.design self.now.slots.now.claims self.now.process self.now.tables.now place v)) }
     {
         let terms = terms(alloc, self.tables)?;
         let own = has_edge(&terms, v);
@@ -150,7 +184,11 @@ impl<'a> Reader<'a> {
             return Ok(false);
         }
         let apart = self.are_roots_apart(alloc, &terms, v)?;
-        Ok(apart)
+        if !apart {
+            return Ok(false);
+        }
+        let undelayed = self.is_undelayed(alloc, place, v)?;
+        Ok(undelayed)
     }
 
     // Whether the process is claimed to be a signal's writer.
@@ -221,7 +259,7 @@ impl<'a> Reader<'a> {
         if own {
             return Ok(true);
         }
-        let edge = self.is_own_edge(alloc, v)?;
+        let edge = self.is_own_edge(alloc, place, v)?;
         Ok(edge)
     }
 
@@ -363,8 +401,8 @@ impl<'a> Reader<'a> {
     }
 }
 
-/// Whether a process keeps the rule K9: where it is of kind edge or delay, what it reads at a place of a blocking source is its own, is a signal of
-/// its edge terms, or is written at other residues than the place runs at. For each range that it reads it takes as long as there are residues at
+/// Whether a process keeps the rule K9: where it waits for edges or for times, what it reads at a place of a blocking source is its own, is a signal
+/// of its edge terms, or is written at other residues than the place runs at. For each range that it reads it takes as long as there are residues at
 /// which the place runs, and where a variable on which the range's signal hangs is written in a class of one of them, as the cone of the range, and
 /// for each blocking source there as the residues at which that is written and the place runs.
 pub fn keeps_readings<'a, 'b>(

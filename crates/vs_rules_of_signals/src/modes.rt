@@ -59,11 +59,14 @@ fn are_none(row: &[usize]) -> bool
     row.is_empty()
 }
 
-// Whether a process is of kind delay, or in versions 2 and 3 of kind edge.
+// Whether a process is of kind delay, or mixed, or in versions 2 and 3 of kind edge.
 fn may_block<'a>(facts: &'a Facts<'a>, i: usize) -> bool
     ensures { IsTrue result ↔ MayBlock facts.entry.now.design facts.entry.now.claims i }
 {
     if facts.is_delay(i) {
+        return true;
+    }
+    if facts.is_mixed(i) {
         return true;
     }
     let version = facts.version();
@@ -175,7 +178,7 @@ impl<'a> Claimed<'a> {
         self.is_private_of(v, process)
     }
 
-    // Whether it is of version 3, and the writer of kind edge or delay.
+    // Whether it is of version 3, and the writer waits for edges or for times.
     fn is_both(&self, v: usize) -> bool
         ensures { IsTrue result ↔ (IsWide self.now.facts.now.claims
             × HasWriter self.now.facts.now.design self.now.facts.now.claims v (IsSequential self.now.facts.now.design self.now.facts.now.claims)) }

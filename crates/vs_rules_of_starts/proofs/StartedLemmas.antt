@@ -11,7 +11,7 @@ use Rattle.vs_design.specs.Parts.{Parts}
 use Rattle.vs_design.specs.WellFormed.{WellFormed, counts_from, is_body_of, is_sound_process, is_sound_statement, numbers}
 use Rattle.vs_rules.specs.vs_threads.proofs.Lists.{contains_at, place_of}
 use Rattle.vs_claims.specs.vs_process.proofs.ProcessLists.{all_slice}
-use Rattle.vs_rules.specs.Claims.{Claims, Mode, claim_for, edges, mode_in, kind_for, nonblocking, HasMode, IsDelay, IsSequential, IsWide, IsWriter}
+use Rattle.vs_rules.specs.Claims.{Claims, Kind, Mode, claim_for, delays, edges, mixed, mode_in, kind_for, kind_of, nonblocking, HasMode, IsDelay, IsSequential, IsWide, IsWriter}
 use Rattle.vs_rules.specs.Claims as claims
 use Rattle.vs_rules.specs.Blocks.{MayStart as MayBegin, CopiesWhole, HasStarter}
 use Rattle.vs_rules_of_starts.specs.Beginnings.{AreNamed}
@@ -34,11 +34,15 @@ both A B C x y = (λ a. y.0 (x.0 a), λ c. x.1 (y.1 c))
 
 -- ---- who may start
 
-pub delay_within : (d : Parts) (c : Claims) (w : ℕ) → IsDelay d c w → w < length d.processes
-delay_within d c w h = elim (cases_lt w (length d.processes)) [
+-- a process with a kind is one of the design
+kind_within : (d : Parts) (c : Claims) (w : ℕ) (kind : Kind) → kind_of d c w ≡ Some kind → w < length d.processes
+kind_within d c w kind h = elim (cases_lt w (length d.processes)) [
   | inl lt ↦ lt
-  | inr past ↦ absurd (none-some _ (ap (kind_for c) (sym (slice_get_past d.processes w past)) ∙ h.1))
+  | inr past ↦ absurd (none-some kind (ap (kind_for c) (sym (slice_get_past d.processes w past)) ∙ h))
 ]
+
+pub delay_within : (d : Parts) (c : Claims) (w : ℕ) → IsDelay d c w → w < length d.processes
+delay_within d c w h = kind_within d c w (delays h.0) h.1
 
 pub mode_within : (d : Parts) (c : Claims) (g : ℕ) (m : Mode) → HasMode d c g m → g < length d.signals
 mode_within d c g m h = elim (cases_lt g (length d.signals)) [
@@ -46,13 +50,10 @@ mode_within d c g m h = elim (cases_lt g (length d.signals)) [
   | inr past ↦ absurd (none-some m (ap (λ (o : Option Signal). mode_in (claim_for c o)) (sym (slice_get_past d.signals g past)) ∙ h))
 ]
 
--- a process of kind edge or delay is one of the design
 sequential_within : (d : Parts) (c : Claims) (w : ℕ) → IsSequential d c w → w < length d.processes
-sequential_within d c w (inl edge) = elim (cases_lt w (length d.processes)) [
-  | inl lt ↦ lt
-  | inr past ↦ absurd (none-some edges (ap (kind_for c) (sym (slice_get_past d.processes w past)) ∙ edge))
-]
-sequential_within d c w (inr h) = delay_within d c w h
+sequential_within d c w (inl edge) = kind_within d c w edges edge
+sequential_within d c w (inr (inl h)) = delay_within d c w h
+sequential_within d c w (inr (inr h)) = kind_within d c w (mixed h.0) h.1
 
 pub may_within : (d : Parts) (c : Claims) (g w : ℕ) → MayStart d c g w → w < length d.processes
 may_within d c g w m = by m.may where

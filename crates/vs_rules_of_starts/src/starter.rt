@@ -35,7 +35,7 @@ fn is_updated(mode: Option<SignalMode>) -> bool
 }
 
 // Whether a process may start a block by a variable that it writes: of mode nonblocking, and it is of kind delay; or in version 3 of mode both
-// too, and of kind edge too.
+// too, and of kind edge or mixed too.
 fn may_begin(facts: &Facts, g: usize, w: usize) -> bool
     ensures { IsTrue result ↔ MayBegin facts.now.design facts.now.claims g w }
 {

@@ -34,6 +34,7 @@ fn kind_start(kind: &ClaimedKind) -> Option<Start>
         ClaimedKind::Combinational(start) => Some(*start),
         ClaimedKind::Edge => None,
         ClaimedKind::Delay(_) => None,
+        ClaimedKind::Mixed(_) => None,
     }
 }
 

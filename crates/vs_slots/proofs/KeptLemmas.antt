@@ -5,7 +5,7 @@ use Rattle.std.specs.List.{Contains}
 use Rattle.std.specs.declared.vec.Vec.{Vec}
 use Rattle.std.specs.declared.alloc.Global.{Global}
 use Rattle.std.proofs.lemmas.Bool.{false≢true}
-use Rattle.std.proofs.lemmas.Option.{none-some, same_Some, slice_get_within, slice_get-get_or}
+use Rattle.std.proofs.lemmas.Option.{none-some, same_Some, slice_get_past, slice_get_within, slice_get-get_or}
 use Rattle.std.proofs.lemmas.Result.{IfOk-weaker}
 use Rattle.vs_design.specs.vs_logic4.specs.declared.digit.Digit.{Digit}
 use Rattle.vs_design.specs.vs_logic4.specs.declared.edge.Edge.{Edge}
@@ -18,15 +18,14 @@ use Rattle.vs_design.specs.Tables.{rows}
 use Rattle.vs_process.specs.Places.{Todo}
 use Rattle.vs_process.specs.Stops.{IsText}
 use Rattle.vs_process.specs.Ways.{Pause, none, delay, event, next_by}
-use Rattle.vs_maps.specs.vs_rules.specs.Claims.{Name, Claims, Kind, block, edges, delays, kind_of, names_process, writer_in, claim_for, claim_of, signal_name}
-use Rattle.vs_maps.specs.vs_rules.specs.Claims.{HasLists, IsDelay, IsEdge, IsRootOf, IsWriter}
+use Rattle.vs_maps.specs.vs_rules.specs.Claims.{Name, Claims, Kind, delays, mixed, kind_for, names_process, writer_in, claim_for, claim_of, signal_name}
+use Rattle.vs_maps.specs.vs_rules.specs.Claims.{IsRootOf, IsWriter, WaitsForEdges, WaitsForTimes}
 use Rattle.vs_maps.specs.vs_rules.specs.Constants.{IsClock}
 use Rattle.vs_maps.specs.vs_rules.specs.Constants as k
 use Rattle.vs_maps.specs.vs_rules.specs.Controls.{controls_at, controls_in, controls_of, list_of}
 use Rattle.vs_maps.specs.vs_rules.specs.Paths.{WritesNow}
-use Rattle.vs_maps.specs.vs_rules.specs.Slots.{EdgeEnds, Ends, HasSlot, HasWriteSlot}
+use Rattle.vs_maps.specs.vs_rules.specs.Slots.{EdgeEnds, HasSlot, HasWriteSlot}
 use Rattle.vs_slots_constants.specs.declared.clocks.Clock.{Clock}
-use Rattle.vs_claims.specs.vs_maps.specs.Ranges.{pause_terms}
 use Rattle.vs_claims.specs.vs_maps.specs.Reaches.{Chart, IsPlace, pause_at, places}
 use Rattle.vs_claims.specs.vs_maps.proofs.Texts.{place_of, place_back}
 use Rattle.vs_claims.specs.vs_maps.proofs.WalkLemmas.{place_below}
@@ -35,12 +34,12 @@ use Rattle.vs_slots.specs.declared.roots.Firing.{Firing}
 use Rattle.vs_slots.specs.declared.runs.Runs.{Runs}
 use Rattle.vs_slots.specs.Firing.{RootFires}
 use Rattle.vs_slots.specs.Kept.{IsRunIn, AreAllRuns, AreBothRuns, AreClocks, AreFirings, AreTermsIn, AreWriteSlots, IsClockOf, IsFiring, IsFiringOf, IsKeptRun, IsPlaceWrite}
-use Rattle.vs_slots.specs.Kept.{IsTurned, IsWriteIn}
+use Rattle.vs_slots.specs.Kept.{IsTurned, IsWriteIn, RunsWhere}
 use Rattle.vs_slots.specs.Lists.{row, IsOneOf}
-use Rattle.vs_slots.specs.Runs.{AreFiredRuns, AreListedRuns, AreRuns, DelayEndsBy, HasRun, PauseEnds}
+use Rattle.vs_slots.specs.Runs.{AreRuns, AreRunsBy, DelayEndsBy, DelayPauseEnds, EdgePauseEnds, HasRun, HasRunBy, TermsEnd}
 use Rattle.vs_slots.specs.Terms.{TermsFire}
 use Rattle.vs_slots.proofs.FiringLemmas.{firing_is_exact, now_exact, now_numbered}
-use Rattle.vs_slots.proofs.RunLemmas.{delay_ends, runs_are_exact, runs_by}
+use Rattle.vs_slots.proofs.RunLemmas.{ends_as, fired_runs, listed_runs, runs_alone, runs_are_exact, runs_parts}
 
 -- ---- numbers within
 
@@ -66,55 +65,59 @@ inside_of f i t maps is p place =
 
 -- ---- run slots
 
-pub kept_runs : (kind : Parts → Claims → ℕ → Type 0) (f : Case) (runs : List Runs) (i : ℕ) (t : Chart) → AreCharts f.design f.charts → AreAllRuns kind f runs → kind f.design f.claims i →
-    slice_get f.charts i ≡ Some t → (p r : ℕ) → p < places t → (IsRunIn runs i p r ↔ HasRun f.design f.claims i t p r)
-kept_runs kind f runs i t maps all is_kind is p r within = (
+pub kept_runs : (can_end : Parts → Claims → ℕ → Pause → ℕ → Type 0) (f : Case) (runs : List Runs) (i : ℕ) (t : Chart) → AreCharts f.design f.charts → AreAllRuns can_end f runs →
+    slice_get f.charts i ≡ Some t → (p r : ℕ) → p < places t → (IsRunIn runs i p r ↔ HasRunBy (can_end f.design f.claims i) t p r)
+kept_runs can_end f runs i t maps all is p r within = (
   λ y. (both y.0 y.1).0 y.2,
   λ h. let y = there_is runs i (subst (λ (n : ℕ). i < n) (maps.as_many ∙ sym all.long) (slice_get_within f.charts i t is)) in (y.0, y.1, (both y.0 y.1).1 h),
 ) where
-  both : (x : Runs) → slice_get runs i ≡ Some x → (IsOneOf (rows x.ends.items) (row x.before p) r ↔ HasRun f.design f.claims i t p r)
-  both x at = runs_by f.design f.claims i t x.before (rows x.ends.items) (all.each i x at t is_kind is) (inside_of f i t maps is) p r within
-
--- a process of another kind has no run slots
-no_kind : (d : Parts) (c : Claims) (i : ℕ) (kind : Option Kind) (pause : Pause) (r : ℕ) → (kind ≡ Some edges → ⊥) → ((lists : List (List ℕ)) → kind ≡ Some (delays lists) → ⊥) →
-    Ends d c i kind (next_by pause []) r → ⊥
-no_kind d c i None pause r e l h = h
-no_kind d c i (Some (block start)) pause r e l h = h
-no_kind d c i (Some edges) pause r e l h = e refl
-no_kind d c i (Some (delays lists)) pause r e l h = l lists refl
-
-pub no_runs : (d : Parts) (c : Claims) (i : ℕ) (t : Chart) (p r : ℕ) → (IsEdge d c i → ⊥) → (IsDelay d c i → ⊥) → HasRun d c i t p r → ⊥
-no_runs d c i t p r e l h = no_kind d c i (kind_of d c i) (pause_at t h.from) r e (λ lists has. l (lists, has)) h.starts
+  both : (x : Runs) → slice_get runs i ≡ Some x → (IsOneOf (rows x.ends.items) (row x.before p) r ↔ HasRunBy (can_end f.design f.claims i) t p r)
+  both x at = all.each i x at t is p r within
 
 -- ---- runs by lists and by terms
 
-pub listed_are : (f : Case) (i : ℕ) (q : Process) (t : Chart) (lists : List (List ℕ)) (before ends : List (List ℕ)) → slice_get f.design.processes i ≡ Some q → HasLists f.design f.claims i lists →
-    AreListedRuns t (list_of (controls_in q.body) lists) before ends → AreRuns f.design f.claims i t before ends
-listed_are f i q t lists before ends is has h = record {
-  before_are = h.before_are;
-  ends_are = λ p r within.
-      let e : list_of (controls_of f.design i) lists ≡ list_of (controls_in q.body) lists = ap (λ (x : Option Process). list_of (controls_at x) lists) is in
-      let both = h.ends_are p r within in
-      let same = subst (λ (l : ℕ → List ℕ). (DelayEndsBy l (pause_at t p) r ↔ PauseEnds f.design f.claims i (pause_at t p) r)) e
-      (delay_ends f.design f.claims i lists (pause_at t p) r has) in
-      (λ x. let y = both.0 x in (y.0, same.0 y.1), λ y. both.1 (y.0, same.1 y.1));
-}
+nothing_runs : (before ends : List (List ℕ)) (p r : ℕ) → before ≡ [] → IsOneOf ends (row before p) r → ⊥
+nothing_runs before ends p r e y = let c = subst (λ (b : List (List ℕ)). Contains (row b p) y.0) e y.1 in none_in_row p y.0 c where
+  none_in_row : (p x : ℕ) → Contains (row [] p) x → ⊥
+  none_in_row zero x c = omega (arith, c.1)
+  none_in_row (suc p) x c = omega (arith, c.1)
 
-terms_end : (d : Parts) (c : Claims) (pause : Pause) (r : ℕ) → (TermsFire d c (pause_terms pause) r ↔ EdgeEnds d c (next_by pause []) r)
+-- a process in which no control can end so has no such runs
+pub no_runs : (can_end : Parts → Claims → ℕ → Pause → ℕ → Type 0) (f : Case) (i : ℕ) (x : Runs) → x.before ≡ [] → ((pause : Pause) (r : ℕ) → can_end f.design f.claims i pause r → ⊥) →
+    RunsWhere can_end f i x
+no_runs can_end f i x empty never t is p r within =
+    (λ y. absurd (nothing_runs x.before (rows x.ends.items) p r empty y), λ w. absurd (never (pause_at t w.from) r w.starts))
+
+-- one without a chart has none either
+pub no_chart : (can_end : Parts → Claims → ℕ → Pause → ℕ → Type 0) (f : Case) (i : ℕ) (x : Runs) → slice_get f.charts i ≡ None → RunsWhere can_end f i x
+no_chart can_end f i x past t is = absurd (none-some t (sym past ∙ is))
+
+past_kind : (c : Claims) (p : Option Process) (k : Kind) → p ≡ None → kind_for c p ≡ Some k → ⊥
+past_kind c None k e h = none-some k h
+past_kind c (Some q) k e h = none-some q (sym e)
+
+-- a process past the end waits for nothing
+pub past_times : (d : Parts) (c : Claims) (i : ℕ) (lists : List (List ℕ)) → length d.processes ≤ i → WaitsForTimes d c i lists → ⊥
+past_times d c i lists past (inl e) = past_kind c (slice_get d.processes i) (delays lists) (slice_get_past d.processes i past) e
+past_times d c i lists past (inr e) = past_kind c (slice_get d.processes i) (mixed lists) (slice_get_past d.processes i past) e
+
+pub listed_are : (f : Case) (i : ℕ) (q : Process) (t : Chart) (lists : List (List ℕ)) (before ends : List (List ℕ)) → ((p : ℕ) → IsPlace t p → p < places t) →
+    slice_get f.design.processes i ≡ Some q → WaitsForTimes f.design f.claims i lists → AreRunsBy (DelayEndsBy (list_of (controls_in q.body) lists)) t before ends →
+    AreRuns (DelayPauseEnds f.design f.claims i) t before ends
+listed_are f i q t lists before ends inside is has h =
+    let e : list_of (controls_of f.design i) lists ≡ list_of (controls_in q.body) lists = ap (λ (x : Option Process). list_of (controls_at x) lists) is in
+    listed_runs f.design f.claims i lists t before ends has inside (subst (λ (l : ℕ → List ℕ). AreRunsBy (DelayEndsBy l) t before ends) (sym e) h)
+
+terms_end : (d : Parts) (c : Claims) (pause : Pause) (r : ℕ) → (TermsEnd d c pause r ↔ EdgeEnds d c (next_by pause []) r)
 terms_end d c none r = (λ y. absurd (omega (arith, y.1.1)), λ h. absurd h)
 terms_end d c (delay number ticks) r = (λ y. absurd (omega (arith, y.1.1)), λ h. absurd h)
 terms_end d c (event number terms) r = (λ y. y, λ h. h)
 
-pub fired_are : (f : Case) (i : ℕ) (t : Chart) (before ends : List (List ℕ)) → IsEdge f.design f.claims i → AreFiredRuns f.design f.claims t before ends →
-    AreRuns f.design f.claims i t before ends
-fired_are f i t before ends is h = record {
-  before_are = h.before_are;
-  ends_are = λ p r within.
-      let both = h.ends_are p r within in
-      let same = subst (λ (k : Option Kind). (TermsFire f.design f.claims (pause_terms (pause_at t p)) r ↔ Ends f.design f.claims i k (next_by (pause_at t p) []) r)) (sym is)
-      (terms_end f.design f.claims (pause_at t p) r) in
-      (λ x. let y = both.0 x in (y.0, same.0 y.1), λ y. both.1 (y.0, same.1 y.1));
-}
+pub fired_are : (f : Case) (i : ℕ) (t : Chart) (before ends : List (List ℕ)) → ((p : ℕ) → IsPlace t p → p < places t) → WaitsForEdges f.design f.claims i →
+    AreRunsBy (TermsEnd f.design f.claims) t before ends → AreRuns (EdgePauseEnds f.design f.claims i) t before ends
+fired_are f i t before ends inside waits h =
+    fired_runs f.design f.claims i t before ends waits inside
+    (ends_as (TermsEnd f.design f.claims) (λ pause r. EdgeEnds f.design f.claims (next_by pause []) r) t before ends (terms_end f.design f.claims) h)
 
 -- ---- writers
 
@@ -152,28 +155,15 @@ chart_of_writer f u i maps w =
 
 -- ---- run slots as both are kept
 
-edge_not_delay : (d : Parts) (c : Claims) (i : ℕ) → IsDelay d c i → IsEdge d c i → ⊥
-edge_not_delay d c i l e = let h : Some (delays l.0) ≡ Some edges = sym l.1 ∙ e in cc
-
-kind_of_ends : (d : Parts) (c : Claims) (i : ℕ) (kind : Option Kind) (pause : Pause) (r : ℕ) → Ends d c i kind (next_by pause []) r →
-    (kind ≡ Some edges) ⊎ ((lists : List (List ℕ)) × (kind ≡ Some (delays lists)))
-kind_of_ends d c i None pause r h = absurd h
-kind_of_ends d c i (Some (block start)) pause r h = absurd h
-kind_of_ends d c i (Some edges) pause r h = inl refl
-kind_of_ends d c i (Some (delays lists)) pause r h = inr (lists, refl)
-
 pub kept_run : (f : Case) (waiting fired : List Runs) (i : ℕ) (t : Chart) → AreCharts f.design f.charts → AreBothRuns f waiting fired → slice_get f.charts i ≡ Some t →
-    (p r : ℕ) → p < places t → (IsKeptRun f waiting fired i p r ↔ HasRun f.design f.claims i t p r)
-kept_run f waiting fired i t maps both is p r within = (there, back) where
-  there : IsKeptRun f waiting fired i p r → HasRun f.design f.claims i t p r
-  there (inl y) = (kept_runs IsEdge f fired i t maps both.fired_are y.0 is p r within).0 y.1
-  there (inr y) = (kept_runs IsDelay f waiting i t maps both.waiting_are y.1 is p r within).0 y.2
-
-  back : HasRun f.design f.claims i t p r → IsKeptRun f waiting fired i p r
-  back h = elim (kind_of_ends f.design f.claims i (kind_of f.design f.claims i) (pause_at t h.from) r h.starts) [
-    | inl e ↦ inl (e, (kept_runs IsEdge f fired i t maps both.fired_are e is p r within).1 h)
-    | inr l ↦ inr (edge_not_delay f.design f.claims i l, l, (kept_runs IsDelay f waiting i t maps both.waiting_are l is p r within).1 h)
-  ]
+    (p r : ℕ) → p < places t → (IsKeptRun waiting fired i p r ↔ HasRun f.design f.claims i t p r)
+kept_run f waiting fired i t maps both is p r within =
+    let by_delays = kept_runs DelayPauseEnds f waiting i t maps both.waiting_are is p r within in
+    let by_edges = kept_runs EdgePauseEnds f fired i t maps both.fired_are is p r within in
+    let parts = runs_parts f.design f.claims i t p r in (
+      λ y. parts.1 (elim y [ inl x ↦ inl (by_delays.0 x) | inr x ↦ inr (by_edges.0 x) ]),
+      λ h. elim (parts.0 h) [ inl x ↦ inl (by_delays.1 x) | inr x ↦ inr (by_edges.1 x) ],
+    )
 
 -- ---- write slots
 
@@ -181,7 +171,7 @@ pub writes_are : (f : Case) (waiting fired : List Runs) (u r : ℕ) → AreChart
     (IsWriteIn f waiting fired u r ↔ HasWriteSlot f.design f.claims u r)
 writes_are f waiting fired u r maps both = (there, back) where
   at_place : (i : ℕ) (q : Process) (t : Chart) (x : IsText q.body t.stops t.start) → slice_get f.design.processes i ≡ Some q → slice_get f.charts i ≡ Some t → IsWriter f.design f.claims u i →
-      (p : ℕ) → p < places t → IsPlaceWrite f waiting fired t u i p r → HasWriteSlot f.design f.claims u r
+      (p : ℕ) → p < places t → IsPlaceWrite waiting fired t u i p r → HasWriteSlot f.design f.claims u r
   at_place i q t x is chart writer p within y =
       let w = (now_exact f.design q.body t.stops t.start x p u).0 y.2 in
       let n = now_numbered (x.at p) w.range w.listed.0 in record {
@@ -247,7 +237,7 @@ write_slots_are f table u r h = elim (below_or_past u (length f.design.signals))
 
 -- ---- firing
 
-pub firing_are : (f : Case) (runs : List Runs) (clock : Option Clock) (root : ℕ) (edge : Edge) (r : ℕ) → AreCharts f.design f.charts → AreAllRuns IsDelay f runs → IsClockOf f root clock →
+pub firing_are : (f : Case) (runs : List Runs) (clock : Option Clock) (root : ℕ) (edge : Edge) (r : ℕ) → AreCharts f.design f.charts → AreAllRuns DelayPauseEnds f runs → IsClockOf f root clock →
     (IsFiringOf f runs clock root edge r ↔ RootFires f.design f.claims root edge r)
 firing_are f runs clock root edge r maps all is_clock = (there, back) where
   there : IsFiringOf f runs clock root edge r → RootFires f.design f.claims root edge r
@@ -267,7 +257,7 @@ firing_are f runs clock root edge r maps all is_clock = (there, back) where
             is_place = y.1;
             writes = y.2;
             counted = y.3;
-            runs = (kept_runs IsDelay f runs i t maps all kind chart e.0 r e.1).0 y.4;
+            runs = (runs_alone f.design f.claims i t e.0 r kind).0 ((kept_runs DelayPauseEnds f runs i t maps all chart e.0 r e.1).0 y.4);
             in_phase = λ digit offset half clocked. y.5 digit offset half ((is_clock digit offset half).0 clocked);
           },
         ),
@@ -297,7 +287,7 @@ firing_are f runs clock root edge r maps all is_clock = (there, back) where
                 a.is_place,
                 a.writes,
                 a.counted,
-                (kept_runs IsDelay f runs i t maps all h.kind w.chart_is y.0 r within).1 a.runs,
+                (kept_runs DelayPauseEnds f runs i t maps all w.chart_is y.0 r within).1 ((runs_alone f.design f.claims i t y.0 r h.kind).1 a.runs),
                 λ digit offset half e. a.in_phase digit offset half ((is_clock digit offset half).1 e),
               ),
             ),

@@ -4,7 +4,6 @@ use Rattle.std.specs.List.{Contains}
 use Rattle.std.proofs.lemmas.Option.{same_Some}
 use Rattle.vs_design.specs.vs_logic4.specs.declared.edge.Edge.{Edge}
 use Rattle.vs_slots_constants.specs.declared.clocks.Clock.{Clock}
-use Rattle.vs_claims.specs.Facts.{Case}
 use Rattle.vs_claims.specs.vs_maps.specs.Reaches.{Chart, IsPlace, places}
 use Rattle.vs_maps.specs.Sites.{IsSite, IsWrite, UsesAt, site_of}
 use Rattle.vs_maps.specs.declared.sites.Site.{Site}
@@ -49,9 +48,9 @@ module _ (charts : List Chart) (i v : ℕ) (t : Chart) (at : slice_get charts i 
   )
 
   -- a variable is written at a place exactly where it is at a site there
-  pub site_written : (f : Case) (waiting fired : List Runs) (r : ℕ) →
-      (((s : Site) × Contains sites s × IsSiteWrite f waiting fired i s r) ↔ ((p : ℕ) × (p < places t) × IsPlaceWrite f waiting fired t v i p r))
-  site_written f waiting fired r = (
+  pub site_written : (waiting fired : List Runs) (r : ℕ) →
+      (((s : Site) × Contains sites s × IsSiteWrite waiting fired i s r) ↔ ((p : ℕ) × (p < places t) × IsPlaceWrite waiting fired t v i p r))
+  site_written waiting fired r = (
     λ y.
         let is = (are y.0).0 y.1 in
         let here = uses_here charts i t at y.0 is.0 y.2.0 in

@@ -64,3 +64,17 @@ same_either a b c now e f = (λ n. elim (e.0 n) [ inl x ↦ inl x | inr y ↦ in
 -- of a list with the same elements
 pub same_as : (kept told some : Type 0) → (told ↔ kept) → (kept ↔ some) → (told ↔ some)
 same_as kept told some a b = (λ x. b.0 (a.0 x), λ y. a.1 (b.1 y))
+
+-- nothing is among those of none
+pub from_none : (xs : List ℕ) (r : ℕ) → xs ≡ [] → Contains xs r → ⊥
+from_none xs r e c = let y = subst (λ (l : List ℕ). Contains l r) e c in omega (arith, y.1)
+
+-- one sort of things and then another one, without anything else
+pub both_in : (base one two some other : Type 0) → (base → ⊥) → (one ↔ (base ⊎ some)) → (two ↔ (one ⊎ other)) → (two ↔ (some ⊎ other))
+both_in base one two some other never e f = (there, back) where
+  there : two → some ⊎ other
+  there t = elim (f.0 t) [ inl o ↦ inl ((alone base one some never e).0 o) | inr x ↦ inr x ]
+
+  back : some ⊎ other → two
+  back (inl s) = f.1 (inl (e.1 (inr s)))
+  back (inr x) = f.1 (inr x)

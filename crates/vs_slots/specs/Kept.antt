@@ -9,7 +9,8 @@ use Rattle.vs_design.specs.vs_logic4.specs.declared.edge.Edge.TheVariants.{Any, 
 use Rattle.vs_design.specs.declared.statement.EventTerm.{EventTerm}
 use Rattle.vs_design.specs.Parts.{Parts}
 use Rattle.vs_design.specs.Tables.{rows}
-use Rattle.vs_maps.specs.vs_rules.specs.Claims.{Claims, IsDelay, IsEdge, IsRoot, IsRootOf, IsWriter}
+use Rattle.vs_process.specs.Ways.{Pause}
+use Rattle.vs_maps.specs.vs_rules.specs.Claims.{Claims, IsDelay, IsRoot, IsRootOf, IsWriter}
 use Rattle.vs_maps.specs.vs_rules.specs.Constants.{IsClock}
 use Rattle.vs_maps.specs.vs_rules.specs.Slots.{HasWriteSlot}
 use Rattle.vs_slots_constants.specs.declared.clocks.Clock.{Clock}
@@ -23,22 +24,20 @@ use Rattle.vs_slots.specs.declared.roots.Firing.{Firing}
 use Rattle.vs_slots.specs.declared.runs.Runs.{Runs}
 use Rattle.vs_slots.specs.Firing.{CountsAt, InPhaseOf, RootFires, WritesAt}
 use Rattle.vs_slots.specs.Lists.{row, IsOneOf}
-use Rattle.vs_slots.specs.Runs.{AreRuns}
+use Rattle.vs_slots.specs.Runs.{AreRuns, DelayPauseEnds, EdgePauseEnds}
 
 -- a place of a process has a run slot, as runs are kept
 abbrev pub IsRunIn : List Runs → ℕ → ℕ → ℕ → Type 0
 IsRunIn runs i p r = (x : Runs) × (slice_get runs i ≡ Some x) × IsOneOf (rows x.ends.items) (row x.before p) r
 
--- these are the runs of a process, by its number, where it is of a kind
-abbrev pub RunsWhere : (Parts → Claims → ℕ → Type 0) → Case → ℕ → Runs → Type 0
-RunsWhere kind f i x =
-    (t : Chart) → kind f.design f.claims i → slice_get f.charts i ≡ Some t →
-    AreRuns f.design f.claims i t x.before (rows x.ends.items)
+-- these are the runs of a process, by its number, behind controls that can end so
+abbrev pub RunsWhere : (Parts → Claims → ℕ → Pause → ℕ → Type 0) → Case → ℕ → Runs → Type 0
+RunsWhere can_end f i x = (t : Chart) → slice_get f.charts i ≡ Some t → AreRuns (can_end f.design f.claims i) t x.before (rows x.ends.items)
 
 -- these are those of all processes, in their order
-pub record AreAllRuns (kind : Parts → Claims → ℕ → Type 0) (f : Case) (runs : List Runs) : Type 0 where
+pub record AreAllRuns (can_end : Parts → Claims → ℕ → Pause → ℕ → Type 0) (f : Case) (runs : List Runs) : Type 0 where
   pub long : length runs ≡ length f.design.processes
-  pub each : (i : ℕ) (x : Runs) → slice_get runs i ≡ Some x → RunsWhere kind f i x
+  pub each : (i : ℕ) (x : Runs) → slice_get runs i ≡ Some x → RunsWhere can_end f i x
 
 -- this is what a signal is as a clock
 abbrev pub IsClockOf : Case → ℕ → Option Clock → Type 0
@@ -93,27 +92,26 @@ IsTermIn f x t r = (root : ℕ) × IsRootOf f.design f.claims root t.range.signa
 abbrev pub AreTermsIn : Case → Firing → List EventTerm → ℕ → Type 0
 AreTermsIn f x terms r = (t : EventTerm) × Contains terms t × IsTermIn f x t r
 
--- the runs of processes of kind delay, and of kind edge
+-- the runs behind delay controls, and behind event controls
 pub record AreBothRuns (f : Case) (waiting fired : List Runs) : Type 0 where
-  pub waiting_are : AreAllRuns IsDelay f waiting
-  pub fired_are : AreAllRuns IsEdge f fired
+  pub waiting_are : AreAllRuns DelayPauseEnds f waiting
+  pub fired_are : AreAllRuns EdgePauseEnds f fired
 
 -- a place of a process has a run slot, as both are kept
-abbrev pub IsKeptRun : Case → List Runs → List Runs → ℕ → ℕ → ℕ → Type 0
-IsKeptRun f waiting fired i p r = (IsEdge f.design f.claims i × IsRunIn fired i p r)
-    ⊎ ((IsEdge f.design f.claims i → ⊥) × IsDelay f.design f.claims i × IsRunIn waiting i p r)
+abbrev pub IsKeptRun : List Runs → List Runs → ℕ → ℕ → ℕ → Type 0
+IsKeptRun waiting fired i p r = IsRunIn waiting i p r ⊎ IsRunIn fired i p r
 
 -- at a place of a process a variable is written at a residue
-abbrev pub IsPlaceWrite : Case → List Runs → List Runs → Chart → ℕ → ℕ → ℕ → ℕ → Type 0
-IsPlaceWrite f waiting fired t u i p r = (p < places t) × IsPlace t p × HasSignal (now_at t p) u × IsKeptRun f waiting fired i p r
+abbrev pub IsPlaceWrite : List Runs → List Runs → Chart → ℕ → ℕ → ℕ → ℕ → Type 0
+IsPlaceWrite waiting fired t u i p r = (p < places t) × IsPlace t p × HasSignal (now_at t p) u × IsKeptRun waiting fired i p r
 
 -- at a site of its writer a variable is written by `=` at a residue
-abbrev pub IsSiteWrite : Case → List Runs → List Runs → ℕ → Site → ℕ → Type 0
-IsSiteWrite f waiting fired writer s r = (s.process ≡ writer) × (s.usage ≡ Now) × IsKeptRun f waiting fired writer s.place r
+abbrev pub IsSiteWrite : List Runs → List Runs → ℕ → Site → ℕ → Type 0
+IsSiteWrite waiting fired writer s r = (s.process ≡ writer) × (s.usage ≡ Now) × IsKeptRun waiting fired writer s.place r
 
 -- at one of the places of a process it is
 abbrev pub IsWriteBy : Case → List Runs → List Runs → ℕ → ℕ → ℕ → Type 0
-IsWriteBy f waiting fired u i r = (t : Chart) × (slice_get f.charts i ≡ Some t) × ((p : ℕ) × (p < places t) × IsPlaceWrite f waiting fired t u i p r)
+IsWriteBy f waiting fired u i r = (t : Chart) × (slice_get f.charts i ≡ Some t) × ((p : ℕ) × (p < places t) × IsPlaceWrite waiting fired t u i p r)
 
 -- by its writer it is
 abbrev pub IsWriteIn : Case → List Runs → List Runs → ℕ → ℕ → Type 0

@@ -14,7 +14,7 @@ use std::alloc::{AllocError, Global};
 use vs_claims::vs_maps::{Pause, Tables};
 use vs_graph::Numbers;
 
-/// The lists of residues of a process of kind delay: one for each delay control of its text, in the order of the text.
+/// The lists of residues of a process that waits for times: one for each delay control of its text, in the order of the text.
 #[derive(Drop)]
 pub struct ControlLists<'a> {
     /// The numbers of the controls in the process's text.
@@ -50,8 +50,8 @@ impl<'a> ControlLists<'a> {
     }
 }
 
-// The residues at which a place that goes on so can end, where it is a delay control.
-fn pause_ends<'a>(pause: Pause<'a>, lists: &'a ControlLists<'a>) -> &'a [u64]
+/// The residues at which a place that goes on so can end, where it is a delay control.
+pub fn pause_ends<'a>(pause: Pause<'a>, lists: &'a ControlLists<'a>) -> &'a [u64]
     ensures { (r : ℕ) → (Contains result.now r ↔ DelayEndsBy (list_by lists.entry.now) (pause_view pause.entry) r) }
 {
     match pause {
@@ -60,7 +60,7 @@ fn pause_ends<'a>(pause: Pause<'a>, lists: &'a ControlLists<'a>) -> &'a [u64]
     }
 }
 
-/// The places of a process of kind delay, and the lists of its delay controls.
+/// The places of a process that waits for times, and the lists of its delay controls.
 #[derive(Drop)]
 struct DelayEnds<'a> {
     tables: &'a Tables<'a>,
@@ -81,7 +81,7 @@ impl<'a> Listing for DelayEnds<'a> {
     }
 }
 
-/// For each place of a process of kind delay the residues at which its control can end. It takes as long as their lists.
+/// For each place of a process that waits for times the residues at which its delay control can end. It takes as long as their lists.
 pub(crate) fn delay_ends<'a>(
     alloc: Global,
     tables: &'a Tables<'a>,

@@ -1,10 +1,9 @@
-//! The run slots of processes of kind delay.
+//! The run slots behind delay controls.
 ghost use Rattle.std.specs.Prelude.{IfOk, map};
 ghost use Rattle.vs_design.specs.Tables.{rows};
 ghost use Rattle.vs_maps.specs.vs_rules.specs.Certificates.{residues_from};
-ghost use Rattle.vs_maps.specs.vs_rules.specs.Claims.{IsDelay};
 ghost use Rattle.vs_maps.specs.vs_rules.specs.Controls.{controls_in, list_of};
-ghost use Rattle.vs_slots.specs.Runs.{AreListedRuns};
+ghost use Rattle.vs_slots.specs.Runs.{AreRunsBy, DelayEndsBy, DelayPauseEnds};
 ghost use Rattle.vs_slots.specs.Kept.{RunsWhere, AreAllRuns};
 
 use crate::controls::{ControlLists, delay_ends};
@@ -14,15 +13,15 @@ use vs_claims::Facts;
 use vs_claims::vs_maps::{Tables, controls, controls_before};
 use vs_design::Statement;
 
-// The runs of a process of kind delay, by its text, its tables and its lists.
+// The runs of a process that waits for times, by its text, its tables and its lists.
 fn listed_runs<'a>(
     alloc: Global,
     body: &Statement,
     tables: &'a Tables<'a>,
     lists: &[Vec<u64>],
 ) -> Result<Runs, AllocError>
-    ensures { IfOk result (λ x. AreListedRuns tables.entry.now (list_of (controls_in body.now) (map residues_from lists.now))
-        x.before (rows x.ends.items)) }
+    ensures { IfOk result (λ x. AreRunsBy (DelayEndsBy (list_of (controls_in body.now) (map residues_from lists.now)))
+        tables.entry.now x.before (rows x.ends.items)) }
 {
     let controls = controls(alloc, body)?;
     let lists = ControlLists::new(&controls, lists);
@@ -31,9 +30,9 @@ fn listed_runs<'a>(
     Ok(Runs { before, ends })
 }
 
-// The runs of a process, where it is of kind delay.
+// The runs of a process behind its delay controls, where it waits for times.
 fn runs_of_delays<'a>(alloc: Global, facts: &'a Facts<'a>, i: usize) -> Result<Runs, AllocError>
-    ensures { IfOk result (λ x. RunsWhere IsDelay facts.entry.now i x) }
+    ensures { IfOk result (λ x. RunsWhere DelayPauseEnds facts.entry.now i x) }
 {
     let processes = facts.design().processes();
     if i >= processes.len() {
@@ -45,12 +44,13 @@ fn runs_of_delays<'a>(alloc: Global, facts: &'a Facts<'a>, i: usize) -> Result<R
     let Some(lists) = facts.lists(i) else {
         return Ok(Runs::none(alloc));
     };
+    tables.leads_in();
     listed_runs(alloc, &processes[i].body, tables, lists)
 }
 
-/// The runs of all processes of kind delay, in their order; of others there are none.
+/// The runs of all processes behind their delay controls, in their order; of those that wait for no times there are none.
 pub(crate) fn delay_runs<'a>(alloc: Global, facts: &'a Facts<'a>) -> Result<Vec<Runs>, AllocError>
-    ensures { IfOk result (λ runs. AreAllRuns IsDelay facts.entry.now runs.items) }
+    ensures { IfOk result (λ runs. AreAllRuns DelayPauseEnds facts.entry.now runs.items) }
 {
     let mut runs = Vec::new(alloc);
     for i in 0..facts.design().processes().len() {

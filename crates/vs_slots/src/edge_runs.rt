@@ -1,12 +1,11 @@
-//! The run slots of processes of kind edge.
+//! The run slots behind event controls.
 ghost use Rattle.std.specs.Prelude.{ℕ, ◌<◌, ◌↔◌, IfOk};
 ghost use Rattle.std.specs.List.{Contains};
 ghost use Rattle.vs_design.specs.Tables.{rows};
-ghost use Rattle.vs_maps.specs.vs_rules.specs.Claims.{IsEdge};
 ghost use Rattle.vs_claims.specs.vs_maps.specs.Ranges.{pause_terms};
 ghost use Rattle.vs_claims.specs.vs_maps.specs.Reaches.{places, pause_at, pause_view, IsPlace};
 ghost use Rattle.vs_slots.specs.Kept.{AreAllRuns, AreFirings, AreTermsIn, RunsWhere};
-ghost use Rattle.vs_slots.specs.Runs.{AreFiredRuns};
+ghost use Rattle.vs_slots.specs.Runs.{AreRunsBy, EdgePauseEnds, TermsEnd};
 
 use crate::listing::{Listing, table_of};
 use crate::roots::Firing;
@@ -15,7 +14,7 @@ use std::alloc::{AllocError, Global};
 use vs_claims::Facts;
 use vs_claims::vs_maps::{Pause, Tables, controls_before};
 
-// The places of a process of kind edge, and when terms can fire.
+// The places of a process that waits for edges, and when terms can fire.
 #[derive(Drop)]
 struct EdgeEnds<'a> {
     facts: &'a Facts<'a>,
@@ -51,7 +50,7 @@ impl<'a> Listing for EdgeEnds<'a> {
     }
 }
 
-// The runs of a process of kind edge, by its tables.
+// The runs of a process that waits for edges, by its tables.
 fn fired_runs<'a>(
     alloc: Global,
     facts: &'a Facts<'a>,
@@ -59,7 +58,7 @@ fn fired_runs<'a>(
     tables: &'a Tables<'a>,
 ) -> Result<Runs, AllocError>
     requires { AreFirings facts.now firing.now }
-    ensures { IfOk result (λ x. AreFiredRuns facts.entry.now.design facts.entry.now.claims tables.entry.now
+    ensures { IfOk result (λ x. AreRunsBy (TermsEnd facts.entry.now.design facts.entry.now.claims) tables.entry.now
         x.before (rows x.ends.items)) }
 {
     let edges = EdgeEnds {
@@ -72,7 +71,7 @@ fn fired_runs<'a>(
     Ok(Runs { before, ends })
 }
 
-// The runs of a process, where it is of kind edge.
+// The runs of a process behind its event controls, where it waits for edges.
 fn runs_of_edges<'a>(
     alloc: Global,
     facts: &'a Facts<'a>,
@@ -80,25 +79,28 @@ fn runs_of_edges<'a>(
     i: usize,
 ) -> Result<Runs, AllocError>
     requires { AreFirings facts.now firing.now }
-    ensures { IfOk result (λ x. RunsWhere IsEdge facts.entry.now i x) }
+    ensures { IfOk result (λ x. RunsWhere EdgePauseEnds facts.entry.now i x) }
 {
-    if !facts.is_edge(i) {
+    if !facts.waits_for_edges(i) {
         return Ok(Runs::none(alloc));
     }
     match facts.tables(i) {
         None => Ok(Runs::none(alloc)),
-        Some(tables) => fired_runs(alloc, facts, firing, tables),
+        Some(tables) => {
+            tables.leads_in();
+            fired_runs(alloc, facts, firing, tables)
+        }
     }
 }
 
-/// The runs of all processes of kind edge, in their order; of others there are none.
+/// The runs of all processes behind their event controls, in their order; of those that wait for no edges there are none.
 pub(crate) fn edge_runs<'a>(
     alloc: Global,
     facts: &'a Facts<'a>,
     firing: &'a Firing,
 ) -> Result<Vec<Runs>, AllocError>
     requires { AreFirings facts.now firing.now }
-    ensures { IfOk result (λ runs. AreAllRuns IsEdge facts.entry.now runs.items) }
+    ensures { IfOk result (λ runs. AreAllRuns EdgePauseEnds facts.entry.now runs.items) }
 {
     let mut runs = Vec::new(alloc);
     for i in 0..facts.design().processes().len() {

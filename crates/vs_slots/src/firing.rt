@@ -183,7 +183,7 @@ fn fires_by<'a>(
     union_of(alloc, &firing, firing.sites.len())
 }
 
-/// The residues at which an edge of a signal can fire, which may be a clock, by the runs of the processes of kind delay.
+/// The residues at which an edge of a signal can fire, which may be a clock, by the runs behind delay controls.
 pub(crate) fn fires_of<'a>(
     alloc: Global,
     facts: &'a Facts<'a>,

@@ -14,8 +14,8 @@ mod roots;
 mod runs;
 mod slots;
 
-pub use controls::ControlLists;
-pub use laws::{firing_is_exact, runs_are_exact};
+pub use controls::{ControlLists, pause_ends};
+pub use laws::{delay_runs_are_exact, firing_is_exact, runs_are_exact};
 pub use listing::{Listing, table_of, union_of};
 pub use slots::Slots;
 pub use vs_claims;

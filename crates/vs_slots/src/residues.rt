@@ -1,10 +1,10 @@
 //! Lists of residues by numbers.
-ghost use Rattle.std.specs.Prelude.{ℕ, ◌≡◌, ◌↔◌, IfOk};
+ghost use Rattle.std.specs.Prelude.{ℕ, ◌≡◌, ◌↔◌, ◌⊎◌, OnOk};
 ghost use Rattle.std.specs.List.{Contains};
 ghost use Rattle.vs_design.specs.Tables.{rows};
 ghost use Rattle.vs_slots.specs.Lists.{row, IsOneOf};
 
-use std::alloc::{AllocError, Global};
+use std::alloc::AllocError;
 use vs_graph::Gathered;
 
 /// The list of a number; of one past the end, none.
@@ -14,18 +14,17 @@ pub(crate) fn row_of(table: &[Vec<u64>], i: usize) -> &[u64]
     if i < table.len() { &table[i] } else { &[] }
 }
 
-/// The residues of the lists of some numbers, each once. It takes as long as the lists together are, times the logarithm of how many residues
+/// Puts the residues of the lists of some numbers to others. It takes as long as the lists together are, times the logarithm of how many residues
 /// there are.
-pub(crate) fn residues_of(
-    alloc: Global,
+pub(crate) fn put_residues(
+    out: &mut Gathered,
     table: &[Vec<u64>],
     numbers: &[usize],
-) -> Result<Vec<u64>, AllocError>
-    ensures { IfOk result (λ all. (r : ℕ) → (Contains all.items r ↔ IsOneOf (rows table.now) numbers.now r)) }
+) -> Result<(), AllocError>
+    ensures { OnOk result ((r : ℕ) → (Contains out.new r ↔ (Contains out.old r ⊎ IsOneOf (rows table.now) numbers.now r))) }
 {
-    let mut all = Gathered::none(alloc);
     for i in numbers {
-        all.put(row_of(table, *i))?;
+        out.put(row_of(table, *i))?;
     }
-    Ok(all.list())
+    Ok(())
 }

@@ -2,9 +2,10 @@
 ghost use Rattle.std.specs.Prelude.{ℕ, ◌≡◌, ◌↔◌, ◌⊎◌, None, get_or, IfOk, OnOk};
 ghost use Rattle.std.specs.List.{Contains};
 ghost use Rattle.vs_design.specs.Tables.{rows};
-ghost use Rattle.vs_maps.specs.vs_rules.specs.Claims.{IsDelay, IsRoot};
+ghost use Rattle.vs_maps.specs.vs_rules.specs.Claims.{IsRoot};
 ghost use Rattle.vs_slots.specs.Kept.{AreAllRuns, AreClocks, AreFirings, AreTermsIn, IsFiring, IsFiringOf, IsTermIn, IsTurned, table_by};
 ghost use Rattle.vs_slots.specs.Lists.{row, IsOneOf};
+ghost use Rattle.vs_slots.specs.Runs.{DelayPauseEnds};
 
 use crate::clocks::clocks;
 use crate::firing::fires_of;
@@ -67,7 +68,7 @@ fn table_for<'a>(
     clocks: &'a [Option<Clock>],
     edge: Edge,
 ) -> Result<Vec<Vec<u64>>, AllocError>
-    requires runs { AreAllRuns IsDelay facts.now runs.now }
+    requires runs { AreAllRuns DelayPauseEnds facts.now runs.now }
     requires clocks { AreClocks facts.now clocks.now }
     ensures { IfOk result (λ table. IsFiring facts.entry.now edge (rows table.items)) }
 {
@@ -83,13 +84,13 @@ fn table_for<'a>(
 }
 
 impl Firing {
-    /// When edges of the roots can fire, by the runs of the processes of kind delay.
+    /// When edges of the roots can fire, by the runs behind delay controls.
     pub(crate) fn of<'a>(
         alloc: Global,
         facts: &'a Facts<'a>,
         runs: &'a [Runs],
     ) -> Result<Firing, AllocError>
-        requires { AreAllRuns IsDelay facts.now runs.now }
+        requires { AreAllRuns DelayPauseEnds facts.now runs.now }
         ensures { IfOk result (λ x. AreFirings facts.entry.now x) }
     {
         let clocks = clocks(alloc, &*facts)?;

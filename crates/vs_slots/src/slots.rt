@@ -4,7 +4,7 @@ ghost use Rattle.std.specs.List.{Contains};
 ghost use Rattle.vs_maps.specs.vs_rules.specs.Slots.{HasWriteSlot};
 ghost use Rattle.vs_slots.specs.Kept.{AreBothRuns, AreWriteSlots, IsKeptRun, IsSiteWrite, IsWriteBy, IsWriteIn};
 ghost use Rattle.vs_maps.specs.declared.sites.Site.{Site};
-ghost use Rattle.vs_slots.specs.Places.{RunsOf};
+ghost use Rattle.vs_slots.specs.Places.{DelayRunsOf, RunsOf};
 ghost use Rattle.vs_slots.specs.Terms.{TermsFire};
 
 use crate::delay_runs::delay_runs;
@@ -12,37 +12,33 @@ use crate::edge_runs::edge_runs;
 use crate::listing::{Listing, table_of, union_of};
 use crate::residues::row_of;
 use crate::roots::Firing;
-use crate::runs::{Runs, runs_at};
+use crate::runs::{Runs, put_runs, runs_at};
 use std::alloc::{AllocError, Global};
 use std::marker::Model;
 use vs_claims::Facts;
 use vs_design::EventTerm;
+use vs_graph::Gathered;
 use vs_maps::{Site, is_now};
 
-// The run slots of a place of a process of kind edge or delay; of another one there are none.
-fn run_slots<'a>(
+// The run slots of a place of a process, behind delay controls and behind event controls.
+fn run_slots(
     alloc: Global,
-    facts: &'a Facts<'a>,
     delays: &[Runs],
     edges: &[Runs],
     i: usize,
     place: usize,
 ) -> Result<Vec<u64>, AllocError>
-    ensures { IfOk result (λ all. (r : ℕ) → (Contains all.items r ↔ IsKeptRun facts.entry.now delays.now edges.now i place r)) }
+    ensures { IfOk result (λ all. (r : ℕ) → (Contains all.items r ↔ IsKeptRun delays.now edges.now i place r)) }
 {
-    if facts.is_edge(i) {
-        return runs_at(alloc, edges, i, place);
-    }
-    if facts.is_delay(i) {
-        return runs_at(alloc, delays, i, place);
-    }
-    Ok(Vec::new(alloc))
+    let mut all = Gathered::none(alloc);
+    put_runs(&mut all, delays, i, place)?;
+    put_runs(&mut all, edges, i, place)?;
+    Ok(all.list())
 }
 
 // The sites of a variable, of which some may be writes of its writer.
 #[derive(Drop)]
 struct PlaceWrites<'a> {
-    facts: &'a Facts<'a>,
     delays: &'a [Runs],
     edges: &'a [Runs],
     writer: usize,
@@ -52,8 +48,8 @@ struct PlaceWrites<'a> {
 impl<'a> PlaceWrites<'a> {
     // The residues at which the variable is written at a site.
     fn at(&self, alloc: Global, site: Site) -> Result<Vec<u64>, AllocError>
-        ensures { IfOk result (λ list. (r : ℕ) → (Contains list.items r ↔ IsSiteWrite self.now.facts.now self.now.delays.now
-            self.now.edges.now self.now.writer site r)) }
+        ensures { IfOk result (λ list. (r : ℕ) → (Contains list.items r ↔ IsSiteWrite self.now.delays.now self.now.edges.now
+            self.now.writer site r)) }
     {
         if site.process != self.writer {
             return Ok(Vec::new(alloc));
@@ -61,20 +57,13 @@ impl<'a> PlaceWrites<'a> {
         if !is_now(site.usage) {
             return Ok(Vec::new(alloc));
         }
-        run_slots(
-            alloc,
-            self.facts,
-            self.delays,
-            self.edges,
-            self.writer,
-            site.place,
-        )
+        run_slots(alloc, self.delays, self.edges, self.writer, site.place)
     }
 }
 
 impl<'a> Listing for PlaceWrites<'a> {
     ghost has = { λ f i r. (s : Site) × (slice_get f.sites.now i ≡ Some s)
-        × IsSiteWrite f.facts.now f.delays.now f.edges.now f.writer s r };
+        × IsSiteWrite f.delays.now f.edges.now f.writer s r };
 
     fn list(&self, alloc: Global, i: usize) -> Result<Vec<u64>, AllocError> {
         if i >= self.sites.len() {
@@ -109,7 +98,6 @@ impl<'a> Variables<'a> {
             Some(tables) => {
                 tables.leads_in();
                 let places = PlaceWrites {
-                    facts: self.facts,
                     delays: self.delays,
                     edges: self.edges,
                     writer,
@@ -179,8 +167,8 @@ impl<'a> Model for Slots<'a> {
 }
 
 impl<'a> Slots<'a> {
-    /// The slots of a design and a certificate. It takes as long as the texts of the processes, and for each place of one of kind edge or delay as
-    /// long as the lists of the controls before it.
+    /// The slots of a design and a certificate. It takes as long as the texts of the processes, and for each place of one that waits for edges or
+    /// for times as long as the lists of the controls before it.
     pub fn new(alloc: Global, facts: &'a Facts<'a>) -> Result<Slots<'a>, AllocError>
         ensures { IfOk result (λ x. x ≡ facts.entry.now) }
     {
@@ -209,7 +197,14 @@ impl<'a> Slots<'a> {
     pub fn run_slots(&self, alloc: Global, i: usize, place: usize) -> Result<Vec<u64>, AllocError>
         ensures { IfOk result (λ all. RunsOf self.now i place all.items) }
     {
-        run_slots(alloc, self.facts, &self.delays, &self.edges, i, place)
+        run_slots(alloc, &self.delays, &self.edges, i, place)
+    }
+
+    /// Those of them that the place has by delay controls.
+    pub fn delay_slots(&self, alloc: Global, i: usize, place: usize) -> Result<Vec<u64>, AllocError>
+        ensures { IfOk result (λ all. DelayRunsOf self.now i place all.items) }
+    {
+        runs_at(alloc, &self.delays, i, place)
     }
 
     /// The write slots of a variable, each once.

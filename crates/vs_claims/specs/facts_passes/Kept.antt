@@ -1,5 +1,5 @@
 -- What is kept of a design and a certificate.
-use Rattle.std.specs.Prelude.{ℕ, ◌≡◌, Option, Some, None, List, map, Vec}
+use Rattle.std.specs.Prelude.{ℕ, ◌≡◌, ◌⊎◌, Option, Some, None, List, map, Vec}
 use Rattle.std.specs.Borrow.{Bor}
 use Rattle.std.specs.declared.alloc.Global.{Global}
 use Rattle.vs_certificate.specs.declared.members.Certificate.{Certificate}
@@ -12,7 +12,7 @@ use Rattle.vs_design.specs.declared.signal.Signal.{Signal}
 use Rattle.vs_design.specs.Parts.{Parts}
 use Rattle.vs_design.specs.WellFormed.{WellFormed}
 use Rattle.vs_claims.specs.vs_rules.specs.Certificates.{claims_of, name_from, residues_from, signal_claim}
-use Rattle.vs_claims.specs.vs_rules.specs.Claims.{Name, SignalClaim, EdgeClaim, Kind, Start, block, delays}
+use Rattle.vs_claims.specs.vs_rules.specs.Claims.{Name, SignalClaim, EdgeClaim, Kind, Start, block, delays, mixed}
 use Rattle.vs_claims.specs.vs_rules.specs.Limits.{IsWideCertificate}
 use Rattle.vs_maps.specs.Reaches.{Chart}
 use Rattle.vs_maps.specs.Texts.{Texts, texts_of}
@@ -33,10 +33,17 @@ entry_seen (Some e) = Some (signal_claim e.now)
 abbrev pub IsBlockKind : Option Kind → Type 0
 IsBlockKind kind = (start : Start) × (kind ≡ Some (block start))
 
--- the lists of residues of a kind, where it is that of a process that waits for times alone
+-- a kind is that of a process that waits for times alone, or for times and for edges
+abbrev pub IsDelayKind : Option Kind → Type 0
+IsDelayKind kind = (lists : List (List ℕ)) × (kind ≡ Some (delays lists))
+
+abbrev pub IsMixedKind : Option Kind → Type 0
+IsMixedKind kind = (lists : List (List ℕ)) × (kind ≡ Some (mixed lists))
+
+-- the lists of residues of a kind, where it is that of a process that waits for times
 abbrev pub AreKindLists : Option Kind → Option (Bor (List (Vec ℕ Global))) → Type 0
-AreKindLists kind None = ((lists : List (List ℕ)) × (kind ≡ Some (delays lists))) → ⊥
-AreKindLists kind (Some lists) = kind ≡ Some (delays (map residues_from lists.now))
+AreKindLists kind None = (lists : List (List ℕ)) → (kind ≡ Some (delays lists)) ⊎ (kind ≡ Some (mixed lists)) → ⊥
+AreKindLists kind (Some lists) = (kind ≡ Some (delays (map residues_from lists.now))) ⊎ (kind ≡ Some (mixed (map residues_from lists.now)))
 
 -- these are the entries of a signal: none, that of a place at most, or any
 abbrev pub AreEntriesOf : Parts → List EdgeClaim → ℕ → EntriesOf → Type 0

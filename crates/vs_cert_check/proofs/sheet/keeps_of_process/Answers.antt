@@ -1,6 +1,6 @@
 use Rattle.std.proofs.Common.{◌↔◌, ℕ, IfOk, IsTrue, sym, subst}
 use Rattle.vs_rules_of_signals.specs.vs_claims.specs.Facts.{Case}
-use Rattle.vs_rules_of_starts.specs.vs_rules.specs.Rules.{K7, K9, K10_Process}
+use Rattle.vs_rules_of_starts.specs.vs_rules.specs.Rules.{K7, K8, K9, K10_Process}
 use Rattle.vs_rules_of_starts.specs.vs_rules.specs.Verdict.{Keeps}
 use Rattle.vs_rules_of_starts.specs.vs_rules.specs.Verdict as verdict
 use Rattle.vs_rules_of_processes.specs.vs_drivers.specs.Wires.{IsWiringOf}
@@ -52,7 +52,7 @@ returns-in-7 c =
     let d = f.facts.now.design in
     let n = f.facts.now.claims in
     subst (λ (k : ℕ). IfOk c.keeps_delays.result (λ b. (IsTrue b ↔ Keeps d n (rule_of k) (verdict.process c.args.i)))) (sym c.in-7.is)
-    c.keeps_delays.ensures
+    (subst (λ (x : Case). IfOk c.keeps_delays.result (λ b. (IsTrue b ↔ K8 x.design x.claims c.args.i))) f.slots_are c.keeps_delays.ensures)
 
 pub returns-in-8 : goal.returns-in-8
 returns-in-8 c =

@@ -1,8 +1,8 @@
-use Rattle.std.proofs.Common.{◌≡◌, true, false, rules}
+use Rattle.std.proofs.Common.{◌≡◌, true, false, codes, sym, ◌∙◌, rules}
 use Rattle.serde_json.specs.View.{view}
 use Rattle.vs_certificate.specs.Shape.{is_natural}
 use Rattle.vs_certificate.specs.Shape as Shape
-use Rattle.vs_certificate.proofs.Found.{third, combinational_parts, edge_parts, delay_parts}
+use Rattle.vs_certificate.proofs.Found.{third, combinational_parts, edge_parts, times_parts, mixed_word, get-is_word}
 use Rattle.vs_certificate.proofs.processes.kind_from_value.Goals as goal
 
 pub from_value_at-requires : goal.from_value_at-requires
@@ -26,11 +26,19 @@ pub from_value_at-requires-else-is_edge_process : goal.from_value_at-requires-el
 from_value_at-requires-else-is_edge_process c =
     let not_comb : Shape.is_combinational (view c.args.json.now) ≡ false = search rules in
     let not_edge : Shape.is_edge_process (view c.args.json.now) ≡ false = search rules in
-    (delay_parts is_natural (view c.args.json.now) (third _ _ _ c.requires not_comb not_edge)).slots
+    (times_parts is_natural (view c.args.json.now) (third _ _ _ c.requires not_comb not_edge)).slots
 
-pub returns-in_ok-slots : goal.returns-in_ok-slots
-returns-in_ok-slots c =
+pub returns-then-is_word_at : goal.returns-then-is_word_at
+returns-then-is_word_at c =
     let not_comb : Shape.is_combinational (view c.args.json.now) ≡ false = search rules in
     let not_edge : Shape.is_edge_process (view c.args.json.now) ≡ false = search rules in
-    let p = delay_parts is_natural (view c.args.json.now) (third _ _ _ c.requires not_comb not_edge) in
-    (p.kind, c.in_ok-slots.ensures, p.start)
+    let p = times_parts is_natural (view c.args.json.now) (third _ _ _ c.requires not_comb not_edge) in
+    (get-is_word (codes "kind") (codes "delay") (view c.args.json.now) (sym c.is_word_at.ensures ∙ c.if-is_word_at.true), c.in_ok-slots.ensures, p.start)
+
+pub returns-else-is_word_at : goal.returns-else-is_word_at
+returns-else-is_word_at c =
+    let not_comb : Shape.is_combinational (view c.args.json.now) ≡ false = search rules in
+    let not_edge : Shape.is_edge_process (view c.args.json.now) ≡ false = search rules in
+    let times = third _ _ _ c.requires not_comb not_edge in
+    let p = times_parts is_natural (view c.args.json.now) times in
+    (mixed_word is_natural (view c.args.json.now) times (sym c.is_word_at.ensures ∙ c.if-is_word_at.false), c.in_ok-slots.ensures, p.start)

@@ -1,17 +1,26 @@
-use Rattle.std.proofs.Common.{◌≡◌, Some, List, map, get_or, slice_get, ◌∙◌, ap, subst, arith}
+use Rattle.std.proofs.Common.{◌≡◌, ℕ, ◌<◌, ◌≤◌, Some, List, length, map, get_or, slice_get, ◌∙◌, ap, subst, arith}
 use Rattle.std.proofs.lemmas.Option.{same_Some, slice_get-get_or}
 use Rattle.std.proofs.lemmas.Result.{IfOk-weaker}
 use Rattle.vs_design.specs.declared.design.Process.{Process}
 use Rattle.vs_design.specs.Parts.{Parts}
 use Rattle.vs_design.specs.Tables.{rows}
 use Rattle.vs_maps.specs.vs_rules.specs.Certificates.{residues_from}
-use Rattle.vs_maps.specs.vs_rules.specs.Claims.{IsDelay}
 use Rattle.vs_maps.specs.vs_rules.specs.Controls.{controls_in, list_of}
-use Rattle.vs_claims.specs.vs_maps.specs.Reaches.{Chart}
+use Rattle.vs_claims.specs.vs_maps.specs.Reaches.{Chart, IsPlace, places}
 use Rattle.vs_slots.specs.Kept.{RunsWhere}
-use Rattle.vs_slots.specs.Runs.{AreListedRuns}
-use Rattle.vs_slots.proofs.KeptLemmas.{listed_are}
+use Rattle.vs_slots.specs.Runs.{AreRunsBy, DelayEndsBy, DelayPauseEnds}
+use Rattle.vs_slots.proofs.KeptLemmas.{listed_are, no_runs, past_times}
 use Rattle.vs_slots.proofs.delay_runs.runs_of_delays.Goals as goal
+
+pub returns-then-i-processes : goal.returns-then-i-processes
+returns-then-i-processes c =
+    let f = c.args.facts.now in
+    let past = subst (λ (l : List Process). length l ≤ c.args.i) (c.processes-processes.ensures ∙ ap (λ (d : Parts). d.processes) c.design.ensures) (omega (arith, c.if-i-processes.true)) in
+    no_runs DelayPauseEnds f c.args.i c.none.result c.none.ensures.before (λ pause r y. past_times f.design f.claims c.args.i y.0 past y.1)
+
+pub returns-in_default-lists : goal.returns-in_default-lists
+returns-in_default-lists c =
+    no_runs DelayPauseEnds c.args.facts.now c.args.i c.none-in_default-lists.result c.none-in_default-lists.ensures.before (λ pause r y. c.in_default-lists.ensures y.0 y.1)
 
 pub returns : goal.returns
 returns c =
@@ -23,9 +32,10 @@ returns c =
     subst (λ (l : List Process). slice_get l i ≡ Some q) (c.processes-processes.ensures ∙ ap (λ (d : Parts). d.processes) c.design.ensures)
     (slice_get-get_or c.processes-processes.result.now i c.index-processes-i.result (omega (arith, c.if-i-processes.false))) in
     IfOk-weaker c.listed_runs.result
-    (λ x. AreListedRuns c.in-Some.tables.now (list_of (controls_in q.body) lists) x.before (rows x.ends.items))
-    (λ x. RunsWhere IsDelay f i x)
-    (λ x h t kind chart. listed_are f i q t lists x.before (rows x.ends.items) is c.in-Some-lists.ensures
-    (subst (λ (s : Chart). AreListedRuns s (list_of (controls_in q.body) lists) x.before (rows x.ends.items))
-    (same_Some c.in-Some.tables.now t (c.in-Some.ensures ∙ chart)) h))
+    (λ x. AreRunsBy (DelayEndsBy (list_of (controls_in q.body) lists)) c.in-Some.tables.now x.before (rows x.ends.items))
+    (λ x. RunsWhere DelayPauseEnds f i x)
+    (λ x h t chart.
+    let same = same_Some c.in-Some.tables.now t (c.in-Some.ensures ∙ chart) in
+    listed_are f i q t lists x.before (rows x.ends.items) (subst (λ (s : Chart). (p : ℕ) → IsPlace s p → p < places s) same c.leads_in.ensures.points) is c.in-Some-lists.ensures
+    (subst (λ (s : Chart). AreRunsBy (DelayEndsBy (list_of (controls_in q.body) lists)) s x.before (rows x.ends.items)) same h))
     c.listed_runs.ensures

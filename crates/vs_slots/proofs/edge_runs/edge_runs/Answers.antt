@@ -1,9 +1,9 @@
 use Rattle.std.proofs.Common.{◌≡◌, ℕ, ◌+◌, Some, List, [], ◌∷◌, ◌++◌, length, slice_get, sym, ◌∙◌, ap, subst, arith}
 use Rattle.std.proofs.lemmas.List.{length-append}
 use Rattle.vs_design.specs.Parts.{Parts}
-use Rattle.vs_maps.specs.vs_rules.specs.Claims.{IsEdge}
 use Rattle.vs_slots.specs.declared.runs.Runs.{Runs}
 use Rattle.vs_slots.specs.Kept.{RunsWhere}
+use Rattle.vs_slots.specs.Runs.{EdgePauseEnds}
 use Rattle.vs_slots.proofs.KeptLemmas.{each_more}
 use Rattle.vs_slots.proofs.edge_runs.edge_runs.Goals as goal
 
@@ -13,9 +13,9 @@ loop-i-preserved c =
     let own = c.in_ok-own.own in
     let f = c.args.facts.now in
     let e : c.push.new.self.items ≡ old ++ own ∷ [] = c.in_ok-push.ensures.items in
-    let here : RunsWhere IsEdge f (length old) own = subst (λ (n : ℕ). RunsWhere IsEdge f n own) (sym c.loop-i.invariant.0) c.in_ok-own.ensures in (
+    let here : RunsWhere EdgePauseEnds f (length old) own = subst (λ (n : ℕ). RunsWhere EdgePauseEnds f n own) (sym c.loop-i.invariant.0) c.in_ok-own.ensures in (
       ap length e ∙ length-append old (own ∷ []) ∙ ap (λ (n : ℕ). n + 1) c.loop-i.invariant.0,
-      λ k x is. each_more (λ n y. RunsWhere IsEdge f n y) old own c.loop-i.invariant.1 here k x (subst (λ (l : List Runs). slice_get l k ≡ Some x) e is),
+      λ k x is. each_more (λ n y. RunsWhere EdgePauseEnds f n y) old own c.loop-i.invariant.1 here k x (subst (λ (l : List Runs). slice_get l k ≡ Some x) e is),
     )
 
 pub returns : goal.returns

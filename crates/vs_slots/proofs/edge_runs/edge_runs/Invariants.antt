@@ -1,9 +1,9 @@
 use Rattle.std.proofs.Common.{◌≡◌, ℕ, Some, length, slice_get}
-use Rattle.vs_maps.specs.vs_rules.specs.Claims.{IsEdge}
 use Rattle.vs_slots.specs.declared.runs.Runs.{Runs}
 use Rattle.vs_slots.specs.Kept.{RunsWhere}
+use Rattle.vs_slots.specs.Runs.{EdgePauseEnds}
 use Rattle.vs_slots.proofs.edge_runs.edge_runs.Given as goal
 
 abbrev pub invariant-loop-i : goal.invariant-loop-i
 invariant-loop-i l =
-    (length l.runs.items ≡ l.i) × ((k : ℕ) (x : Runs) → slice_get l.runs.items k ≡ Some x → RunsWhere IsEdge l.facts k x)
+    (length l.runs.items ≡ l.i) × ((k : ℕ) (x : Runs) → slice_get l.runs.items k ≡ Some x → RunsWhere EdgePauseEnds l.facts k x)

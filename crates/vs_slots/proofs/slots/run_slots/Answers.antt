@@ -1,28 +1,14 @@
-use Rattle.std.proofs.Common.{ℕ, ◌↔◌, inl, inr, refl}
 use Rattle.std.specs.List.{Contains}
-use Rattle.std.proofs.lemmas.Bool.{false≢true}
-use Rattle.std.proofs.lemmas.Result.{IfOk-weaker}
-use Rattle.vs_maps.specs.vs_rules.specs.Claims.{IsDelay, IsEdge}
 use Rattle.vs_slots.specs.Kept.{IsKeptRun, IsRunIn}
+use Rattle.vs_slots.proofs.Unions.{both_in, from_none, same_as}
 use Rattle.vs_slots.proofs.slots.run_slots.Goals as goal
 
-pub returns-then-is_edge : goal.returns-then-is_edge
-returns-then-is_edge c =
-    let f = c.args.facts.now in
-    let edge : IsEdge f.design f.claims c.args.i = c.if-is_edge.ensures.0 refl in
-    IfOk-weaker c.runs_at.result
-    (λ all. (r : ℕ) → (Contains all.items r ↔ IsRunIn c.args.edges.now c.args.i c.args.place r))
-    (λ all. (r : ℕ) → (Contains all.items r ↔ IsKeptRun f c.args.delays.now c.args.edges.now c.args.i c.args.place r))
-    (λ all h r. (λ x. inl (edge, (h r).0 x), λ y. elim y [ inl a ↦ (h r).1 a.1 | inr n ↦ absurd (n.0 edge) ]))
-    c.runs_at.ensures
-
-pub returns-then-is_delay : goal.returns-then-is_delay
-returns-then-is_delay c =
-    let f = c.args.facts.now in
-    let other : IsEdge f.design f.claims c.args.i → ⊥ = λ (e : IsEdge f.design f.claims c.args.i). false≢true (c.if-is_edge.ensures.1 e) in
-    let kind : IsDelay f.design f.claims c.args.i = c.if-is_delay.ensures.0 refl in
-    IfOk-weaker c.runs_at-then-is_delay.result
-    (λ all. (r : ℕ) → (Contains all.items r ↔ IsRunIn c.args.delays.now c.args.i c.args.place r))
-    (λ all. (r : ℕ) → (Contains all.items r ↔ IsKeptRun f c.args.delays.now c.args.edges.now c.args.i c.args.place r))
-    (λ all h r. (λ x. inr (other, kind, (h r).0 x), λ y. elim y [ inl a ↦ absurd (other a.0) | inr n ↦ (h r).1 n.2 ]))
-    c.runs_at-then-is_delay.ensures
+pub returns : goal.returns
+returns c r =
+    let i = c.args.i in
+    let p = c.args.place in
+    let one = Contains c.put_runs.new.out r in
+    let two = Contains c.put_runs-2.new.out r in
+    same_as two (Contains c.list.result.items r) (IsKeptRun c.args.delays.now c.args.edges.now i p r) (c.list.ensures.exact r)
+    (both_in (Contains c.none-all.result r) one two (IsRunIn c.args.delays.now i p r) (IsRunIn c.args.edges.now i p r) (from_none c.none-all.result r c.none-all.ensures)
+    (c.in_ok-put_runs.ensures r) (c.in_ok-put_runs-2.ensures r))

@@ -1,4 +1,5 @@
-use Rattle.std.proofs.Common.{ℕ, refl, subst}
+use Rattle.std.proofs.Common.{ℕ, refl, sym, subst}
+use Rattle.std.proofs.lemmas.Bool.{false≢true}
 use Rattle.vs_maps.specs.vs_rules.specs.Claims.{IsSequential}
 use Rattle.vs_drivers.specs.vs_maps.specs.Reaches.{InSlot0}
 use Rattle.vs_claims.specs.Facts.{Case}
@@ -6,6 +7,13 @@ use Rattle.vs_rules_of_processes.specs.FirstSlot.{ReadsOwn}
 use Rattle.vs_rules_of_processes.proofs.PlaceLemmas.{reads_past}
 use Rattle.vs_rules_of_processes.proofs.SlotLemmas.{all_places, some_reads}
 use Rattle.vs_rules_of_processes.proofs.first_slot.FirstSlot.keeps_reads.Goals as goal
+
+pub returns-then-not-is_sequential : goal.returns-then-not-is_sequential
+returns-then-not-is_sequential c =
+    let i = c.args.i in (
+      λ t kind. absurd (false≢true (c.if-not-is_sequential.ensures.1 (subst (λ (x : Case). IsSequential x.design x.claims i) (sym c.self.view_is) kind))),
+      λ h. refl,
+    )
 
 pub returns : goal.returns
 returns c =

@@ -18,4 +18,7 @@ pub returns : goal.returns
 returns c =
     let x = c.has_edge-own.ensures.0 c.if-not-own.false in
     let has = (c.in_ok-terms.ensures x.0).0 (subst (λ (l : List EventTerm). Contains l x.0) c.deref.ensures.value x.1) in
-    (λ t. ((x.0, has, x.2.0, x.2.1), c.in_ok-apart.ensures.0 t), λ y. c.in_ok-apart.ensures.1 y.1)
+    (λ t. ((x.0, has, x.2.0, x.2.1), c.in_ok-apart.ensures.0 c.if-not-apart.false, c.in_ok-undelayed.ensures.0 t), λ y. c.in_ok-undelayed.ensures.1 y.2)
+
+pub returns-then-not-apart : goal.returns-then-not-apart
+returns-then-not-apart c = (λ t. absurd (false≢true t), λ y. sym c.if-not-apart.true ∙ c.in_ok-apart.ensures.1 y.1)

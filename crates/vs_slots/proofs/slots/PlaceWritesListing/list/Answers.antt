@@ -7,5 +7,5 @@ use Rattle.vs_slots.proofs.slots.PlaceWritesListing.list.Goals as goal
 pub returns : goal.returns
 returns c =
     let s = c.args.self.now in
-    listed_at (λ (q : Site) (r : ℕ). IsSiteWrite s.facts.now s.delays.now s.edges.now s.writer q r) s.sites.now c.args.i _ c.at.result
+    listed_at (λ (q : Site) (r : ℕ). IsSiteWrite s.delays.now s.edges.now s.writer q r) s.sites.now c.args.i _ c.at.result
     (omega (arith, c.if-i-self.false)) c.at.ensures

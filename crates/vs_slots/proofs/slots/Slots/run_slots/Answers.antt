@@ -14,11 +14,11 @@ returns c =
     let waiting = c.self.inside.delays.items in
     let fired = c.self.inside.edges.items in
     IfOk-weaker c.run_slots.result
-    (λ all. (r : ℕ) → (Contains all.items r ↔ IsKeptRun f c.deref.result.now c.deref-2.result.now c.args.i c.args.place r))
+    (λ all. (r : ℕ) → (Contains all.items r ↔ IsKeptRun c.deref.result.now c.deref-2.result.now c.args.i c.args.place r))
     (λ all. RunsOf c.args.self.now c.args.i c.args.place all.items)
     (λ all h. subst (λ (g : Case). RunsOf g c.args.i c.args.place all.items) c.self.view_is (λ t r is within.
     let both = kept_run f waiting fired c.args.i t c.self.invariant.maps_are c.self.invariant.runs_are is c.args.place r within in
-    let kept = subst (λ (l : List Runs). (Contains all.items r ↔ IsKeptRun f waiting l c.args.i c.args.place r)) c.deref-2.ensures.value
-    (subst (λ (l : List Runs). (Contains all.items r ↔ IsKeptRun f l c.deref-2.result.now c.args.i c.args.place r)) c.deref.ensures.value (h r)) in
+    let kept = subst (λ (l : List Runs). (Contains all.items r ↔ IsKeptRun waiting l c.args.i c.args.place r)) c.deref-2.ensures.value
+    (subst (λ (l : List Runs). (Contains all.items r ↔ IsKeptRun l c.deref-2.result.now c.args.i c.args.place r)) c.deref.ensures.value (h r)) in
     (λ x. both.0 (kept.0 x), λ y. kept.1 (both.1 y))))
     c.run_slots.ensures
