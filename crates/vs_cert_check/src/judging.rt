@@ -14,9 +14,11 @@ ghost use Rattle.vs_claims.specs.vs_certificate.specs.Reading.{IsSound, IsSoundB
 ghost use Rattle.vs_rules_of_signals.specs.vs_graph.specs.Verdicts.{IsFirst, IsLeast};
 ghost use Rattle.vs_rules_of_starts.specs.vs_rules.specs.Blocks.{K5};
 ghost use Rattle.vs_rules_of_starts.specs.vs_rules.specs.Certificates.{claims_of};
+ghost use Rattle.vs_rules_of_starts.specs.vs_rules.specs.Claims.{is_wide};
 ghost use Rattle.vs_rules_of_starts.specs.vs_rules.specs.Limits.{IsWideCertificate};
 ghost use Rattle.vs_rules_of_starts.specs.vs_rules.specs.Verdict.{IsVerdict, numbers, subjects};
 ghost use Rattle.vs_rules_of_processes.specs.vs_drivers.specs.Wires.{wiring};
+ghost use Rattle.vs_rules_of_processes.specs.vs_drivers.specs.vs_slots_constants.specs.Inverted.{AreInverted};
 ghost use Rattle.vs_rules_of_signals.specs.vs_maps.specs.Reaches.{chart_of};
 
 use crate::laws::least_is_verdict;
@@ -271,17 +273,19 @@ fn by_entries<'x>(
     uses: &'x Uses<'x>,
     cones: &'x Cones<'x>,
     copies: &'x Copies<'x>,
+    inverted: &'x [bool],
     entries: &'x Entries<'x>,
     most: usize,
 ) -> Result<Told, AllocError>
     requires uses { uses.now ≡ texts_in facts.now }
     requires cones { cones.now ≡ wiring facts.now.design (marks_of facts.now.design facts.now.claims) }
     requires copies { copies.now ≡ facts.now.design }
+    requires inverted { AreInverted facts.now.design (is_wide facts.now.claims) inverted.now }
     requires entries { entries.now ≡ facts.now }
     ensures { IfOk result (λ t. AreTold facts.entry.now.design facts.entry.now.claims most t) }
 {
-    let first_writes = FirstWrites::of(alloc, entries)?;
-    let slots = Slots::new(alloc, facts)?;
+    let first_writes = FirstWrites::of(alloc, entries, inverted)?;
+    let slots = Slots::new(alloc, facts, inverted)?;
     let classes = WriteClasses::of(alloc, &slots, cones)?;
     let first_slot = FirstSlot::new(alloc, facts, uses, cones)?;
     by_tables(
@@ -318,8 +322,11 @@ fn by_facts<'x>(
     let cones = Cones::new(alloc, design, tables, marks)?;
     let uses = facts.uses();
     let copies = Copies::of(alloc, design)?;
+    let inverted = copies.inverted(alloc, facts.is_wide())?;
     let entries = Entries::of(alloc, facts, certificate)?;
-    by_entries(alloc, &*facts, uses, &cones, &copies, &entries, most)
+    by_entries(
+        alloc, &*facts, uses, &cones, &copies, &inverted, &entries, most,
+    )
 }
 
 // The verdict, by the tables of the processes.

@@ -29,7 +29,7 @@ use Rattle.vs_drivers.specs.vs_maps.specs.declared.sites.Site.{Site}
 use Rattle.vs_drivers.specs.vs_maps.specs.declared.sites.Use.TheVariants.{Now, Later}
 use Rattle.vs_drivers.specs.vs_maps.proofs.SiteLemmas.{AreSitesOf, written_so}
 use Rattle.vs_drivers.specs.vs_maps.proofs.WalkLemmas.{start_walked}
-use Rattle.vs_cert_roots.specs.First.{SiteAt, HasSite, IsFirst, IsSilent, NamesRoot, WakesSignal, WakesEntry, StartsSilently, StartsWellIn, StartsWell}
+use Rattle.vs_cert_roots.specs.First.{SiteAt, HasSite, IsFirst, IsSilent, NamesRoot, WakesBehind, WakesEntry, StartsSilently, StartsWellIn, StartsWell}
 use Rattle.std.proofs.lemmas.Bool.{eqb-true, eqb-false, ne_eqb}
 use Rattle.vs_design.specs.vs_logic4.proofs.Basics.{same_self}
 use Rattle.vs_rules.specs.Rules.{K10_Signal}
@@ -69,22 +69,22 @@ not_false : (b : Bool) → (b ≡ true → ⊥) → b ≡ false
 not_false true h = absurd (h refl)
 not_false false h = refl
 
--- a root is silent exactly where no entry of it has a signal that is woken
+-- a root is silent exactly where it wakes the signal of no entry of it
 pub silent_is : (d : Parts) (c : Claims) (root : ℕ) (digit : Digit) (row : List ℕ) → ((p : ℕ) → (Contains row p ↔ NamesRoot d c.edges p root)) →
     (((p : ℕ) → Contains row p → WakesEntry d c p root digit → ⊥) ↔ IsSilent d c root digit)
 silent_is d c root digit row are = (into, back) where
   into : ((p : ℕ) → Contains row p → WakesEntry d c p root digit → ⊥) → IsSilent d c root digit
-  into none j t has heard edge of =
+  into none j t edge has heard level of seen =
       let v = t.range.signal in
       let at : IsRootAt d c.edges of.place root v = record { entry = of.entry; is = of.is; signal = of.signal; root_is = of.root_is } in
-      not_false (is_edge t.edge X digit)
-      (λ e. none of.place ((are of.place).1 (v, at)) (v, at, record { process = j; term = t; has = has; heard = heard; edge = edge; of = refl; wakes = e }))
+      not_false (is_edge edge X digit)
+      (λ e. none of.place ((are of.place).1 (v, at)) (v, at, record { process = j; term = t; has = has; heard = heard; edge = level; of = refl; wakes = (edge, seen, e) }))
 
   back : IsSilent d c root digit → (p : ℕ) → Contains row p → WakesEntry d c p root digit → ⊥
   back silent p m w =
       let y = w.2 in
       let here : IsRootOf d c root w.0 = record { place = p; entry = w.1.entry; is = w.1.is; signal = w.1.signal; root_is = w.1.root_is } in
-      let e : false ≡ true = sym (silent y.process y.term y.has y.heard y.edge (subst (IsRootOf d c root) (sym y.of) here)) ∙ y.wakes in
+      let e : false ≡ true = sym (silent y.process y.term y.wakes.0 y.has y.heard y.edge (subst (IsRootOf d c root) (sym y.of) here) y.wakes.1) ∙ y.wakes.2 in
       cc
 
 -- an entry of a place whose root and signal are told
@@ -97,9 +97,9 @@ pub other_root_calm : (d : Parts) (c : Claims) (place root of v : ℕ) (digit : 
 other_root_calm d c place root of v digit f other w = other (ap (λ (x : ℕ × ℕ). x.0) (same_Some (of, v) (root, w.0) ((f root w.0).0 w.1)))
 
 pub entry_calm : (d : Parts) (c : Claims) (place root of v : ℕ) (digit : Digit) → ((r u : ℕ) → (IsRootAt d c.edges place r u ↔ ◌≡◌ {A = Option (ℕ × ℕ)} (Some (of, v)) (Some (r, u)))) →
-    of ≡ root → ((WakesSignal d c v digit → ⊥) ↔ (WakesEntry d c place root digit → ⊥))
+    of ≡ root → ((WakesBehind d c v digit → ⊥) ↔ (WakesEntry d c place root digit → ⊥))
 entry_calm d c place root of v digit f same = (
-  λ none w. none (subst (λ (u : ℕ). WakesSignal d c u digit) (sym (ap (λ (x : ℕ × ℕ). x.1) (same_Some (of, v) (root, w.0) ((f root w.0).0 w.1)))) w.2),
+  λ none w. none (subst (λ (u : ℕ). WakesBehind d c u digit) (sym (ap (λ (x : ℕ × ℕ). x.1) (same_Some (of, v) (root, w.0) ((f root w.0).0 w.1)))) w.2),
   λ none w. none (v, (f root v).1 (ap (λ (x : ℕ). Some (x, v)) same), w),
 )
 

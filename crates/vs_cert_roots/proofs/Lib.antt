@@ -3,4 +3,5 @@ pub mod TermLemmas
 pub mod HotLemmas
 pub mod ListLemmas
 pub mod FirstLemmas
+pub mod SeenLemmas
 pub mod FirstRows

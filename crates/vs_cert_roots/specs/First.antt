@@ -1,16 +1,20 @@
 -- What a root is given in the first slot, by the places of maps.
-use Rattle.std.specs.Prelude.{ℕ, ◌≡◌, ◌↔◌, true, false, Some, List, length, slice_get}
+use Rattle.std.specs.Prelude.{ℕ, ◌≡◌, ◌↔◌, Bool, true, false, Some, List, length, get_or, slice_get, if◌then◌else◌}
 use Rattle.vs_design.specs.vs_logic4.specs.declared.digit.Digit.{Digit}
 use Rattle.vs_design.specs.vs_logic4.specs.declared.digit.Digit.TheVariants.{X}
+use Rattle.vs_design.specs.vs_logic4.specs.declared.edge.Edge.{Edge}
 use Rattle.vs_design.specs.vs_logic4.specs.Edges.{is_edge}
+use Rattle.vs_design.specs.vs_logic4.specs.Tables.{not_digit}
 use Rattle.vs_design.specs.declared.statement.EventTerm.{EventTerm}
 use Rattle.vs_design.specs.Parts.{Parts}
 use Rattle.vs_process.specs.Executions.{is_level}
-use Rattle.vs_rules.specs.Claims.{Claims, EdgeClaim, IsRoot, IsRootOf, IsWide}
+use Rattle.vs_rules.specs.Claims.{Claims, EdgeClaim, IsRoot, IsRootOf, IsWide, is_wide}
 use Rattle.vs_rules.specs.Constants.{bit_of, IsKnown}
+use Rattle.vs_rules.specs.Copies.{SeenAs}
 use Rattle.vs_rules.specs.Paths.{HasTerm, IsHeardAtStart}
 use Rattle.vs_rules.specs.Rules.{K10_Signal}
 use Rattle.vs_drivers.specs.vs_slots_constants.specs.Givings.{given_here}
+use Rattle.vs_drivers.specs.vs_slots_constants.specs.Inverted.{AreInverted}
 use Rattle.vs_drivers.specs.Copies.{IsOnly}
 use Rattle.vs_rules_of_signals.specs.vs_graph.specs.Rows.{AreRows}
 use Rattle.vs_drivers.specs.vs_maps.specs.Ranges.{HasSignal, later_at, statement_at}
@@ -29,11 +33,11 @@ SiteAt t v p = InSlot0 t p × WritesAt t p v
 abbrev pub HasSite : List Chart → ℕ → ℕ → Type 0
 HasSite charts i v = (t : Chart) × (slice_get charts i ≡ Some t) × ((p : ℕ) × SiteAt t v p)
 
--- no edge term of a root is woken by a change from x to the digit, in version 3 none of an event control of the first slot
+-- no edge term of a root is woken by a change of the root from x to the digit, in version 3 none of an event control of the first slot
 abbrev pub IsSilent : Parts → Claims → ℕ → Digit → Type 0
 IsSilent d c root digit =
-    (j : ℕ) (t : EventTerm) → HasTerm d j t → (IsWide c → IsHeardAtStart d j t) → is_level t ≡ false → IsRootOf d c root t.range.signal →
-    is_edge t.edge X digit ≡ false
+    (j : ℕ) (t : EventTerm) (edge : Edge) → HasTerm d j t → (IsWide c → IsHeardAtStart d j t) → is_level t ≡ false →
+    IsRootOf d c root t.range.signal → SeenAs d (is_wide c) t edge → is_edge edge X digit ≡ false
 
 -- a place doesn't write a root by `<=`, and gives it a constant 0 or 1 that wakes no edge term of it
 abbrev pub StartsSilently : Parts → Claims → Chart → ℕ → ℕ → Type 0
@@ -69,24 +73,37 @@ abbrev pub AreRootRows : Case → List (List ℕ) → Type 0
 AreRootRows k table = AreRows (NamesRoot k.design k.claims.edges) (length k.claims.edges) (length k.design.signals) table
 
 -- what is kept
-pub record KeepsFirst (k : Case) (claimed : List (List ℕ)) : Type 0 where
+pub record KeepsFirst (k : Case) (inverted : List Bool) (claimed : List (List ℕ)) : Type 0 where
   pub maps : AreCharts k.design k.charts
+  pub inverted_are : AreInverted k.design (is_wide k.claims) inverted
   pub roots_long : length claimed ≡ length k.design.signals
   pub roots_are : AreRootRows k claimed
 
--- an edge term of a signal is woken by a change from x to the digit; in version 3 one of an event control of the first slot
-pub record WakesSignal (d : Parts) (c : Claims) (v : ℕ) (digit : Digit) : Type 0 where
+-- the digit that a signal shows where its root has one, by which signals show a variable inverted
+abbrev pub shown_by : List Bool → ℕ → Digit → Digit
+shown_by inverted v digit = if get_or inverted v false then not_digit digit else digit
+
+-- a signal has an edge term that is so woken; in version 3 one of an event control of the first slot
+pub record HasWoken (d : Parts) (c : Claims) (v : ℕ) (is_woken : EventTerm → Type 0) : Type 0 where
   pub process : ℕ
   pub term : EventTerm
   pub has : HasTerm d process term
   pub heard : IsWide c → IsHeardAtStart d process term
   pub edge : is_level term ≡ false
   pub of : term.range.signal ≡ v
-  pub wakes : is_edge term.edge X digit ≡ true
+  pub wakes : is_woken term
 
--- the entry of a place has the root, and an edge term of its signal is so woken
+-- one that a change of the signal from x to the digit wakes
+abbrev pub WakesSignal : Parts → Claims → ℕ → Digit → Type 0
+WakesSignal d c v digit = HasWoken d c v (λ t. is_edge t.edge X digit ≡ true)
+
+-- one that a change of the signal's root from x to the digit wakes
+abbrev pub WakesBehind : Parts → Claims → ℕ → Digit → Type 0
+WakesBehind d c v digit = HasWoken d c v (λ t. (edge : Edge) × SeenAs d (is_wide c) t edge × (is_edge edge X digit ≡ true))
+
+-- the entry of a place has the root, and an edge term of its signal is woken by a change of the root from x to the digit
 abbrev pub WakesEntry : Parts → Claims → ℕ → ℕ → Digit → Type 0
-WakesEntry d c place root digit = (v : ℕ) × IsRootAt d c.edges place root v × WakesSignal d c v digit
+WakesEntry d c place root digit = (v : ℕ) × IsRootAt d c.edges place root v × WakesBehind d c v digit
 
 -- the rule on what a root is given in the first slot is one of the places of maps
 pub record FirstByPlaces : Type 0 where

@@ -6,9 +6,10 @@ use Rattle.vs_design.specs.declared.design.Process.{Process}
 use Rattle.vs_design.specs.Parts.{Parts}
 use Rattle.vs_process.specs.Places.{Todo}
 use Rattle.vs_process.specs.Stops.{Stop, IsText}
-use Rattle.vs_rules.specs.Claims.{Claims, IsDelay, IsWriter}
+use Rattle.vs_rules.specs.Claims.{Claims, IsDelay, IsWriter, is_wide}
 use Rattle.vs_rules.specs.Paths.{IsPoint, IsHot, WritesAny}
-use Rattle.vs_rules.specs.Rules.{HasWriter, CopiesRoot, IsSoundRoot}
+use Rattle.vs_rules.specs.Rules.{HasWriter, IsSoundRoot}
+use Rattle.vs_rules.specs.Copies.{CopiesRoot}
 use Rattle.vs_rules_of_signals.specs.Places.{NeverHotIn}
 
 -- a process has no such point
@@ -24,9 +25,9 @@ pub record IsSoundlyWritten (d : Parts) (c : Claims) (root : ℕ) : Type 0 where
   pub writer : HasWriter d c root (IsDelay d c)
   pub once : (i : ℕ) → IsWriter d c root i → NeverHot d i root
 
--- a signal copies a root, and the root is sound
+-- a signal copies a root (in version 3 the root's inverse too), and the root is sound
 abbrev pub IsRight : Parts → Claims → ℕ → ℕ → Type 0
-IsRight d c v root = CopiesRoot d root v × IsSoundRoot d c root
+IsRight d c v root = CopiesRoot d (is_wide c) root v × IsSoundRoot d c root
 
 abbrev pub is_blocking_mode : Option SignalMode → Bool
 is_blocking_mode (Some modes.Blocking) = true

@@ -1,15 +1,16 @@
 //! The rule K10 of signals, on what a root is given in the first slot.
-ghost use Rattle.std.specs.Prelude.{ℕ, ◌≡◌, ◌<◌, ◌↔◌, ◌⊎◌, Some, length, slice_get, IfOk, IsTrue};
+ghost use Rattle.std.specs.Prelude.{ℕ, ◌≡◌, ◌<◌, ◌↔◌, ◌⊎◌, false, Some, length, get_or, slice_get, IfOk, IsTrue};
 ghost use Rattle.std.specs.List.{Contains};
-ghost use Rattle.vs_rules.specs.Claims.{IsRoot};
+ghost use Rattle.vs_rules.specs.Claims.{IsRoot, is_wide};
 ghost use Rattle.vs_rules.specs.Rules.{K10_Signal};
 ghost use Rattle.vs_rules.specs.Constants.{bit_of};
 ghost use Rattle.vs_drivers.specs.vs_slots_constants.specs.Clocks.{known};
 ghost use Rattle.vs_drivers.specs.vs_slots_constants.specs.Givings.{given_here};
+ghost use Rattle.vs_drivers.specs.vs_slots_constants.specs.Inverted.{AreInverted};
 ghost use Rattle.vs_drivers.specs.vs_maps.specs.Ranges.{statement_at};
 ghost use Rattle.vs_drivers.specs.vs_maps.specs.Reaches.{Chart};
 ghost use Rattle.vs_drivers.specs.vs_maps.specs.declared.sites.Site.{Site};
-ghost use Rattle.vs_cert_roots.specs.First.{IsFirst, SiteAt, HasSite, IsSilent, StartsSilently, StartsWellIn, StartsWell, NamesRoot, WakesEntry};
+ghost use Rattle.vs_cert_roots.specs.First.{IsFirst, SiteAt, HasSite, IsSilent, StartsSilently, StartsWellIn, StartsWell, NamesRoot, WakesEntry, shown_by};
 
 use crate::early::is_at_start;
 use crate::entries::Entries;
@@ -93,11 +94,12 @@ impl<'a> Family for Claimed<'a> {
     }
 }
 
-/// The entries of a certificate, and those of each root. A contract sees the design, what the certificate claims of it, and the maps of the texts of
-/// the processes.
+/// The entries of a certificate, those of each root, and which signals show a variable inverted. A contract sees the design, what the certificate
+/// claims of it, and the maps of the texts of the processes.
 #[derive(Drop)]
 pub struct FirstWrites<'a> {
     entries: &'a Entries<'a>,
+    inverted: &'a [bool],
     claimed: Rows<usize>,
 }
 
@@ -114,7 +116,25 @@ impl<'a> Model for FirstWrites<'a> {
 
     ghost view = { λ w. w.entries.now };
 
-    ghost invariant = { λ w. KeepsFirst w.entries.now w.claimed };
+    ghost invariant = { λ w. KeepsFirst w.entries.now w.inverted.now w.claimed };
+}
+
+// Whether a signal is marked; one past the end isn't.
+fn is_marked(marks: &[bool], v: usize) -> bool
+    ensures { result ≡ get_or marks.now v false }
+{
+    v < marks.len() && marks[v]
+}
+
+// The digit that a signal shows where its root has one, by which signals show a variable inverted.
+fn shown(inverted: &[bool], v: usize, digit: Digit) -> Digit
+    ensures { result ≡ shown_by inverted.now v digit }
+{
+    if is_marked(inverted, v) {
+        digit.not()
+    } else {
+        digit
+    }
 }
 
 // The digit that is known.
@@ -150,15 +170,24 @@ fn digit_at<'a>(
 }
 
 impl<'a> FirstWrites<'a> {
-    /// What the entries of a certificate say of the first slot. It takes as long as there are entries.
-    pub fn of(alloc: Global, entries: &'a Entries<'a>) -> Result<FirstWrites<'a>, AllocError>
+    /// What the entries of a certificate say of the first slot, by which signals show a variable inverted. It takes as long as there are entries.
+    pub fn of(
+        alloc: Global,
+        entries: &'a Entries<'a>,
+        inverted: &'a [bool],
+    ) -> Result<FirstWrites<'a>, AllocError>
+        requires { AreInverted entries.now.design (is_wide entries.now.claims) inverted.now }
         ensures { IfOk result (λ w. w ≡ entries.entry.now) }
     {
         let facts = entries.facts();
         facts.maps();
         let count = facts.design().signals().len();
         let claimed = index_of(alloc, &Claimed { facts }, facts.edges(), count)?;
-        Ok(FirstWrites { entries, claimed })
+        Ok(FirstWrites {
+            entries,
+            inverted,
+            claimed,
+        })
     }
 
     // The places of the entries with a root.
@@ -175,7 +204,7 @@ impl<'a> FirstWrites<'a> {
         !self.claims_of(v).is_empty()
     }
 
-    // Whether the entry of a place is not of a root, or a change from x to a digit wakes no edge term of its signal.
+    // Whether the entry of a place is not of a root, or a change of the root from x to a digit wakes no edge term of its signal.
     fn is_calm(&self, place: usize, root: usize, digit: Digit) -> bool
         ensures { IsTrue result ↔ (WakesEntry self.now.design self.now.claims place root digit → ⊥) }
     {
@@ -185,7 +214,7 @@ impl<'a> FirstWrites<'a> {
                 if of != root {
                     return true;
                 }
-                self.entries.is_calm(v, digit)
+                self.entries.is_calm(v, shown(self.inverted, v, digit))
             }
         }
     }
@@ -203,8 +232,8 @@ impl<'a> FirstWrites<'a> {
         true
     }
 
-    /// Whether no edge term of a root is woken by a change from x to a digit, in version 3 none of an event control of the first slot. It takes as
-    /// long as the signals that copy the root have edge terms.
+    /// Whether no edge term of a root is woken by a change of the root from x to a digit, in version 3 none of an event control of the first slot. It
+    /// takes as long as the signals that copy the root have edge terms.
     pub fn is_silent(&self, root: usize, digit: Digit) -> bool
         ensures { IsTrue result ↔ IsSilent self.now.design self.now.claims root digit }
     {

@@ -2,7 +2,8 @@
 ghost use Rattle.std.specs.Prelude.{ℕ, ◌≡◌, ◌<◌, ◌↔◌, true, false, Some, length, slice_get, slice_index_or, IfOk, IsTrue};
 ghost use Rattle.std.specs.List.{Contains};
 ghost use Rattle.vs_rules.specs.Claims.{blocking, HasKind, HasMode, IsDelay, IsRootOf, IsWriter};
-ghost use Rattle.vs_rules.specs.Rules.{CopiesRoot, IsSoundRoot, K6};
+ghost use Rattle.vs_rules.specs.Rules.{IsSoundRoot, K6};
+ghost use Rattle.vs_rules.specs.Copies.{CopiesRoot};
 ghost use Rattle.vs_drivers.specs.vs_maps.specs.Reaches.{places, IsPlace};
 ghost use Rattle.vs_drivers.specs.vs_maps.specs.Walks.{InHot};
 ghost use Rattle.vs_rules_of_signals.specs.Places.{WritesAt, NeverHotIn};
@@ -172,7 +173,7 @@ fn is_sound_root<'a>(
     is_soundly_written(alloc, facts, writes, root)
 }
 
-// Whether a signal copies a root, and the root is sound.
+// Whether a signal copies a root (in version 3 the root's inverse too), and the root is sound.
 fn is_right<'a>(
     alloc: Global,
     facts: &'a Facts<'a>,
@@ -185,14 +186,14 @@ fn is_right<'a>(
     requires copies { copies.now ≡ facts.now.design }
     ensures { IfOk result (λ b. (IsTrue b ↔ IsRight facts.entry.now.design facts.entry.now.claims v root)) }
 {
-    if copies.copies_root(alloc, root, v)? {
+    if copies.copies_root(alloc, facts.is_wide(), root, v)? {
         is_sound_root(alloc, facts, writes, root)
     } else {
         Ok(false)
     }
 }
 
-// Whether a signal copies each of some roots, and these are sound.
+// Whether this is so of each of some roots.
 fn are_right<'a>(
     alloc: Global,
     facts: &'a Facts<'a>,
@@ -213,9 +214,9 @@ fn are_right<'a>(
     Ok(true)
 }
 
-/// Whether a signal keeps the rule K6: it has one entry where an edge term names it, else none; and it copies the root of its entry, a variable of
-/// mode blocking, with a writer of kind delay, and not hot where that writes it. It takes for the root as long as there are signals, and as there
-/// are places at which the writer writes it; as the writer's text, where their ranks don't tell.
+/// Whether a signal keeps the rule K6: it has one entry where an edge term names it, else none; and it copies the root of its entry (in version 3 the
+/// root's inverse too), a variable of mode blocking, with a writer of kind delay, and not hot where that writes it. It takes for the root as long as
+/// there are signals, and as there are places at which the writer writes it; as the writer's text, where their ranks don't tell.
 pub fn keeps_root<'a>(
     alloc: Global,
     entries: &Entries<'a>,

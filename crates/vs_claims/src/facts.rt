@@ -5,7 +5,7 @@ ghost use Rattle.vs_design.specs.WellFormed.{WellFormed};
 ghost use Rattle.vs_claims.specs.vs_rules.specs.Certificates.{claims_of, mode_from, grain_from, name_unless_empty};
 ghost use Rattle.vs_claims.specs.vs_rules.specs.Claims.{claim_of, mode_in, writer_in, second_in, kind_of, names_process, assign_name, process_name};
 ghost use Rattle.vs_claims.specs.vs_rules.specs.Claims.{place_of, times_in, signal_names, process_names, edge_signals, edge_names};
-ghost use Rattle.vs_claims.specs.vs_rules.specs.Claims.{IsSignalNamed, IsProcessNamed, IsAssignNamed, IsWriter, IsSecond, IsBlock, IsEdge, IsDelay, IsMixed, WaitsForEdges, IsSequential, IsRootOf, IsRoot};
+ghost use Rattle.vs_claims.specs.vs_rules.specs.Claims.{IsSignalNamed, IsProcessNamed, IsAssignNamed, IsWriter, IsSecond, IsBlock, IsEdge, IsDelay, IsMixed, WaitsForEdges, IsSequential, IsRootOf, IsRoot, is_wide};
 ghost use Rattle.vs_claims.specs.vs_rules.specs.Limits.{IsWideCertificate};
 ghost use Rattle.vs_claims.specs.declared.facts.EntriesOf.TheVariants.{One};
 ghost use Rattle.vs_claims.specs.Facts.{AreCharts, AreListsOf, IsRootAt, case_of, seen, kind_seen};
@@ -524,6 +524,13 @@ impl<'a> Facts<'a> {
         ensures { result ≡ self.now.claims.version }
     {
         self.certificate.version.number()
+    }
+
+    /// Whether it is of version 3.
+    pub fn is_wide(&self) -> bool
+        ensures { result ≡ is_wide self.now.claims }
+    {
+        self.version() == 3
     }
 
     /// What residues are counted by, in ticks.

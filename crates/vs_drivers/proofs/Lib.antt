@@ -3,6 +3,7 @@ pub mod Listed
 pub mod Bits
 pub mod ListLemmas
 pub mod CopyLemmas
+pub mod InverseLemmas
 pub mod ConeLemmas
 mod DriverLemmas
 pub mod ListBasics

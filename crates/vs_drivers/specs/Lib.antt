@@ -2,6 +2,7 @@ pub mod Places
 pub mod Ranges
 pub use Rattle.vs_rules
 pub mod Copies
+pub mod Inverses
 pub use Rattle.vs_slots_constants
 pub use Rattle.vs_maps
 pub mod Meets

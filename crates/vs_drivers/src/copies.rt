@@ -1,20 +1,23 @@
-//! Which net copies which signal.
-ghost use Rattle.std.specs.Prelude.{ℕ, ◌≡◌, ◌<◌, ◌↔◌, ◌∷◌, [], false, Some, length, slice_index_or, IfOk, IsTrue};
+//! Which net copies which signal, or its inverse.
+ghost use Rattle.std.specs.Prelude.{ℕ, ◌≡◌, ◌<◌, ◌↔◌, ◌∷◌, [], true, false, Some, length, slice_index_or, ◌++◌, IfOk, OnOk, IsTrue};
 ghost use Rattle.vs_maps.specs.vs_graph.specs.Reached.{Reached};
+ghost use Rattle.vs_maps.specs.vs_graph.specs.Rows.{AreRows};
 ghost use Rattle.std.specs.List.{Contains};
 ghost use Rattle.vs_design.specs.declared.signal.Signal.{Signal};
+ghost use Rattle.vs_slots_constants.specs.Inverted.{AreInverted};
 ghost use Rattle.vs_slots_constants.specs.vs_rules.specs.Claims.{HasKind};
-ghost use Rattle.vs_slots_constants.specs.vs_rules.specs.Rules.{IsCopy, CopiesRoot};
+ghost use Rattle.vs_slots_constants.specs.vs_rules.specs.Copies.{IsCopy, IsInverseCopy, CopiesRoot};
 ghost use Rattle.vs_slots_constants.specs.vs_rules.specs.Blocks.{CopiesWhole};
-ghost use Rattle.vs_drivers.specs.Copies.{NamesTarget, AreDrivers, AreSources, IsCopied, HaveSameWidth, ends_of, source_in};
+ghost use Rattle.vs_drivers.specs.Copies.{NamesTarget, AreDrivers, AreSources, IsOf, IsCopyOf, IsCopied, HaveSameWidth, Leads, counted, ends_of, links_of, source_in};
 
+use crate::inverses::inverted_of;
 use crate::lists::only;
 use std::alloc::{AllocError, Global};
 use std::marker::Model;
-use vs_design::{Design, SignalKind, writes};
+use vs_design::{Design, SignalKind, Typed, writes};
 use vs_maps::push_signals;
-use vs_maps::vs_graph::{Family, Graph, index_of, reach};
-use vs_slots_constants::{is_plain, whole, whole_target};
+use vs_maps::vs_graph::{Family, Graph, Rows, index_of, reach};
+use vs_slots_constants::{inverts, is_plain, whole, whole_target};
 
 // The signals that continuous assignments name on their left sides.
 #[derive(Drop)]
@@ -36,7 +39,7 @@ impl<'a> Family for Targets<'a> {
 }
 
 // Whether a signal is a net.
-fn is_net(design: &Design, v: usize) -> bool
+pub(crate) fn is_net(design: &Design, v: usize) -> bool
     ensures { IsTrue result ↔ HasKind false design.now v }
 {
     match design.signals().get(v) {
@@ -62,17 +65,28 @@ fn have_same_width(design: &Design, v: usize, u: usize) -> bool
     signals[v].width == signals[u].width
 }
 
-// The signal that a continuous assignment copies into the whole of a net.
-fn copied(design: &Design, j: usize, v: usize) -> Option<usize>
+// The signal that an expression is the whole of, or of which it is the inverse.
+fn signal_of(design: &Design, inverse: bool, e: &Typed) -> Option<usize>
+    ensures { (u : ℕ) → (IsOf design.now inverse u e.now ↔ result ≡ Some u) }
+{
+    if inverse {
+        inverts(design, e)
+    } else {
+        whole(design, e)
+    }
+}
+
+// The signal that a continuous assignment copies into the whole of a net, or whose inverse it does.
+fn copied(design: &Design, inverse: bool, j: usize, v: usize) -> Option<usize>
     requires { j < length design.now.assigns }
-    ensures { (u : ℕ) → (IsCopied design.now j v u ↔ result ≡ Some u) }
+    ensures { (u : ℕ) → (IsCopied design.now inverse j v u ↔ result ≡ Some u) }
 {
     let assign = &design.assigns()[j];
     match whole_target(design, &assign.target) {
         None => None,
         Some(of) => {
             if of == v {
-                whole(design, &assign.source)
+                signal_of(design, inverse, &assign.source)
             } else {
                 None
             }
@@ -80,10 +94,10 @@ fn copied(design: &Design, j: usize, v: usize) -> Option<usize>
     }
 }
 
-// The signal that a net copies, by the continuous assignments that name it.
-fn source_of(design: &Design, drivers: &[usize], v: usize) -> Option<usize>
+// The signal that a net copies, or whose inverse it does, by the continuous assignments that name it.
+fn source_of(design: &Design, inverse: bool, drivers: &[usize], v: usize) -> Option<usize>
     requires { AreDrivers design.now v drivers.now }
-    ensures { (u : ℕ) → (IsCopy design.now v u ↔ result ≡ Some u) }
+    ensures { (u : ℕ) → (IsCopyOf design.now inverse v u ↔ result ≡ Some u) }
 {
     if !is_net(design, v) {
         return None;
@@ -91,7 +105,7 @@ fn source_of(design: &Design, drivers: &[usize], v: usize) -> Option<usize>
     let Some(j) = only(drivers) else {
         return None;
     };
-    let Some(u) = copied(design, j, v) else {
+    let Some(u) = copied(design, inverse, j, v) else {
         return None;
     };
     if have_same_width(design, v, u) {
@@ -101,14 +115,16 @@ fn source_of(design: &Design, drivers: &[usize], v: usize) -> Option<usize>
     }
 }
 
-/// A design, and for each net of it the signal that it copies. A contract sees the design.
+/// A design, and for each net of it the signal that it copies, and the one whose inverse it copies. A contract sees the design.
 #[derive(Drop)]
 pub struct Copies<'a> {
     design: &'a Design,
     sources: Vec<Option<usize>>,
+    inverses: Vec<Option<usize>>,
 }
 
 impl<'a> Model for Copies<'a> {
+    ghost use Rattle.std.specs.Prelude.{true, false};
     ghost use Rattle.std.specs.Coded.{codes};
     ghost use Rattle.vs_design.specs.Parts.{Parts};
     ghost use Rattle.vs_design.specs.contracts.expression.Typed as expression;
@@ -121,20 +137,39 @@ impl<'a> Model for Copies<'a> {
 
     ghost view = { λ c. c.design.now };
 
-    ghost invariant = { λ c. AreSources c.design.now c.sources.items };
+    ghost invariant = { λ c. AreSources c.design.now false c.sources.items × AreSources c.design.now true c.inverses.items };
 }
 
-// For each signal, the one that it copies.
-fn sources_of(alloc: Global, design: &Design) -> Result<Vec<Option<usize>>, AllocError>
-    ensures { IfOk result (λ sources. AreSources design.now sources.items) }
+// For each signal, the continuous assignments that name it.
+fn drivers_of(alloc: Global, design: &Design) -> Result<Rows<usize>, AllocError>
+    ensures { IfOk result (λ drivers. AreRows (NamesTarget design.now) (length design.now.assigns) (length design.now.signals) drivers) }
 {
-    let count = design.signals().len();
-    let drivers = index_of(alloc, &Targets { design }, design.assigns().len(), count)?;
+    let assigns = design.assigns().len();
+    index_of(alloc, &Targets { design }, assigns, design.signals().len())
+}
+
+// For each signal, the one that it copies, or whose inverse it does, by the continuous assignments that name each.
+fn sources_of(
+    alloc: Global,
+    design: &Design,
+    inverse: bool,
+    drivers: &Rows<usize>,
+) -> Result<Vec<Option<usize>>, AllocError>
+    requires { AreRows (NamesTarget design.now) (length design.now.assigns) (length design.now.signals) drivers.now }
+    ensures { IfOk result (λ sources. AreSources design.now inverse sources.items) }
+{
     let mut sources = Vec::new(alloc);
-    for v in 0..count {
-        sources.push(source_of(design, drivers.row(v), v))?;
+    for v in 0..design.signals().len() {
+        sources.push(source_of(design, inverse, drivers.row(v), v))?;
     }
     Ok(sources)
+}
+
+// The source of a signal, by a list; past the end there is none.
+pub(crate) fn source_in(sources: &[Option<usize>], v: usize) -> Option<usize>
+    ensures { result ≡ source_in sources.now v }
+{
+    if v < sources.len() { sources[v] } else { None }
 }
 
 impl<'a> Copies<'a> {
@@ -142,47 +177,62 @@ impl<'a> Copies<'a> {
     pub fn of(alloc: Global, design: &'a Design) -> Result<Copies<'a>, AllocError>
         ensures { IfOk result (λ c. c ≡ design.entry.now) }
     {
-        let sources = sources_of(alloc, design)?;
-        Ok(Copies { design, sources })
+        let drivers = drivers_of(alloc, design)?;
+        let sources = sources_of(alloc, design, false, &drivers)?;
+        let inverses = sources_of(alloc, design, true, &drivers)?;
+        Ok(Copies {
+            design,
+            sources,
+            inverses,
+        })
     }
 
     /// The signal that a net copies, whole and at its own size, where the assignment that does drives it alone.
     pub fn source(&self, v: usize) -> Option<usize>
         ensures { (u : ℕ) → (IsCopy self.now v u ↔ result ≡ Some u) }
     {
-        if v < self.sources.len() {
-            self.sources[v]
-        } else {
-            None
-        }
+        source_in(&self.sources, v)
+    }
+
+    /// The signal whose inverse a net copies, `~u` or `!u` of the whole of it, where the assignment that does drives it alone.
+    pub fn inverse_source(&self, v: usize) -> Option<usize>
+        ensures { (u : ℕ) → (IsInverseCopy self.now v u ↔ result ≡ Some u) }
+    {
+        source_in(&self.inverses, v)
     }
 }
 
-// Signals, and from each net the signal that it copies.
+// Signals, and from each net the signal that it copies, and the one whose inverse it does.
 #[derive(Drop)]
 struct Chains<'a> {
     sources: &'a [Option<usize>],
+    inverses: &'a [Option<usize>],
     count: usize,
-    ghost within: { (a b : ℕ) → Contains (ends_of (source_in sources.now a)) b → b < count },
+    ghost within: { (a b : ℕ) → Contains (links_of sources.now inverses.now a) b → b < count },
+}
+
+// Puts a source at a list's end, where there is one.
+fn put_source(source: Option<usize>, todo: &mut Vec<usize>) -> Result<(), AllocError>
+    ensures { OnOk result (todo.new.items ≡ todo.old.items ++ ends_of source) }
+{
+    match source {
+        None => Ok(()),
+        Some(u) => Ok(todo.push(u)?),
+    }
 }
 
 impl<'a> Graph for Chains<'a> {
     ghost count = { λ g. g.count };
 
-    ghost nexts = { λ g a. ends_of (source_in g.sources.now a) };
+    ghost nexts = { λ g a. links_of g.sources.now g.inverses.now a };
 
     fn count(&self) -> usize {
         self.count
     }
 
     fn put_nexts(&self, node: usize, todo: &mut Vec<usize>) -> Result<(), AllocError> {
-        if node >= self.sources.len() {
-            return Ok(());
-        }
-        match self.sources[node] {
-            None => Ok(()),
-            Some(u) => Ok(todo.push(u)?),
-        }
+        put_source(source_in(self.sources, node), todo)?;
+        put_source(source_in(self.inverses, node), todo)
     }
 
     ghost inside = { λ g. g.within };
@@ -195,27 +245,39 @@ fn is_marked(marks: &[bool], g: usize) -> bool
     if g < marks.len() { marks[g] } else { false }
 }
 
-// Whether walks from nets to the signals that they copy lead from a signal to another one.
+// Whether walks from nets to the signals that they copy, or whose inverses they do, lead from a signal to another one.
 fn leads_to(
     alloc: Global,
     sources: &[Option<usize>],
+    inverses: &[Option<usize>],
     count: usize,
     v: usize,
     g: usize,
 ) -> Result<bool, AllocError>
-    requires within { (a b : ℕ) → Contains (ends_of (source_in sources.now a)) b → b < count }
+    requires within { (a b : ℕ) → Contains (links_of sources.now inverses.now a) b → b < count }
     requires v { v < count }
-    ensures { IfOk result (λ b. (IsTrue b ↔ Reached (λ a. ends_of (source_in sources.now a)) (v ∷ []) g)) }
+    ensures { IfOk result (λ b. (IsTrue b ↔ Reached (links_of sources.now inverses.now) (v ∷ []) g)) }
 {
-    let chains = Chains { sources, count };
+    let chains = Chains {
+        sources,
+        inverses,
+        count,
+    };
     let marks = reach(alloc, &chains, &[v])?;
     Ok(is_marked(&marks, g))
 }
 
+// The inverse sources that count: all or none.
+fn counted<'a>(wide: bool, inverses: &'a [Option<usize>]) -> &'a [Option<usize>]
+    ensures { result.now ≡ counted wide inverses.entry.now }
+{
+    if wide { inverses } else { &[] }
+}
+
 impl<'a> Copies<'a> {
-    /// Whether a signal is another one, or a net that copies it, itself or by way of other nets. It takes as long as there are signals.
-    pub fn copies_whole(&self, alloc: Global, g: usize, v: usize) -> Result<bool, AllocError>
-        ensures { IfOk result (λ b. (IsTrue b ↔ CopiesWhole self.now g v)) }
+    // Whether a signal is another one, or a net that copies it, or where inverses count its inverse, itself or by way of other nets.
+    fn leads(&self, alloc: Global, wide: bool, g: usize, v: usize) -> Result<bool, AllocError>
+        ensures { IfOk result (λ b. (IsTrue b ↔ Leads self.now wide g v)) }
     {
         if g == v {
             return Ok(true);
@@ -224,17 +286,44 @@ impl<'a> Copies<'a> {
         if v >= count {
             return Ok(false);
         }
-        leads_to(alloc, &self.sources, count, v, g)
+        let inverses = counted(wide, &self.inverses);
+        leads_to(alloc, &self.sources, inverses, count, v, g)
     }
 
-    /// Whether a signal of one bit is another one, or a net that copies it, itself or by way of other nets.
-    pub fn copies_root(&self, alloc: Global, root: usize, v: usize) -> Result<bool, AllocError>
-        ensures { IfOk result (λ b. (IsTrue b ↔ CopiesRoot self.now root v)) }
+    /// Whether a signal is another one, or a net that copies it, itself or by way of other nets. It takes as long as there are signals.
+    pub fn copies_whole(&self, alloc: Global, g: usize, v: usize) -> Result<bool, AllocError>
+        ensures { IfOk result (λ b. (IsTrue b ↔ CopiesWhole self.now g v)) }
+    {
+        self.leads(alloc, false, g, v)
+    }
+
+    /// Whether a signal of one bit is another one, or a net that copies it, itself or by way of other nets, or in version 3 its inverse. It takes as
+    /// long as there are signals.
+    pub fn copies_root(
+        &self,
+        alloc: Global,
+        wide: bool,
+        root: usize,
+        v: usize,
+    ) -> Result<bool, AllocError>
+        ensures { IfOk result (λ b. (IsTrue b ↔ CopiesRoot self.now wide root v)) }
     {
         if is_plain(self.design, root, 1) {
-            self.copies_whole(alloc, root, v)
+            self.leads(alloc, wide, root, v)
         } else {
             Ok(false)
+        }
+    }
+
+    /// For each signal, whether it shows a variable inverted: an odd number of inverses stand between them, which count in version 3 alone. It takes
+    /// as long as there are signals.
+    pub fn inverted(&self, alloc: Global, wide: bool) -> Result<Vec<bool>, AllocError>
+        ensures { IfOk result (λ t. AreInverted self.now wide t.items) }
+    {
+        if wide {
+            inverted_of(alloc, self.design, &self.sources, &self.inverses)
+        } else {
+            Ok(Vec::new(alloc))
         }
     }
 }

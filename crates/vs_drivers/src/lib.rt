@@ -8,6 +8,7 @@ mod cones;
 mod copies;
 mod covering;
 mod drivers;
+mod inverses;
 mod lists;
 mod names;
 mod once;

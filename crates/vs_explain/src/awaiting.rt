@@ -16,13 +16,26 @@ pub(crate) fn control_in(facts: &Facts, process: usize) -> Option<Site> {
     None
 }
 
-/// The first control of any process that waits for an edge of a signal, or of a net that copies it.
-pub(crate) fn edge_of(facts: &Facts, root: usize, edge: Edge) -> Option<Site> {
+/// An event control, and whether it waits for the inverse of a root.
+#[derive(Clone, Copy)]
+pub(crate) struct Waiting {
+    /// The control.
+    pub(crate) site: Site,
+    /// Whether the signal of its term shows the root inverted.
+    pub(crate) is_inverse: bool,
+}
+
+/// The first control of any process that waits for an edge of a root, of the root itself or of a net that shows it.
+pub(crate) fn edge_of(facts: &Facts, root: usize, edge: Edge) -> Option<Waiting> {
     for (process, text) in facts.texts.iter().enumerate() {
         for term in &text.terms {
-            if term.term.edge == edge && facts.root(term.term.range.signal) == root {
+            let shown = facts.shown(term.term.range.signal);
+            if shown.root == root && facts.edge(term.term) == edge {
                 let number = term.number as usize;
-                return Some(Site { process, number });
+                return Some(Waiting {
+                    site: Site { process, number },
+                    is_inverse: shown.is_inverted,
+                });
             }
         }
     }

@@ -20,7 +20,7 @@ pub fn explain_broken(
     number: u8,
     place: &[u8],
 ) {
-    match Facts::of(page.alloc(), design) {
+    match Facts::of(page.alloc(), design, certificate.version.number() == 3) {
         Ok(facts) => {
             let asked = Question {
                 text,

@@ -1,6 +1,6 @@
 //! What happens in the first slot, in the rule K10.
 
-use crate::awaiting::{Reached, block_behind, control_in, edge_of};
+use crate::awaiting::{Reached, Waiting, block_behind, control_in, edge_of};
 use std::alloc::{AllocError, Global};
 use vs_design::Statement;
 use vs_design::vs_logic4::Edge;
@@ -59,6 +59,40 @@ fn story_of_reset(edge: Edge) -> Story {
     }
 }
 
+/// What is said of a root whose first value is an edge of its inverse.
+fn story_of_inverse(edge: Edge, is_clock: bool) -> Story {
+    match (edge, is_clock) {
+        (Edge::Posedge, true) => Story {
+            cause: "`%` starts at 1 from x, which is a `negedge` of its inverse at time 0, and this process waits for that: whether it waits already is open.",
+            remedy: "Start the clock at 0, `reg % = 0;`; where others wait for the other edge, leave it x: `initial begin #5 % = 1; forever #5 % = ~%; end`.",
+        },
+        (Edge::Posedge, false) => Story {
+            cause: "`%` is 1 from time 0 on, which is a `negedge` of its inverse at time 0: whether this process waits for it already is open.",
+            remedy: "Begin at the inactive level and assert it later, by `=`: `% = 0; #1 % = 1;`, and no value in the declaration.",
+        },
+        (_, true) => Story {
+            cause: "`%` starts at 0 from x, which is a `posedge` of its inverse at time 0, and this process waits for that: whether it waits already is open.",
+            remedy: "Leave the clock x at time 0: `reg %; initial begin #5 % = 1; forever #5 % = ~%; end`.",
+        },
+        (_, false) => Story {
+            cause: "`%` is 0 from time 0 on, which is a `posedge` of its inverse at time 0: whether this process waits for it already is open.",
+            remedy: "Begin at the inactive level and assert it later, by `=`: `% = 1; #1 % = 0;`, and no value in the declaration.",
+        },
+    }
+}
+
+/// What is said of a root whose first value is an edge that is awaited so.
+fn story_of_edge(facts: &Facts, signal: usize, edge: Edge, waiting: Waiting) -> Story {
+    let is_clock = is_turned(facts, signal);
+    if waiting.is_inverse {
+        story_of_inverse(edge, is_clock)
+    } else if is_clock {
+        story_of_clock(edge, facts.is_initial(waiting.site.process))
+    } else {
+        story_of_reset(edge)
+    }
+}
+
 /// The second write of a signal in the text of a process that can run in the first slot.
 fn second_write(facts: &Facts, signal: usize, first: Site) -> Option<Site> {
     for process in facts.writers_of(signal) {
@@ -110,6 +144,7 @@ fn root_fault(facts: &Facts, signal: usize) -> Option<Fault> {
     if let Some(first) = write_of(facts, signal, Wanted::FirstLater) {
         let second = edge_of(facts, signal, Edge::Posedge);
         let second = second.or(edge_of(facts, signal, Edge::Negedge));
+        let second = second.map(|waiting| waiting.site);
         let story = Story {
             cause: "The first value of `%` is written by `<=`; what edges are awaited of gets its value at time 0 by one `=` of a constant.",
             remedy: "Write it by `=`: `initial % = 0;`, or `reg % = 0;`.",
@@ -127,17 +162,12 @@ fn root_fault(facts: &Facts, signal: usize) -> Option<Fault> {
         return shapeless;
     }
     let edge = first_edge(facts, first, signal)?;
-    let second = edge_of(facts, signal, edge)?;
-    let story = if is_turned(facts, signal) {
-        story_of_clock(edge, facts.is_initial(second.process))
-    } else {
-        story_of_reset(edge)
-    };
+    let waiting = edge_of(facts, signal, edge)?;
     Some(Fault {
         first: Some(first),
-        second: Some(second),
+        second: Some(waiting.site),
         signal,
-        story,
+        story: story_of_edge(facts, signal, edge, waiting),
     })
 }
 
@@ -202,10 +232,10 @@ fn read_fault(facts: &Facts, process: usize, with_calls: bool) -> Option<Fault> 
         let Some(signal) = foreign_in(facts, process, point, with_calls) else {
             continue;
         };
-        let root = facts.root(signal);
-        let mut first = write_of(facts, root, Wanted::First);
+        let copied = facts.copied(signal);
+        let mut first = write_of(facts, copied, Wanted::First);
         if first.is_none() && !facts.is_net(signal) {
-            first = write_of(facts, root, Wanted::Any);
+            first = write_of(facts, copied, Wanted::Any);
         }
         return Some(Fault {
             first,

@@ -76,7 +76,7 @@ fn constant_fault(
 /// The fault of a block that waits for what another block writes.
 fn chain_fault(facts: &Facts, block: usize, inputs: &[usize]) -> Option<Fault> {
     for signal in inputs {
-        match facts.block_of(facts.root(*signal)) {
+        match facts.block_of(facts.copied(*signal)) {
             Some(other) if other != block => {
                 let beside = match control_in(facts, other) {
                     Some(site) => Beside::Statement(site),
@@ -161,7 +161,7 @@ fn stimulus_of(facts: &Facts, signal: usize) -> Option<Site> {
 /// The fault of a block whose inputs an `initial` gives that waits for edges.
 fn stimulus_fault(facts: &Facts, inputs: &[usize]) -> Option<Fault> {
     for input in inputs {
-        let signal = facts.root(*input);
+        let signal = facts.copied(*input);
         if let Some(site) = stimulus_of(facts, signal) {
             return Some(Fault {
                 beside: Beside::Statement(site),
@@ -197,7 +197,7 @@ fn story_of_port(source: Option<&Typed>) -> Story {
 /// The fault of a block behind a net that is no copy.
 fn port_fault(facts: &Facts, inputs: &[usize]) -> Option<Fault> {
     for input in inputs {
-        let signal = facts.root(*input);
+        let signal = facts.copied(*input);
         if !facts.is_net(signal) {
             continue;
         }
@@ -221,7 +221,7 @@ fn port_fault(facts: &Facts, inputs: &[usize]) -> Option<Fault> {
 /// The fault of a block behind copies of registers.
 fn copy_fault(facts: &Facts, inputs: &[usize]) -> Option<Fault> {
     for input in inputs {
-        let signal = facts.root(*input);
+        let signal = facts.copied(*input);
         if signal == *input {
             continue;
         }

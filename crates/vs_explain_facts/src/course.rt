@@ -396,7 +396,7 @@ fn earliest(threads: &[Thread]) -> Option<usize> {
     found
 }
 
-/// Which signals edges are awaited of, or of nets that copy them.
+/// Which signals edges are awaited of, or of nets that show them.
 fn watched_of(alloc: Global, facts: &Facts) -> Result<Vec<bool>, AllocError> {
     let mut marks = vec![in alloc; false; facts.design.signals().len()]?;
     for text in &facts.texts {

@@ -4,7 +4,8 @@ use crate::lists::{empty_lists, note, set_mark};
 use crate::points::{Point, signals_of};
 use crate::texts::{TextFacts, TextKind, text_of};
 use std::alloc::{AllocError, Global};
-use vs_design::{Assign, Design, ProcessKind, SignalKind, reads, writes};
+use vs_design::vs_logic4::Edge;
+use vs_design::{Assign, Design, EventTerm, ProcessKind, SignalKind, reads, writes};
 use vs_drivers::Copies;
 
 /// What the parts of a design do to its signals.
@@ -22,6 +23,17 @@ pub struct Facts<'d> {
     copies: Copies<'d>,
     /// For each signal the combinational block that writes it.
     blocks: Vec<Option<usize>>,
+    /// Whether what is claimed of the design is of version 3, in which inverse copies count as copies for edges.
+    pub is_third: bool,
+}
+
+/// What a signal shows: a root that it copies, itself or by way of nets, or the inverse of one.
+#[derive(Clone, Copy)]
+pub struct Shown {
+    /// The root; the signal itself where it is no copy.
+    pub root: usize,
+    /// Whether an odd number of the copies are inverse.
+    pub is_inverted: bool,
 }
 
 /// For each signal the processes that write it.
@@ -168,8 +180,8 @@ impl Cone {
 }
 
 impl<'d> Facts<'d> {
-    /// The facts of a design. They take as long as it is.
-    pub fn of(alloc: Global, design: &'d Design) -> Result<Facts<'d>, AllocError> {
+    /// The facts of a design, for claims of version 3 or of another one. They take as long as it is.
+    pub fn of(alloc: Global, design: &'d Design, is_third: bool) -> Result<Facts<'d>, AllocError> {
         let mut texts = Vec::new(alloc);
         for process in design.processes() {
             texts.push(text_of(alloc, process)?)?;
@@ -185,6 +197,7 @@ impl<'d> Facts<'d> {
             drivers,
             copies,
             blocks,
+            is_third,
         })
     }
 
@@ -212,19 +225,67 @@ impl<'d> Facts<'d> {
         }
     }
 
-    /// The signal that a net copies, itself or by way of other nets; the signal itself where it copies none.
-    pub fn root(&self, signal: usize) -> usize {
-        let mut root = signal;
+    /// The signal that a net copies, itself or by way of other nets; the signal itself where it copies none. Inverse copies don't count.
+    pub fn copied(&self, signal: usize) -> usize {
+        let mut copied = signal;
         for _ in 0..self.design.signals().len() {
-            match self.copies.source(root) {
-                Some(source) => root = source,
-                None => return root,
+            match self.copies.source(copied) {
+                Some(source) => copied = source,
+                None => return copied,
             }
         }
-        root
+        copied
     }
 
-    /// Whether some process waits for edges, or any change, of a signal, or of a net that copies it.
+    /// The signal that a net copies, or of which it is an inverse copy where these count, and whether it is that.
+    fn behind(&self, net: usize) -> Option<(usize, bool)> {
+        if let Some(source) = self.copies.source(net) {
+            return Some((source, false));
+        }
+        if !self.is_third {
+            return None;
+        }
+        match self.copies.inverse_source(net) {
+            Some(source) => Some((source, true)),
+            None => None,
+        }
+    }
+
+    /// What a signal shows, as edges have it: in version 3 inverse copies count too.
+    pub fn shown(&self, signal: usize) -> Shown {
+        let mut shown = Shown {
+            root: signal,
+            is_inverted: false,
+        };
+        for _ in 0..self.design.signals().len() {
+            match self.behind(shown.root) {
+                Some((root, is_inverse)) => {
+                    shown = Shown {
+                        root,
+                        is_inverted: shown.is_inverted != is_inverse,
+                    };
+                }
+                None => return shown,
+            }
+        }
+        shown
+    }
+
+    /// The root from which the edges of a signal come; the signal itself where it is no copy.
+    pub fn root(&self, signal: usize) -> usize {
+        self.shown(signal).root
+    }
+
+    /// The edge that the root of a term's signal has where the term's edge comes.
+    pub fn edge(&self, term: EventTerm) -> Edge {
+        match (term.edge, self.shown(term.range.signal).is_inverted) {
+            (Edge::Posedge, true) => Edge::Negedge,
+            (Edge::Negedge, true) => Edge::Posedge,
+            (edge, _) => edge,
+        }
+    }
+
+    /// Whether some process waits for edges, or any change, of a signal, or of a net that shows it.
     pub fn is_root(&self, signal: usize) -> bool {
         for text in &self.texts {
             for term in &text.terms {

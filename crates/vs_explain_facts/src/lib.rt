@@ -15,7 +15,7 @@ mod texts;
 pub use claims::{entry_of, kind_word, mode_word, process_of, root_of, start_word, times_named};
 pub use course::Course;
 pub use ends::delay_ends;
-pub use facts::{Cone, Facts, driven_by, read_by};
+pub use facts::{Cone, Facts, Shown, driven_by, read_by};
 pub use flows::{AS_CHECKED, Reading};
 pub use lists::set_mark;
 pub use parts::Part;

@@ -12,7 +12,8 @@ use vs_explain_writers::vs_explain_outline::{Page, found, put_marked};
 use vs_explain_writers::{Site, is_finish, mark_site, put_residues, put_rule, put_site, text_at};
 
 /// What mends a certificate of version 3 that isn't of this source.
-const ANEW_BY_WIDE: &str = "Make the certificate anew of this source: `vsim certify --rules wide`.";
+pub(crate) const ANEW_BY_WIDE: &str =
+    "Make the certificate anew of this source: `vsim certify --rules wide`.";
 
 /// Why a process has both kinds of wait.
 #[derive(Clone, Copy, PartialEq, Eq)]
@@ -107,7 +108,7 @@ fn put_mix(page: &mut Page, question: Question, process: usize, text: &TextFacts
     for number in [first, delay.max(event)] {
         mark_site(page, question, Site { process, number });
     }
-    let is_third = question.certificate.version.number() == 3;
+    let is_third = question.facts.is_third;
     page.put(if is_third {
         "K8: a process of kind `delay` waits by `#` alone, one of kind `mixed` by `@` too. "
     } else {

@@ -1,5 +1,6 @@
 //! K6: edges are awaited of what isn't written by `=` by one process with delays.
 
+use crate::delays::ANEW_BY_WIDE;
 use std::alloc::{AllocError, Global};
 use vs_design::vs_logic4::Unary;
 use vs_design::{ProcessKind, Typed, reads};
@@ -12,12 +13,20 @@ use vs_explain_writers::{
     text_at, turning_in, turning_of, unsized_of, waiter_of,
 };
 
+/// The rule as version 3 has it.
+const RULE_OF_THIRD: &str =
+    "K6: an edge is awaited of a variable that one process with delays writes by `=`, or of a net that copies it or its inverse.";
+
+/// What is said of a cause that is in the certificate, of version 3.
+const UNCLAIMED_BY_THIRD: &str =
+    " isn't claimed to be a variable that one process with delays writes by `=`, or a net that copies it or its inverse.\n";
+
 /// Why edges of a signal can't be awaited.
 #[derive(Clone, Copy, PartialEq, Eq)]
 enum Cause {
     /// Nothing drives it.
     Undriven,
-    /// It is a net that inverts a clock, or a reset.
+    /// It is a net that inverts a clock, or a reset. In version 3 such a one is a copy.
     InvertedClock,
     InvertedReset,
     /// It is a net that takes bits of a vector, or puts bits together.
@@ -56,8 +65,10 @@ enum Cause {
 struct Awaited {
     /// The signal that is named.
     signal: usize,
-    /// What it copies, or itself.
+    /// What it shows, or itself.
     root: usize,
+    /// Whether it shows that inverted.
+    is_inverted: bool,
     /// A process that waits for it.
     waiter: usize,
     /// Whether it is a reset: the process waits for another signal too, and reads this one.
@@ -92,9 +103,11 @@ fn is_read_there(question: Question, signal: usize) -> bool {
 fn awaited_of(question: Question) -> Option<Awaited> {
     let signal = question.facts.signal_named(question.place)?;
     let waiter = waiter_of(question, signal)?;
+    let shown = question.facts.shown(signal);
     Some(Awaited {
         signal,
-        root: question.facts.root(signal),
+        root: shown.root,
+        is_inverted: shown.is_inverted,
         waiter,
         is_reset: waits_for_others(question, signal) && is_read_there(question, signal),
     })
@@ -108,6 +121,17 @@ fn reads_clock(alloc: Global, question: Question, e: &Typed) -> Result<bool, All
         }
     }
     Ok(false)
+}
+
+/// Why a net that inverts a signal is no copy: in version 3 its size differs.
+fn cause_of_inverse(question: Question, awaited: Awaited) -> Cause {
+    if question.facts.is_third {
+        Cause::BusBit
+    } else if awaited.is_reset {
+        Cause::InvertedReset
+    } else {
+        Cause::InvertedClock
+    }
 }
 
 /// Why a net that is driven so is no copy.
@@ -125,11 +149,7 @@ fn cause_of_net(
         _ => false,
     };
     if inverts {
-        return Ok(if awaited.is_reset {
-            Cause::InvertedReset
-        } else {
-            Cause::InvertedClock
-        });
+        return Ok(cause_of_inverse(question, awaited));
     }
     match e {
         Typed::Slice(_) | Typed::Select(_, _, _) | Typed::Concat(_, _) => {
@@ -501,6 +521,19 @@ fn put_claimed_root(page: &mut Page, question: Question) {
     page.put(".\n");
 }
 
+/// Puts that a certificate claims another root of a signal, or nothing of one.
+fn put_claim(page: &mut Page, question: Question) {
+    let (words, remedy) = if question.facts.is_third {
+        (UNCLAIMED_BY_THIRD, ANEW_BY_WIDE)
+    } else {
+        (words_of(Cause::Claim), remedy_of(Cause::Claim))
+    };
+    page.put(words);
+    put_claimed_root(page, question);
+    page.put(remedy);
+    page.put("\n");
+}
+
 /// Puts why edges of a signal can't be awaited.
 fn put_cause(page: &mut Page, question: Question, awaited: Awaited, cause: Cause) {
     mark_origin(page, question, awaited, cause);
@@ -510,14 +543,18 @@ fn put_cause(page: &mut Page, question: Question, awaited: Awaited, cause: Cause
     page.put("K6: ");
     put_path(page, question, awaited.signal);
     if awaited.root != awaited.signal {
-        page.put(" copies ");
+        page.put(if awaited.is_inverted {
+            " is an inverse copy of "
+        } else {
+            " copies "
+        });
         put_signal(page, question, awaited.root);
         page.put(", which");
     }
-    page.put(words_of(cause));
     if cause == Cause::Claim {
-        put_claimed_root(page, question);
+        return put_claim(page, question);
     }
+    page.put(words_of(cause));
     put_remedy(page, question, awaited, cause);
 }
 
@@ -525,7 +562,11 @@ fn put_cause(page: &mut Page, question: Question, awaited: Awaited, cause: Cause
 pub fn put_edges(page: &mut Page, question: Question) {
     let Some(awaited) = awaited_of(question) else {
         put_marked(page, question.text, question.place);
-        page.put(sentence_of(6));
+        page.put(if question.facts.is_third {
+            RULE_OF_THIRD
+        } else {
+            sentence_of(6)
+        });
         page.put("\n");
         return put_claimed_root(page, question);
     };

@@ -141,8 +141,8 @@ fn meeting_of(
     if left_root == right_root {
         return Ok(None);
     }
-    let left_times = edge_of(course, left_root, one.term.edge);
-    let right_times = edge_of(course, right_root, other.term.edge);
+    let left_times = edge_of(course, left_root, question.facts.edge(one.term));
+    let right_times = edge_of(course, right_root, question.facts.edge(other.term));
     let times = common(alloc, left_times, right_times)?;
     if times.is_empty() {
         return Ok(None);

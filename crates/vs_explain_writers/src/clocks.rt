@@ -141,7 +141,7 @@ pub fn longer_initial(facts: &Facts, signal: usize, turner: usize) -> Option<usi
     None
 }
 
-/// What keeps a signal that an `always` turns over from being a clock.
+/// What keeps a signal that a process with such a body turns over from being a clock, which another one sets.
 fn form_of_always(facts: &Facts, signal: usize, process: usize, body: &Statement) -> ClockForm {
     let turns = match body {
         Statement::Forever(_, inner) => is_turning(inner, signal),
@@ -156,11 +156,20 @@ fn form_of_always(facts: &Facts, signal: usize, process: usize, body: &Statement
     }
 }
 
+/// What keeps a signal that an `initial` turns over by a `forever` alone from being a clock: in version 3 another one may set it.
+fn form_of_forever(facts: &Facts, signal: usize, process: usize, body: &Statement) -> ClockForm {
+    if facts.is_third && facts.writers_of(signal).len() > 1 {
+        form_of_always(facts, signal, process, body)
+    } else {
+        ClockForm::Forever
+    }
+}
+
 /// What keeps a signal that an `initial` turns over from being a clock.
-fn form_of_initial(text: &TextFacts) -> ClockForm {
+fn form_of_initial(facts: &Facts, signal: usize, process: usize, text: &TextFacts) -> ClockForm {
     let body = core_of(&text.process.body);
     let (first, last) = match body {
-        Statement::Forever(_, _) => return ClockForm::Forever,
+        Statement::Forever(_, _) => return form_of_forever(facts, signal, process, body),
         Statement::Block(all) => (all.first(), all.last()),
         _ => (None, None),
     };
@@ -176,6 +185,11 @@ fn form_of_initial(text: &TextFacts) -> ClockForm {
     ClockForm::Initial
 }
 
+/// Whether an operator turns a clock over: `~`, in version 3 `!` too.
+fn turns_clocks(facts: &Facts, operator: Unary) -> bool {
+    operator == Unary::Not || (facts.is_third && operator == Unary::LogicalNot)
+}
+
 /// What keeps a signal from being a clock.
 pub fn form_of(facts: &Facts, signal: usize) -> ClockForm {
     let Some(process) = turner_of(facts, signal) else {
@@ -186,10 +200,10 @@ pub fn form_of(facts: &Facts, signal: usize) -> ClockForm {
     };
     match turning_in(text, signal) {
         None => ClockForm::Still,
-        Some((_, operator)) if operator != Unary::Not => ClockForm::LogicalNot,
+        Some((_, operator)) if !turns_clocks(facts, operator) => ClockForm::LogicalNot,
         Some(_) => match text.process.kind {
             ProcessKind::Always => form_of_always(facts, signal, process, &text.process.body),
-            ProcessKind::Initial => form_of_initial(text),
+            ProcessKind::Initial => form_of_initial(facts, signal, process, text),
         },
     }
 }

@@ -69,7 +69,7 @@ pub fn edge_times(
     for term in &text.terms {
         let root = facts.root(term.term.range.signal);
         if left_out != Some(root) {
-            push_times(&mut all, edge_of(course, root, term.term.edge))?;
+            push_times(&mut all, edge_of(course, root, facts.edge(term.term)))?;
         }
     }
     in_order(alloc, all)

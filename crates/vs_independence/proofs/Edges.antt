@@ -1,5 +1,5 @@
--- The chains of nets that copy a root keep what is said of them: each changes once in a slot, to what the root is then.
-use Rattle.std.proofs.Common.{◌≡◌, ℕ, ◌⊎◌, Bool, true, false, Some, None, List, map, slice_get, slice_set, refl, sym, ◌∙◌, ap, subst, inl, inr, if◌then◌else◌}
+-- The chains of nets that copy a root keep what is said of them: each changes once in a slot, to what it shows of the root then.
+use Rattle.std.proofs.Common.{◌≡◌, ℕ, zero, ◌⊎◌, Bool, true, false, Some, None, List, map, slice_get, slice_set, refl, sym, ◌∙◌, ap, subst, inl, inr, if◌then◌else◌}
 use Rattle.std.specs.List.{list_any}
 use Rattle.std.proofs.lemmas.Bool.{cases_Bool, or_from, false_from_ne_true, true≢false}
 use Rattle.vs_design.specs.vs_logic4.specs.declared.digit.Digit.{Digit}
@@ -13,19 +13,19 @@ use Rattle.vs_process.specs.States.{State, AssignState, touched, evaluated, sett
 use Rattle.vs_process.proofs.ProcessLists.{map_cases, set_cases}
 use Rattle.vs_process.proofs.Stores.{put_other, shape, shape-put}
 use Rattle.vs_process.proofs.Assigns.{AssignsSound, assign_driven, assigned_other}
-use Rattle.vs_threads.specs.Edges.{IsLink, Copies, itself, through, IsRoot}
+use Rattle.vs_threads.specs.Edges.{shown, one_more, IsLink, Copies, itself, through, inverses, IsRoot}
 use Rattle.vs_threads.specs.Threads.{Thread, IsThread, writes}
 use Rattle.vs_threads.specs.Blocks.{IsSource}
 use Rattle.vs_threads.proofs.Assigns.{DrivesWell}
 use Rattle.vs_threads.proofs.Threads.{timed_of}
-use Rattle.vs_threads.proofs.Links.{one_root, copies_bit, root_undriven, link_driven, link_state, link_alone, link_unread, link_unchanged, link_pending, Chain}
+use Rattle.vs_threads.proofs.Links.{shown_more, shown_none, one_root, copies_bit, root_undriven, link_driven, link_state, link_alone, link_unread, link_unchanged, link_pending, Chain}
 use Rattle.vs_independence.proofs.Running.{Apart, AllThreads, Sources, Written, Edges}
 use Rattle.vs_independence.proofs.Fire.{Advances, Change}
 
 -- ---- a change of the store
 
 -- what a write of a process, or the update of an assignment, does to chains: a root that has been written stays; one that hasn't changes by the write
--- of a thread alone; a net changes where its signal is as the root, to that
+-- of a thread alone; a net changes where its signal shows the root, and to what it shows of it
 pub record Advancing (d : Parts) (blocks : ℕ → Bool) (b : State) (old new : Store) (th more : ℕ → Thread) : Type 0 where
   pub apart : Apart d blocks b
   pub shaped : shape new ≡ shape (start_store d)
@@ -35,8 +35,8 @@ pub record Advancing (d : Parts) (blocks : ℕ → Bool) (b : State) (old new : 
   pub grows : (root : ℕ) → Written th root → Written more root
   pub kept : (root : ℕ) → IsRoot d blocks root → Written th root → slice_get new root ≡ slice_get old root
   pub root : (root : ℕ) → IsRoot d blocks root → (slice_get new root ≡ slice_get old root) ⊎ Written more root
-  pub net : (root m n : ℕ) → Chain d blocks root m n →
-      (slice_get new n ≡ slice_get old n) ⊎ (Written th root × (slice_get new n ≡ slice_get new root) × (slice_get old m ≡ slice_get old root))
+  pub net : (root m n : ℕ) (c : Chain d blocks root m n) → (slice_get new n ≡ slice_get old n) ⊎ (Written th root
+      × (slice_get new n ≡ shown (one_more c.link.inverts (inverses c.before)) (slice_get new root)) × (slice_get old m ≡ shown (inverses c.before) (slice_get old root)))
 
 -- a root is a source
 pub root_source : (d : Parts) (blocks : ℕ → Bool) (b : State) → Apart d blocks b → (root : ℕ) → IsRoot d blocks root → IsSource d blocks root
@@ -44,41 +44,41 @@ root_source d blocks b apart root r =
     let found = apart.edges r.signal r.heard in
     subst (IsSource d blocks) (one_root d found.0 root r.signal found.1 r.copies) found.2
 
--- a signal with a root is as the slot found it, or as its root, which has been written
-past : (d : Parts) (blocks : ℕ → Bool) (b : State) → Apart d blocks b → (store : Store) (assigns : List AssignState) (th : ℕ → Thread) → Sources d blocks b store th → Edges d blocks b store assigns th → (root v : ℕ) → IsRoot d blocks root → Copies d root v →
-    (slice_get store v ≡ slice_get b.store v) ⊎ (Written th root × (slice_get store v ≡ slice_get store root))
+-- a signal with a root is as the slot found it, or it shows its root, which has been written
+past : (d : Parts) (blocks : ℕ → Bool) (b : State) → Apart d blocks b → (store : Store) (assigns : List AssignState) (th : ℕ → Thread) → Sources d blocks b store th → Edges d blocks b store assigns th → (root v : ℕ) → IsRoot d blocks root → (c : Copies d root v) →
+    (slice_get store v ≡ slice_get b.store v) ⊎ (Written th root × (slice_get store v ≡ shown (inverses c) (slice_get store root)))
 past d blocks b apart store assigns th so e root v is (itself bit undriven) = elim (so.fresh root (root_source d blocks b apart root is)) [
   | inl same ↦ inl same
-  | inr wrote ↦ inr (wrote, refl)
+  | inr wrote ↦ inr (wrote, sym (shown_none (slice_get store root)))
 ]
 past d blocks b apart store assigns th so e root v is (through m n before link bit) = elim (e.net root m n (record { is_root = is; before = before; link = link; bit = bit })) [
   | inl same ↦ inl same
   | inr moved ↦ inr (moved.0, moved.1)
 ]
 
-changed : (d : Parts) (blocks : ℕ → Bool) (b : State) (old new : Store) (th more : ℕ → Thread) → Advancing d blocks b old new th more → (root v : ℕ) → IsRoot d blocks root → Copies d root v →
-    (slice_get new v ≡ slice_get old v) ⊎ (Written more root × (slice_get new v ≡ slice_get new root))
+changed : (d : Parts) (blocks : ℕ → Bool) (b : State) (old new : Store) (th more : ℕ → Thread) → Advancing d blocks b old new th more → (root v : ℕ) → IsRoot d blocks root → (c : Copies d root v) →
+    (slice_get new v ≡ slice_get old v) ⊎ (Written more root × (slice_get new v ≡ shown (inverses c) (slice_get new root)))
 changed d blocks b old new th more h root v is (itself bit undriven) = elim (h.root root is) [
   | inl same ↦ inl same
-  | inr wrote ↦ inr (wrote, refl)
+  | inr wrote ↦ inr (wrote, sym (shown_none (slice_get new root)))
 ]
 changed d blocks b old new th more h root v is (through m n before link bit) = elim (h.net root m n (record { is_root = is; before = before; link = link; bit = bit })) [
   | inl same ↦ inl same
   | inr moved ↦ inr (h.grows root moved.0, moved.1)
 ]
 
--- what is as its root stays so
-moved_stays : (d : Parts) (blocks : ℕ → Bool) (b : State) (old new : Store) (th more : ℕ → Thread) → Advancing d blocks b old new th more → (root v : ℕ) → IsRoot d blocks root → Copies d root v → Written th root → slice_get old v ≡ slice_get old root →
-    slice_get new v ≡ slice_get new root
+-- what shows its root stays so
+moved_stays : (d : Parts) (blocks : ℕ → Bool) (b : State) (old new : Store) (th more : ℕ → Thread) → Advancing d blocks b old new th more → (root v : ℕ) → IsRoot d blocks root → (c : Copies d root v) → Written th root → slice_get old v ≡ shown (inverses c) (slice_get old root) →
+    slice_get new v ≡ shown (inverses c) (slice_get new root)
 moved_stays d blocks b old new th more h root v is c wrote same = elim (changed d blocks b old new th more h root v is c) [
-  | inl stays ↦ stays ∙ same ∙ sym (h.kept root is wrote)
+  | inl stays ↦ stays ∙ same ∙ ap (shown (inverses c)) (sym (h.kept root is wrote))
   | inr moved ↦ moved.1
 ]
 
 -- and doesn't change
-moved_kept : (d : Parts) (blocks : ℕ → Bool) (b : State) (old new : Store) (th more : ℕ → Thread) → Advancing d blocks b old new th more → (root v : ℕ) → IsRoot d blocks root → Copies d root v → Written th root → slice_get old v ≡ slice_get old root →
+moved_kept : (d : Parts) (blocks : ℕ → Bool) (b : State) (old new : Store) (th more : ℕ → Thread) → Advancing d blocks b old new th more → (root v : ℕ) → IsRoot d blocks root → (c : Copies d root v) → Written th root → slice_get old v ≡ shown (inverses c) (slice_get old root) →
     slice_get new v ≡ slice_get old v
-moved_kept d blocks b old new th more h root v is c wrote same = moved_stays d blocks b old new th more h root v is c wrote same ∙ h.kept root is wrote ∙ sym same
+moved_kept d blocks b old new th more h root v is c wrote same = moved_stays d blocks b old new th more h root v is c wrote same ∙ ap (shown (inverses c)) (h.kept root is wrote) ∙ sym same
 
 pub advances : (d : Parts) (blocks : ℕ → Bool) (b : State) (old new : Store) (assigns : List AssignState) (th more : ℕ → Thread) → Advancing d blocks b old new th more → Edges d blocks b old assigns th → Advances d blocks b old new
 advances d blocks b old new assigns th more h e root v is c = elim (past d blocks b h.apart old assigns th h.before e root v is c) [
@@ -94,7 +94,7 @@ advances d blocks b old new assigns th more h e root v is c = elim (past d block
             by = more w.0;
             timed = timed_of d blocks b w.0 (more w.0) (h.threads w.0) (h.apart.keeps.root_timed w.0 root (more w.0) is (h.threads w.0) w.1);
             wrote = w.1;
-            is = moved.1 ∙ h.behind.own w.0 root w.1;
+            is = moved.1 ∙ ap (shown (inverses c)) (h.behind.own w.0 root w.1);
           },
         )
   ]
@@ -122,8 +122,8 @@ edges_touched d blocks b old new assigns th more h sources e = record {
 }
   where
     at_link : (root m n : ℕ) (c : Chain d blocks root m n) (y : AssignState) → ((x : AssignState) × (slice_get assigns c.link.number ≡ Some x) × (touched old new x ≡ y)) →
-        (y.pending ≡ None) ⊎ ((y.needs ≡ false) × Written more root × (slice_get new m ≡ slice_get new root))
-    at_link root m n c y (x, is, same) = subst (λ (z : AssignState). (z.pending ≡ None) ⊎ ((z.needs ≡ false) × Written more root × (slice_get new m ≡ slice_get new root))) same
+        (y.pending ≡ None) ⊎ ((y.needs ≡ false) × Written more root × (slice_get new m ≡ shown (inverses c.before) (slice_get new root)))
+    at_link root m n c y (x, is, same) = subst (λ (z : AssignState). (z.pending ≡ None) ⊎ ((z.needs ≡ false) × Written more root × (slice_get new m ≡ shown (inverses c.before) (slice_get new root)))) same
         (elim (e.link root m n c x is) [
           | inl none ↦ inl none
           | inr moved ↦ inr (
@@ -222,14 +222,17 @@ propagate_advances d blocks well b store time assigns th apart all sound j x dig
     stays root r = assigned_other store x.target digits store time root (false_from_ne_true (writes_signal x.target root) (λ named.
         true≢false (sym (assign_driven d store assigns sound j x root is named) ∙ root_undriven d root r.signal r.copies)))
 
-    own : (root m n : ℕ) (c : Chain d blocks root m n) → j ≡ c.link.number → (slice_get new n ≡ slice_get store n) ⊎ (Written th root × (slice_get new n ≡ slice_get new root) × (slice_get store m ≡ slice_get store root))
+    own : (root m n : ℕ) (c : Chain d blocks root m n) → j ≡ c.link.number → (slice_get new n ≡ slice_get store n) ⊎ (Written th root
+        × (slice_get new n ≡ shown (one_more c.link.inverts (inverses c.before)) (slice_get new root)) × (slice_get store m ≡ shown (inverses c.before) (slice_get store root)))
     own root m n c number =
         let here : slice_get assigns c.link.number ≡ Some x = ap (slice_get assigns) (sym number) ∙ is in
         elim (e.link root m n c x here) [
           | inl none ↦ absurd (let no_way : None ≡ Some digits = sym none ∙ waits in cc)
           | inr moved ↦ inr (
             moved.1,
-            link_pending d well store assigns sound m n c.link (copies_bit d root m c.before) c.bit x here moved.0 digits waits time ∙ moved.2 ∙ sym (stays root c.is_root),
+            link_pending d well store assigns sound m n c.link (copies_bit d root m c.before) c.bit x here moved.0 digits waits time
+                ∙ ap (shown (one_more c.link.inverts zero)) moved.2 ∙ shown_more c.link.inverts (inverses c.before) (slice_get store root)
+                ∙ ap (shown (one_more c.link.inverts (inverses c.before))) (sym (stays root c.is_root)),
             moved.2,
           )
         ]
@@ -251,26 +254,27 @@ pub edges_evaluated : (d : Parts) (blocks : ℕ → Bool) (b : State) (store : S
 edges_evaluated d blocks b store time assigns th apart sound so j x is e = record {
   net = e.net;
   link = λ root m n c y at_y. elim (set_cases assigns j c.link.number x (evaluated store time x) y is at_y) [
-    | inl own ↦ subst (λ (z : AssignState). (z.pending ≡ None) ⊎ ((z.needs ≡ false) × Written th root × (slice_get store m ≡ slice_get store root))) (sym own.1)
+    | inl own ↦ subst (λ (z : AssignState). (z.pending ≡ None) ⊎ ((z.needs ≡ false) × Written th root × (slice_get store m ≡ shown (inverses c.before) (slice_get store root)))) (sym own.1)
         (own_link root m n c (ap (slice_get assigns) own.0 ∙ is))
     | inr other ↦ e.link root m n c y other.1
   ];
 }
   where
-    -- its net is as its signal: the evaluation finds nothing to change
-    nothing : (root m n : ℕ) (c : Chain d blocks root m n) → slice_get assigns c.link.number ≡ Some x → slice_get store n ≡ slice_get store m → (evaluated store time x).pending ≡ None
+    -- its net is what it makes of its signal: the evaluation finds nothing to change
+    nothing : (root m n : ℕ) (c : Chain d blocks root m n) → slice_get assigns c.link.number ≡ Some x → slice_get store n ≡ shown (one_more c.link.inverts zero) (slice_get store m) → (evaluated store time x).pending ≡ None
     nothing root m n c here same =
         let l = link_state d store assigns sound m n c.link x here in
         ap (λ t. if t then None else Some (target_value x.target x.source store time))
         (link_unchanged d store time sound.shaped m n c.link (copies_bit d root m c.before) c.bit x.target x.source l.0 l.1 same)
 
     own_link : (root m n : ℕ) (c : Chain d blocks root m n) → slice_get assigns c.link.number ≡ Some x →
-        ((evaluated store time x).pending ≡ None) ⊎ ((false ≡ false) × Written th root × (slice_get store m ≡ slice_get store root))
+        ((evaluated store time x).pending ≡ None) ⊎ ((false ≡ false) × Written th root × (slice_get store m ≡ shown (inverses c.before) (slice_get store root)))
     own_link root m n c here = elim (past d blocks b apart store assigns th so e root m c.is_root c.before) [
       | inr moved ↦ inr (refl, moved.0, moved.1)
       | inl found ↦ elim (e.net root m n c) [
         | inr moved ↦ inr (refl, moved.0, moved.2)
         | inl same ↦ inl (nothing root m n c here
-            (same ∙ apart.level root n (through m n c.before c.link c.bit) ∙ sym (apart.level root m c.before) ∙ sym found))
+            (same ∙ apart.level root n (through m n c.before c.link c.bit) ∙ sym (shown_more c.link.inverts (inverses c.before) (slice_get b.store root))
+            ∙ ap (shown (one_more c.link.inverts zero)) (sym (apart.level root m c.before) ∙ sym found)))
       ]
     ]

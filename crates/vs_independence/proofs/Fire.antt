@@ -18,7 +18,7 @@ use Rattle.vs_design.specs.vs_logic4.proofs.Basics.{element_of as any_at}
 use Rattle.vs_process.proofs.Stores.{shape}
 use Rattle.vs_design.proofs.Stores.{slice_get-changed_at as changed_same}
 use Rattle.vs_process.proofs.Values.{not_changed}
-use Rattle.vs_threads.specs.Edges.{one_bit, Copies, IsHeard, IsRoot}
+use Rattle.vs_threads.specs.Edges.{one_bit, shown, Copies, inverses, IsHeard, IsRoot}
 use Rattle.vs_threads.specs.Threads.{Thread, Fired, found, given, opening, is_timed, IsTimed, Awaits, MayOpen, IsThread, writes}
 use Rattle.vs_threads.proofs.Lists.{contains_at, place_of}
 use Rattle.vs_threads.proofs.Threads.{timed_of, unmoved, thread_opens}
@@ -62,17 +62,18 @@ no_wake a b t h = wakes_alike a b a a t refl h ∙ by_edge t.edge
 
 -- ---- what changes
 
--- the root's one new value
-pub record NewValue (blocks : ℕ → Bool) (b : State) (new : Store) (root v : ℕ) : Type 0 where
+-- what a signal shows of the root's one new value
+pub record NewValue (d : Parts) (blocks : ℕ → Bool) (b : State) (new : Store) (root v : ℕ) (c : Copies d root v) : Type 0 where
   pub writer : ℕ
   pub by : Thread
   pub timed : IsTimed blocks b writer by
   pub wrote : writes by root ≡ true
-  pub is : slice_get new v ≡ slice_get by.view root
+  pub is : slice_get new v ≡ shown (inverses c) (slice_get by.view root)
 
--- each signal with a root stays, or it was as the slot found it, and now it is as its root
+-- each signal with a root stays, or it was as the slot found it, and now it shows its root
 abbrev pub Advances : Parts → (ℕ → Bool) → State → Store → Store → Type 0
-Advances d blocks b old new = (root v : ℕ) → IsRoot d blocks root → Copies d root v → (slice_get new v ≡ slice_get old v) ⊎ ((slice_get old v ≡ slice_get b.store v) × NewValue blocks b new root v)
+Advances d blocks b old new =
+    (root v : ℕ) → IsRoot d blocks root → (c : Copies d root v) → (slice_get new v ≡ slice_get old v) ⊎ ((slice_get old v ≡ slice_get b.store v) × NewValue d blocks b new root v c)
 
 -- what holds of a change of the store
 pub record Change (d : Parts) (blocks : ℕ → Bool) (b : State) (old new : Store) : Type 0 where
@@ -106,7 +107,7 @@ woken_at d blocks b old new h i th is terms todo at t among wake = by_advance (h
     v : ℕ
     v = t.range.signal
 
-    made : (c : List (List Digit)) → slice_get new v ≡ Some c → slice_get old v ≡ slice_get b.store v → NewValue blocks b new r.0 v → IsWoken d blocks b old new th t
+    made : (c : List (List Digit)) → slice_get new v ≡ Some c → slice_get old v ≡ slice_get b.store v → NewValue d blocks b new r.0 v r.2 → IsWoken d blocks b old new th t
     made c new_is found value =
         let f : Fired = record { signal = v; value = c } in
         let z = bit_in d b.store v h.apart.begins.shaped (copies_bit d r.0 v r.2) in
@@ -139,7 +140,7 @@ woken_at d blocks b old new h i th is terms todo at t among wake = by_advance (h
         given_at : (v : ℕ) (c : List (List Digit)) (z : Digit) → slice_get b.store v ≡ Some (one_bit z) → slice_get (given (record { signal = v; value = c }) b.store) v ≡ Some c
         given_at v c z e = changed_same (λ old. c) v b.store ∙ ap (option_map (λ old. c)) e
 
-    by_advance : ((slice_get new v ≡ slice_get old v) ⊎ ((slice_get old v ≡ slice_get b.store v) × NewValue blocks b new r.0 v)) → IsWoken d blocks b old new th t
+    by_advance : ((slice_get new v ≡ slice_get old v) ⊎ ((slice_get old v ≡ slice_get b.store v) × NewValue d blocks b new r.0 v r.2)) → IsWoken d blocks b old new th t
     by_advance (inl same) = absurd (true≢false (sym wake ∙ no_wake old new t same))
     by_advance (inr (found, value)) = let z = bit_in d new v h.shaped (copies_bit d r.0 v r.2) in made (one_bit z.0) z.1 found value
 

@@ -6,19 +6,19 @@ use Rattle.vs_design.specs.Parts.{Parts}
 use Rattle.vs_design.specs.Stores.{Store}
 use Rattle.vs_process.specs.Places.{Place}
 use Rattle.vs_process.specs.States.{State}
-use Rattle.vs_threads.specs.Edges.{Copies, IsHeard, IsRoot}
+use Rattle.vs_threads.specs.Edges.{shown, Copies, inverses, IsHeard, IsRoot}
 use Rattle.vs_threads.specs.Threads.{Thread, iterate, turn, Fired, given, opening, IsTimed, Fires, Awaits, MayOpen, IsThread, writes}
 use Rattle.vs_threads.proofs.Threads.{is_stopped, stopped_unique, timed_of, timed_wrote, thread_opens}
 use Rattle.vs_threads.proofs.Links.{same_some}
 use Rattle.vs_independence.proofs.Running.{Apart, AllStand, given_value}
 use Rattle.vs_independence.proofs.Fire.{wakes_alike}
 
--- the threads of a slot whose processes have stopped, and whose signals with a root are as their roots
+-- the threads of a slot whose processes have stopped, and whose signals with a root show their roots
 pub record Stopped (d : Parts) (blocks : ℕ → Bool) (b : State) (store : Store) (th : ℕ → Thread) : Type 0 where
   pub stands : AllStand d blocks b store th
   pub own : (i v : ℕ) → writes (th i) v ≡ true → slice_get store v ≡ slice_get (th i).view v
   pub still : (i : ℕ) → is_stopped (th i).place ≡ true
-  pub level : (root v : ℕ) → Copies d root v → slice_get store v ≡ slice_get store root
+  pub level : (root v : ℕ) (c : Copies d root v) → slice_get store v ≡ shown (inverses c) (slice_get store root)
 
 -- what can fire a process comes from a root that is heard
 fires_root : (d : Parts) (blocks : ℕ → Bool) (b : State) → Apart d blocks b → (i : ℕ) (f : Fired) (may : MayOpen d blocks b i (Some f)) → IsRoot d blocks may.fires.root
@@ -37,8 +37,8 @@ final_value d blocks b store th apart x i f may =
     let root = fires_root d blocks b apart i f may in
     let wrote : writes (th w) fires.root ≡ true = timed_wrote d blocks b w fires.root (th w) fires.by is (x.still w) fires.timed fires.writes in
     x.level fires.root f.signal fires.copies
-    ∙ x.own w fires.root wrote
-    ∙ apart.keeps.root_once w fires.root (th w) fires.by root (timed_of d blocks b w (th w) is fires.timed.timed) fires.timed wrote fires.writes
+    ∙ ap (shown (inverses fires.copies)) (x.own w fires.root wrote
+    ∙ apart.keeps.root_once w fires.root (th w) fires.by root (timed_of d blocks b w (th w) is fires.timed.timed) fires.timed wrote fires.writes)
     ∙ fires.value
 
 -- so a process that can be fired was

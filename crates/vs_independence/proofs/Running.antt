@@ -25,7 +25,7 @@ use Rattle.vs_process.proofs.WellFormed.{is_sound_place}
 use Rattle.vs_threads.specs.Feeds.{writes_into}
 use Rattle.vs_threads.proofs.Bits.{by_bit}
 use Rattle.vs_threads.proofs.Feeds.{into_covered}
-use Rattle.vs_threads.specs.Edges.{Copies, IsHeard, IsRoot}
+use Rattle.vs_threads.specs.Edges.{shown, one_more, Copies, inverses, IsHeard, IsRoot}
 use Rattle.vs_threads.specs.Threads.{Thread, Fired, found, given, opening, MayOpen, IsThread, IsFiredBy, writes, any_names, place_reads}
 use Rattle.vs_independence.specs.Discipline.{Reaches, here, KeepsApart}
 use Rattle.vs_independence.specs.Displays.{IsSteady}
@@ -51,7 +51,7 @@ pub record Apart (d : Parts) (blocks : ℕ → Bool) (b : State) : Type 0 where
   pub bare : BlockBare d blocks b.store
   pub heard : (i : ℕ) (th : Thread) → IsThread d blocks b i th → (terms : List EventTerm) (todo : Todo) → th.place ≡ waiting terms todo → (t : EventTerm) → Contains terms t → IsHeard d blocks t.range.signal
   pub edges : (v : ℕ) → IsHeard d blocks v → (root : ℕ) × Copies d root v × IsSource d blocks root
-  pub level : (root v : ℕ) → Copies d root v → slice_get b.store v ≡ slice_get b.store root
+  pub level : (root v : ℕ) (c : Copies d root v) → slice_get b.store v ≡ shown (inverses c) (slice_get b.store root)
   pub now : (root : ℕ) → IsRoot d blocks root → any_names b.updates root ≡ false
 
 -- what no move within a slot changes
@@ -138,13 +138,13 @@ Rests d blocks b store places th = (k : ℕ) → blocks k ≡ true → IsRested 
 abbrev pub Written : (ℕ → Thread) → ℕ → Type 0
 Written th root = (i : ℕ) × (writes (th i) root ≡ true)
 
--- the nets of chains: each is as the slot found it, or it and its signal are as the root, which has been written; a link has nothing that waits to be
--- written, or it needs no evaluation, and its signal is as the root, which has been written
+-- the nets of chains: each is as the slot found it, or it and its signal show the root, which has been written; a link has nothing that waits to be
+-- written, or it needs no evaluation, and its signal shows the root, which has been written
 pub record Edges (d : Parts) (blocks : ℕ → Bool) (b : State) (store : Store) (assigns : List AssignState) (th : ℕ → Thread) : Type 0 where
-  pub net : (root m n : ℕ) → Chain d blocks root m n →
-      (slice_get store n ≡ slice_get b.store n) ⊎ (Written th root × (slice_get store n ≡ slice_get store root) × (slice_get store m ≡ slice_get store root))
+  pub net : (root m n : ℕ) (c : Chain d blocks root m n) → (slice_get store n ≡ slice_get b.store n) ⊎ (Written th root
+      × (slice_get store n ≡ shown (one_more c.link.inverts (inverses c.before)) (slice_get store root)) × (slice_get store m ≡ shown (inverses c.before) (slice_get store root)))
   pub link : (root m n : ℕ) (c : Chain d blocks root m n) (x : AssignState) → slice_get assigns c.link.number ≡ Some x →
-      (x.pending ≡ None) ⊎ ((x.needs ≡ false) × Written th root × (slice_get store m ≡ slice_get store root))
+      (x.pending ≡ None) ⊎ ((x.needs ≡ false) × Written th root × (slice_get store m ≡ shown (inverses c.before) (slice_get store root)))
 
 pub record Running (d : Parts) (blocks : ℕ → Bool) (b s : State) (th : ℕ → Thread) : Type 0 where
   pub slot : WithinSlot b s

@@ -30,7 +30,7 @@ use Rattle.vs_independence.proofs.Ends.{Ends, slot_ends, all_future, Alike, Same
 use Rattle.vs_independence.proofs.Times.{is_later, all_from_get, later_thread, later_start, goes_on}
 use Rattle.vs_threads.proofs.Events.{after_heard, heard_at}
 use Rattle.vs_threads.proofs.Links.{copies_start, copies_settled}
-use Rattle.vs_threads.specs.Edges.{Copies, IsRoot}
+use Rattle.vs_threads.specs.Edges.{shown, Copies, inverses, IsRoot}
 use Rattle.vs_independence.proofs.Fire.{no_wake}
 use Rattle.vs_threads.proofs.Feeds.{into_named}
 use Rattle.vs_independence.proofs.WellFormed.{drives_well, sound_thread}
@@ -268,7 +268,7 @@ slot_later d roles set b s ran0 ran later e = all_from_get (is_later s.time) s.p
 
 -- the processes of a slot that an execution begins
 apart_in : (grain : Grain) (d : Parts) (fits : Fits grain d) → (moves : List Move) → Legal grain d moves → IsAtStart moves → BlockBare d fits.dis.roles.blocks (after d moves).store →
-    ((root v : ℕ) → Copies d root v → slice_get (after d moves).store v ≡ slice_get (after d moves).store root) →
+    ((root v : ℕ) (c : Copies d root v) → slice_get (after d moves).store v ≡ shown (inverses c) (slice_get (after d moves).store root)) →
     ((root : ℕ) → IsRoot d fits.dis.roles.blocks root → any_names (after d moves).updates root ≡ false) → Apart d fits.dis.roles.blocks (after d moves)
 apart_in grain d fits moves l at_start bare level now = record {
   keeps = keeps;

@@ -4,7 +4,7 @@ ghost use Rattle.vs_independence.specs.Displays.{DisciplineMakesDisplaysAlike, L
 
 /// All executions of a well formed, disciplined design that are complete to a moment have the same trace to it, at both grains. Its combinational
 /// blocks are drivers, as its continuous assignments are; the event controls of its other processes wait for variables of one bit, and for nets that
-/// copy such a variable.
+/// copy such a variable or its inverse.
 pub fn discipline_makes_independent()
     ensures { DisciplineMakesIndependent }
 {}

@@ -26,11 +26,11 @@ use Rattle.vs_rules.specs.vs_threads.specs.Threads.{Thread, turn, iterate, write
 use Rattle.vs_rules.specs.vs_threads.proofs.Feeds.{into_named}
 use Rattle.vs_rules.specs.vs_threads.proofs.Threads.{is_stopped}
 use Rattle.vs_rules.specs.Claims.{Name, writer_in}
-use Rattle.vs_rules.specs.Claims.{Claims, blocks_of, IsWriter, IsSecond, IsDelay, WaitsForEdges, IsSequential, HasKind, HasMode, signal_name, IsRootOf, IsRoot as IsRootClaimed}
+use Rattle.vs_rules.specs.Claims.{Claims, blocks_of, IsWriter, IsSecond, IsDelay, WaitsForEdges, IsSequential, HasKind, HasMode, signal_name, is_wide, IsRootOf, IsRoot as IsRootClaimed}
 use Rattle.vs_rules.specs.Constants.{bit_of, Gives}
 use Rattle.vs_rules.specs.Paths.{IsPoint, IsSlot0, IsLate, IsHot, HasTerm, WritesNow, WritesLater, Writes}
 use Rattle.vs_rules.specs.Drivers.{IsSource}
-use Rattle.vs_rules.specs.Rules.{K2, K10_Process, IsSoundRoot, CopiesRoot, IsOwnRead, IsOwnEdge, AreApart, FiresNone, Reads}
+use Rattle.vs_rules.specs.Rules.{K2, K10_Process, IsSoundRoot, IsOwnRead, IsOwnEdge, AreApart, FiresNone, Reads}
 use Rattle.vs_rules.specs.Slots.{HasSlot, HasWriteSlot}
 use Rattle.vs_rules.specs.vs_threads.specs.Edges.{one_bit, Copies, IsHeard, IsRoot}
 use Rattle.vs_rules.specs.vs_threads.specs.Threads.{Fired, found, opening, is_timed, IsTimed, Awaits, MayOpen, IsThread, IsFiredBy}
@@ -140,7 +140,7 @@ own_root d c b g i u r k kind own reach =
     let entry = entry_root d c g.rules r.signal s.0.path.items (ap signal_name s.1) (record { process = i; term = own.term; has = own.has; edge = own.edge; of = own.of }) in
     let six = g.rules.roots r.signal in
     let sound = six.root entry.0 entry.1 in
-    let same : u ≡ entry.0 = reach_root d c b g u entry.0 r.signal r kind sound (six.copies entry.0 entry.1) refl reach in
+    let same : u ≡ entry.0 = reach_root d c b g (is_wide c) u entry.0 r.signal r kind sound (six.copies entry.0 entry.1) refl reach in
     record { is = subst (λ n. IsRootOf d c n r.signal) (sym same) entry.1; sound = subst (IsSoundRoot d c) (sym same) sound }
 
 -- a process reads its own edge signal: it was fired by it

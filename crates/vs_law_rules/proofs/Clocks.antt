@@ -1,10 +1,12 @@
 -- The text of a clock as what is to be done, and what its turn makes of a bit.
-use Rattle.std.proofs.Common.{◌≡◌, ℕ, ◌<◌, ◌++◌, false, Some, [], ◌∷◌, map, refl, sym, ◌∙◌, ap}
+use Rattle.std.proofs.Common.{◌≡◌, ℕ, ◌<◌, ◌++◌, Bool, true, false, Some, [], ◌∷◌, map, refl, sym, ◌∙◌, ap}
+use Rattle.std.proofs.lemmas.Bool.{false≢true}
 use Rattle.std.proofs.lemmas.List.{append-nil}
 use Rattle.std.specs.Prelude.{sum}
 use Rattle.std.specs.declared.vec.Vec.{Vec}
 use Rattle.vs_design.specs.WellFormed.{aim_width}
 use Rattle.std.specs.declared.alloc.Global.{Global}
+use Rattle.vs_design.specs.vs_logic4.specs.declared.digit.Digit.{Digit}
 use Rattle.vs_design.specs.declared.expression.Typed.{Typed}
 use Rattle.vs_design.specs.declared.statement.Statement.{Statement}
 use Rattle.vs_design.specs.declared.statement.Statement.TheVariants.{rolls-Block}
@@ -17,7 +19,7 @@ use Rattle.vs_process.specs.Drafts.{flat_all, is_block}
 use Rattle.vs_process.specs.Places.{perform, Todo, flat}
 use Rattle.vs_process.specs.Steps.{goes, on, after, assignment, statement_step, step}
 use Rattle.vs_process.proofs.Shapes.{flat-Block, flat-single}
-use Rattle.vs_rules.specs.Constants.{IsBare, itself, inside, IsInverse, IsWholeTarget, TurnsForever}
+use Rattle.vs_rules.specs.Constants.{IsBare, itself, inside, IsTurn, IsWholeTarget, Sets, TurnsForever}
 
 -- ---- `begin` and `end` round one statement are nothing
 
@@ -36,9 +38,25 @@ bare_flat _ _ (inside s all inner x is one deep) single =
     let b = bare_flat inner x deep single in
     record { bare = b.bare; is = b.is; flat_is = flat_inside s all inner is one ∙ b.flat_is }
 
+-- whether what is to be done begins with a loop without an end
+abbrev is_endless : Statement-F Statement → Bool
+is_endless (Statement-F.Forever number inner) = true
+is_endless _ = false
+
+abbrev begins_endless : Todo → Bool
+begins_endless (perform s ∷ rest) = is_endless (out-Statement s)
+begins_endless _ = false
+
+-- no statement both turns a clock for ever and sets it
+pub not_both : (d : Parts) (wide : Bool) (v half : ℕ) (digit : Digit) (s : Statement) → TurnsForever d wide v half s → Sets d v digit s → ⊥
+not_both d wide v half digit s turns sets =
+    let one = bare_flat s (Statement-F.Forever turns.number turns.inner) turns.is refl in
+    let other = bare_flat s (Statement-F.Assign sets.number sets.target sets.value) sets.is refl in
+    false≢true (sym (ap begins_endless other.flat_is ∙ ap is_endless other.is) ∙ ap begins_endless one.flat_is ∙ ap is_endless one.is)
+
 -- ---- the loop of a clock: three statements, `forever`, `#h` and `u = ~u`
 
-pub record Loop (d : Parts) (v half : ℕ) (s : Statement) : Type 0 where
+pub record Loop (d : Parts) (wide : Bool) (v half : ℕ) (s : Statement) : Type 0 where
   pub forever : Statement
   pub delay : Statement
   pub turn : Statement
@@ -47,7 +65,7 @@ pub record Loop (d : Parts) (v half : ℕ) (s : Statement) : Type 0 where
   pub value : Typed
   pub above : 0 < half
   pub whole : IsWholeTarget d v target
-  pub inverse : IsInverse d v value
+  pub inverse : IsTurn d wide v value
   pub sized : sum (map aim_width target.parts.items) ≡ target.width
   -- as what is to be done
   pub first : flat s ≡ perform forever ∷ []
@@ -56,8 +74,8 @@ pub record Loop (d : Parts) (v half : ℕ) (s : Statement) : Type 0 where
   pub pauses : (rest : Todo) (store : Store) (time : ℕ) → step (perform delay ∷ rest) store time ≡ goes (after number half (perform turn ∷ rest))
   pub writes : (rest : Todo) (store : Store) (time : ℕ) → step (perform turn ∷ rest) store time ≡ record (goes (on rest)) { write = Some (assignment target value store time) }
 
-pub loop_of : (d : Parts) (v half : ℕ) (s : Statement) (h : TurnsForever d v half s) → sum (map aim_width h.turns.target.parts.items) ≡ h.turns.target.width → Loop d v half s
-loop_of d v half s h sized = record {
+pub loop_of : (d : Parts) (wide : Bool) (v half : ℕ) (s : Statement) (h : TurnsForever d wide v half s) → sum (map aim_width h.turns.target.parts.items) ≡ h.turns.target.width → Loop d wide v half s
+loop_of d wide v half s h sized = record {
   forever = one.bare;
   delay = two.bare;
   turn = three.bare;

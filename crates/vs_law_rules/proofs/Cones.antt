@@ -1,9 +1,10 @@
 -- What reaches a range is in its cone.
-use Rattle.std.proofs.Common.{◌≡◌, ℕ, zero, suc, ◌⊎◌, true, false, Option, Some, None, [], ◌∷◌, slice_get, refl, sym, ◌∙◌, ap, subst, inl, inr}
+use Rattle.std.proofs.Common.{◌≡◌, ℕ, zero, suc, ◌⊎◌, Bool, true, false, Option, Some, None, [], ◌∷◌, slice_get, refl, sym, ◌∙◌, ap, subst, inl, inr}
 use Rattle.std.specs.List.{Contains}
 use Rattle.std.proofs.lemmas.Bool.{true≢false, false≢true, eqb-true}
 use Rattle.std.proofs.lemmas.Option.{none-some, same_Some}
 use Rattle.vs_design.specs.declared.design.Assign.{Assign}
+use Rattle.vs_design.specs.declared.expression.Typed.{Typed}
 use Rattle.vs_design.specs.declared.range.BitRange.{BitRange}
 use Rattle.vs_design.specs.declared.signal.Signal.{Signal}
 use Rattle.vs_design.specs.Kinds.{is_variable}
@@ -19,14 +20,15 @@ use Rattle.vs_rules.specs.Claims.{Claims, Kind, Start, block, edges, delays, mix
 use Rattle.vs_rules.specs.Paths.{writes_of, Writes}
 use Rattle.vs_rules.specs.Drivers.{assign, block as block_driver, IsSource, InCone, Names}
 use Rattle.vs_rules.specs.Drivers as v
-use Rattle.vs_rules.specs.Rules.{IsCopy, CopiesRoot, itself, copy, IsSoundRoot}
+use Rattle.vs_rules.specs.Rules.{IsSoundRoot}
+use Rattle.vs_rules.specs.Copies.{IsCopyBy, CopiesRoot, itself, copy, inverse}
 use Rattle.vs_rules.specs.vs_threads.specs.Blocks.{control}
 use Rattle.vs_independence.specs.Discipline.{Reaches}
 use Rattle.vs_rules.specs.vs_threads.specs.Blocks.{puts_into, puts_out}
 use Rattle.vs_independence.specs.Discipline as a
 use Rattle.vs_law_rules.proofs.Fire.{Begun, not_block}
 use Rattle.vs_law_rules.proofs.Firing.{one_writer}
-use Rattle.vs_law_rules.proofs.Roots.{variable_alone, whole_reads}
+use Rattle.vs_law_rules.proofs.Roots.{variable_alone, whole_reads, inverse_reads}
 use Rattle.vs_law_rules.proofs.Variables.{writes_variable}
 use Rattle.vs_law_rules.proofs.Words.{lists_signal}
 
@@ -102,9 +104,30 @@ reach_cone d c u _ names (a.past q r k reach blk con puts) src =
 net_variable : (d : Parts) (n : ℕ) → HasKind false d n → HasKind true d n → ⊥
 net_variable d n x y = true≢false (sym y.2 ∙ ap (λ (s : Signal). is_variable s.kind) (same_Some y.0 x.0 (sym y.1 ∙ x.1)) ∙ x.2)
 
--- what reaches a copy of a root is the root
-pub reach_root : (d : Parts) (c : Claims) (b : State) → Begun d c b → (u root n : ℕ) (r : BitRange) → HasKind true d u → IsSoundRoot d c root → CopiesRoot d root n → r.signal ≡ n → Reaches d (blocks_of d c) u r → u ≡ root
-reach_root d c b g u root _ r kind sound (itself one) e reach = by_reach r e reach
+-- what reaches a net that is a copy, or an inverse copy, reaches what it copies
+reach_copy : (d : Parts) (c : Claims) (b : State) → Begun d c b → {is_of : ℕ → Typed → Type 0} (u root n m : ℕ) (r : BitRange) → HasKind true d u → (link : IsCopyBy d is_of n m) →
+    (range : BitRange) × (reads link.assign.source ≡ range ∷ []) × (range.signal ≡ m) → r.signal ≡ n → Reaches d (blocks_of d c) u r →
+    ((q : BitRange) → q.signal ≡ m → Reaches d (blocks_of d c) u q → u ≡ root) → u ≡ root
+reach_copy d c b g u root n m r kind link range e (a.here r' same) on = absurd (net_variable d n link.is_net (subst (HasKind true d) (sym same ∙ e) kind))
+reach_copy d c b g u root n m r kind link range e (a.through q r' j x reach is into_q into) on =
+    let named : writes_signal x.target n ≡ true = subst (λ n. writes_signal x.target n ≡ true) e (into_named d x.target r into) in
+    let number : j ≡ link.number = link.alone j x is (lists_signal d (writes x.target) n named) in
+    let same : x ≡ link.assign = same_Some x link.assign (sym is ∙ ap (slice_get d.assigns) number ∙ link.is) in
+    on q (only q range.0 (subst (λ rs. Contains rs q) (ap (λ (y : Assign). reads y.source) same ∙ range.1) into_q) range.2) reach
+  where
+    only : (q w : BitRange) → Contains (w ∷ []) q → w.signal ≡ m → q.signal ≡ m
+    only q w c is = let there = place_of (w ∷ []) q c in by_place there.0 there.1
+      where
+        by_place : (k : ℕ) → slice_get (w ∷ []) k ≡ Some q → q.signal ≡ m
+        by_place zero e = ap (λ (x : BitRange). x.signal) (sym (same_Some w q e)) ∙ is
+        by_place (suc k) e = absurd (none-some q e)
+reach_copy d c b g u root n m r kind link range e (a.past q r' k reach blk con puts) on =
+    absurd (net_variable d n link.is_net (writes_variable d g.formed k n (subst (Writes d k) e (into_writes d k r puts))))
+
+-- what reaches a copy of a root, or of its inverse, is the root
+pub reach_root : (d : Parts) (c : Claims) (b : State) → Begun d c b → (wide : Bool) (u root n : ℕ) (r : BitRange) → HasKind true d u → IsSoundRoot d c root → CopiesRoot d wide root n →
+    r.signal ≡ n → Reaches d (blocks_of d c) u r → u ≡ root
+reach_root d c b g wide u root _ r kind sound (itself one) e reach = by_reach r e reach
   where
     by_reach : (r : BitRange) → r.signal ≡ root → Reaches d (blocks_of d c) u r → u ≡ root
     by_reach _ e (a.here r same) = sym same ∙ e
@@ -112,22 +135,7 @@ reach_root d c b g u root _ r kind sound (itself one) e reach = by_reach r e rea
         absurd (variable_alone d g.formed j x root is (subst (λ n. writes_signal x.target n ≡ true) e (into_named d x.target r into)) sound.variable)
     by_reach _ e (a.past q r k reach blk con puts) =
         absurd (delay_alone d c b g sound.writer.0 k root sound.writer.2 sound.writer.1 blk (subst (Writes d k) e (into_writes d k r puts)))
-reach_root d c b g u root n r kind sound (copy n' m one link more) e reach = by_reach r e reach (λ q e reach. reach_root d c b g u root m q kind sound more e reach)
-  where
-    by_reach : (r : BitRange) → r.signal ≡ n → Reaches d (blocks_of d c) u r → ((q : BitRange) → q.signal ≡ m → Reaches d (blocks_of d c) u q → u ≡ root) → u ≡ root
-    by_reach _ e (a.here r same) on = absurd (net_variable d n link.is_net (subst (HasKind true d) (sym same ∙ e) kind))
-    by_reach _ e (a.through q r j x reach is reads into) on =
-        let named : writes_signal x.target n ≡ true = subst (λ n. writes_signal x.target n ≡ true) e (into_named d x.target r into) in
-        let number : j ≡ link.number = link.alone j x is (lists_signal d (writes x.target) n named) in
-        let same : x ≡ link.assign = same_Some x link.assign (sym is ∙ ap (slice_get d.assigns) number ∙ link.is) in
-        let range = whole_reads d m link.assign.source link.copies in
-        on q (only q range.0 (subst (λ rs. Contains rs q) (ap (λ (y : Assign). Rattle.vs_design.specs.Uses.reads y.source) same ∙ range.1) reads) range.2) reach
-      where
-        only : (q w : BitRange) → Contains (w ∷ []) q → w.signal ≡ m → q.signal ≡ m
-        only q w c is = let there = place_of (w ∷ []) q c in by_place there.0 there.1
-          where
-            by_place : (k : ℕ) → slice_get (w ∷ []) k ≡ Some q → q.signal ≡ m
-            by_place zero e = ap (λ (x : BitRange). x.signal) (sym (same_Some w q e)) ∙ is
-            by_place (suc k) e = absurd (none-some q e)
-    by_reach _ e (a.past q r k reach blk con puts) on =
-        absurd (net_variable d n link.is_net (writes_variable d g.formed k n (subst (Writes d k) e (into_writes d k r puts))))
+reach_root d c b g wide u root n r kind sound (copy n' m one link more) e reach =
+    reach_copy d c b g u root n m r kind link (whole_reads d m link.assign.source link.copies) e reach (λ q e reach. reach_root d c b g wide u root m q kind sound more e reach)
+reach_root d c b g wide u root n r kind sound (inverse n' m is one link more) e reach =
+    reach_copy d c b g u root n m r kind link (inverse_reads d m link.assign.source link.copies) e reach (λ q e reach. reach_root d c b g wide u root m q kind sound more e reach)

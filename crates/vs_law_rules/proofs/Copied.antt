@@ -15,7 +15,7 @@ use Rattle.vs_rules.specs.Claims.{Claims, HasKind}
 use Rattle.vs_rules.specs.Constants.{IsWhole, IsWholeLayer, IsWholeSlice}
 use Rattle.vs_rules.specs.Drivers.{InCone, IsSource}
 use Rattle.vs_rules.specs.Paths.{IsBit}
-use Rattle.vs_rules.specs.Rules.{IsCopy}
+use Rattle.vs_rules.specs.Copies.{IsCopy}
 use Rattle.vs_design.specs.Kinds.{is_variable}
 use Rattle.vs_design.specs.Parts.{Parts}
 use Rattle.vs_design.specs.Stores.{Store, changed_at, drives_bit, overlaid, put, start_digit, start_digits, start_store, word_in, word_of}

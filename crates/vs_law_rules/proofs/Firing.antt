@@ -8,6 +8,7 @@ use Rattle.std.proofs.Math.Nat.{mod-mod_of_dvd}
 use Rattle.std.proofs.lemmas.Nat.Gcd.{dvd_of_mod-eq-zero}
 use Rattle.vs_design.specs.vs_logic4.specs.declared.digit.Digit.{Digit}
 use Rattle.vs_design.specs.vs_logic4.specs.declared.digit.Digit.TheVariants.{X}
+use Rattle.vs_design.specs.vs_logic4.specs.declared.edge.Edge.{Edge}
 use Rattle.vs_design.specs.vs_logic4.specs.Edges.{is_edge}
 use Rattle.vs_design.specs.declared.design.Process.{Process}
 use Rattle.vs_design.specs.declared.statement.EventTerm.{EventTerm}
@@ -18,25 +19,27 @@ use Rattle.vs_independence.specs.vs_process.specs.vs_eval.specs.Laws.{digit_of}
 use Rattle.vs_process.specs.Places.{Todo, Place, going, sleeping, inactive, waiting, ended}
 use Rattle.vs_process.specs.Steps.{step}
 use Rattle.vs_design.specs.Writes.{Write}
-use Rattle.vs_independence.specs.vs_process.specs.Executions.{is_level}
+use Rattle.vs_independence.specs.vs_process.specs.Executions.{is_any, is_level}
 use Rattle.vs_independence.specs.vs_process.specs.States.{State, start}
 use Rattle.vs_independence.specs.vs_process.proofs.ProcessLists.{distinct_place, map_at}
 use Rattle.vs_independence.specs.vs_process.proofs.Stores.{shape, shape-put}
 use Rattle.vs_design.proofs.Stores.{slice_get-changed_at as changed_same}
 use Rattle.vs_rules.specs.vs_threads.specs.Threads.{Thread, store_behind, turn_at, turn, iterate, writes}
 use Rattle.vs_rules.specs.Claims.{Name, names_process, writer_in, second_in}
-use Rattle.vs_rules.specs.Claims.{Claims, Kind, blocks_of, claim_of, IsWriter, IsSecond, IsDelay, signal_name, IsRootOf}
+use Rattle.vs_rules.specs.Claims.{Claims, Kind, blocks_of, claim_of, IsWriter, IsSecond, IsDelay, signal_name, IsRootOf, is_wide}
 use Rattle.vs_rules.specs.Paths.{WritesNow, HasTerm, IsHeardAtStart, RunsBehind}
 use Rattle.vs_rules.specs.Rules.{IsSoundRoot}
 use Rattle.vs_rules.specs.Slots.{InPhase, Fires, Ends}
-use Rattle.vs_rules.specs.vs_threads.specs.Edges.{one_bit, IsBit, Copies}
+use Rattle.vs_rules.specs.Copies.{CopiesRoot, is_odd, SeenAs}
+use Rattle.vs_rules.specs.vs_threads.specs.Edges.{one_bit, IsBit, Copies, inverted, inverses, shown}
 use Rattle.vs_rules.specs.vs_threads.specs.Threads.{Fired, given, opening, IsTimed, Fires as Wakes}
 use Rattle.vs_law_rules.proofs.Beginning.{AllStopped}
 use Rattle.vs_law_rules.specs.Laws.{ClockTurns}
 use Rattle.vs_law_rules.proofs.Fire.{Begun, Walking, timed_writes, stopped_writes, closed, stands_found, bit_shape, bit_digit, edge_of, edge_counts, edge_phase, zero_less}
-use Rattle.vs_rules.specs.vs_threads.proofs.Links.{copies_bit, root_bit}
+use Rattle.vs_rules.specs.vs_threads.proofs.Links.{copies_bit, root_bit, inverted_x}
 use Rattle.vs_law_rules.proofs.Lasts.{Last, Bitwise, bit_iterate}
-use Rattle.vs_law_rules.proofs.Roots.{entry_root, one_root, copies_signal}
+use Rattle.vs_law_rules.proofs.Inverses.{odd, same_root, parity_of, seen_of, seen, seen_level, edge_seen}
+use Rattle.vs_law_rules.proofs.Roots.{entry_root, copies_signal}
 use Rattle.vs_law_rules.proofs.Texts.{writes_now}
 use Rattle.vs_law_rules.proofs.Walks.{At, at_zero, at_later, Here}
 
@@ -84,7 +87,7 @@ rooted d c b g i t has level root copies =
     let entry = entry_root d c g.rules v s.0.path.items (ap signal_name s.1) (record { process = i; term = t; has = has; edge = level; of = refl }) in
     let r = g.rules.roots v in
     let sound = r.root entry.0 entry.1 in
-    let same : root ≡ entry.0 = one_root d g.formed root entry.0 v copies (r.copies entry.0 entry.1) sound.variable in
+    let same : root ≡ entry.0 = same_root d g.formed (is_wide c) root entry.0 v copies (r.copies entry.0 entry.1) sound.variable in
     record { is = subst (λ n. IsRootOf d c n v) (sym same) entry.1; sound = subst (IsSoundRoot d c) (sym same) sound }
 
 -- ---- firing
@@ -97,9 +100,9 @@ record RootWrite (d : Parts) (c : Claims) (b : State) (root w : ℕ) (by : Threa
   digit : Digit
   is : slice_get by.view root ≡ Some (one_bit digit)
 
-root_write : (d : Parts) (c : Claims) (b : State) → Begun d c b → (root w : ℕ) (by : Thread) (value : List (List Digit)) → IsBit d root → IsTimed (blocks_of d c) b w by → writes by root ≡ true →
-    slice_get by.view root ≡ Some value → (z : Digit) × (value ≡ one_bit z) → RootWrite d c b root w by
-root_write d c b g root w by value bit timed wrote is one =
+root_write : (d : Parts) (c : Claims) (b : State) → Begun d c b → (root w : ℕ) (by : Thread) (z : Digit) → IsBit d root → IsTimed (blocks_of d c) b w by →
+    writes by root ≡ true → slice_get by.view root ≡ Some (one_bit z) → RootWrite d c b root w by
+root_write d c b g root w by z bit timed wrote is =
     let walking = timed_writes d c b g w root by timed wrote in
     let found = bit_shape b.store (start_store d) root X g.assigns.shaped bit in
     let first = opening (blocks_of d c) b w None in
@@ -107,7 +110,7 @@ root_write d c b g root w by value bit timed wrote is one =
     let bits = subst (Bitwise d c w b.time root) timed.is
     (bit_iterate d c w (closed d c b g w seq) b.time timed.count root first found.0 refl refl (stands_found d c b g w seq)
     (bit_digit b.store root found.0 found.1)) in
-    record { walking = walking; last = bits.last wrote; old = found.0; digit = one.0; is = is ∙ ap (λ x. Some x) one.1 }
+    record { walking = walking; last = bits.last wrote; old = found.0; digit = z; is = is }
 
 behind_shape : (store : Store) (o : Option Write) → shape (store_behind store o) ≡ shape store
 behind_shape store None = refl
@@ -136,32 +139,57 @@ given_there f store v words e is =
     subst (λ n. slice_get (given f store) n ≡ Some f.value) (sym e)
     (changed_same (λ old. f.value) f.signal store ∙ ap (option_map (λ old. f.value)) (subst (λ n. slice_get store n ≡ Some words) e is))
 
--- all that is known of a change that fires a process
+pub same_digits : (store : Store) (v : ℕ) (x y : Digit) → digit_of store v 0 0 ≡ Some x → digit_of store v 0 0 ≡ Some y → x ≡ y
+same_digits store v x y hx hy = same_Some x y (sym hx ∙ hy)
+
+-- all that is known of a change that fires a process: the digits are those of the root, the edge is what it has where the term's edge comes
 pub record Change (d : Parts) (c : Claims) (b : State) (t : EventTerm) (root w : ℕ) (by : Thread) : Type 0 where
   pub rooted : Rooted d c root t.range.signal
   pub walking : Walking d c w b.time by
   pub last : Last d c w b.time root by.view
+  pub edge : Edge
+  pub seen : SeenAs d (is_wide c) t edge
+  pub level : is_any edge ≡ false
   pub old : Digit
   pub new : Digit
-  pub was : slice_get b.store t.range.signal ≡ Some (one_bit old)
+  pub was_x : slice_get b.store t.range.signal ≡ Some (one_bit X) → old ≡ X
   pub has : digit_of by.view root 0 0 ≡ Some new
-  pub edge : is_edge t.edge old new ≡ true
+  pub comes : is_edge edge old new ≡ true
 
 pub change_of : (d : Parts) (c : Claims) (b : State) → Begun d c b → (i : ℕ) (t : EventTerm) (f : Fired) → HasTerm d i t → is_level t ≡ false → (w : Wakes d (blocks_of d c) b t f) → Change d c b t w.root w.writer w.by
 change_of d c b g i t f has level w = record {
-  rooted = rooted d c b g i t has level w.root copies;
+  rooted = root;
   walking = write.walking;
   last = write.last;
-  old = was.0;
+  edge = seen_of (odd count) t.edge;
+  seen = subst (λ odd. SeenAs d (is_wide c) t (seen_of odd t.edge)) (sym parity) (seen d g.formed (is_wide c) w.root t root.sound.variable chain);
+  level = seen_level (odd count) t.edge level;
+  old = inverted count was.0;
   new = view.0;
-  was = was.1;
+  was_x = λ unknown.
+      ap (inverted count) (same_digits b.store t.range.signal was.0 X (bit_digit b.store t.range.signal was.0 was.1) (bit_digit b.store t.range.signal X unknown))
+      ∙ inverted_x count;
   has = bit_digit w.by.view w.root view.0 view.1;
-  edge = edge_of t b.store (given f b.store) was.0 view.0 level was.1
-      (given_there f b.store t.range.signal (one_bit was.0) w.term was.1 ∙ ap (λ x. Some x) value_is) w.wakes;
+  comes = edge_seen count t.edge was.0 view.0 level
+      (edge_of t b.store (given f b.store) was.0 (inverted count view.0) level was.1
+      (given_there f b.store t.range.signal (one_bit was.0) w.term was.1 ∙ ap (λ x. Some x) value_is) w.wakes);
 }
   where
     copies : Copies d w.root t.range.signal
     copies = subst (Copies d w.root) (sym w.term) w.copies
+
+    root : Rooted d c w.root t.range.signal
+    root = rooted d c b g i t has level w.root copies
+
+    -- what the rules say of the signal
+    chain : CopiesRoot d (is_wide c) w.root t.range.signal
+    chain = (g.rules.roots t.range.signal).copies w.root root.is
+
+    count : ℕ
+    count = inverses w.copies
+
+    parity : odd count ≡ is_odd chain
+    parity = parity_of d g.formed (is_wide c) w.root t.range.signal f.signal w.term root.sound.variable chain w.copies
 
     bit : IsBit d w.root
     bit = root_bit d w.root t.range.signal copies
@@ -169,17 +197,14 @@ change_of d c b g i t f has level w = record {
     view : (z : Digit) × (slice_get w.by.view w.root ≡ Some (one_bit z))
     view = view_bit d c b g w.root w.writer w.by bit w.timed
 
-    value_is : f.value ≡ one_bit view.0
-    value_is = same_Some f.value (one_bit view.0) (sym w.value ∙ view.1)
+    value_is : f.value ≡ one_bit (inverted count view.0)
+    value_is = same_Some f.value (one_bit (inverted count view.0)) (sym w.value ∙ ap (shown count) view.1)
 
     write : RootWrite d c b w.root w.writer w.by
-    write = root_write d c b g w.root w.writer w.by f.value bit w.timed w.writes w.value (view.0, value_is)
+    write = root_write d c b g w.root w.writer w.by view.0 bit w.timed w.writes view.1
 
     was : (z : Digit) × (slice_get b.store t.range.signal ≡ Some (one_bit z))
     was = bit_shape b.store (start_store d) t.range.signal X g.assigns.shaped (copies_bit d w.root t.range.signal copies)
-
-pub same_digits : (store : Store) (v : ℕ) (x y : Digit) → digit_of store v 0 0 ≡ Some x → digit_of store v 0 0 ≡ Some y → x ≡ y
-same_digits store v x y hx hy = same_Some x y (sym hx ∙ hy)
 
 -- nothing is fired at time 0: terms at slot-0 points are silent there, and nothing waits for others
 pub none_fires : (d : Parts) (c : Claims) (b : State) → Begun d c b → (i : ℕ) (t : EventTerm) (f : Fired) → HasTerm d i t → is_level t ≡ false → Wakes d (blocks_of d c) b t f → (b ≡ start d → IsHeardAtStart d i t) → b.time ≡ 0 → ⊥
@@ -189,17 +214,15 @@ none_fires d c b g i t f has level w heard zero_time = by_first g.begin.first
     ch = change_of d c b g i t f has level w
 
     old_x : b ≡ start d → ch.old ≡ X
-    old_x e =
-        let unknown : slice_get b.store t.range.signal ≡ Some (one_bit X) =
-        ap (λ (s : State). slice_get s.store t.range.signal) e ∙ copies_bit d w.root t.range.signal (subst (Copies d w.root) (sym w.term) w.copies) in
-        same_digits b.store t.range.signal ch.old X (bit_digit b.store t.range.signal ch.old ch.was) (bit_digit b.store t.range.signal X unknown)
+    old_x e = ch.was_x (ap (λ (s : State). slice_get s.store t.range.signal) e ∙ copies_bit d w.root t.range.signal (subst (Copies d w.root) (sym w.term) w.copies))
 
     silent : b ≡ start d → At d c w.writer b.time ch.last.k → ⊥
     silent e (at_later up late slot) = zero_less b.time up zero_time
     silent e (at_zero z s) =
         let none = (g.rules.first_roots w.root).constant w.writer ch.last.k (t.range.signal, ch.rooted.is) s ch.last.writes in
         let digit : ch.new ≡ none.digit = same_digits w.by.view w.root ch.new none.digit ch.has (ch.last.gave none.digit none.gives) in
-        true≢false (sym (subst (λ x. is_edge t.edge x none.digit ≡ true) (old_x e) (subst (λ x. is_edge t.edge ch.old x ≡ true) digit ch.edge)) ∙ none.silent i t has (λ wide. heard e) level ch.rooted.is)
+        true≢false (sym (subst (λ x. is_edge ch.edge x none.digit ≡ true) (old_x e) (subst (λ x. is_edge ch.edge ch.old x ≡ true) digit ch.comes))
+        ∙ none.silent i t ch.edge has (λ wide. heard e) level ch.rooted.is ch.seen)
 
     by_first : (b ≡ start d) ⊎ ((0 < b.time) ⊎ AllStopped b) → ⊥
     by_first (inl e) = silent e ch.last.here.at
@@ -222,10 +245,10 @@ fires_at d c b g clocks i t f has level w up = by_at ch.last.here.at
         let known = ch.rooted.sound.writer in
         subst (IsDelay d c) (one_writer d c g.formed w.root known.0 w.writer known.1 writer) known.2
 
-    in_phase : InPhase d c w.root t.edge (b.time % c.modulus)
+    in_phase : InPhase d c w.root ch.edge (b.time % c.modulus)
     in_phase digit offset half clock divides =
         let turns = clocks w.root w.writer w.by digit ch.new offset half w.timed writer w.writes (t.range.signal, ch.rooted.is) clock ch.has in
-        mod-mod_of_dvd (2 * half) b.time (dvd_of_mod-eq-zero (2 * half) divides) ∙ edge_phase t.edge ch.old ch.new digit offset half b.time turns.0 ch.edge level turns.1
+        mod-mod_of_dvd (2 * half) b.time (dvd_of_mod-eq-zero (2 * half) divides) ∙ edge_phase ch.edge ch.old ch.new digit offset half b.time turns.0 ch.comes ch.level turns.1
 
     by_at : At d c w.writer b.time ch.last.k → Fires d c t (b.time % c.modulus)
     by_at (at_zero z s) = absurd (zero_less b.time up z)
@@ -240,6 +263,9 @@ fires_at d c b g clocks i t f has level w up = by_at ch.last.here.at
       point = ch.last.here.point;
       writes = inl ch.last.writes;
       runs = subst (λ (o : Option Kind). RunsBehind d w.writer (Ends d c w.writer o) ch.last.k (b.time % c.modulus)) kind.1 slot;
-      counted = λ digit gives. edge_counts t.edge ch.old digit (subst (λ x. is_edge t.edge ch.old x ≡ true) (same_digits w.by.view w.root ch.new digit ch.has (ch.last.gave digit gives)) ch.edge);
+      edge = ch.edge;
+      seen = ch.seen;
+      counted = λ digit gives.
+          edge_counts ch.edge ch.old digit (subst (λ x. is_edge ch.edge ch.old x ≡ true) (same_digits w.by.view w.root ch.new digit ch.has (ch.last.gave digit gives)) ch.comes);
       in_phase = in_phase;
     }

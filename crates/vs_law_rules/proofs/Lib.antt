@@ -23,6 +23,7 @@ pub mod Follow
 pub mod Order
 pub mod Heard
 pub mod Links
+pub mod Inverses
 pub mod Copied
 pub mod Watch
 pub mod Clocks

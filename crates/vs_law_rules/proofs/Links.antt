@@ -1,12 +1,16 @@
--- The copies that the rules name are copies: an edge signal has the value of its root.
-use Rattle.std.proofs.Common.{◌≡◌, ℕ, zero, suc, ◌+◌, ◌==◌, ℤ, pos, Bool, true, false, Some, option_map, List, [], ◌∷◌, map, replicate, slice_get, refl, sym, ◌∙◌, ap, subst, inl, inr, arith}
+-- What the one assignment to a net of one bit makes of it.
+use Rattle.std.proofs.Common.{◌≡◌, ℕ, zero, ◌+◌, ◌==◌, ℤ, pos, Bool, true, false, Some, option_map, List, [], ◌∷◌, map, replicate, slice_get, refl, sym, ◌∙◌, ap, subst, inl, inr, arith}
 use Rattle.std.specs.Prelude.{sum}
 use Rattle.std.specs.List.{list_any, list_all}
-use Rattle.std.proofs.lemmas.Bool.{and_parts, cases_Bool, eqb-true, eqb-false, true≢false, false≢true}
-use Rattle.std.proofs.lemmas.Option.{none-some, same_Some}
+use Rattle.std.proofs.lemmas.Bool.{and_parts, cases_Bool, eqb-true, true≢false, false≢true}
+use Rattle.std.proofs.lemmas.Option.{same_Some}
 use Rattle.vs_design.specs.vs_logic4.specs.declared.digit.Digit.{Digit}
-use Rattle.vs_design.specs.vs_logic4.specs.declared.digit.Digit.TheVariants.{X}
+use Rattle.vs_design.specs.vs_logic4.specs.declared.digit.Digit.TheVariants.{Zero, One, X, Z}
+use Rattle.vs_design.specs.vs_logic4.specs.declared.operators.Unary.TheVariants as op
+use Rattle.vs_design.specs.vs_logic4.specs.Comparisons.{truth}
+use Rattle.vs_design.specs.vs_logic4.specs.Operators.{unary}
 use Rattle.vs_design.specs.vs_logic4.specs.Parts.{selected}
+use Rattle.vs_design.specs.vs_logic4.specs.Tables.{not_digit}
 use Rattle.vs_design.specs.vs_logic4.specs.Vectors.{resized}
 use Rattle.vs_design.specs.declared.design.Assign.{Assign}
 use Rattle.vs_design.specs.declared.expression.Slice.{Slice}
@@ -14,6 +18,7 @@ use Rattle.vs_design.specs.declared.expression.Typed.{Typed, Typed-F}
 use Rattle.vs_design.specs.declared.expression.Typed.TheOpen as t
 use Rattle.vs_design.specs.declared.expression.Typed.TheViews.{out-Typed}
 use Rattle.vs_design.specs.declared.expression.Typed.TheFolds.{fold_out-Typed, map-Typed}
+use Rattle.vs_design.specs.declared.range.BitRange.{BitRange}
 use Rattle.vs_design.specs.declared.signal.Signal.{Signal}
 use Rattle.vs_design.specs.declared.signal.SignalKind.{SignalKind}
 use Rattle.vs_design.specs.declared.signal.SignalKind.TheVariants.{Wire, Reg, Integer}
@@ -23,8 +28,8 @@ use Rattle.vs_design.specs.declared.statement.Target.{Target}
 use Rattle.vs_design.specs.declared.write.Part.{Part}
 use Rattle.vs_design.specs.Kinds.{is_variable}
 use Rattle.vs_design.specs.Parts.{Parts}
-use Rattle.vs_design.specs.Stores.{Store, changed_at, drives_bit, is_driven, overlaid, put, start_digit, start_digits, start_store, start_word, start_words, word_in, word_of}
-use Rattle.vs_design.specs.Uses.{aim_range, bits_from, covers, has_bit, is_of, slice_range, writes, writes_signal}
+use Rattle.vs_design.specs.Stores.{Store, changed_at, drives_bit, overlaid, put, start_digit, start_digits, word_in, word_of}
+use Rattle.vs_design.specs.Uses.{aim_range, bits_from, covers, has_bit, is_of, reads, slice_range, writes, writes_signal}
 use Rattle.vs_design.specs.WellFormed.{WellFormed, aim_width, is_net_aim, is_sound_assign, is_sound_target, is_source}
 use Rattle.vs_independence.specs.vs_process.specs.vs_eval.specs.Targets.{part_at, parts_from}
 use Rattle.vs_independence.specs.vs_process.specs.vs_eval.specs.Values.{bits_value, operand_value, target_value, value_of, value_step}
@@ -32,13 +37,11 @@ use Rattle.vs_process.specs.Steps.{assignment}
 use Rattle.vs_independence.specs.vs_process.proofs.ProcessLists.{all_slice}
 use Rattle.std.proofs.lemmas.Map.Keys.{any_passes_from_place as at_any}
 use Rattle.vs_design.proofs.Stores.{slice_get-changed_at as changed_same}
-use Rattle.vs_independence.specs.vs_process.proofs.WellFormed.{variable_undriven}
 use Rattle.vs_rules.specs.Claims.{HasKind}
-use Rattle.vs_rules.specs.Constants.{IsWholeSlice, IsWholeLayer, IsWhole, IsWholeTarget}
-use Rattle.vs_rules.specs.Rules.{IsOneBit, IsCopy, CopiesRoot, itself, copy}
-use Rattle.vs_rules.specs.vs_threads.specs.Edges.{one_bit, IsBit, IsLink, Copies}
-use Rattle.vs_rules.specs.vs_threads.specs.Edges as a
-use Rattle.vs_law_rules.proofs.Roots.{selects_whole, whole_reads, whole_writes}
+use Rattle.vs_rules.specs.Constants.{IsWholeSlice, IsWholeLayer, IsWhole, IsNegationLayer, Inverts, InvertsLayer, IsWholeTarget}
+use Rattle.vs_rules.specs.Copies.{IsOneBit, IsCopyBy}
+use Rattle.vs_rules.specs.vs_threads.specs.Edges.{one_bit, IsBit, IsLink, inverted, one_more}
+use Rattle.vs_law_rules.proofs.Roots.{selects_whole, whole_writes}
 use Rattle.vs_law_rules.proofs.Words.{lists_signal}
 use Rattle.vs_rules.specs.vs_threads.proofs.Copying.{start_at}
 use Rattle.vs_design.specs.vs_logic4.proofs.Basics.{same_self}
@@ -66,7 +69,7 @@ bit_starts d v s is width count x = start_at d.assigns 0 d.signals v s is ∙ ap
 pub same_signal : (d : Parts) (v : ℕ) (s x : Signal) → slice_get d.signals v ≡ Some s → slice_get d.signals v ≡ Some x → s ≡ x
 same_signal d v s x a b = same_Some s x (sym a ∙ b)
 
--- ---- a copy makes its net what it copies
+-- ---- a copy makes its net what it copies, an inverse copy its inverse
 
 pub one_resized : (signed : Bool) (width : ℕ) (z : Digit) → width ≡ 1 → resized signed width (z ∷ []) ≡ z ∷ []
 one_resized signed width z e = ap (λ n. resized signed n (z ∷ [])) e
@@ -98,6 +101,34 @@ whole_value d m e store time z h one is = by_layer (out-Typed e) h (fold_out-Typ
         step ∙ ap (resized size.signed size.width) (s.value store time ∙ bits s.slice s.whole) ∙ one_resized size.signed size.width z (sym s.size ∙ bit_wide s.slice s.whole)
     by_layer _ w step = absurd w
 
+-- what `!` makes of one digit is its inverse
+truth_not : (z : Digit) → not_digit (truth (z ∷ [])) ≡ not_digit z
+truth_not Zero = refl
+truth_not One = refl
+truth_not X = refl
+truth_not Z = refl
+
+negation_value : (d : Parts) (v : ℕ) (e : Typed) (store : Store) (time : ℕ) (z : Digit) → IsNegationLayer d v (out-Typed e) → IsOneBit d v → slice_get store v ≡ Some (one_bit z) →
+    value_of e store time ≡ not_digit z ∷ []
+negation_value d v e store time z h one is = by_layer (out-Typed e) h (fold_out-Typed (List Digit) (value_step store time) e)
+  where
+    by_layer : (x : Typed-F Typed) → IsNegationLayer d v x → value_of e store time ≡ value_step store time (map-Typed Typed (List Digit) (λ y. value_of y store time) x) →
+        value_of e store time ≡ not_digit z ∷ []
+    by_layer (t.Unary op.LogicalNot x) w step = step ∙ ap (unary op.LogicalNot) (whole_value d v x.value store time z w one is) ∙ ap (λ y. y ∷ []) (truth_not z)
+    by_layer _ w step = absurd w
+
+-- the inverse of a whole signal of one bit
+pub inverts_value : (d : Parts) (v : ℕ) (e : Typed) (store : Store) (time : ℕ) (z : Digit) → Inverts d v e → IsOneBit d v → slice_get store v ≡ Some (one_bit z) →
+    value_of e store time ≡ not_digit z ∷ []
+inverts_value d v e store time z h one is = by_layer (out-Typed e) h (fold_out-Typed (List Digit) (value_step store time) e)
+  where
+    by_layer : (x : Typed-F Typed) → InvertsLayer d v x → value_of e store time ≡ value_step store time (map-Typed Typed (List Digit) (λ y. value_of y store time) x) →
+        value_of e store time ≡ not_digit z ∷ []
+    by_layer (t.Unary op.Not x) w step = step ∙ ap (unary op.Not) (whole_value d v x.value store time z w one is)
+    by_layer (t.Resized size x) w step =
+        step ∙ ap (resized size.signed size.width) (negation_value d v x.value store time z w.1 one is) ∙ one_resized size.signed size.width (not_digit z) w.0
+    by_layer _ w step = absurd w
+
 pub put_one : (store : Store) (p : Part) (n : ℕ) (y z : Digit) → p.signal ≡ n → p.word ≡ 0 → p.low ≡ pos 0 → p.digits ≡ z ∷ [] → slice_get store n ≡ Some (one_bit y) → slice_get (put store (p ∷ [])) n ≡ Some (one_bit z)
 put_one store p n y z s w l digits is =
     subst (λ k. slice_get (changed_at (changed_at (overlaid p.low p.digits) p.word) k store) n ≡ Some (one_bit z)) (sym s)
@@ -110,9 +141,10 @@ target_width d formed j x is =
     let target = (and_parts (is_sound_target (is_net_aim d.signals) x.target) (is_source d.signals x.target x.source) sound).0 in
     eqb-true (sum (map aim_width x.target.parts.items)) x.target.width (and_parts (list_all (is_net_aim d.signals) x.target.parts.items) (sum (map aim_width x.target.parts.items) == x.target.width) target).1
 
-copies_one : (d : Parts) → WellFormed d → (n m : ℕ) → IsOneBit d n → IsOneBit d m → (c : IsCopy d n m) → (store : Store) (time : ℕ) (y z : Digit) → slice_get store m ≡ Some (one_bit z) → slice_get store n ≡ Some (one_bit y) →
-    slice_get (put store (assignment c.assign.target c.assign.source store time)) n ≡ Some (one_bit z)
-copies_one d formed n m one_n one_m c store time y z hm hn =
+-- what the one assignment to a net makes of it, whole, where its expression has one bit
+copies_one : (d : Parts) → WellFormed d → {is_of : ℕ → Typed → Type 0} (n m : ℕ) → IsOneBit d n → (c : IsCopyBy d is_of n m) →
+    (store : Store) (time : ℕ) (y z : Digit) → value_of c.assign.source store time ≡ z ∷ [] → slice_get store n ≡ Some (one_bit y) → slice_get (put store (assignment c.assign.target c.assign.source store time)) n ≡ Some (one_bit z)
+copies_one d formed n m one_n c store time y z made hn =
     subst (λ (parts : List Aim). slice_get (put store (parts_from 0 parts (target_value c.assign.target c.assign.source store time) store time)) n ≡ Some (one_bit z)) (sym c.whole.only)
     (put_one store (part_at (Fixed s) (selected (pos 0) s.width (target_value c.assign.target c.assign.source store time)) store time) n y z c.whole.whole.of c.whole.whole.word c.whole.whole.low digits hn)
   where
@@ -129,7 +161,7 @@ copies_one d formed n m one_n one_m c store time y z hm hn =
         omega (arith, width, added)
 
     value : target_value c.assign.target c.assign.source store time ≡ z ∷ []
-    value = ap (resized false c.assign.target.width) (whole_value d m c.assign.source store time z c.copies one_m hm) ∙ one_resized false c.assign.target.width z total
+    value = ap (resized false c.assign.target.width) made ∙ one_resized false c.assign.target.width z total
 
     digits : selected (pos 0) s.width (target_value c.assign.target c.assign.source store time) ≡ z ∷ []
     digits = ap (selected (pos 0) s.width) value ∙ one_selected (pos 0) s.width z refl width
@@ -143,28 +175,34 @@ only_of d n v target h w = by_list (subst (λ (ps : List Aim). list_any (is_of v
       | inr miss ↦ absurd (true≢false (sym e ∙ rw miss refl))
     ]
 
-link_of_copy : (d : Parts) → WellFormed d → (n m : ℕ) → IsOneBit d n → IsOneBit d m → IsCopy d n m → IsLink d m n
-link_of_copy d formed n m one_n one_m c =
-    let range = whole_reads d m c.assign.source c.copies in
-    record {
-      number = c.number;
-      assign = c.assign;
-      is = c.is;
-      range = range.0;
-      reads = range.1;
-      of_source = range.2;
-      writes = whole_writes d n c.assign.target c.whole;
-      only = λ v w. only_of d n v c.assign.target c.whole w;
-      alone = λ j x is w. c.alone j x is (lists_signal d (writes x.target) n w);
-      copies = λ store time y z hm hn. copies_one d formed n m one_n one_m c store time y z hm hn;
-    }
+-- a link that inverts or not
+abbrev pub LinkBy : Parts → Bool → ℕ → ℕ → Type 0
+LinkBy d inverts m n = (l : IsLink d m n) × (l.inverts ≡ inverts)
 
-root_one : (d : Parts) (root n : ℕ) → CopiesRoot d root n → IsOneBit d n
-root_one d root _ (itself one) = one
-root_one d root n (copy n' m one link more) = one
+-- a net that is a copy, or an inverse copy, of a signal of one bit, by what its expression reads and what it is
+pub link_by : (d : Parts) → WellFormed d → {is_of : ℕ → Typed → Type 0} (n m : ℕ) → IsOneBit d n → (c : IsCopyBy d is_of n m) →
+    (range : BitRange) × (reads c.assign.source ≡ range ∷ []) × (range.signal ≡ m) → (inverts : Bool) →
+    ((store : Store) (time : ℕ) (z : Digit) → slice_get store m ≡ Some (one_bit z) → value_of c.assign.source store time ≡ inverted (one_more inverts zero) z ∷ []) →
+    LinkBy d inverts m n
+link_by d formed n m one_n c range inverts value = (
+  record {
+    number = c.number;
+    assign = c.assign;
+    is = c.is;
+    range = range.0;
+    reads = range.1;
+    of_source = range.2;
+    writes = whole_writes d n c.assign.target c.whole;
+    only = λ v w. only_of d n v c.assign.target c.whole w;
+    alone = λ j x is w. c.alone j x is (lists_signal d (writes x.target) n w);
+    inverts = inverts;
+    copies = λ store time y z hm hn. copies_one d formed n m one_n c store time y (inverted (one_more inverts zero) z) (value store time z hm) hn;
+  },
+  refl,
+)
 
 -- a net that is a copy is driven
-net_driven : (d : Parts) (n m : ℕ) → IsOneBit d n → IsCopy d n m → drives_bit d.assigns (0 + n) 0 ≡ true
+net_driven : (d : Parts) {is_of : ℕ → Typed → Type 0} (n m : ℕ) → IsOneBit d n → IsCopyBy d is_of n m → drives_bit d.assigns (0 + n) 0 ≡ true
 net_driven d n m one c = at_any (λ (x : Assign). list_any (covers (0 + n) 0 0) (writes x.target)) d.assigns c.number c.assign c.is (subst (λ (ps : List Aim). list_any (covers (0 + n) 0 0) (map aim_range ps) ≡ true) (sym c.whole.only) (by_slice c.whole.slice c.whole.whole))
   where
     by_slice : (s : Slice) → IsWholeSlice d n s → list_any (covers (0 + n) 0 0) (slice_range s ∷ []) ≡ true
@@ -176,10 +214,11 @@ net_driven d n m one c = at_any (λ (x : Assign). list_any (covers (0 + n) 0 0) 
         let bit : has_bit (Some (bits_from s.low s.width)) 0 ≡ true = ap (λ l. has_bit (Some (bits_from l s.width)) 0) w.low ∙ ap (λ k. has_bit (Some (bits_from (pos 0) k)) 0) width in
         rw (signal, word, bit) refl
 
--- a signal that copies a root by the rules copies it
-pub copies_root : (d : Parts) → WellFormed d → (root n : ℕ) → HasKind true d root → CopiesRoot d root n → Copies d root n
-copies_root d formed root _ kind (itself one) =
-    a.itself (bit_starts d root one.0 one.1 one.2 one.3 (variable_start (drives_bit d.assigns (0 + root) 0) one.0.kind (ap (λ (s : Signal). is_variable s.kind) (same_signal d root one.0 kind.0 one.1 kind.1) ∙ kind.2))) (variable_undriven d formed root kind)
-copies_root d formed root n kind (copy n' m one link more) =
-    a.through m n (copies_root d formed root m kind more) (link_of_copy d formed n m one (root_one d root m more) link)
-    (bit_starts d n one.0 one.1 one.2 one.3 (driven_start (drives_bit d.assigns (0 + n) 0) one.0.kind (net_driven d n m one link)))
+-- so it starts at x, as a variable does
+pub net_bit : (d : Parts) {is_of : ℕ → Typed → Type 0} (n m : ℕ) → IsOneBit d n → IsCopyBy d is_of n m → IsBit d n
+net_bit d n m one c = bit_starts d n one.0 one.1 one.2 one.3 (driven_start (drives_bit d.assigns (0 + n) 0) one.0.kind (net_driven d n m one c))
+
+pub variable_bit : (d : Parts) (v : ℕ) → IsOneBit d v → HasKind true d v → IsBit d v
+variable_bit d v one kind =
+    bit_starts d v one.0 one.1 one.2 one.3
+    (variable_start (drives_bit d.assigns (0 + v) 0) one.0.kind (ap (λ (s : Signal). is_variable s.kind) (same_signal d v one.0 kind.0 one.1 kind.1) ∙ kind.2))

@@ -1,5 +1,5 @@
 -- The clocks of a design that keeps the rules turn in phase.
-use Rattle.std.proofs.Common.{None, ◌≡◌, ℕ, zero, suc, ◌<◌, ◌⊎◌, ◌++◌, ◌&&◌, true, Some, List, [], ◌∷◌, map, get_or, slice_get, refl, sym, ◌∙◌, ap, subst, inl, inr, arith}
+use Rattle.std.proofs.Common.{None, ◌≡◌, ℕ, zero, suc, ◌<◌, ◌⊎◌, ◌++◌, ◌&&◌, Bool, true, Some, List, [], ◌∷◌, map, get_or, slice_get, refl, sym, ◌∙◌, ap, subst, inl, inr, arith}
 use Rattle.std.specs.declared.vec.Vec.{Vec}
 use Rattle.std.specs.declared.alloc.Global.{Global}
 use Rattle.std.proofs.lemmas.Bool.{and_parts, false≢true}
@@ -30,15 +30,15 @@ use Rattle.vs_independence.specs.vs_process.proofs.WellFormed.{variable_undriven
 use Rattle.vs_rules.specs.vs_threads.specs.Threads.{store_behind, Thread, opening, writes, IsTimed}
 use Rattle.vs_rules.specs.vs_threads.proofs.Threads.{is_stopped}
 use Rattle.vs_independence.proofs.Times.{is_after}
-use Rattle.vs_rules.specs.Claims.{Claims, IsWriter, IsSecond, IsDelay, IsRoot, blocks_of}
+use Rattle.vs_rules.specs.Claims.{Claims, IsWriter, IsSecond, IsDelay, IsRoot, blocks_of, is_wide}
 use Rattle.vs_rules.specs.Constants.{IsBare, itself, inside, IsKnown, Sets, IsClock, alone, two, HasBody, SetsAfter, SetsAndTurns, TurnsForever}
 use Rattle.vs_law_rules.specs.Laws.{TimeRises, ClockTurns}
 use Rattle.vs_rules.specs.Paths.{Writes, IsSlot0, WritesNow, Path, begins, is_zero_time, statement_now, todo_now}
-use Rattle.vs_rules.specs.Rules.{IsOneBit, CopiesRoot}
-use Rattle.vs_rules.specs.Rules as r
+use Rattle.vs_rules.specs.Copies.{IsOneBit, CopiesRoot}
+use Rattle.vs_rules.specs.Copies as r
 use Rattle.vs_law_rules.proofs.Beginning.{delay_steady, closed_of, start_stands, still_at_end}
 use Rattle.vs_law_rules.proofs.Boundary.{holds_after}
-use Rattle.vs_law_rules.proofs.Clocks.{Bared, bare_flat, flat_inside, Loop, loop_of}
+use Rattle.vs_law_rules.proofs.Clocks.{Bared, bare_flat, flat_inside, not_both, Loop, loop_of}
 use Rattle.vs_law_rules.proofs.Fire.{zero_less, bit_digit, seq_found}
 use Rattle.vs_rules.specs.vs_threads.proofs.Links.{root_bit}
 use Rattle.vs_law_rules.proofs.Firing.{one_writer, one_second}
@@ -50,14 +50,15 @@ use Rattle.vs_law_rules.proofs.Watch.{IsWatched, IsLeft, Seen, seen_after}
 use Rattle.vs_law_rules.proofs.Words.{step_now, lists_signal}
 use Rattle.std.specs.List.{list_all, list_any}
 use Rattle.vs_design.specs.vs_logic4.specs.declared.digit.Digit.TheVariants.{X}
-use Rattle.vs_design.specs.declared.design.ProcessKind.TheVariants.{Initial, Always}
+use Rattle.vs_design.specs.declared.design.ProcessKind.{ProcessKind}
+use Rattle.vs_design.specs.declared.design.ProcessKind.TheVariants.{Initial}
 use Rattle.vs_design.specs.Uses.{is_of}
 use Rattle.vs_independence.specs.Discipline.{BeginsSlot}
 use Rattle.vs_rules.specs.vs_threads.specs.Edges.{one_bit, IsBit}
 use Rattle.vs_rules.specs.Points.{Goes, Point, first_todo}
 use Rattle.vs_rules.proofs.Points.{step_follows}
 use Rattle.vs_rules.specs.Verdict.{Keeping}
-use Rattle.vs_law_rules.proofs.Links.{copies_root}
+use Rattle.vs_law_rules.proofs.Inverses.{copies_root}
 use Rattle.vs_law_rules.proofs.Roots.{whole_writes}
 use Rattle.vs_law_rules.proofs.Texts.{writes_now}
 use Rattle.vs_rules.specs.vs_threads.proofs.Filled.{body_sound as process_sound}
@@ -102,8 +103,9 @@ starts_at : (d : Parts) (i : ℕ) (p : Process) (todo : Todo) → slice_get d.pr
 starts_at d i p todo is e = start_there d.processes i p is ∙ ap (active_at Fresh) e
 
 -- the process that turns a signal
-abbrev turner : (d : Parts) (root process : ℕ) (digit : Digit) (offset half : ℕ) → IsKnown digit → (text : Statement) → Loop d root half text → IsOneBit d root → Turner d
-turner d root process digit offset half known text loop one = record {
+abbrev turner : (d : Parts) (wide : Bool) (root process : ℕ) (digit : Digit) (offset half : ℕ) → IsKnown digit → (text : Statement) → Loop d wide root half text → IsOneBit d root → Turner d
+turner d wide root process digit offset half known text loop one = record {
+  wide = wide;
   root = root;
   process = process;
   digit = digit;
@@ -112,7 +114,7 @@ turner d root process digit offset half known text loop one = record {
   known = known;
   text = text;
   loop = loop;
-  turned = λ store time z is. turned d root loop.target loop.value one loop.whole loop.inverse loop.sized store time z is;
+  turned = λ store time z is. turned d wide root loop.target loop.value one loop.whole loop.inverse loop.sized store time z is;
 }
 
 -- ---- a clock that its process sets
@@ -311,8 +313,8 @@ abbrev Turning : (d : Parts) (root : ℕ) (digit : Digit) (offset half time : �
 Turning d root digit offset half time store = (z : Digit) × (slice_get store root ≡ Some (one_bit z)) × IsKnown digit × Phase digit offset half time z
 
 -- `begin u = c; forever #h u = ~u; end`
-set_now : (grain : Grain) (d : Parts) (c : Claims) (b : State) (root i : ℕ) (digit : Digit) (offset half : ℕ) → Given grain d c root b → IsWriter d c root i → (body : HasBody d i Initial (SetsAndTurns d root offset half digit)) →
-    (loop : Loop d root half body.body.second) → offset ≡ 0 → Sets d root digit body.body.first → (by : Thread) → IsTimed (blocks_of d c) b i by → writes by root ≡ true →
+set_now : (grain : Grain) (d : Parts) (c : Claims) (b : State) (root i : ℕ) (digit : Digit) (offset half : ℕ) → Given grain d c root b → IsWriter d c root i → (body : HasBody d i Initial (SetsAndTurns d (is_wide c) root offset half digit)) →
+    (loop : Loop d (is_wide c) root half body.body.second) → offset ≡ 0 → Sets d root digit body.body.first → (by : Thread) → IsTimed (blocks_of d c) b i by → writes by root ≡ true →
     Turning d root digit offset half b.time by.view
 set_now grain d c b root i digit offset half g writer body loop none sets by timed wrote = (has.z, has.is, f.sets.known, has.phase)
   where
@@ -330,17 +332,17 @@ set_now grain d c b root i digit offset half g writer body loop none sets by tim
     slot : IsSlot0 d i todo
     slot = subst (λ (k : Todo). Path is_zero_time k todo) (sym (ap todo_of begin_at)) begins
 
-    has : Has d (turner d root i digit offset half f.sets.known body.body.second loop g.one) b.time by.view
+    has : Has d (turner d (is_wide c) root i digit offset half f.sets.known body.body.second loop g.one) b.time by.view
     has =
-        one_phase grain d c b (turner d root i digit offset half f.sets.known body.body.second loop g.one) g writer
+        one_phase grain d c b (turner d (is_wide c) root i digit offset half f.sets.known body.body.second loop g.one) g writer
         (record { set = f.set; target = f.sets.target; value = f.sets.value; gives = f.sets.gives; writes = f.writes })
         (λ time at. inr (todo, slot, f.now (perform loop.forever ∷ [])))
-        (subst (Ahead d (turner d root i digit offset half f.sets.known body.body.second loop g.one) (record { set = f.set; target = f.sets.target; value = f.sets.value; gives = f.sets.gives; writes = f.writes }) 0) (sym begin_at) (inr (refl, sym none)))
+        (subst (Ahead d (turner d (is_wide c) root i digit offset half f.sets.known body.body.second loop g.one) (record { set = f.set; target = f.sets.target; value = f.sets.value; gives = f.sets.gives; writes = f.writes }) 0) (sym begin_at) (inr (refl, sym none)))
         by timed wrote
 
 -- `begin #o u = c; forever #h u = ~u; end`
-set_after : (grain : Grain) (d : Parts) (c : Claims) (b : State) (root i : ℕ) (digit : Digit) (offset half : ℕ) → Given grain d c root b → IsWriter d c root i → (body : HasBody d i Initial (SetsAndTurns d root offset half digit)) →
-    (loop : Loop d root half body.body.second) → SetsAfter d root offset digit body.body.first → (by : Thread) → IsTimed (blocks_of d c) b i by → writes by root ≡ true →
+set_after : (grain : Grain) (d : Parts) (c : Claims) (b : State) (root i : ℕ) (digit : Digit) (offset half : ℕ) → Given grain d c root b → IsWriter d c root i → (body : HasBody d i Initial (SetsAndTurns d (is_wide c) root offset half digit)) →
+    (loop : Loop d (is_wide c) root half body.body.second) → SetsAfter d root offset digit body.body.first → (by : Thread) → IsTimed (blocks_of d c) b i by → writes by root ≡ true →
     Turning d root digit offset half b.time by.view
 set_after grain d c b root i digit offset half g writer body loop later by timed wrote = (has.z, has.is, f.sets.known, has.phase)
   where
@@ -378,20 +380,20 @@ set_after grain d c b root i digit offset half g writer body loop later by timed
     guard zero time none at = inr (sets, slot none, f.now (perform loop.forever ∷ []))
     guard (suc n) time some at = inl (omega (arith, some, at))
 
-    has : Has d (turner d root i digit offset half f.sets.known body.body.second loop g.one) b.time by.view
+    has : Has d (turner d (is_wide c) root i digit offset half f.sets.known body.body.second loop g.one) b.time by.view
     has =
-        one_phase grain d c b (turner d root i digit offset half f.sets.known body.body.second loop g.one) g writer
+        one_phase grain d c b (turner d (is_wide c) root i digit offset half f.sets.known body.body.second loop g.one) g writer
         (record { set = f.set; target = f.sets.target; value = f.sets.value; gives = f.sets.gives; writes = f.writes })
         (λ time at. guard offset time refl at)
-        (subst (Ahead d (turner d root i digit offset half f.sets.known body.body.second loop g.one) (record { set = f.set; target = f.sets.target; value = f.sets.value; gives = f.sets.gives; writes = f.writes }) 0) (sym begin_at)
+        (subst (Ahead d (turner d (is_wide c) root i digit offset half f.sets.known body.body.second loop g.one) (record { set = f.set; target = f.sets.target; value = f.sets.value; gives = f.sets.gives; writes = f.writes }) 0) (sym begin_at)
         (inl (record { pause = pause.bare; number = later.number; is = refl; pauses = pauses }, refl)))
         by timed wrote
 
--- `initial u = c; always #h u = ~u;`
-set_beside : (grain : Grain) (d : Parts) (c : Claims) (b : State) (root i j : ℕ) (digit : Digit) (offset half : ℕ) → Given grain d c root b → IsWriter d c root i → (body : HasBody d i Always (TurnsForever d root half)) →
-    Loop d root half body.process.body → HasBody d j Initial (Sets d root digit) → offset ≡ 0 → (by : Thread) → IsTimed (blocks_of d c) b i by → writes by root ≡ true →
+-- `initial u = c; always #h u = ~u;`, or `initial forever #h u = ~u;` for the `always`
+set_beside : (grain : Grain) (d : Parts) (c : Claims) (b : State) (root i j : ℕ) (kind : ProcessKind) (digit : Digit) (offset half : ℕ) → Given grain d c root b → IsWriter d c root i →
+    (body : HasBody d i kind (TurnsForever d (is_wide c) root half)) → Loop d (is_wide c) root half body.process.body → HasBody d j Initial (Sets d root digit) → offset ≡ 0 → (by : Thread) → IsTimed (blocks_of d c) b i by → writes by root ≡ true →
     Turning d root digit offset half b.time by.view
-set_beside grain d c b root i j digit offset half g writer body loop other none by timed wrote = (has.z, has.is, f.sets.known, has.phase)
+set_beside grain d c b root i j kind digit offset half g writer body loop other none by timed wrote = (has.z, has.is, f.sets.known, has.phase)
   where
     f : Sets_Flat d root digit other.process.body
     f = sets_flat d root digit other.process.body other.body
@@ -408,9 +410,6 @@ set_beside grain d c b root i j digit offset half g writer body loop other none 
     other_writes : Writes d j root
     other_writes = writes_now d j (first_todo d j) root Point.begins (subst (λ (k : Todo). WritesNow d k root) (sym (ap todo_of begin_at)) (f.now []))
 
-    kinds : Always ≡ Initial → ⊥
-    kinds e = cc e
-
     second : IsSecond d c root j
     second = by_role ((g.known.rules.writers root).named j other_writes)
       where
@@ -419,23 +418,24 @@ set_beside grain d c b root i j digit offset half g writer body loop other none 
         by_role (inl is) =
             let same : i ≡ j = one_writer d c g.known.formed root i j writer is in
             let process : body.process ≡ other.process = same_Some body.process other.process (sym body.is ∙ ap (slice_get d.processes) same ∙ other.is) in
-            absurd (kinds (sym body.kind_is ∙ ap (λ (p : Process). p.kind) process ∙ other.kind_is))
+            absurd (not_both d (is_wide c) root half digit other.process.body (subst (λ (p : Process). TurnsForever d (is_wide c) root half p.body) process body.body) other.body)
 
-    has : Has d (turner d root i digit offset half f.sets.known body.process.body loop g.one) b.time by.view
+    has : Has d (turner d (is_wide c) root i digit offset half f.sets.known body.process.body loop g.one) b.time by.view
     has =
-        two_phase grain d c b (turner d root i digit offset half f.sets.known body.process.body loop g.one) g writer
+        two_phase grain d c b (turner d (is_wide c) root i digit offset half f.sets.known body.process.body loop g.one) g writer
         (record { set = f.set; target = f.sets.target; value = f.sets.value; gives = f.sets.gives; writes = f.writes })
         j second none
-        (subst (λ p. First d (turner d root i digit offset half f.sets.known body.process.body loop g.one) (record { set = f.set; target = f.sets.target; value = f.sets.value; gives = f.sets.gives; writes = f.writes }) 0 p (start d).store) (sym begin_at)
+        (subst (λ p. First d (turner d (is_wide c) root i digit offset half f.sets.known body.process.body loop g.one) (record { set = f.set; target = f.sets.target; value = f.sets.value; gives = f.sets.gives; writes = f.writes }) 0 p (start d).store) (sym begin_at)
         (refl, refl, (X, g.bit)))
-        (subst (λ p. Early d (turner d root i digit offset half f.sets.known body.process.body loop g.one) 0 p (start d).store) (sym turns_at) (refl, inl refl))
+        (subst (λ p. Early d (turner d (is_wide c) root i digit offset half f.sets.known body.process.body loop g.one) 0 p (start d).store) (sym turns_at) (refl, inl refl))
         by timed wrote
 
 -- ---- both forms
 
-root_one_bit : (d : Parts) (root n : ℕ) → CopiesRoot d root n → IsOneBit d root
-root_one_bit d root _ (r.itself one) = one
-root_one_bit d root n (r.copy v u one link more) = root_one_bit d root u more
+root_one_bit : (d : Parts) (wide : Bool) (root n : ℕ) → CopiesRoot d wide root n → IsOneBit d root
+root_one_bit d wide root _ (r.itself one) = one
+root_one_bit d wide root n (r.copy v u one link more) = root_one_bit d wide root u more
+root_one_bit d wide root n (r.inverse v u is one link more) = root_one_bit d wide root u more
 
 given_of : (grain : Grain) (d : Parts) (c : Claims) → WellFormed d → Keeping d c → TimeRises grain d → (b : State) → BeginsSlot grain d b → (root : ℕ) → IsRoot d c root → Given grain d c root b
 given_of grain d c formed rules up b h root is =
@@ -444,8 +444,8 @@ given_of grain d c formed rules up b h root is =
     record {
       up = up;
       known = record { formed = formed; rules = rules; is_root = is; sound = sound };
-      one = root_one_bit d root is.0 copies;
-      bit = root_bit d root is.0 (copies_root d formed root is.0 sound.variable copies);
+      one = root_one_bit d (is_wide c) root is.0 copies;
+      bit = root_bit d root is.0 (copies_root d formed (is_wide c) root is.0 sound.variable copies);
       begin = h;
     }
 
@@ -466,16 +466,17 @@ clock_turning grain d c b root w digit offset half g (alone i is body) writer by
         let rest = (and_parts (is_sound_statement d.signals body.body.first) (is_sound_statement d.signals body.body.second && true) row).1 in
         (and_parts (is_sound_statement d.signals body.body.second) true rest).0
 
-    loop : Loop d root half body.body.second
-    loop = loop_of d root half body.body.second body.body.turns (turn_sized d root half body.body.second body.body.turns sound)
+    loop : Loop d (is_wide c) root half body.body.second
+    loop = loop_of d (is_wide c) root half body.body.second body.body.turns (turn_sized d (is_wide c) root half body.body.second body.body.turns sound)
 
     by_sets : ((offset ≡ 0) × Sets d root digit body.body.first) ⊎ SetsAfter d root offset digit body.body.first → Turning d root digit offset half b.time by.view
     by_sets (inl (none, sets)) = set_now grain d c b root i digit offset half g is body loop none sets by here wrote
     by_sets (inr later) = set_after grain d c b root i digit offset half g is body loop later by here wrote
-clock_turning grain d c b root w digit offset half g (two i j is body other none only) writer by timed wrote =
+clock_turning grain d c b root w digit offset half g (two i j kind is may body other none only) writer by timed wrote =
     let same : w ≡ i = one_writer d c g.known.formed root w i writer is in
     let sound = process_sound d g.known.formed i body.process body.is in
-    set_beside grain d c b root i j digit offset half g is body (loop_of d root half body.process.body body.body (turn_sized d root half body.process.body body.body sound)) other none by
+    set_beside grain d c b root i j kind digit offset half g is body
+    (loop_of d (is_wide c) root half body.process.body body.body (turn_sized d (is_wide c) root half body.process.body body.body sound)) other none by
     (subst (λ n. IsTimed (blocks_of d c) b n by) same timed) wrote
 
 -- where a clock's process has written it, it is in phase

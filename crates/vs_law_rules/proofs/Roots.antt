@@ -17,21 +17,19 @@ use Rattle.vs_design.specs.declared.statement.Target.{Target}
 use Rattle.vs_design.specs.Kinds.{is_variable}
 use Rattle.vs_design.specs.Parts.{Parts}
 use Rattle.vs_design.specs.Stores.{Store, start_words, word_of}
-use Rattle.vs_design.specs.Uses.{aim_range, reads, reads_step, is_of, whole, slice_range, writes, writes_signal}
+use Rattle.vs_design.specs.Uses.{aim_range, reads, reads_step, is_of, whole, slice_range, writes_signal}
 use Rattle.vs_design.specs.WellFormed.{WellFormed}
 use Rattle.vs_independence.specs.vs_process.specs.vs_eval.specs.Values.{bits_value, value_of, value_step}
 use Rattle.vs_design.specs.vs_logic4.specs.declared.digit.Digit.{Digit}
-use Rattle.vs_independence.specs.vs_process.proofs.Assigns.{driven}
+use Rattle.vs_design.specs.vs_logic4.specs.declared.operators.Unary.TheVariants as op
 use Rattle.vs_independence.specs.vs_process.proofs.WellFormed.{net_of}
 use Rattle.vs_rules.specs.Claims.{Name, times_in}
 use Rattle.vs_rules.specs.Claims.{Claims, EdgeClaim, IsSignalNamed, edge_names, names_of_edge, signal_names, process_names, HasKind, IsRootOf}
-use Rattle.vs_rules.specs.Paths.{ListsSignal}
-use Rattle.vs_rules.specs.Constants.{IsWhole, IsWholeLayer, IsWholeSelect, IsWholeSlice, IsWholeTarget}
-use Rattle.vs_rules.specs.Rules.{K1_Name, IsEdgeSignal, IsCopy, CopiesRoot, itself, copy}
-use Rattle.vs_rules.specs.vs_threads.specs.Edges.{IsBit, IsLink, Copies}
+use Rattle.vs_rules.specs.Constants.{IsWhole, IsWholeLayer, IsWholeSelect, IsWholeSlice, IsWholeTarget, IsNegationLayer, Inverts, InvertsLayer}
+use Rattle.vs_rules.specs.Rules.{K1_Name, IsEdgeSignal}
+use Rattle.vs_rules.specs.vs_threads.specs.Edges.{IsBit, Copies}
 use Rattle.vs_rules.specs.vs_threads.specs.Edges as a
 use Rattle.vs_rules.specs.Verdict.{Keeping}
-use Rattle.vs_law_rules.proofs.Words.{lists_signal}
 
 -- ---- names in lists
 
@@ -111,9 +109,6 @@ copies_signal d root v (a.through m n copies link bit) = bit_signal d v bit
 
 -- ---- copies
 
-pub head_same : (x y : BitRange) → x ∷ [] ≡ y ∷ [] → x ≡ y
-head_same x y e = cc e
-
 -- a target that is a whole signal writes it
 pub whole_writes : (d : Parts) (v : ℕ) (target : Target) → IsWholeTarget d v target → writes_signal target v ≡ true
 whole_writes d v target h = subst (λ parts. list_any (is_of v) (map aim_range parts) ≡ true) (sym h.only) (self_of h.whole.of)
@@ -150,8 +145,23 @@ whole_reads d u e h = by_layer (out-Typed e) h (fold_out-Typed (List BitRange) r
     by_layer (t.Resized size x) w is = let s = selects_whole d u size.width x.value w in (slice_range s.slice, is ∙ s.reads_it, s.whole.of)
     by_layer _ w is = absurd w
 
-lists_writes : (d : Parts) (target : Target) (v : ℕ) → writes_signal target v ≡ true → ListsSignal d (writes target) v
-lists_writes d target v h = lists_signal d (writes target) v h
+-- so is the one that an inverse of it reads
+negation_reads : (d : Parts) (u : ℕ) (e : Typed) → IsNegationLayer d u (out-Typed e) → (range : BitRange) × (reads e ≡ range ∷ []) × (range.signal ≡ u)
+negation_reads d u e h = by_layer (out-Typed e) h (fold_out-Typed (List BitRange) reads_step e)
+  where
+    by_layer : (x : Typed-F Typed) → IsNegationLayer d u x → reads e ≡ reads_step (map-Typed Typed (List BitRange) reads x) →
+        (range : BitRange) × (reads e ≡ range ∷ []) × (range.signal ≡ u)
+    by_layer (t.Unary op.LogicalNot x) w is = let r = whole_reads d u x.value w in (r.0, is ∙ r.1, r.2)
+    by_layer _ w is = absurd w
+
+pub inverse_reads : (d : Parts) (u : ℕ) (e : Typed) → Inverts d u e → (range : BitRange) × (reads e ≡ range ∷ []) × (range.signal ≡ u)
+inverse_reads d u e h = by_layer (out-Typed e) h (fold_out-Typed (List BitRange) reads_step e)
+  where
+    by_layer : (x : Typed-F Typed) → InvertsLayer d u x → reads e ≡ reads_step (map-Typed Typed (List BitRange) reads x) →
+        (range : BitRange) × (reads e ≡ range ∷ []) × (range.signal ≡ u)
+    by_layer (t.Unary op.Not x) w is = let r = whole_reads d u x.value w in (r.0, is ∙ r.1, r.2)
+    by_layer (t.Resized size x) w is = let r = negation_reads d u x.value w.1 in (r.0, is ∙ r.1, r.2)
+    by_layer _ w is = absurd w
 
 -- a variable is written by no continuous assignment
 pub variable_alone : (d : Parts) → WellFormed d → (j : ℕ) (x : Assign) (v : ℕ) → slice_get d.assigns j ≡ Some x → writes_signal x.target v ≡ true → HasKind true d v → ⊥
@@ -159,24 +169,3 @@ variable_alone d formed j x v is h kind =
     let net = net_of d formed j x v is h in
     let same : net.0 ≡ kind.0 = same_Some net.0 kind.0 (sym net.1 ∙ kind.1) in
     true≢false (sym kind.2 ∙ ap (λ (s : Signal). is_variable s.kind) (sym same) ∙ net.2)
-
--- a net that is a copy has the root of what it copies
-copy_root : (d : Parts) (root other u n : ℕ) → IsCopy d n u → Copies d root n → (Copies d root u → root ≡ other) → root ≡ other
-copy_root d root other u _ link (a.itself bit undriven) on =
-    absurd (true≢false (sym (driven d.assigns link.number link.assign root link.is (whole_writes d root link.assign.target link.whole)) ∙ undriven))
-copy_root d root other u n link (a.through m n' before made bit) on =
-    let number : link.number ≡ made.number = made.alone link.number link.assign link.is (whole_writes d n link.assign.target link.whole) in
-    let same : link.assign ≡ made.assign = same_Some link.assign made.assign (sym link.is ∙ ap (slice_get d.assigns) number ∙ made.is) in
-    let range = whole_reads d u link.assign.source link.copies in
-    let ranges : range.0 ∷ [] ≡ made.range ∷ [] = sym range.1 ∙ ap (λ (x : Assign). reads x.source) same ∙ made.reads in
-    let m_is : m ≡ u = sym made.of_source ∙ sym (ap (λ (r : BitRange). r.signal) (head_same range.0 made.range ranges)) ∙ range.2 in
-    on (subst (Copies d root) m_is before)
-
-variable_root : (d : Parts) → WellFormed d → (root n : ℕ) → Copies d root n → HasKind true d n → root ≡ n
-variable_root d formed root _ (a.itself bit undriven) kind = refl
-variable_root d formed root n (a.through m n' more link bit) kind = absurd (variable_alone d formed link.number link.assign n link.is link.writes kind)
-
--- a signal has one root
-pub one_root : (d : Parts) → WellFormed d → (root other v : ℕ) → Copies d root v → CopiesRoot d other v → HasKind true d other → root ≡ other
-one_root d formed root other _ copies (itself one) kind = variable_root d formed root other copies kind
-one_root d formed root other v copies (copy v' u one link more) kind = copy_root d root other u v link copies (λ before. one_root d formed root other u before more kind)

@@ -21,7 +21,7 @@ use Rattle.vs_rules.specs.vs_threads.specs.Blocks as a
 use Rattle.vs_rules.specs.vs_threads.specs.Edges.{Copies, IsHeard}
 use Rattle.vs_rules.specs.vs_threads.proofs.Lists.{contains_at}
 use Rattle.vs_rules.specs.vs_threads.proofs.Outputs.{outputs_undriven}
-use Rattle.vs_rules.specs.Claims.{Claims, Kind, Start, block, edges, delays, mixed, cold, sources, starter, blocks_of, is_block_kind, kind_of, HasStart, signal_name}
+use Rattle.vs_rules.specs.Claims.{Claims, Kind, Start, block, edges, delays, mixed, cold, sources, starter, blocks_of, is_block_kind, kind_of, HasStart, is_wide, signal_name}
 use Rattle.vs_rules.specs.Drivers.{Driver, Passes}
 use Rattle.vs_rules.specs.Drivers as v
 use Rattle.vs_rules.specs.Paths.{HasTerm, writes_of}
@@ -35,7 +35,7 @@ use Rattle.vs_law_rules.proofs.Fire.{Begun, sequential_of}
 use Rattle.vs_law_rules.proofs.Follow.{follows}
 use Rattle.vs_law_rules.proofs.Heard.{heard_stands}
 use Rattle.vs_law_rules.proofs.Keeps.{keeping}
-use Rattle.vs_law_rules.proofs.Links.{copies_root}
+use Rattle.vs_law_rules.proofs.Inverses.{copies_root}
 use Rattle.vs_law_rules.proofs.Order.{ordered, exclusive, first, names_sources}
 use Rattle.vs_law_rules.proofs.Phases.{clock_turns}
 use Rattle.vs_law_rules.proofs.Rises.{time_rises}
@@ -52,7 +52,7 @@ edges_copy grain d c formed r v h =
     let entry = entry_root d c r v signal.0.path.items (ap signal_name signal.1)
     (record { process = h.number; term = term.0; has = term.1; edge = hears_level d c r h.number term.0 (sequential_of d c r h.number h.process h.is h.other) term.1; of = term.2 }) in
     let six = r.roots v in
-    (entry.0, copies_root d formed entry.0 v (six.root entry.0 entry.1).variable (six.copies entry.0 entry.1), free entry.0 (six.root entry.0 entry.1))
+    (entry.0, copies_root d formed (is_wide c) entry.0 v (six.root entry.0 entry.1).variable (six.copies entry.0 entry.1), free entry.0 (six.root entry.0 entry.1))
   where
     term : (t : EventTerm) × HasTerm d h.number t × (t.range.signal ≡ v)
     term = heard_stands d h.number h.process v h.is h.hears

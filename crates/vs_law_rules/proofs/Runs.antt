@@ -20,7 +20,7 @@ use Rattle.vs_independence.specs.vs_process.proofs.ProcessLists.{map_at}
 use Rattle.vs_independence.specs.vs_process.proofs.Times.{enabled_of}
 use Rattle.vs_independence.specs.vs_process.proofs.WellFormed.{variable_undriven}
 use Rattle.vs_rules.specs.vs_threads.specs.Blocks.{IsSource as IsFree, puts_out}
-use Rattle.vs_rules.specs.vs_threads.specs.Edges.{Copies, IsHeard, IsRoot}
+use Rattle.vs_rules.specs.vs_threads.specs.Edges.{Copies, IsHeard, IsRoot, inverses, shown}
 use Rattle.vs_rules.specs.vs_threads.specs.Threads.{Thread, any_names, opening}
 use Rattle.vs_rules.specs.vs_threads.proofs.Events.{after_heard, heard_at}
 use Rattle.vs_rules.specs.vs_threads.proofs.Fares.{fares_later, fresh, is_awake, or_some}
@@ -79,7 +79,7 @@ record Held (grain : Grain) (d : Parts) (c : Claims) (h : Static grain d c) (fir
 -- ---- the beginning of a slot
 
 apart_at : (grain : Grain) (d : Parts) (c : Claims) → Static grain d c → (moves : List Move) → Legal grain d moves → IsAtStart moves → Begun d c (reached d moves) → BlockBare d (blocks_of d c) (reached d moves).store →
-    ((root v : ℕ) → Copies d root v → slice_get (reached d moves).store v ≡ slice_get (reached d moves).store root) →
+    ((root v : ℕ) (copies : Copies d root v) → slice_get (reached d moves).store v ≡ shown (inverses copies) (slice_get (reached d moves).store root)) →
     ((root : ℕ) → IsRoot d (blocks_of d c) root → any_names (reached d moves).updates root ≡ false) → Apart d (blocks_of d c) (reached d moves)
 apart_at grain d c h moves l at_start begun bare level now = record {
   keeps = keeps;

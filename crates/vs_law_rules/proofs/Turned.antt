@@ -6,7 +6,6 @@ use Rattle.std.proofs.Math.Nat.{add-mod_right}
 use Rattle.std.proofs.lemmas.Bool.{and_parts, eqb-true}
 use Rattle.vs_design.specs.vs_logic4.specs.declared.digit.Digit.{Digit}
 use Rattle.vs_design.specs.vs_logic4.specs.declared.operators.Unary.TheVariants as u
-use Rattle.vs_design.specs.vs_logic4.specs.Operators.{unary}
 use Rattle.vs_design.specs.vs_logic4.specs.Parts.{selected}
 use Rattle.vs_design.specs.vs_logic4.specs.Tables.{not_digit}
 use Rattle.vs_design.specs.vs_logic4.specs.Vectors.{resized}
@@ -14,7 +13,6 @@ use Rattle.vs_design.specs.declared.expression.Slice.{Slice}
 use Rattle.vs_design.specs.declared.expression.Typed.{Typed, Typed-F}
 use Rattle.vs_design.specs.declared.expression.Typed.TheOpen as t
 use Rattle.vs_design.specs.declared.expression.Typed.TheViews.{out-Typed}
-use Rattle.vs_design.specs.declared.expression.Typed.TheFolds.{fold_out-Typed, map-Typed}
 use Rattle.vs_design.specs.declared.signal.Signal.{Signal}
 use Rattle.vs_design.specs.declared.statement.Aim.{Aim}
 use Rattle.vs_design.specs.declared.statement.Aim.TheVariants.{Fixed}
@@ -27,28 +25,33 @@ use Rattle.vs_design.specs.Parts.{Parts}
 use Rattle.vs_design.specs.Stores.{Store, put}
 use Rattle.vs_design.specs.WellFormed.{aim_width, is_sound_statement, is_sound_target, is_source, is_variable_aim, sound_step}
 use Rattle.vs_independence.specs.vs_process.specs.vs_eval.specs.Targets.{part_at, parts_from}
-use Rattle.vs_independence.specs.vs_process.specs.vs_eval.specs.Values.{target_value, value_of, value_step}
+use Rattle.vs_independence.specs.vs_process.specs.vs_eval.specs.Values.{target_value}
 use Rattle.vs_process.specs.Steps.{assignment}
 use Rattle.vs_rules.specs.vs_threads.specs.Edges.{one_bit}
 use Rattle.vs_rules.proofs.Points.{mod_sum}
-use Rattle.vs_rules.specs.Constants.{IsBare, itself, inside, IsKnown, IsInverse, IsInverseLayer, IsWholeTarget, TurnsForever}
+use Rattle.vs_rules.specs.Constants.{IsBare, itself, inside, IsKnown, IsInverse, IsInverseLayer, Inverts, InvertsLayer, IsTurn, IsWholeTarget, TurnsForever}
 use Rattle.vs_rules.specs.Constants as k
-use Rattle.vs_rules.specs.Rules.{IsOneBit}
-use Rattle.vs_law_rules.proofs.Links.{put_one, whole_value, one_resized, one_selected, same_signal}
+use Rattle.vs_rules.specs.Copies.{IsOneBit}
+use Rattle.vs_law_rules.proofs.Links.{put_one, inverts_value, one_resized, one_selected, same_signal}
 
--- ---- `~u`
+-- ---- `~u` and `!u`
 
-inverse_value : (d : Parts) (v : ℕ) (e : Typed) (store : Store) (time : ℕ) (z : Digit) → IsInverse d v e → IsOneBit d v → slice_get store v ≡ Some (one_bit z) → value_of e store time ≡ not_digit z ∷ []
-inverse_value d v e store time z h one is = by_layer (out-Typed e) h (fold_out-Typed (List Digit) (value_step store time) e)
+inverse_inverts : (d : Parts) (v : ℕ) (e : Typed) → IsInverse d v e → Inverts d v e
+inverse_inverts d v e h = by_layer (out-Typed e) h
   where
-    by_layer : (x : Typed-F Typed) → IsInverseLayer d v x → value_of e store time ≡ value_step store time (map-Typed Typed (List Digit) (λ y. value_of y store time) x) → value_of e store time ≡ not_digit z ∷ []
-    by_layer (t.Unary u.Not x) w step = step ∙ ap (unary u.Not) (whole_value d v x.value store time z w one is)
-    by_layer _ w step = absurd w
+    by_layer : (x : Typed-F Typed) → IsInverseLayer d v x → InvertsLayer d v x
+    by_layer (t.Unary u.Not x) w = w
+    by_layer _ w = absurd w
+
+-- what turns a clock in one version or the other inverts it
+pub turn_inverts : (d : Parts) (wide : Bool) (v : ℕ) (e : Typed) → IsTurn d wide v e → Inverts d v e
+turn_inverts d false v e h = inverse_inverts d v e h
+turn_inverts d true v e h = h
 
 -- the turn gives the bit the other digit
-pub turned : (d : Parts) (v : ℕ) (target : Target) (value : Typed) → IsOneBit d v → IsWholeTarget d v target → IsInverse d v value → sum (map aim_width target.parts.items) ≡ target.width →
+pub turned : (d : Parts) (wide : Bool) (v : ℕ) (target : Target) (value : Typed) → IsOneBit d v → IsWholeTarget d v target → IsTurn d wide v value → sum (map aim_width target.parts.items) ≡ target.width →
     (store : Store) (time : ℕ) (z : Digit) → slice_get store v ≡ Some (one_bit z) → slice_get (put store (assignment target value store time)) v ≡ Some (one_bit (not_digit z))
-turned d v target value one whole inverse sized store time z is =
+turned d wide v target value one whole inverse sized store time z is =
     subst (λ (parts : List Aim). slice_get (put store (parts_from 0 parts (target_value target value store time) store time)) v ≡ Some (one_bit (not_digit z))) (sym whole.only)
     (put_one store (part_at (Fixed s) (selected (pos 0) s.width (target_value target value store time)) store time) v z (not_digit z) whole.whole.of whole.whole.word whole.whole.low digits is)
   where
@@ -65,7 +68,7 @@ turned d v target value one whole inverse sized store time z is =
         omega (arith, width, added)
 
     given : target_value target value store time ≡ not_digit z ∷ []
-    given = ap (resized false target.width) (inverse_value d v value store time z inverse one is) ∙ one_resized false target.width (not_digit z) total
+    given = ap (resized false target.width) (inverts_value d v value store time z (turn_inverts d wide v value inverse) one is) ∙ one_resized false target.width (not_digit z) total
 
     digits : selected (pos 0) s.width (target_value target value store time) ≡ not_digit z ∷ []
     digits = ap (selected (pos 0) s.width) given ∙ one_selected (pos 0) s.width (not_digit z) refl width
@@ -89,8 +92,8 @@ assignment_sized ss target value n h =
     eqb-true (sum (map aim_width target.parts.items)) target.width (and_parts (list_all (is_variable_aim ss) target.parts.items) (sum (map aim_width target.parts.items) == target.width) a).1
 
 -- the target of the turn has its own size
-pub turn_sized : (d : Parts) (v half : ℕ) (s : Statement) (h : TurnsForever d v half s) → is_sound_statement d.signals s ≡ true → sum (map aim_width h.turns.target.parts.items) ≡ h.turns.target.width
-turn_sized d v half s h sound =
+pub turn_sized : (d : Parts) (wide : Bool) (v half : ℕ) (s : Statement) (h : TurnsForever d wide v half s) → is_sound_statement d.signals s ≡ true → sum (map aim_width h.turns.target.parts.items) ≡ h.turns.target.width
+turn_sized d wide v half s h sound =
     let delay = bare_sound d.signals s (Statement-F.Forever h.number h.inner) h.is sound in
     let turn = bare_sound d.signals h.inner.value (Statement-F.Delay h.turns.number h.turns.ticks h.turns.inner) h.turns.is delay in
     assignment_sized d.signals h.turns.target h.turns.value h.turns.assigns (bare_sound d.signals h.turns.inner.value (Statement-F.Assign h.turns.assigns h.turns.target h.turns.value) h.turns.body turn)

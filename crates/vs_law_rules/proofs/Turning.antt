@@ -1,5 +1,5 @@
 -- The process of a clock: where it can be, and what its bit is then.
-use Rattle.std.proofs.Common.{◌≡◌, ℕ, zero, suc, ◌+◌, ◌*◌, ◌%◌, ◌<◌, ◌==◌, ◌⊎◌, true, Option, Some, None, List, [], ◌∷◌, slice_get, refl, sym, ◌∙◌, ap, subst, inl, inr, arith}
+use Rattle.std.proofs.Common.{◌≡◌, ℕ, zero, suc, ◌+◌, ◌*◌, ◌%◌, ◌<◌, ◌==◌, ◌⊎◌, Bool, true, Option, Some, None, List, [], ◌∷◌, slice_get, refl, sym, ◌∙◌, ap, subst, inl, inr, arith}
 use Rattle.std.specs.List.{list_any}
 use Rattle.std.proofs.lemmas.Bool.{cond_both, eqb-true, false≢true}
 use Rattle.std.proofs.lemmas.Option.{same_Some}
@@ -37,6 +37,7 @@ use Rattle.vs_law_rules.proofs.Watch.{IsWatched}
 
 -- a process turns a signal of one bit, from this digit at this time on
 pub record Turner (d : Parts) : Type 0 where
+  pub wide : Bool
   pub root : ℕ
   pub process : ℕ
   pub digit : Digit
@@ -44,7 +45,7 @@ pub record Turner (d : Parts) : Type 0 where
   pub half : ℕ
   pub known : IsKnown digit
   pub text : Statement
-  pub loop : Loop d root half text
+  pub loop : Loop d wide root half text
   pub turned : (store : Store) (time : ℕ) (z : Digit) → slice_get store root ≡ Some (one_bit z) → slice_get (put store (assignment loop.target loop.value store time)) root ≡ Some (one_bit (not_digit z))
 
 -- what the process has to do: to begin, to pause, to turn

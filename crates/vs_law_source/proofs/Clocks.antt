@@ -1,11 +1,11 @@
 -- Copies and clocks of designs that say the same.
-use Rattle.std.proofs.Common.{◌≡◌, ℕ, ◌⊎◌, List, [], ◌∷◌, refl, ap, sym, subst, ◌∙◌, inl, inr}
+use Rattle.std.proofs.Common.{◌≡◌, ℕ, ◌⊎◌, Bool, List, [], ◌∷◌, refl, ap, sym, subst, ◌∙◌, inl, inr}
 use Rattle.std.specs.declared.vec.Vec.{Vec}
 use Rattle.std.specs.declared.boxed.Box.{Box}
 use Rattle.std.specs.declared.alloc.Global.{Global}
 use Rattle.vs_design.specs.vs_logic4.specs.declared.digit.Digit.{Digit}
 use Rattle.vs_design.specs.declared.design.ProcessKind.{ProcessKind}
-use Rattle.vs_design.specs.declared.design.ProcessKind.TheVariants.{Initial, Always}
+use Rattle.vs_design.specs.declared.design.ProcessKind.TheVariants.{Initial}
 use Rattle.vs_design.specs.declared.expression.Typed.{Typed}
 use Rattle.vs_design.specs.declared.statement.Statement.{Statement}
 use Rattle.vs_design.specs.declared.statement.Statement.TheOpen.{Statement-F}
@@ -16,13 +16,13 @@ use Rattle.vs_design.specs.declared.statement.Ticks.{Ticks}
 use Rattle.vs_design.specs.Parts.{Parts}
 use Rattle.vs_elab_statements.specs.vs_elab_listed.specs.Outlines.{Declared}
 use Rattle.vs_elab_laws.specs.Same.{SameSides}
-use Rattle.vs_rules.specs.Claims.{Claims}
+use Rattle.vs_rules.specs.Claims.{Claims, is_wide}
 use Rattle.vs_rules.specs.Constants.{bit_of, IsBare, itself, inside, Sets, Turns, SetsAfter, TurnsForever, SetsAndTurns, HasBody, IsClock}
 use Rattle.vs_law_source.proofs.Alike.{Alike, alike, AlikeLayer, of_assign, of_delay, of_block, of_forever, AlikeAll, all_end, all_more}
 use Rattle.vs_law_source.proofs.Cones.{writes_as}
 use Rattle.vs_law_source.proofs.Designs.{Twins, back, signal_there, process_there}
 use Rattle.vs_law_source.proofs.Named.{writer_as}
-use Rattle.vs_law_source.proofs.Trees.{SameSizes, inverse_as, whole_target_as, given_as}
+use Rattle.vs_law_source.proofs.Trees.{SameSizes, turn_as, whole_target_as, given_as}
 
 -- twins have signals of one size
 pub sizes : {d d' : Parts} → Twins d d' → SameSizes d d'
@@ -109,8 +109,8 @@ module _ (d d' : Parts) (t : Twins d d') where
         gives = sym (given_as h.target a.target h.value a.value (bit_of v) a.same) ∙ h.gives;
       }
 
-  turns_as : (v half : ℕ) (s s' : Statement) → Alike s s' → Turns d v half s → Turns d' v half s'
-  turns_as v half s s' m h =
+  turns_as : (wide : Bool) (v half : ℕ) (s s' : Statement) → Alike s s' → Turns d wide v half s → Turns d' wide v half s'
+  turns_as wide v half s s' m h =
       let b = bare_as s s' (f.Delay h.number h.ticks h.inner) m h.is in
       let l = delay_layer h.number h.ticks h.inner b.layer b.same in
       let i = bare_as h.inner.value l.body.value (f.Assign h.assigns h.target h.value) l.same h.body in
@@ -127,7 +127,7 @@ module _ (d d' : Parts) (t : Twins d d') where
         value = a.value;
         body = subst (IsBare l.body.value) a.is i.is;
         whole = whole_target_as d d' (sizes t) v h.target a.target a.same.target h.whole;
-        inverse = inverse_as d d' (sizes t) v h.value a.value a.same.source.layer a.same.source.size h.inverse;
+        inverse = turn_as d d' (sizes t) wide v h.value a.value a.same.source.layer h.inverse;
       }
 
   sets_after_as : (v offset : ℕ) (digit : Digit) (s s' : Statement) → Alike s s' → SetsAfter d v offset digit s → SetsAfter d' v offset digit s'
@@ -143,15 +143,15 @@ module _ (d d' : Parts) (t : Twins d d') where
         sets = sets_as v digit h.inner.value l.body.value l.same h.sets;
       }
 
-  turns_forever_as : (v half : ℕ) (s s' : Statement) → Alike s s' → TurnsForever d v half s → TurnsForever d' v half s'
-  turns_forever_as v half s s' m h =
+  turns_forever_as : (wide : Bool) (v half : ℕ) (s s' : Statement) → Alike s s' → TurnsForever d wide v half s → TurnsForever d' wide v half s'
+  turns_forever_as wide v half s s' m h =
       let b = bare_as s s' (f.Forever h.number h.inner) m h.is in
       let l = forever_layer h.number h.inner b.layer b.same in
       record {
         number = h.number;
         inner = l.body;
         is = subst (IsBare s') l.is b.is;
-        turns = turns_as v half h.inner.value l.body.value l.same h.turns;
+        turns = turns_as wide v half h.inner.value l.body.value l.same h.turns;
       }
 
   first_as : (v offset : ℕ) (digit : Digit) (s s' : Statement) → Alike s s' → ((offset ≡ 0) × Sets d v digit s) ⊎ SetsAfter d v offset digit s →
@@ -159,8 +159,8 @@ module _ (d d' : Parts) (t : Twins d d') where
   first_as v offset digit s s' m (inl h) = inl (h.0, sets_as v digit s s' m h.1)
   first_as v offset digit s s' m (inr h) = inr (sets_after_as v offset digit s s' m h)
 
-  sets_and_turns_as : (v offset half : ℕ) (digit : Digit) (s s' : Statement) → Alike s s' → SetsAndTurns d v offset half digit s → SetsAndTurns d' v offset half digit s'
-  sets_and_turns_as v offset half digit s s' m h =
+  sets_and_turns_as : (wide : Bool) (v offset half : ℕ) (digit : Digit) (s s' : Statement) → Alike s s' → SetsAndTurns d wide v offset half digit s → SetsAndTurns d' wide v offset half digit s'
+  sets_and_turns_as wide v offset half digit s s' m h =
       let b = bare_as s s' (f.Block h.all) m h.is in
       let l = block_layer h.all b.layer b.same in
       let two = two_inside h.first h.second l.all.items (subst (λ (xs : List Statement). AlikeAll xs l.all.items) h.two l.same) in
@@ -171,7 +171,7 @@ module _ (d d' : Parts) (t : Twins d d') where
         second = two.1;
         two = two.2;
         sets = first_as v offset digit h.first two.0 two.3 h.sets;
-        turns = turns_forever_as v half h.second two.1 two.4 h.turns;
+        turns = turns_forever_as wide v half h.second two.1 two.4 h.turns;
       }
 
   has_body_as : (i : ℕ) (kind : ProcessKind) (P P' : Statement → Type 0) → ((s s' : Statement) → Alike s s' → P s → P' s') → HasBody d i kind P → HasBody d' i kind P'
@@ -181,7 +181,10 @@ module _ (d d' : Parts) (t : Twins d d') where
 
 pub clock_as : {d d' : Parts} → Twins d d' → (c : Claims) (v : ℕ) (digit : Digit) (offset half : ℕ) → IsClock d c v digit offset half → IsClock d' c v digit offset half
 clock_as {d} {d'} t c v digit offset half (IsClock.alone i w b) =
-    IsClock.alone i (writer_as t c v i w) (has_body_as d d' t i Initial (SetsAndTurns d v offset half digit) (SetsAndTurns d' v offset half digit) (sets_and_turns_as d d' t v offset half digit) b)
-clock_as {d} {d'} t c v digit offset half (IsClock.two i j w b a e others) =
-    IsClock.two i j (writer_as t c v i w) (has_body_as d d' t i Always (TurnsForever d v half) (TurnsForever d' v half) (turns_forever_as d d' t v half) b)
+    let wide = is_wide c in
+    IsClock.alone i (writer_as t c v i w)
+    (has_body_as d d' t i Initial (SetsAndTurns d wide v offset half digit) (SetsAndTurns d' wide v offset half digit) (sets_and_turns_as d d' t wide v offset half digit) b)
+clock_as {d} {d'} t c v digit offset half (IsClock.two i j kind w may b a e others) =
+    let wide = is_wide c in
+    IsClock.two i j kind (writer_as t c v i w) may (has_body_as d d' t i kind (TurnsForever d wide v half) (TurnsForever d' wide v half) (turns_forever_as d d' t wide v half) b)
     (has_body_as d d' t j Initial (Sets d v digit) (Sets d' v digit) (sets_as d d' t v digit) a) e (λ k w. others k (writes_as (back t) k v w))

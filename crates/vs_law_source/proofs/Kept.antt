@@ -2,26 +2,24 @@
 use Rattle.std.proofs.Common.{◌≡◌, ℕ, ◌%◌, ◌+◌, ◌⊎◌, true, false, Some, length, refl, ap, sym, subst, ◌∙◌, inl, inr}
 use Rattle.vs_design.specs.declared.range.BitRange.{BitRange}
 use Rattle.vs_design.specs.Parts.{Parts}
-use Rattle.vs_design.specs.Uses.{reads, writes}
+use Rattle.vs_design.specs.Uses.{reads}
 use Rattle.vs_threads.specs.vs_process.specs.Numbers.{number_next}
 use Rattle.vs_threads.specs.vs_process.specs.Places.{Todo}
 use Rattle.vs_threads.specs.vs_process.specs.Steps.{Next, after}
-use Rattle.vs_elab_statements.specs.vs_elab_listed.specs.Outlines.{Declared}
-use Rattle.vs_rules.specs.Claims.{Name, Mode, net, unwritten, combinational, nonblocking, blocking, private, both, Claims, writer_in, second_in, IsBlock, IsDelay, IsSequential}
+use Rattle.vs_rules.specs.Claims.{Name, Mode, net, unwritten, combinational, nonblocking, blocking, private, both, Claims, writer_in, second_in, IsBlock, IsDelay, IsSequential, is_wide}
 use Rattle.vs_rules.specs.Constants.{bit_of}
 use Rattle.vs_rules.specs.Drivers.{Driver, block}
 use Rattle.vs_rules.specs.Points.{Goes}
 use Rattle.vs_rules.specs.Paths.{Bit, any_way, is_plain, is_zero_time, IsPoint, IsHot, WritesNow, reads_of}
-use Rattle.vs_rules.specs.Rules.{K1_Signal, K1_Assign, K1_Process, K1_Name, K2, HasWriter, NeverNow, NeverLater, MayBlock, IsPrivate, IsAsModeSays, K3, IsDriven, IsCovered, K4, IsEdgeSignal, IsOneBit, IsCopy, CopiesRoot, itself, copy, IsSoundRoot, K6, Arrives, K7, K8, IsOwnRead, IsOwnEdge, AreApart, K9, FiresNone, K10_Signal, BlockNeeds, needs, shows, K10_Process}
+use Rattle.vs_rules.specs.Rules.{K1_Signal, K1_Assign, K1_Process, K1_Name, K2, HasWriter, NeverNow, NeverLater, MayBlock, IsPrivate, IsAsModeSays, K3, IsDriven, IsCovered, K4, IsEdgeSignal, IsSoundRoot, K6, Arrives, K7, K8, IsOwnRead, IsOwnEdge, AreApart, K9, FiresNone, K10_Signal, BlockNeeds, needs, shows, K10_Process}
 use Rattle.vs_rules.specs.Slots.{DelayEnds, RunsByDelays, HasSlot}
-use Rattle.vs_law_source.proofs.Clocks.{sizes}
 use Rattle.vs_law_source.proofs.Cones.{texts_read, texts_control, writes_as, bit_as, driver_as, driver_reads_as, driver_needs_as, stands_before_as, writes_bit_as, source_as, blocking_as, cone_as}
-use Rattle.vs_law_source.proofs.Designs.{Twins, back, signal_there, assign_there}
+use Rattle.vs_law_source.proofs.Copies.{copies_root_as, seen_as}
+use Rattle.vs_law_source.proofs.Designs.{Twins, back, assign_there}
 use Rattle.vs_law_source.proofs.Done.{listed_as, number_same, writes_now_as, writes_later_as, writes_any_as, shows_now_as, reads_as, gives_digit_as, HasNumber, read_number, write_number}
 use Rattle.vs_law_source.proofs.Named.{signal_named_as, process_named_as, assign_named_as, claims_same, writer_as, second_as, mode_as, kind_as, block_as, edge_as, delay_as, mixed_lists_as, mixed_as, waits_for_edges_as, waits_for_times_as, sequential_as, root_of_as, root_as}
 use Rattle.vs_law_source.proofs.Slots.{delay_ends_as, edge_ends_as, runs_by_delays_as, runs_by_edges_as, has_slot_as, slot_point, write_slot_as, fires_of_as}
 use Rattle.vs_law_source.proofs.Todos.{AlikeTodo, AlikeNext, both_after, goes_as, todo_turned}
-use Rattle.vs_law_source.proofs.Trees.{whole_as, whole_target_as}
 use Rattle.vs_law_source.proofs.Walks.{TwinOf, path_as, zero_same, goes_after_as, goes_wait_as, point_as, slot0_as, prologue_as, slot0_point, late_as, hot_as, from_point, heard_at_start_as, term_as, one_here}
 
 -- one of two, as one of two others
@@ -138,35 +136,6 @@ k4_as t c x h =
 edge_signal_as : {d d' : Parts} → Twins d d' → (v : ℕ) → IsEdgeSignal d v → IsEdgeSignal d' v
 edge_signal_as t v h = record { process = h.process; term = h.term; has = term_as t h.process h.term h.has; edge = h.edge; of = h.of }
 
-one_bit_as : {d d' : Parts} → Twins d d' → (v : ℕ) → IsOneBit d v → IsOneBit d' v
-one_bit_as t v h =
-    let o = signal_there t v h.0 h.1 in
-    (o.other, o.is, ap (λ (z : Declared). z.width) (sym o.same) ∙ h.2, ap (λ (z : Declared). z.count) (sym o.same) ∙ h.3, ap (λ (z : Declared). z.words) (sym o.same) ∙ h.4)
-
-pub copy_as : {d d' : Parts} → Twins d d' → (v u : ℕ) → IsCopy d v u → IsCopy d' v u
-copy_as {d} {d'} t v u h =
-    let o = assign_there t h.number h.assign h.is in
-    let b = back t in
-    record {
-      is_net = kind_as t false v h.is_net;
-      number = h.number;
-      assign = o.other;
-      is = o.is;
-      whole = whole_target_as d d' (sizes t) v h.assign.target o.other.target o.same.sides.target h.whole;
-      copies = whole_as d d' (sizes t) u h.assign.source o.other.source o.same.sides.source.layer o.same.sides.source.size h.copies;
-      same = λ s r e f.
-          let p = signal_there b v s e in
-          let q = signal_there b u r f in
-          ap (λ (z : Declared). z.width) p.same ∙ h.same p.other q.other p.is q.is ∙ sym (ap (λ (z : Declared). z.width) q.same);
-      alone = λ j a e l.
-          let p = assign_there b j a e in
-          h.alone j p.other p.is (listed_as d' d (writes a.target) (writes p.other.target) v p.same.sides.target.ranges l);
-    }
-
-copies_root_as : {d d' : Parts} → Twins d d' → (root v : ℕ) → CopiesRoot d root v → CopiesRoot d' root v
-copies_root_as t root _ (itself o) = itself (one_bit_as t root o)
-copies_root_as t root _ (copy v u o i r) = copy v u (one_bit_as t v o) (copy_as t v u i) (copies_root_as t root u r)
-
 sound_root_as : {d d' : Parts} → Twins d d' → (c : Claims) (root : ℕ) → IsSoundRoot d c root → IsSoundRoot d' c root
 sound_root_as {d} {d'} t c root h =
     let u = back t in
@@ -185,7 +154,7 @@ k6_as t c v h =
     record {
       one_entry = λ name n e. h.one_entry name (signal_named_as u v name n) (edge_signal_as u v e);
       no_entry = λ name n e. h.no_entry name (signal_named_as u v name n) (λ x. e (edge_signal_as t v x));
-      copies = λ root r. copies_root_as t root v (h.copies root (root_of_as u c root v r));
+      copies = λ root r. copies_root_as t (is_wide c) root v (h.copies root (root_of_as u c root v r));
       root = λ root r. sound_root_as t c root (h.root root (root_of_as u c root v r));
     }
 
@@ -325,7 +294,9 @@ fires_none_as t c root k k' a h = record {
   digit = h.digit;
   known = h.known;
   gives = gives_digit_as (bit_of root) h.digit k k' a h.gives;
-  silent = λ j term has first e r. h.silent j term (term_as (back t) j term has) (λ wide. heard_at_start_as (back t) j term (first wide)) e (root_of_as (back t) c root term.range.signal r);
+  silent = λ j term edge has first e r seen.
+      let u = back t in
+      h.silent j term edge (term_as u j term has) (λ wide. heard_at_start_as u j term (first wide)) e (root_of_as u c root term.range.signal r) (seen_as u (is_wide c) term edge seen);
 }
 
 pub k10_signal_as : {d d' : Parts} → Twins d d' → (c : Claims) (v : ℕ) → K10_Signal d c v → K10_Signal d' c v

@@ -28,9 +28,10 @@ use Rattle.vs_rules.specs.Points.{first_todo}
 use Rattle.vs_law_source.proofs.Alike.{alike, AlikeLayer, of_event, of_later, of_forever}
 use Rattle.vs_law_source.proofs.Clocks.{layers}
 use Rattle.vs_law_source.proofs.Cones.{texts_read, writes_as, bit_as, names_as, driver_needs_as, source_as, passes_as}
+use Rattle.vs_law_source.proofs.Copies.{copy_as}
 use Rattle.vs_law_source.proofs.Designs.{AlikeProcess, Twins, back, assign_there, process_there, start_same}
 use Rattle.vs_law_source.proofs.Done.{lists_same, late_same, surely_same, writes_any_as, reads_now_as}
-use Rattle.vs_law_source.proofs.Kept.{either_as, copy_as}
+use Rattle.vs_law_source.proofs.Kept.{either_as}
 use Rattle.vs_law_source.proofs.Named.{writer_as, mode_as, block_as, delay_as, start_as, sequential_as}
 use Rattle.vs_law_source.proofs.Steps.{assignment_same, run_same}
 use Rattle.vs_law_source.proofs.Texts.{control_same}

@@ -11,6 +11,7 @@ mod Done
 mod Walks
 mod Cones
 mod Clocks
+mod Copies
 mod Slots
 mod Kept
 mod KeptBlocks

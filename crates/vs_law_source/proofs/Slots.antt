@@ -6,13 +6,14 @@ use Rattle.vs_design.specs.declared.statement.EventTerm.{EventTerm}
 use Rattle.vs_design.specs.Parts.{Parts}
 use Rattle.vs_threads.specs.vs_process.specs.Places.{Todo}
 use Rattle.vs_threads.specs.vs_process.specs.Steps.{Next}
-use Rattle.vs_rules.specs.Claims.{Claims, Kind, block, edges, delays, mixed, kind_of}
+use Rattle.vs_rules.specs.Claims.{Claims, Kind, block, edges, delays, mixed, kind_of, is_wide}
 use Rattle.vs_rules.specs.Constants.{bit_of}
 use Rattle.vs_rules.specs.Controls.{list_of}
 use Rattle.vs_rules.specs.Paths.{is_plain, IsPoint}
 use Rattle.vs_rules.specs.Slots.{DelayEnds, RunsByDelays, InPhase, Fires, EdgeEnds, RunsByEdges, Ends, HasSlot, HasWriteSlot, FiresOf}
 use Rattle.vs_law_source.proofs.Clocks.{clock_as}
 use Rattle.vs_law_source.proofs.Cones.{texts_control}
+use Rattle.vs_law_source.proofs.Copies.{seen_as}
 use Rattle.vs_law_source.proofs.Designs.{Twins, back}
 use Rattle.vs_law_source.proofs.Done.{writes_now_as, writes_any_as, gives_digit_as}
 use Rattle.vs_law_source.proofs.Named.{writer_as, kinds_same, lists_as, root_of_as}
@@ -50,7 +51,9 @@ fires_as {d} {d'} t c term r h =
       writes = writes_any_as d d' h.at q.to h.root q.same h.writes;
       runs = q.is;
       counted = λ digit g. h.counted digit (gives_digit_as (bit_of h.root) digit q.to h.at (todo_turned h.at q.to q.same) g);
-      in_phase = in_phase_as t c h.root term.edge r h.in_phase;
+      edge = h.edge;
+      seen = seen_as t (is_wide c) term h.edge h.seen;
+      in_phase = in_phase_as t c h.root h.edge r h.in_phase;
     }
 
 -- ---- of any process

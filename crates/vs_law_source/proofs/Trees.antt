@@ -1,6 +1,5 @@
--- Expressions and targets that say the same are the whole of a signal, `~` of it, and writes of constants alike.
-use Rattle.std.proofs.Common.{◌≡◌, ℕ, pos, ◌+◌, neg_ℤ, ◌+ℤ◌, ◌==◌, if◌then◌else◌, ◌||◌, Option, Some, None, option_map, List, [], ◌∷◌, slice_get, refl, ap, ap₂, sym, subst, ◌∙◌, true≢false}
-use Rattle.std.proofs.lemmas.Option.{none-some, same_Some}
+-- Expressions and targets that say the same are the whole of a signal, `~` or `!` of it, and writes of constants alike.
+use Rattle.std.proofs.Common.{◌≡◌, ℕ, pos, ◌+◌, neg_ℤ, ◌+ℤ◌, ◌==◌, if◌then◌else◌, ◌||◌, Bool, true, false, Some, None, List, [], ◌∷◌, slice_get, refl, ap, ap₂, sym, subst, ◌∙◌, true≢false}
 use Rattle.std.specs.List.{AllZip, list_any}
 use Rattle.std.specs.declared.boxed.Box.{Box}
 use Rattle.std.specs.declared.alloc.Global.{Global}
@@ -18,19 +17,19 @@ use Rattle.vs_design.specs.declared.statement.Aim.TheVariants.{Fixed, Chosen}
 use Rattle.vs_design.specs.declared.statement.Target.{Target}
 use Rattle.vs_design.specs.Parts.{Parts}
 use Rattle.vs_design.specs.Uses.{aim_range, covers, is_of, reads}
-use Rattle.vs_design.specs.WellFormed.{aim_width, size_of, size_step}
+use Rattle.vs_design.specs.WellFormed.{aim_width}
 use Rattle.vs_threads.specs.vs_eval.specs.Values.{target_value}
-use Rattle.vs_elab_laws.specs.vs_width_selects.specs.Layers.{FixedBits, slice_bits, Layer, name, select, inverse, bits, other, brought, operator_layer, layer_step, layer_of}
+use Rattle.vs_elab_laws.specs.vs_width_selects.specs.Layers.{FixedBits, slice_bits, Layer, name, select, inverse, negation, negated, bits, brought, operator_layer, layer_step, layer_of}
 use Rattle.vs_elab_laws.specs.Same.{SameAim, SameTarget, SameSides}
 use Rattle.vs_rules.specs.Blocks.{is_sure}
-use Rattle.vs_rules.specs.Constants.{IsWholeSlice, IsWholeTarget, IsWholeSelect, IsWholeLayer, IsWhole, IsInverseLayer, IsInverse, digit_there, place_gives, any_aims, places_give, is_nothing, given}
+use Rattle.vs_rules.specs.Constants.{IsWholeSlice, IsWholeTarget, IsWholeSelect, IsWholeLayer, IsWhole, IsInverseLayer, IsInverse, IsNegationLayer, InvertsLayer, Inverts, IsTurn, digit_there, place_gives, any_aims, places_give, is_nothing, given}
 use Rattle.vs_rules.specs.Paths.{Bit}
 use Rattle.vs_law_source.proofs.Steps.{value_same}
 
--- ---- whole signals, by what is outermost and the size
+-- ---- whole signals, by what is outermost
 
 -- these bits are the whole of a signal that is no array
-record AreWhole (d : Parts) (v : ℕ) (b : FixedBits) (size : Option ℕ) : Type 0 where
+record AreWhole (d : Parts) (v : ℕ) (b : FixedBits) : Type 0 where
   signal : Signal
   is : slice_get d.signals v ≡ Some signal
   no_array : signal.words ≡ None
@@ -39,33 +38,26 @@ record AreWhole (d : Parts) (v : ℕ) (b : FixedBits) (size : Option ℕ) : Type
   word : b.word ≡ 0
   low : b.low ≡ pos 0
   width : b.width ≡ signal.width
-  size_is : size ≡ Some b.width
 
-record IsNamed (d : Parts) (v n : ℕ) (size : Option ℕ) : Type 0 where
+record IsNamed (d : Parts) (v n w : ℕ) : Type 0 where
   signal : Signal
   is : slice_get d.signals v ≡ Some signal
   no_array : signal.words ≡ None
   count : signal.count ≡ 1
   of : n ≡ v
-  size_is : size ≡ Some signal.width
+  width : w ≡ signal.width
 
-abbrev WholeBy : Parts → ℕ → Layer → Option ℕ → Type 0
-WholeBy d v (name n) size = IsNamed d v n size
-WholeBy d v (select b) size = AreWhole d v b size
-WholeBy d v (bits b) size = AreWhole d v b size
-WholeBy d v _ size = ⊥
+abbrev WholeBy : Parts → ℕ → Layer → Type 0
+WholeBy d v (name n w) = IsNamed d v n w
+WholeBy d v (select b w) = AreWhole d v b × (b.width ≡ w)
+WholeBy d v (bits b) = AreWhole d v b
+WholeBy d v _ = ⊥
 
 abbrev layered : Typed-F Typed → Layer
 layered x = layer_step (map-Typed Typed Layer layer_of x)
 
-abbrev sized : Typed-F Typed → Option ℕ
-sized x = size_step (map-Typed Typed (Option ℕ) size_of x)
-
 layer_is : (e : Typed) → layer_of e ≡ layered (out-Typed e)
 layer_is e = ap layer_of (sym (roll-out-Typed e)) ∙ fold-roll-Typed Layer layer_step (out-Typed e)
-
-size_is : (e : Typed) → size_of e ≡ sized (out-Typed e)
-size_is e = ap size_of (sym (roll-out-Typed e)) ∙ fold-roll-Typed (Option ℕ) size_step (out-Typed e)
 
 -- a layer that is bits alone
 record IsSlice (z : Typed-F Typed) (b : FixedBits) : Type 0 where
@@ -75,11 +67,13 @@ record IsSlice (z : Typed-F Typed) (b : FixedBits) : Type 0 where
 
 no_bits : (op : Unary) (l : Layer) (b : FixedBits) → operator_layer op l ≡ bits b → ⊥
 no_bits u.Not l b h = cc
+no_bits u.LogicalNot l b h = cc
 no_bits _ l b h = cc
 
-brought_no_bits : (l : Layer) (b : FixedBits) → brought l ≡ bits b → ⊥
-brought_no_bits (bits c) b h = cc
-brought_no_bits _ b h = cc
+brought_no_bits : (w : ℕ) (l : Layer) (b : FixedBits) → brought w l ≡ bits b → ⊥
+brought_no_bits w (bits c) b h = cc
+brought_no_bits w (negation l) b h = cc
+brought_no_bits w _ b h = cc
 
 abbrev bits_in : FixedBits → Layer → FixedBits
 bits_in c (bits b) = b
@@ -88,7 +82,7 @@ bits_in c _ = c
 slice_of : (z : Typed-F Typed) (b : FixedBits) → layered z ≡ bits b → IsSlice z b
 slice_of (t.Slice s) b h = record { slice = s; is = refl; bits_are = ap (bits_in b) h }
 slice_of (t.Unary op x) b h = absurd (no_bits op (layer_of x.value) b h)
-slice_of (t.Resized size x) b h = absurd (brought_no_bits (layer_of x.value) b h)
+slice_of (t.Resized size x) b h = absurd (brought_no_bits size.width (layer_of x.value) b h)
 slice_of _ b h = cc
 
 -- a select of all bits, of a size
@@ -96,22 +90,20 @@ to_select : (d : Parts) (v w : ℕ) (z : Typed-F Typed) → IsWholeSelect d v w 
 to_select d v w (t.Slice s) h = (s, refl, h.0, h.1)
 to_select d v w _ h = absurd h
 
-bits_whole : (d : Parts) (v : ℕ) (s : Slice) (size : Option ℕ) → IsWholeSlice d v s → size ≡ Some s.width → AreWhole d v (slice_bits s) size
-bits_whole d v s size h e = record { signal = h.signal; is = h.is; no_array = h.no_array; count = h.count; of = h.of; word = h.word; low = h.low; width = h.width; size_is = e }
+bits_whole : (d : Parts) (v : ℕ) (s : Slice) → IsWholeSlice d v s → AreWhole d v (slice_bits s)
+bits_whole d v s h = record { signal = h.signal; is = h.is; no_array = h.no_array; count = h.count; of = h.of; word = h.word; low = h.low; width = h.width }
 
-to_whole : (d : Parts) (v : ℕ) (x : Typed-F Typed) → IsWholeLayer d v x → WholeBy d v (layered x) (sized x)
-to_whole d v (t.Signal o) h = record { signal = h.signal; is = h.is; no_array = h.no_array; count = h.count; of = h.of; size_is = ap Some h.width }
-to_whole d v (t.Slice s) h = bits_whole d v s (Some s.width) h refl
+to_whole : (d : Parts) (v : ℕ) (x : Typed-F Typed) → IsWholeLayer d v x → WholeBy d v (layered x)
+to_whole d v (t.Signal o) h = record { signal = h.signal; is = h.is; no_array = h.no_array; count = h.count; of = h.of; width = h.width }
+to_whole d v (t.Slice s) h = bits_whole d v s h
 to_whole d v (t.Resized size x) h =
     let p = to_select d v size.width (out-Typed x.value) h in
     let l : layer_of x.value ≡ bits (slice_bits p.0) = layer_is x.value ∙ ap layered p.1 in
-    let n : size_of x.value ≡ Some p.0.width = size_is x.value ∙ ap sized p.1 in
-    subst (λ z. WholeBy d v (brought z) (option_map (λ k. size.width) (size_of x.value))) (sym l)
-    (bits_whole d v p.0 (option_map (λ k. size.width) (size_of x.value)) p.2 (ap (option_map (λ k. size.width)) n ∙ ap Some (sym p.3)))
+    subst (λ z. WholeBy d v (brought size.width z)) (sym l) (bits_whole d v p.0 p.2, p.3)
 to_whole d v _ h = absurd h
 
-whole_slice : (d : Parts) (v : ℕ) (s : Slice) (b : FixedBits) (size : Option ℕ) → slice_bits s ≡ b → AreWhole d v b size → IsWholeSlice d v s
-whole_slice d v s b size e h = record {
+whole_slice : (d : Parts) (v : ℕ) (s : Slice) (b : FixedBits) → slice_bits s ≡ b → AreWhole d v b → IsWholeSlice d v s
+whole_slice d v s b e h = record {
   signal = h.signal;
   is = h.is;
   no_array = h.no_array;
@@ -122,33 +114,31 @@ whole_slice d v s b size e h = record {
   width = ap (λ z. z.width) e ∙ h.width;
 }
 
--- what is brought to a context and whole is bits
-record IsBrought (d : Parts) (v : ℕ) (l : Layer) (size : Option ℕ) : Type 0 where
+-- what is brought to a size and whole is bits
+record IsBrought (d : Parts) (v w : ℕ) (l : Layer) : Type 0 where
   of : FixedBits
   is : l ≡ bits of
-  whole : AreWhole d v of size
+  whole : AreWhole d v of
+  width : of.width ≡ w
 
-brought_is : (d : Parts) (v : ℕ) (l : Layer) (size : Option ℕ) → WholeBy d v (brought l) size → IsBrought d v l size
-brought_is d v (bits b) size h = record { of = b; is = refl; whole = h }
-brought_is d v _ size h = absurd h
+brought_is : (d : Parts) (v w : ℕ) (l : Layer) → WholeBy d v (brought w l) → IsBrought d v w l
+brought_is d v w (bits b) h = record { of = b; is = refl; whole = h.0; width = h.1 }
+brought_is d v w (negation l) h = absurd h
+brought_is d v w _ h = absurd h
 
-no_operator : (d : Parts) (v : ℕ) (op : Unary) (l : Layer) (size : Option ℕ) → WholeBy d v (operator_layer op l) size → ⊥
-no_operator d v u.Not l size h = h
-no_operator d v _ l size h = h
+no_operator : (d : Parts) (v : ℕ) (op : Unary) (l : Layer) → WholeBy d v (operator_layer op l) → ⊥
+no_operator d v u.Not l h = h
+no_operator d v u.LogicalNot l h = h
+no_operator d v _ l h = h
 
-known_size : (w n : ℕ) (o : Option ℕ) → option_map (λ k. w) o ≡ Some n → w ≡ n
-known_size w n None h = absurd (none-some n h)
-known_size w n (Some k) h = same_Some w n h
-
-from_whole : (d : Parts) (v : ℕ) (x : Typed-F Typed) → WholeBy d v (layered x) (sized x) → IsWholeLayer d v x
-from_whole d v (t.Signal o) h = record { signal = h.signal; is = h.is; no_array = h.no_array; count = h.count; of = h.of; width = same_Some o.width h.signal.width h.size_is }
-from_whole d v (t.Slice s) h = whole_slice d v s (slice_bits s) (Some s.width) refl h
+from_whole : (d : Parts) (v : ℕ) (x : Typed-F Typed) → WholeBy d v (layered x) → IsWholeLayer d v x
+from_whole d v (t.Signal o) h = record { signal = h.signal; is = h.is; no_array = h.no_array; count = h.count; of = h.of; width = h.width }
+from_whole d v (t.Slice s) h = whole_slice d v s (slice_bits s) refl h
 from_whole d v (t.Resized size x) h =
-    let p = brought_is d v (layer_of x.value) (option_map (λ k. size.width) (size_of x.value)) h in
+    let p = brought_is d v size.width (layer_of x.value) h in
     let q = slice_of (out-Typed x.value) p.of (sym (layer_is x.value) ∙ p.is) in
-    let w : size.width ≡ p.of.width = known_size size.width p.of.width (size_of x.value) p.whole.size_is in
-    subst (IsWholeSelect d v size.width) (sym q.is) (whole_slice d v q.slice p.of _ q.bits_are p.whole, ap (λ z. z.width) q.bits_are ∙ sym w)
-from_whole d v (t.Unary op x) h = absurd (no_operator d v op (layer_of x.value) (sized (t.Unary op x)) h)
+    subst (IsWholeSelect d v size.width) (sym q.is) (whole_slice d v q.slice p.of q.bits_are p.whole, ap (λ z. z.width) q.bits_are ∙ p.width)
+from_whole d v (t.Unary op x) h = absurd (no_operator d v op (layer_of x.value) h)
 from_whole d v _ h = absurd h
 
 -- two designs have the same signals, so far as whole signals ask
@@ -156,87 +146,148 @@ abbrev pub SameSizes : Parts → Parts → Type 0
 SameSizes d d' = (v : ℕ) (s : Signal) → slice_get d.signals v ≡ Some s →
     (s' : Signal) × (slice_get d'.signals v ≡ Some s') × (s.words ≡ s'.words) × (s.count ≡ s'.count) × (s.width ≡ s'.width)
 
-module _ (d d' : Parts) (same : SameSizes d d') where
-  bits_as : (v : ℕ) (b : FixedBits) (size : Option ℕ) → AreWhole d v b size → AreWhole d' v b size
-  bits_as v b size h =
-      let p = same v h.signal h.is in
-      record { signal = p.0; is = p.1; no_array = sym p.2 ∙ h.no_array; count = sym p.3 ∙ h.count; of = h.of; word = h.word; low = h.low; width = h.width ∙ p.4; size_is = h.size_is }
+-- an expression is the whole of a signal by what is outermost in it
+whole_by : (d : Parts) (v : ℕ) (e : Typed) (l : Layer) → layer_of e ≡ l → WholeBy d v l → IsWhole d v e
+whole_by d v e l k h = from_whole d v (out-Typed e) (subst (WholeBy d v) (sym k ∙ layer_is e) h)
 
-  whole_by : (v : ℕ) (l : Layer) (size : Option ℕ) → WholeBy d v l size → WholeBy d' v l size
-  whole_by v (name n) size h =
-      let p = same v h.signal h.is in
-      record { signal = p.0; is = p.1; no_array = sym p.2 ∙ h.no_array; count = sym p.3 ∙ h.count; of = h.of; size_is = h.size_is ∙ ap Some p.4 }
-  whole_by v (select b) size h = bits_as v b size h
-  whole_by v (bits b) size h = bits_as v b size h
-  whole_by v _ size h = absurd h
+by_whole : (d : Parts) (v : ℕ) (e : Typed) → IsWhole d v e → WholeBy d v (layer_of e)
+by_whole d v e h = subst (WholeBy d v) (sym (layer_is e)) (to_whole d v (out-Typed e) h)
 
-  -- an expression that says the same is the whole of a signal too
-  pub whole_as : (v : ℕ) (e e' : Typed) → layer_of e ≡ layer_of e' → size_of e ≡ size_of e' → IsWhole d v e → IsWhole d' v e'
-  whole_as v e e' l n h =
-      from_whole d' v (out-Typed e')
-      (subst (λ z. WholeBy d' v z (sized (out-Typed e'))) (sym (layer_is e) ∙ l ∙ layer_is e')
-      (subst (WholeBy d' v (layered (out-Typed e))) (sym (size_is e) ∙ n ∙ size_is e')
-      (whole_by v (layered (out-Typed e)) (sized (out-Typed e)) (to_whole d v (out-Typed e) h))))
+-- ---- `~` and `!` of a whole signal, by what is outermost
 
-  -- ---- `~` of a whole signal
+abbrev InverseBy : Parts → ℕ → Layer → Type 0
+InverseBy d v (inverse l) = WholeBy d v l
+InverseBy d v _ = ⊥
 
-  -- what is outermost in `~` of an operand
-  record IsInverted (v : ℕ) (l : Layer) (size : Option ℕ) : Type 0 where
-    of : Layer
-    is : l ≡ inverse of
-    whole : WholeBy d v of size
+abbrev InvertsBy : Parts → ℕ → Layer → Type 0
+InvertsBy d v (inverse l) = WholeBy d v l
+InvertsBy d v (negated l w) = (w ≡ 1) × WholeBy d v l
+InvertsBy d v _ = ⊥
 
-  not_size : (o : Option ℕ) → option_map (λ n. n) o ≡ o
-  not_size None = refl
-  not_size (Some n) = refl
-
-  to_inverse : (v : ℕ) (x : Typed-F Typed) → IsInverseLayer d v x → IsInverted v (layered x) (sized x)
-  to_inverse v (t.Unary u.Not x) h = record {
-    of = layer_of x.value;
-    is = refl;
-    whole = subst (WholeBy d v (layer_of x.value)) (sym (not_size (size_of x.value)))
-        (subst (λ z. WholeBy d v z (size_of x.value)) (sym (layer_is x.value))
-        (subst (WholeBy d v (layered (out-Typed x.value))) (sym (size_is x.value)) (to_whole d v (out-Typed x.value) h)));
-  }
-  to_inverse v _ h = absurd h
+-- what is outermost in `!` of an operand
+record IsNegation (d : Parts) (v : ℕ) (l : Layer) : Type 0 where
+  of : Layer
+  is : l ≡ negation of
+  whole : WholeBy d v of
 
 abbrev inner_of : Layer → Layer → Layer
-inner_of c (inverse l) = l
+inner_of c (negation l) = l
 inner_of c _ = c
 
-brought_no_inverse : (l m : Layer) → brought l ≡ inverse m → ⊥
-brought_no_inverse (bits c) m h = cc
-brought_no_inverse _ m h = cc
+to_inverse : (d : Parts) (v : ℕ) (x : Typed-F Typed) → IsInverseLayer d v x → InverseBy d v (layered x)
+to_inverse d v (t.Unary u.Not x) h = by_whole d v x.value h
+to_inverse d v _ h = absurd h
 
-no_other : (l : Layer) → other ≡ inverse l → ⊥
-no_other l h = cc
+to_negation : (d : Parts) (v : ℕ) (x : Typed-F Typed) → IsNegationLayer d v x → IsNegation d v (layered x)
+to_negation d v (t.Unary u.LogicalNot x) h = record { of = layer_of x.value; is = refl; whole = by_whole d v x.value h }
+to_negation d v _ h = absurd h
 
-not_from : (d : Parts) (v : ℕ) (x : Typed) (l : Layer) → layer_of x ≡ l → WholeBy d v l (option_map (λ n. n) (size_of x)) → IsWhole d v x
-not_from d v x l e h =
-    from_whole d v (out-Typed x)
-    (subst (λ z. WholeBy d v z (sized (out-Typed x))) (sym e ∙ layer_is x)
-    (subst (WholeBy d v l) (not_sized (size_of x) ∙ size_is x) h))
-  where
-    not_sized : (o : Option ℕ) → option_map (λ n. n) o ≡ o
-    not_sized None = refl
-    not_sized (Some n) = refl
+to_inverts : (d : Parts) (v : ℕ) (x : Typed-F Typed) → InvertsLayer d v x → InvertsBy d v (layered x)
+to_inverts d v (t.Unary u.Not x) h = by_whole d v x.value h
+to_inverts d v (t.Resized size x) h =
+    let p = to_negation d v (out-Typed x.value) h.1 in
+    subst (λ z. InvertsBy d v (brought size.width z)) (sym (layer_is x.value ∙ p.is)) (h.0, p.whole)
+to_inverts d v _ h = absurd h
 
-by_operator : (d : Parts) (v : ℕ) (op : Unary) (x : Box Typed Global) (l : Layer) → operator_layer op (layer_of x.value) ≡ inverse l →
-    WholeBy d v l (sized (t.Unary op x)) → IsInverseLayer d v (t.Unary op x)
-by_operator d v u.Not x l e h = not_from d v x.value l (ap (inner_of l) e) h
-by_operator d v _ x l e h = absurd (no_other l e)
+operator_inverse : (d : Parts) (v : ℕ) (op : Unary) (x : Box Typed Global) → InverseBy d v (operator_layer op (layer_of x.value)) → IsInverseLayer d v (t.Unary op x)
+operator_inverse d v u.Not x h = whole_by d v x.value (layer_of x.value) refl h
+operator_inverse d v u.LogicalNot x h = absurd h
+operator_inverse d v _ x h = absurd h
 
-from_inverse : (d : Parts) (v : ℕ) (x : Typed-F Typed) (l : Layer) → layered x ≡ inverse l → WholeBy d v l (sized x) → IsInverseLayer d v x
-from_inverse d v (t.Unary op x) l e h = by_operator d v op x l e h
-from_inverse d v (t.Resized size x) l e h = absurd (brought_no_inverse (layer_of x.value) l e)
-from_inverse d v _ l e h = cc
+brought_no_inverse : (d : Parts) (v w : ℕ) (l : Layer) → InverseBy d v (brought w l) → ⊥
+brought_no_inverse d v w (bits b) h = h
+brought_no_inverse d v w (negation l) h = h
+brought_no_inverse d v w _ h = h
 
--- an expression that says the same is `~` of the signal too
-pub inverse_as : (d d' : Parts) → SameSizes d d' → (v : ℕ) (e e' : Typed) → layer_of e ≡ layer_of e' → size_of e ≡ size_of e' → IsInverse d v e → IsInverse d' v e'
-inverse_as d d' same v e e' l n h =
-    let p = to_inverse d d' same v (out-Typed e) h in
-    from_inverse d' v (out-Typed e') p.of (sym (layer_is e') ∙ sym l ∙ layer_is e ∙ p.is)
-    (subst (WholeBy d' v p.of) (sym (size_is e) ∙ n ∙ size_is e') (whole_by d d' same v p.of (sized (out-Typed e)) p.whole))
+from_inverse : (d : Parts) (v : ℕ) (x : Typed-F Typed) → InverseBy d v (layered x) → IsInverseLayer d v x
+from_inverse d v (t.Unary op x) h = operator_inverse d v op x h
+from_inverse d v (t.Resized size x) h = absurd (brought_no_inverse d v size.width (layer_of x.value) h)
+from_inverse d v _ h = absurd h
+
+operator_negation : (d : Parts) (v : ℕ) (op : Unary) (x : Box Typed Global) (l : Layer) → operator_layer op (layer_of x.value) ≡ negation l → WholeBy d v l → IsNegationLayer d v (t.Unary op x)
+operator_negation d v u.LogicalNot x l e h = whole_by d v x.value l (ap (inner_of l) e) h
+operator_negation d v u.Not x l e h = cc
+operator_negation d v _ x l e h = cc
+
+brought_no_negation : (w : ℕ) (l m : Layer) → brought w l ≡ negation m → ⊥
+brought_no_negation w (bits b) m h = cc
+brought_no_negation w (negation l) m h = cc
+brought_no_negation w _ m h = cc
+
+from_negation : (d : Parts) (v : ℕ) (x : Typed-F Typed) (l : Layer) → layered x ≡ negation l → WholeBy d v l → IsNegationLayer d v x
+from_negation d v (t.Unary op x) l e h = operator_negation d v op x l e h
+from_negation d v (t.Resized size x) l e h = absurd (brought_no_negation size.width (layer_of x.value) l e)
+from_negation d v _ l e h = cc
+
+operator_inverts : (d : Parts) (v : ℕ) (op : Unary) (x : Box Typed Global) → InvertsBy d v (operator_layer op (layer_of x.value)) → InvertsLayer d v (t.Unary op x)
+operator_inverts d v u.Not x h = whole_by d v x.value (layer_of x.value) refl h
+operator_inverts d v u.LogicalNot x h = absurd h
+operator_inverts d v _ x h = absurd h
+
+-- what is brought to a size and inverts is `!`
+record IsBroughtNegation (d : Parts) (v w : ℕ) (l : Layer) : Type 0 where
+  of : Layer
+  is : l ≡ negation of
+  width : w ≡ 1
+  whole : WholeBy d v of
+
+brought_inverts : (d : Parts) (v w : ℕ) (l : Layer) → InvertsBy d v (brought w l) → IsBroughtNegation d v w l
+brought_inverts d v w (negation l) h = record { of = l; is = refl; width = h.0; whole = h.1 }
+brought_inverts d v w (bits b) h = absurd h
+brought_inverts d v w _ h = absurd h
+
+from_inverts : (d : Parts) (v : ℕ) (x : Typed-F Typed) → InvertsBy d v (layered x) → InvertsLayer d v x
+from_inverts d v (t.Unary op x) h = operator_inverts d v op x h
+from_inverts d v (t.Resized size x) h =
+    let p = brought_inverts d v size.width (layer_of x.value) h in
+    (p.width, from_negation d v (out-Typed x.value) p.of (sym (layer_is x.value) ∙ p.is) p.whole)
+from_inverts d v _ h = absurd h
+
+-- ---- of designs with the same signals
+
+module _ (d d' : Parts) (same : SameSizes d d') where
+  bits_as : (v : ℕ) (b : FixedBits) → AreWhole d v b → AreWhole d' v b
+  bits_as v b h =
+      let p = same v h.signal h.is in
+      record { signal = p.0; is = p.1; no_array = sym p.2 ∙ h.no_array; count = sym p.3 ∙ h.count; of = h.of; word = h.word; low = h.low; width = h.width ∙ p.4 }
+
+  whole_there : (v : ℕ) (l : Layer) → WholeBy d v l → WholeBy d' v l
+  whole_there v (name n w) h =
+      let p = same v h.signal h.is in
+      record { signal = p.0; is = p.1; no_array = sym p.2 ∙ h.no_array; count = sym p.3 ∙ h.count; of = h.of; width = h.width ∙ p.4 }
+  whole_there v (select b w) h = (bits_as v b h.0, h.1)
+  whole_there v (bits b) h = bits_as v b h
+  whole_there v _ h = absurd h
+
+  inverse_there : (v : ℕ) (l : Layer) → InverseBy d v l → InverseBy d' v l
+  inverse_there v (inverse l) h = whole_there v l h
+  inverse_there v _ h = absurd h
+
+  inverts_there : (v : ℕ) (l : Layer) → InvertsBy d v l → InvertsBy d' v l
+  inverts_there v (inverse l) h = whole_there v l h
+  inverts_there v (negated l w) h = (h.0, whole_there v l h.1)
+  inverts_there v _ h = absurd h
+
+  -- an expression that says the same is the whole of a signal too
+  pub whole_as : (v : ℕ) (e e' : Typed) → layer_of e ≡ layer_of e' → IsWhole d v e → IsWhole d' v e'
+  whole_as v e e' l h = whole_by d' v e' (layer_of e) (sym l) (whole_there v (layer_of e) (by_whole d v e h))
+
+  -- it is `~` of the signal too
+  inverse_as : (v : ℕ) (e e' : Typed) → layer_of e ≡ layer_of e' → IsInverse d v e → IsInverse d' v e'
+  inverse_as v e e' l h =
+      from_inverse d' v (out-Typed e')
+      (subst (InverseBy d' v) (sym (layer_is e) ∙ l ∙ layer_is e') (inverse_there v (layered (out-Typed e)) (to_inverse d v (out-Typed e) h)))
+
+  -- and `~` or `!` of it
+  pub inverts_as : (v : ℕ) (e e' : Typed) → layer_of e ≡ layer_of e' → Inverts d v e → Inverts d' v e'
+  inverts_as v e e' l h =
+      from_inverts d' v (out-Typed e')
+      (subst (InvertsBy d' v) (sym (layer_is e) ∙ l ∙ layer_is e') (inverts_there v (layered (out-Typed e)) (to_inverts d v (out-Typed e) h)))
+
+  -- and it turns a clock too
+  pub turn_as : (wide : Bool) (v : ℕ) (e e' : Typed) → layer_of e ≡ layer_of e' → IsTurn d wide v e → IsTurn d' wide v e'
+  turn_as false v e e' l h = inverse_as v e e' l h
+  turn_as true v e e' l h = inverts_as v e e' l h
 
 -- ---- places of targets
 

@@ -29,7 +29,8 @@ use Rattle.vs_rules.specs.Controls.{controls_of}
 use Rattle.vs_rules.specs.Drivers.{Driver, assign, block as block_driver, DriverReads, IsDriver, IsSource, StandsBefore, WritesBit}
 use Rattle.vs_rules.specs.Paths.{Bit, Has, HasTerm, IsPoint, IsSlot0, ReadsNow, Writes, WritesAny}
 use Rattle.vs_rules.specs.Points.{Goes, Point}
-use Rattle.vs_rules.specs.Rules.{K1_Signal, K1_Assign, K1_Process, K1_Name, K2, K3, K4, K6, K7, K8, K9, K10_Signal, K10_Process, IsAsModeSays, IsListed, IsCopy, IsCovered, IsSelf, Reads}
+use Rattle.vs_rules.specs.Rules.{K1_Signal, K1_Assign, K1_Process, K1_Name, K2, K3, K4, K6, K7, K8, K9, K10_Signal, K10_Process, IsAsModeSays, IsListed, IsCovered, IsSelf, Reads}
+use Rattle.vs_rules.specs.Copies.{IsCopy}
 use Rattle.vs_rules.specs.Blocks.{K5, K11, Begins, CopiesWhole, IsCold, IsStarted, Missing, StaysCold, Starts, copy, itself, run_alone}
 use Rattle.vs_rules.specs.Limits.{IsCertificate}
 use Rattle.vs_rules.specs.Verdict.{Keeping}

@@ -1,5 +1,5 @@
 -- A design that reads late keeps the rules.
-use Rattle.std.proofs.Common.{◌≡◌, ℕ, zero, suc, ◌%◌, ◌⊎◌, true, Some, List, [], ◌∷◌, length, slice_get, nat_lt, refl, sym, ◌∙◌, ap, subst, inl, inr, lit<, lit≤}
+use Rattle.std.proofs.Common.{◌≡◌, ℕ, zero, suc, ◌%◌, ◌⊎◌, true, false, Some, List, [], ◌∷◌, length, slice_get, nat_lt, refl, sym, ◌∙◌, ap, subst, inl, inr, lit<, lit≤}
 use Rattle.std.proofs.lemmas.Bool.{false≢true}
 use Rattle.std.proofs.lemmas.List.Elements.{All-nil, All-cons}
 use Rattle.std.proofs.lemmas.Option.{none-some, same_Some}
@@ -22,7 +22,8 @@ use Rattle.vs_rules.specs.Claims.{Name, EdgeClaim, Kind, blocking, all_names, cl
 use Rattle.vs_rules.specs.Controls.{controls_of, list_of}
 use Rattle.vs_rules.specs.Drivers.{Driver, assign, block as block_driver, InCone}
 use Rattle.vs_rules.specs.Paths.{IsHot, Path, Writes, WritesAny, is_zero_time}
-use Rattle.vs_rules.specs.Rules.{K1_Signal, K1_Assign, K1_Process, K1_Name, K2, K3, K4, K6, K7, K8, K9, K10_Signal, K10_Process, AreEdges, AreApart, CopiesRoot, itself, IsAsModeSays, IsEdgeSignal, IsListed, IsSoundRoot, Reads}
+use Rattle.vs_rules.specs.Rules.{K1_Signal, K1_Assign, K1_Process, K1_Name, K2, K3, K4, K6, K7, K8, K9, K10_Signal, K10_Process, AreEdges, AreApart, IsAsModeSays, IsEdgeSignal, IsListed, IsSoundRoot, Reads}
+use Rattle.vs_rules.specs.Copies.{CopiesRoot, itself}
 use Rattle.vs_rules.specs.Blocks.{K5}
 use Rattle.vs_rules.specs.Slots.{Ends, Fires}
 use Rattle.vs_rules.specs.Limits.{IsCertificate}
@@ -299,9 +300,9 @@ blocks g grain i = record {
   before_end = λ b k next blk is w u goes pauses. no_block g grain i blk;
 }
 
-copies_root : (g : Global) (grain : Grain) (root v : ℕ) → Rooted root v → CopiesRoot (reading_late g) root v
+copies_root : (g : Global) (grain : Grain) (root v : ℕ) → Rooted root v → CopiesRoot (reading_late g) false root v
 copies_root g grain root v at =
-    subst (λ n. CopiesRoot (reading_late g) n v) (sym at.0) (subst (CopiesRoot (reading_late g) 0) (sym at.1) (itself (bit g 97 Reg, refl, refl, refl, refl)))
+    subst (λ n. CopiesRoot (reading_late g) false n v) (sym at.0) (subst (CopiesRoot (reading_late g) false 0) (sym at.1) (itself (bit g 97 Reg, refl, refl, refl, refl)))
 
 -- a way from the write of a root leads to the end, where nothing is written
 never_hot : (g : Global) (i root : ℕ) (k : Todo) → WritesAny (reading_late g) k root → IsHot (reading_late g) i root k → ⊥

@@ -29,7 +29,7 @@ use Rattle.vs_independence.specs.vs_process.specs.declared.moves.Move.{Move}
 use Rattle.vs_independence.specs.vs_process.specs.declared.moves.Move.TheVariants.{Step, EndSlot}
 use Rattle.vs_independence.specs.vs_process.specs.Executions.{after, Legal, is_complete, trace}
 use Rattle.vs_independence.specs.Discipline.{Independent}
-use Rattle.vs_law_witnesses.specs.Race.{operand, initially, racing, set_to, target, two_initials}
+use Rattle.vs_law_witnesses.specs.Race.{operand, initially, racing, set_to, two_initials}
 
 -- ---- what folds give at a number and at an assignment
 

@@ -1,5 +1,5 @@
 -- A design in which a process waits for an edge is disciplined.
-use Rattle.std.proofs.Common.{eqb-true, ◌≡◌, ℕ, zero, suc, ◌<◌, ◌==◌, ◌⊎◌, true, false, Option, Some, None, List, [], ◌∷◌, get_or, slice_get, refl, sym, ◌∙◌, ap, subst, inl, inr, lit<, lit≤, nat_lt}
+use Rattle.std.proofs.Common.{eqb-true, ◌≡◌, ℕ, zero, suc, ◌==◌, ◌⊎◌, true, false, Option, Some, None, List, [], ◌∷◌, get_or, slice_get, refl, sym, ◌∙◌, ap, subst, inl, inr, lit<, lit≤, nat_lt}
 use Rattle.std.specs.declared.alloc.Global.{Global}
 use Rattle.std.specs.List.{list_any, IsDistinct, Contains}
 use Rattle.std.proofs.lemmas.Bool.{or_cases, false≢true, true≢false}
@@ -10,7 +10,7 @@ use Rattle.vs_design.specs.vs_logic4.specs.declared.digit.Digit.TheVariants.{One
 use Rattle.vs_design.specs.declared.design.Process.{Process}
 use Rattle.vs_design.specs.declared.range.BitRange.{BitRange}
 use Rattle.vs_design.specs.declared.statement.EventTerm.{EventTerm}
-use Rattle.vs_design.specs.declared.statement.Statement.{Statement, out-Statement}
+use Rattle.vs_design.specs.declared.statement.Statement.{out-Statement}
 use Rattle.vs_design.specs.declared.statement.Statement.TheVariants as y
 use Rattle.vs_design.specs.declared.statement.Statement.TheOpen as f
 use Rattle.vs_design.specs.declared.statement.Statement.TheFolds.{fold-roll-Statement}

@@ -1,5 +1,5 @@
 -- A design in which a process waits for an edge keeps the rules.
-use Rattle.std.proofs.Common.{◌≡◌, ℕ, zero, suc, ◌%◌, ◌<◌, Bool, true, Some, List, [], ◌∷◌, length, slice_get, refl, sym, ◌∙◌, ap, subst, inl, inr, lit<, lit≤, arith}
+use Rattle.std.proofs.Common.{◌≡◌, ℕ, zero, suc, ◌%◌, ◌<◌, Bool, true, false, Some, List, [], ◌∷◌, length, slice_get, refl, sym, ◌∙◌, ap, subst, inl, inr, lit<, lit≤, arith}
 use Rattle.std.proofs.lemmas.Bool.{false≢true}
 use Rattle.std.proofs.lemmas.Option.{none-some, same_Some}
 use Rattle.std.specs.declared.alloc.Global.{Global}
@@ -25,7 +25,8 @@ use Rattle.vs_rules.specs.Controls.{controls_of, list_of}
 use Rattle.vs_rules.specs.Drivers.{Driver, assign, block as block_driver}
 use Rattle.vs_rules.specs.Paths.{IsHot, IsPoint, IsPrologue, IsSlot0, ListsSignal, Path, ReadsNow, ShowsNow, Writes, WritesAny, WritesLater, WritesNow, HasTerm, is_plain, is_zero_time, reads_of}
 use Rattle.vs_rules.specs.Points.{Among, Goes, Point, first_todo}
-use Rattle.vs_rules.specs.Rules.{K1_Signal, K1_Assign, K1_Process, K1_Name, K2, K3, K4, K6, K7, K8, K9, K10_Signal, K10_Process, AreEdges, IsAsModeSays, IsListed, IsSoundRoot, CopiesRoot, itself, IsEdgeSignal, IsOwnEdge, NeverNow, Reads}
+use Rattle.vs_rules.specs.Rules.{K1_Signal, K1_Assign, K1_Process, K1_Name, K2, K3, K4, K6, K7, K8, K9, K10_Signal, K10_Process, AreEdges, IsAsModeSays, IsListed, IsSoundRoot, IsEdgeSignal, IsOwnEdge, NeverNow, Reads}
+use Rattle.vs_rules.specs.Copies.{CopiesRoot, itself}
 use Rattle.vs_rules.specs.Blocks.{K5}
 use Rattle.vs_rules.specs.Slots.{DelayEnds}
 use Rattle.vs_rules.specs.Limits.{IsCertificate}
@@ -491,10 +492,10 @@ blocks g mode grain i = record {
   before_end = λ b k next blk is w u goes pauses. no_block g mode grain i blk;
 }
 
-copies_root : (g : Global) (mode : Mode) (grain : Grain) (root v : ℕ) → IsRootOf (rising g) (rise_claims mode grain) root v → CopiesRoot (rising g) root v
+copies_root : (g : Global) (mode : Mode) (grain : Grain) (root v : ℕ) → IsRootOf (rising g) (rise_claims mode grain) root v → CopiesRoot (rising g) false root v
 copies_root g mode grain root v h =
     let at = root_is g mode grain root v h in
-    subst (λ n. CopiesRoot (rising g) n v) (sym at.0) (subst (CopiesRoot (rising g) 0) (sym at.1) (itself (bit g 97 Reg, refl, refl, refl, refl)))
+    subst (λ n. CopiesRoot (rising g) false n v) (sym at.0) (subst (CopiesRoot (rising g) false 0) (sym at.1) (itself (bit g 97 Reg, refl, refl, refl, refl)))
 
 sound_root : (g : Global) (mode : Mode) (grain : Grain) → IsSoundRoot (rising g) (rise_claims mode grain) 0
 sound_root g mode grain = record {

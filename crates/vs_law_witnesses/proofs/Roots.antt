@@ -1,5 +1,5 @@
 -- A design with two roots keeps the rules.
-use Rattle.std.proofs.Common.{eqb-true, ◌≡◌, ℕ, zero, suc, ◌%◌, ◌<◌, ◌⊎◌, true, Some, List, [], ◌∷◌, length, slice_get, nat_lt, refl, sym, ◌∙◌, ap, subst, inl, inr, lit<, lit≤, arith}
+use Rattle.std.proofs.Common.{eqb-true, ◌≡◌, ℕ, zero, suc, ◌%◌, ◌<◌, ◌⊎◌, true, false, Some, List, [], ◌∷◌, length, slice_get, nat_lt, refl, sym, ◌∙◌, ap, subst, inl, inr, lit<, lit≤, arith}
 use Rattle.std.proofs.lemmas.Bool.{false≢true}
 use Rattle.std.proofs.lemmas.List.Elements.{All-nil, All-cons}
 use Rattle.std.proofs.lemmas.Option.{none-some, same_Some}
@@ -30,7 +30,8 @@ use Rattle.vs_rules.specs.Claims.{Mode, Name, EdgeClaim, Kind, blocking, all_nam
 use Rattle.vs_rules.specs.Controls.{controls_of, list_of}
 use Rattle.vs_rules.specs.Drivers.{Driver, assign, block as block_driver, DriverReads, IsDriver, IsSource, WritesBit}
 use Rattle.vs_rules.specs.Paths.{Bit, Has, IsHot, Path, Writes, WritesAny, is_zero_time}
-use Rattle.vs_rules.specs.Rules.{K1_Signal, K1_Assign, K1_Process, K1_Name, K2, K3, K4, K6, K7, K8, K9, K10_Signal, K10_Process, AreEdges, CopiesRoot, copy, itself, IsAsModeSays, IsCopy, IsEdgeSignal, IsListed, IsOwnEdge, IsSoundRoot, Reads}
+use Rattle.vs_rules.specs.Rules.{K1_Signal, K1_Assign, K1_Process, K1_Name, K2, K3, K4, K6, K7, K8, K9, K10_Signal, K10_Process, AreEdges, IsAsModeSays, IsEdgeSignal, IsListed, IsOwnEdge, IsSoundRoot, Reads}
+use Rattle.vs_rules.specs.Copies.{CopiesRoot, copy, itself, IsCopy}
 use Rattle.vs_rules.specs.Blocks.{K5}
 use Rattle.vs_rules.specs.Slots.{Ends, Fires, FiresOf, HasWriteSlot}
 use Rattle.vs_rules.specs.Limits.{IsCertificate}
@@ -397,12 +398,12 @@ net_copies g = record {
     only_one zero a at = refl
     only_one (suc j) a at = absurd (none-some a at)
 
-copies_root : (g : Global) (grain : Grain) (root v : ℕ) → Rooted root v → CopiesRoot (two_rises g) root v
+copies_root : (g : Global) (grain : Grain) (root v : ℕ) → Rooted root v → CopiesRoot (two_rises g) false root v
 copies_root g grain root v (inl a) =
-    subst (λ n. CopiesRoot (two_rises g) n v) (sym a.0)
-    (subst (CopiesRoot (two_rises g) 0) (sym a.1) (copy 2 0 (bit g 119 Wire, refl, refl, refl, refl) (net_copies g) (itself (bit g 97 Reg, refl, refl, refl, refl))))
+    subst (λ n. CopiesRoot (two_rises g) false n v) (sym a.0)
+    (subst (CopiesRoot (two_rises g) false 0) (sym a.1) (copy 2 0 (bit g 119 Wire, refl, refl, refl, refl) (net_copies g) (itself (bit g 97 Reg, refl, refl, refl, refl))))
 copies_root g grain root v (inr c) =
-    subst (λ n. CopiesRoot (two_rises g) n v) (sym c.0) (subst (CopiesRoot (two_rises g) 1) (sym c.1) (itself (bit g 99 Reg, refl, refl, refl, refl)))
+    subst (λ n. CopiesRoot (two_rises g) false n v) (sym c.0) (subst (CopiesRoot (two_rises g) false 1) (sym c.1) (itself (bit g 99 Reg, refl, refl, refl, refl)))
 
 -- a way from the write of a root leads to the end, where nothing is written
 never_hot : (g : Global) (i root : ℕ) (k : Todo) → WritesAny (two_rises g) k root → IsHot (two_rises g) i root k → ⊥

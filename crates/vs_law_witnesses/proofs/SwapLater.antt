@@ -1,5 +1,5 @@
 -- A clocked design keeps the rules: two processes that exchange two bits by `<=` at the rising edges of a clock.
-use Rattle.std.proofs.Common.{◌≡◌, ℕ, zero, suc, ◌+◌, ◌%◌, ◌<◌, ◌⊎◌, true, Some, List, [], ◌∷◌, ◌++◌, length, slice_get, refl, sym, ◌∙◌, ap, subst, inl, inr, lit<, lit≤, arith}
+use Rattle.std.proofs.Common.{◌≡◌, ℕ, zero, suc, ◌+◌, ◌%◌, ◌<◌, ◌⊎◌, true, false, Some, List, [], ◌∷◌, ◌++◌, length, slice_get, refl, sym, ◌∙◌, ap, subst, inl, inr, lit<, lit≤, arith}
 use Rattle.std.proofs.lemmas.Bool.{false≢true}
 use Rattle.std.proofs.lemmas.Option.{none-some, same_Some}
 use Rattle.std.specs.declared.alloc.Global.{Global}
@@ -24,7 +24,9 @@ use Rattle.vs_rules.specs.Constants.{zero as known_zero}
 use Rattle.vs_rules.specs.Controls.{controls_of, list_of}
 use Rattle.vs_rules.specs.Drivers.{Driver, assign, block as block_driver, here, through, InCone}
 use Rattle.vs_rules.specs.Paths.{IsHot, IsLate, IsSlot0, Writes, WritesAny, is_plain, is_zero_time}
-use Rattle.vs_rules.specs.Rules.{K1_Signal, K1_Name, K2, K3, K4, K6, K7, K8, K9, K10_Signal, K10_Process, AreApart, AreEdges, BlockNeeds, CopiesRoot, FiresNone, IsAsModeSays, IsEdgeSignal, IsListed, IsOwnEdge, IsOwnRead, IsSoundRoot, itself}
+use Rattle.vs_rules.specs.Rules.{K1_Signal, K1_Name, K2, K3, K4, K6, K7, K8, K9, K10_Signal, K10_Process, AreApart, AreEdges, BlockNeeds, FiresNone, IsAsModeSays, IsEdgeSignal, IsListed, IsOwnEdge, IsOwnRead, IsSoundRoot}
+use Rattle.vs_rules.specs.Copies.{CopiesRoot, itself}
+use Rattle.vs_rules.proofs.Copies.{seen_plain}
 use Rattle.vs_rules.specs.Blocks.{K5}
 use Rattle.vs_rules.specs.Slots.{DelayEnds}
 use Rattle.vs_rules.specs.Limits.{IsCertificate}
@@ -162,10 +164,10 @@ blocks g grain i = record {
   before_end = λ b k next blk is w u goes pauses. no_block g grain i blk;
 }
 
-copies_root : (g : Global) (grain : Grain) (root v : ℕ) → IsRootOf (swapping_later g) (swap_claims grain) root v → CopiesRoot (swapping_later g) root v
+copies_root : (g : Global) (grain : Grain) (root v : ℕ) → IsRootOf (swapping_later g) (swap_claims grain) root v → CopiesRoot (swapping_later g) false root v
 copies_root g grain root v h =
     let at = root_is g grain root v h in
-    subst (λ n. CopiesRoot (swapping_later g) n v) (sym at.0) (subst (CopiesRoot (swapping_later g) 0) (sym at.1) (itself (bit g 99 Reg, refl, refl, refl, refl)))
+    subst (λ n. CopiesRoot (swapping_later g) false n v) (sym at.0) (subst (CopiesRoot (swapping_later g) false 0) (sym at.1) (itself (bit g 99 Reg, refl, refl, refl, refl)))
 
 sound_root : (g : Global) (grain : Grain) → IsSoundRoot (swapping_later g) (swap_claims grain) 0
 sound_root g grain = record {
@@ -309,7 +311,8 @@ fires_none g grain = record {
   digit = Zero;
   known = known_zero;
   gives = rw (reads_number (Zero ∷ []), value_number (Zero ∷ []) [] 0) refl;
-  silent = λ j t has first edge is. ap (λ (t : EventTerm). is_edge t.edge X Zero) (sym (term_is g j t has));
+  silent = λ j t edge has first event is seen.
+      ap (λ e. is_edge e X Zero) (seen_plain (swapping_later g) t edge seen) ∙ ap (λ (t : EventTerm). is_edge t.edge X Zero) (sym (term_is g j t has));
 }
 
 -- only t#p0 sets `c` there

@@ -198,8 +198,9 @@ fn searched(
     }
 }
 
-// A proposal of versions 1 and 2, or what the checker says of certificates of version 3, where that is better. Where K8 is broken in versions 1 and
-// 2, as by a process that waits for times and for edges, it is what version 3 breaks, which has a kind for that, where that claims anything.
+// What the checker says of certificates of version 3, or a proposal of versions 1 and 2 that isn't made, where that is better. Where K8 is broken in
+// versions 1 and 2, as by a process that waits for times and for edges, it is what version 3 breaks, which has a kind for that, where that claims
+// anything.
 fn widened(
     alloc: Global,
     design: &Design,
@@ -217,7 +218,7 @@ fn widened(
     if rank(&narrow) == 8 && rank(&wide) > 1 {
         return Ok(wide);
     }
-    Ok(better(design, rules, grain, Some(narrow), wide))
+    Ok(better(design, rules, grain, Some(wide), narrow))
 }
 
 // What the checker says of the certificates of plans: of versions 1 and 2, and where none of them is made, of version 3 too where the rules have it.
@@ -274,7 +275,7 @@ fn settled(
 /// A certificate of a grain for a design, of a version that is read by these rules, where one is found. By narrow rules it is what `propose` answers.
 /// By wide ones that is tried first, so that one of version 3 is made only where none of version 1 or 2 is found: then it makes a plan of what
 /// version 3 has besides, and tries it in the same way. Of two refusals it answers the one of the rule with the greater number, and of two of one
-/// rule that of version 1 or 2; but where that is K8, which asks less in version 3, the one of version 3.
+/// rule that of version 3, which asks less; but where that of version 1 or 2 is K8, the one of version 3.
 pub fn propose_by(
     alloc: Global,
     design: &Design,

@@ -3,4 +3,3 @@ pub mod Settled
 pub mod Rules
 pub mod Gathered
 pub mod Written
-pub mod Numbered

@@ -1,12 +1,12 @@
 //! Certificates of plans.
 ghost use Rattle.std.specs.Prelude.{◌≡◌, IfOk, IfSome};
 
-use crate::firing::{Firings, firings_of};
+use crate::firing::firings_of;
 use crate::plans::{EdgePlan, KindPlan, Plan, SignalPlan};
 use crate::vs_certificate::{
     Certificate, ClaimedGrain, ClaimedKind, EdgeSignal, ProcessEntry, Rules, SignalEntry, Version,
 };
-use crate::{text_lists, text_of};
+use crate::{Firings, text_lists, text_of};
 use std::alloc::{AllocError, Global};
 use vs_design::{Design, Process, Signal};
 

@@ -2,37 +2,28 @@
 //! is found wherever there is one; of others nothing is promised, since each is tested once it is made.
 #![tactic(auto)]
 
-mod arrivals;
 mod certificates;
 mod claims;
-mod clocks;
 mod cold;
 mod copied;
 mod drivers;
-mod facts;
 mod firing;
-mod kinds;
-mod lists;
 mod modes;
 mod moduli;
 mod order;
-mod periods;
 mod plans;
 mod readers;
 mod starts;
 mod writers;
-mod writing;
 
 pub use certificates::certificate_of;
 pub use claims::{certificate_of_assigns, text_of};
 pub use cold::Trial;
-pub use facts::{TextFacts, text_facts, text_lists};
-pub use firing::Firings;
-pub use kinds::TextKind;
 pub use moduli::moduli_of;
-pub use periods::{Timing, common_divisor};
 pub use plans::{EdgePlan, KindPlan, Plan, SignalPlan, plan_of};
 pub use vs_certificate;
 pub use vs_drivers;
 pub use vs_graph;
-pub use writing::SignalWrite;
+pub use vs_propose_texts::{
+    Firings, SignalWrite, TextFacts, TextKind, Timing, common_divisor, text_facts, text_lists,
+};

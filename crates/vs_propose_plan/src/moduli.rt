@@ -1,7 +1,8 @@
 //! By what residues may be counted.
 
 use crate::plans::{EdgePlan, KindPlan, Plan};
-use crate::{TextFacts, common_divisor};
+use crate::vs_certificate::Rules;
+use crate::{TextFacts, Timing, common_divisor};
 use std::alloc::{AllocError, Global};
 use vs_design::Design;
 
@@ -75,9 +76,14 @@ fn writes_marked(text: &TextFacts, marks: &[bool]) -> bool {
     })
 }
 
+// Whether a text turns a signal over as a clock is: by wide rules `!` does it too.
+fn turns_clocks(timing: Timing, rules: Rules) -> bool {
+    timing.turns_over || (timing.negates && matches!(rules, Rules::Wide))
+}
+
 // The time of a turn of a text; of two, where it turns a signal that is marked over: after one turn that has its other edge.
-fn period_of(text: &TextFacts, marks: &[bool]) -> u64 {
-    if text.timing.turns_over && writes_marked(text, marks) {
+fn period_of(text: &TextFacts, rules: Rules, marks: &[bool]) -> u64 {
+    if turns_clocks(text.timing, rules) && writes_marked(text, marks) {
         text.timing.period.saturating_mul(2)
     } else {
         text.timing.period
@@ -92,14 +98,14 @@ fn is_mixed(kinds: &[KindPlan], i: usize) -> bool {
     }
 }
 
-// What all turns of the texts are multiples of in time, but for those of mixed ones: 1 where there are none.
-fn turn_of(texts: &[TextFacts], kinds: &[KindPlan], marks: &[bool]) -> Option<u64> {
+// What all turns of the texts of a plan are multiples of in time, but for those of mixed ones: 1 where there are none.
+fn turn_of(plan: &Plan, marks: &[bool]) -> Option<u64> {
     let mut turn = 1;
-    for i in 0..texts.len() {
-        let period = if is_mixed(kinds, i) {
+    for i in 0..plan.texts.len() {
+        let period = if is_mixed(&plan.kinds, i) {
             0
         } else {
-            period_of(&texts[i], marks)
+            period_of(&plan.texts[i], plan.rules, marks)
         };
         if period > 0 {
             turn = common_multiple(turn, period)?;
@@ -142,14 +148,10 @@ fn suggest_multiples(
     Ok(())
 }
 
-// Suggests the turns of single texts.
-fn suggest_periods(
-    moduli: &mut Vec<u64>,
-    texts: &[TextFacts],
-    marks: &[bool],
-) -> Result<(), AllocError> {
-    for text in texts {
-        suggest(moduli, Some(period_of(text, marks)))?;
+// Suggests the turns of single texts of a plan.
+fn suggest_periods(moduli: &mut Vec<u64>, plan: &Plan, marks: &[bool]) -> Result<(), AllocError> {
+    for text in &plan.texts {
+        suggest(moduli, Some(period_of(text, plan.rules, marks)))?;
         suggest(moduli, Some(text.timing.period))?;
     }
     Ok(())
@@ -178,18 +180,17 @@ fn small_moduli(size: u64) -> u64 {
 /// 200, or fewer for a large design: verdicts by them look at half a million places of texts, signals and continuous assignments in all.
 pub fn moduli_of(alloc: Global, design: &Design, plan: &Plan) -> Result<Vec<u64>, AllocError> {
     let marks = root_marks(alloc, design.signals().len(), &plan.edges)?;
-    let texts = plan.texts.as_slice();
-    let last = last_of(texts);
+    let last = last_of(&plan.texts);
     let mut moduli = Vec::new(alloc);
-    let doubled = turn_of(texts, &plan.kinds, &marks);
-    let plain = turn_of(texts, &plan.kinds, &[]);
+    let doubled = turn_of(plan, &marks);
+    let plain = turn_of(plan, &[]);
     suggest(&mut moduli, doubled)?;
     suggest(&mut moduli, plain)?;
     suggest_multiples(&mut moduli, doubled, last)?;
     suggest_multiples(&mut moduli, plain, last)?;
-    suggest_periods(&mut moduli, texts, &marks)?;
+    suggest_periods(&mut moduli, plan, &marks)?;
     put(&mut moduli, Some(1))?;
-    for modulus in 2..=small_moduli(size_of(design, texts)) {
+    for modulus in 2..=small_moduli(size_of(design, &plan.texts)) {
         put(&mut moduli, Some(modulus))?;
     }
     Ok(moduli)

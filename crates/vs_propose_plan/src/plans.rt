@@ -36,13 +36,15 @@ pub enum KindPlan {
     Mixed,
 }
 
-/// A signal of an edge term, and the variable that it copies, by their numbers.
+/// A signal of an edge term, and the variable that it copies, by their numbers. In version 3 it may show the variable inverted.
 #[derive(Clone, Copy)]
 pub struct EdgePlan {
     /// The variable.
     pub root: usize,
     /// The signal.
     pub signal: usize,
+    /// Whether an odd number of the copies between the two are inverse.
+    pub is_inverted: bool,
 }
 
 /// What is to be claimed of a design, but for residues.
@@ -101,7 +103,7 @@ pub fn plan_of(alloc: Global, design: &Design, rules: Rules) -> Result<Plan, All
     let needed = drivers_needed(alloc, design, &texts, Needs::Reads)?;
     let order = driver_order(alloc, design, &texts, &needed)?;
     let kinds = kind_plans(alloc, design, rules, &texts, &signals, &order)?;
-    let edges = edge_plans(alloc, design, &order)?;
+    let edges = edge_plans(alloc, design, rules, &order)?;
     Ok(Plan {
         rules,
         signals,

@@ -1,18 +1,14 @@
 //! Why a combinational block that never ran has the outputs that a run would give it.
 
-use crate::copied::roots_of;
+use crate::copied::all_shown;
 use crate::drivers::{Needs, driver_order, drivers_needed};
 use crate::plans::{KindPlan, SignalPlan};
 use crate::vs_certificate::{Rules, SignalMode, Start};
 use crate::{TextFacts, TextKind, Trial};
 use std::alloc::{AllocError, Global};
 use vs_design::{BitRange, Design, EventTerm, Statement, event_terms};
+use vs_propose_texts::is_written;
 use vs_threads::statement_writes;
-
-/// Whether one of some ranges is of a signal.
-pub(crate) fn is_written(written: &[BitRange], signal: usize) -> bool {
-    written.iter().any(|range| range.signal == signal)
-}
 
 // Whether a signal is a variable that no combinational block writes.
 fn is_source(signals: &[SignalPlan], v: usize) -> bool {
@@ -84,7 +80,7 @@ fn kind_plan(text: &TextFacts, rules: Rules) -> KindPlan {
     }
 }
 
-// For each signal whether it is, or copies, a variable that may be sure to change in the first slot.
+// For each signal whether it is, or copies, a variable that may be sure to change in the first slot. Inverse copies don't count, in version 3 neither.
 fn starters_of(
     alloc: Global,
     design: &Design,
@@ -93,10 +89,10 @@ fn starters_of(
     order: &[usize],
     rules: Rules,
 ) -> Result<Vec<bool>, AllocError> {
-    let roots = roots_of(alloc, design, order)?;
+    let all = all_shown(alloc, design, Rules::Narrow, order)?;
     let mut marks = Vec::new(alloc);
-    for root in &roots {
-        marks.push(may_start(texts, signals, *root, rules))?;
+    for shown in &all {
+        marks.push(may_start(texts, signals, shown.root, rules))?;
     }
     Ok(marks)
 }

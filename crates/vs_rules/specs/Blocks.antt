@@ -29,7 +29,7 @@ use Rattle.vs_rules.specs.Claims.{Claims, Start, cold, sources, starter, HasStar
 use Rattle.vs_rules.specs.Paths.{Bit, IsBit, Has, Lists, reads_of, ReadsNow, WritesAny, IsPoint, IsSlot0, is_plain, Writes, HasTerm}
 use Rattle.vs_rules.specs.Drivers.{block, DriverNeeds, Names, IsSource, Passes}
 use Rattle.vs_rules.specs.Constants.{GivesDigit, IsKnown}
-use Rattle.vs_rules.specs.Rules.{IsCopy}
+use Rattle.vs_rules.specs.Copies.{IsCopy}
 
 -- ---- K5: the outputs of a block are a function of what its control names
 

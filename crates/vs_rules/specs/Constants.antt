@@ -30,7 +30,7 @@ use Rattle.vs_design.specs.Uses.{aim_range, is_of, reads}
 use Rattle.vs_design.specs.WellFormed.{aim_width}
 use Rattle.vs_threads.specs.vs_eval.specs.Values.{target_value}
 use Rattle.vs_threads.specs.vs_process.specs.Places.{perform, Todo}
-use Rattle.vs_rules.specs.Claims.{Claims, IsWriter}
+use Rattle.vs_rules.specs.Claims.{Claims, IsWriter, is_wide}
 use Rattle.vs_rules.specs.Paths.{Bit, Writes}
 
 -- ---- constants
@@ -144,6 +144,25 @@ IsInverseLayer d v _ = ⊥
 abbrev pub IsInverse : Parts → ℕ → Typed → Type 0
 IsInverse d v e = IsInverseLayer d v (out-Typed e)
 
+-- `!u`, of the whole of u
+abbrev pub IsNegationLayer : Parts → ℕ → Typed-F Typed → Type 0
+IsNegationLayer d v (t.Unary u.LogicalNot x) = IsWhole d v x.value
+IsNegationLayer d v _ = ⊥
+
+-- `~u` or `!u`, by its outermost layer, of the whole of u: where u has one bit they are one
+abbrev pub InvertsLayer : Parts → ℕ → Typed-F Typed → Type 0
+InvertsLayer d v (t.Unary u.Not x) = IsWhole d v x.value
+InvertsLayer d v (t.Resized size x) = (size.width ≡ 1) × IsNegationLayer d v (out-Typed x.value)
+InvertsLayer d v _ = ⊥
+
+abbrev pub Inverts : Parts → ℕ → Typed → Type 0
+Inverts d v e = InvertsLayer d v (out-Typed e)
+
+-- what turns a clock: `~u`, in version 3 `!u` too
+abbrev pub IsTurn : Parts → Bool → ℕ → Typed → Type 0
+IsTurn d false v e = IsInverse d v e
+IsTurn d true v e = Inverts d v e
+
 -- a target that is a whole signal
 pub record IsWholeTarget (d : Parts) (v : ℕ) (target : Target) : Type 0 where
   pub slice : Slice
@@ -169,7 +188,7 @@ pub record Sets (d : Parts) (v : ℕ) (digit : Digit) (s : Statement) : Type 0 w
   pub gives : GivesDigit target value (bit_of v) digit
 
 -- `#h u = ~u`, with h above 0
-pub record Turns (d : Parts) (v half : ℕ) (s : Statement) : Type 0 where
+pub record Turns (d : Parts) (wide : Bool) (v half : ℕ) (s : Statement) : Type 0 where
   pub number : ℕ
   pub ticks : Ticks
   pub inner : Box Statement Global
@@ -181,7 +200,7 @@ pub record Turns (d : Parts) (v half : ℕ) (s : Statement) : Type 0 where
   pub value : Typed
   pub body : IsBare inner.value (Statement-F.Assign assigns target value)
   pub whole : IsWholeTarget d v target
-  pub inverse : IsInverse d v value
+  pub inverse : IsTurn d wide v value
 
 -- `#o u = c`
 pub record SetsAfter (d : Parts) (v offset : ℕ) (digit : Digit) (s : Statement) : Type 0 where
@@ -193,21 +212,21 @@ pub record SetsAfter (d : Parts) (v offset : ℕ) (digit : Digit) (s : Statement
   pub sets : Sets d v digit inner.value
 
 -- `forever #h u = ~u`
-pub record TurnsForever (d : Parts) (v half : ℕ) (s : Statement) : Type 0 where
+pub record TurnsForever (d : Parts) (wide : Bool) (v half : ℕ) (s : Statement) : Type 0 where
   pub number : ℕ
   pub inner : Box Statement Global
   pub is : IsBare s (Statement-F.Forever number inner)
-  pub turns : Turns d v half inner.value
+  pub turns : Turns d wide v half inner.value
 
 -- `begin [#o] u = c; forever #h u = ~u; end`
-pub record SetsAndTurns (d : Parts) (v offset half : ℕ) (digit : Digit) (s : Statement) : Type 0 where
+pub record SetsAndTurns (d : Parts) (wide : Bool) (v offset half : ℕ) (digit : Digit) (s : Statement) : Type 0 where
   pub all : Vec Statement Global
   pub is : IsBare s (Statement-F.Block all)
   pub first : Statement
   pub second : Statement
   pub two : all.items ≡ first ∷ second ∷ []
   pub sets : ((offset ≡ 0) × Sets d v digit first) ⊎ SetsAfter d v offset digit first
-  pub turns : TurnsForever d v half second
+  pub turns : TurnsForever d wide v half second
 
 -- a process of this kind, by its number, has a body that passes
 pub record HasBody (d : Parts) (i : ℕ) (kind : ProcessKind) (passes : Statement → Type 0) : Type 0 where
@@ -216,9 +235,13 @@ pub record HasBody (d : Parts) (i : ℕ) (kind : ProcessKind) (passes : Statemen
   pub kind_is : process.kind ≡ kind
   pub body : passes process.body
 
+-- what may turn a clock that another process sets: an `always`, in version 3 an `initial forever` too
+abbrev pub MayTurn : Bool → ProcessKind → Type 0
+MayTurn wide kind = (kind ≡ Always) ⊎ (wide ≡ true)
+
 -- a clock: its writer sets it once and then turns it for ever; or it is an `always` that turns it, and the one other process that writes it sets it
 -- at the start. It is set to a digit after so many ticks, and turned after so many others, again and again
 pub data IsClock (d : Parts) (c : Claims) (v : ℕ) (digit : Digit) (offset half : ℕ) : Type 0 where
-  alone : (i : ℕ) → IsWriter d c v i → HasBody d i Initial (SetsAndTurns d v offset half digit) → IsClock d c v digit offset half
-  two : (i j : ℕ) → IsWriter d c v i → HasBody d i Always (TurnsForever d v half) → HasBody d j Initial (Sets d v digit) → (offset ≡ 0) →
-      ((k : ℕ) → Writes d k v → (k ≡ i) ⊎ (k ≡ j)) → IsClock d c v digit offset half
+  alone : (i : ℕ) → IsWriter d c v i → HasBody d i Initial (SetsAndTurns d (is_wide c) v offset half digit) → IsClock d c v digit offset half
+  two : (i j : ℕ) (kind : ProcessKind) → IsWriter d c v i → MayTurn (is_wide c) kind → HasBody d i kind (TurnsForever d (is_wide c) v half) →
+      HasBody d j Initial (Sets d v digit) → (offset ≡ 0) → ((k : ℕ) → Writes d k v → (k ≡ i) ⊎ (k ≡ j)) → IsClock d c v digit offset half

@@ -1,13 +1,13 @@
 -- The rules of certificates but for those of combinational blocks alone, each for one subject: a name, a signal, a driver or a process. Signals,
 -- continuous assignments and processes go by their numbers in design order; nothing is asked of a number past the end.
-use Rattle.std.specs.Prelude.{ℕ, ◌+◌, ◌%◌, ◌≡◌, ◌<◌, ◌⊎◌, true, false, Some, None, List, length, slice_get}
+use Rattle.std.specs.Prelude.{ℕ, ◌+◌, ◌%◌, ◌≡◌, ◌<◌, ◌⊎◌, true, false, Some, List, length, slice_get}
 use Rattle.std.specs.List.{list_any}
 use Rattle.vs_design.specs.vs_logic4.specs.declared.digit.Digit.{Digit}
 use Rattle.vs_design.specs.vs_logic4.specs.declared.digit.Digit.TheVariants.{X}
 use Rattle.vs_design.specs.vs_logic4.specs.Edges.{is_edge}
+use Rattle.vs_design.specs.vs_logic4.specs.declared.edge.Edge.{Edge}
 use Rattle.vs_design.specs.declared.design.Assign.{Assign}
 use Rattle.vs_design.specs.declared.range.BitRange.{BitRange}
-use Rattle.vs_design.specs.declared.signal.Signal.{Signal}
 use Rattle.vs_design.specs.declared.statement.EventTerm.{EventTerm}
 use Rattle.vs_design.specs.Parts.{Parts}
 use Rattle.vs_design.specs.Uses.{reads, writes}
@@ -17,11 +17,12 @@ use Rattle.vs_threads.specs.vs_process.specs.Steps.{Next, after, wait}
 use Rattle.vs_rules.specs.Claims.{Name, Mode, net, unwritten, combinational, nonblocking, blocking, private, both, writer_in, second_in, times_in}
 use Rattle.vs_rules.specs.Controls.{controls_of}
 use Rattle.vs_rules.specs.Points.{Goes}
-use Rattle.vs_rules.specs.Claims.{Claims, IsSignalNamed, IsProcessNamed, IsAssignNamed, claim_of, IsWriter, IsSecond, HasMode, HasKind, IsBlock, IsEdge, HasLists, IsDelay, HasMixedLists, IsMixed, WaitsForEdges, WaitsForTimes, IsSequential, IsLater, IsWide}
+use Rattle.vs_rules.specs.Claims.{Claims, IsSignalNamed, IsProcessNamed, IsAssignNamed, claim_of, IsWriter, IsSecond, HasMode, HasKind, IsBlock, IsEdge, HasLists, IsDelay, HasMixedLists, IsMixed, WaitsForEdges, WaitsForTimes, IsSequential, IsLater, IsWide, is_wide}
 use Rattle.vs_rules.specs.Claims.{signal_names, process_names, edge_names, edge_signals, IsRootOf, IsRoot}
 use Rattle.vs_rules.specs.Paths.{Bit, IsBit, Has, ListsSignal, WritesNow, WritesLater, WritesAny, ReadsNow, ShowsNow, IsPoint, IsSlot0, IsPrologue, IsLate, IsHot, Path, is_zero_time, Writes, reads_of, HasTerm, IsHeardAtStart}
 use Rattle.vs_rules.specs.Drivers.{Driver, block, IsDriver, DriverReads, DriverNeeds, StandsBefore, WritesBit, IsSource, IsBlocking, InCone}
-use Rattle.vs_rules.specs.Constants.{bit_of, Gives, IsKnown, IsWhole, IsWholeTarget}
+use Rattle.vs_rules.specs.Constants.{bit_of, Gives, IsKnown}
+use Rattle.vs_rules.specs.Copies.{CopiesRoot, SeenAs}
 use Rattle.vs_rules.specs.Slots.{DelayEnds, EdgeEnds, RunsByDelays, RunsByEdges, HasSlot, HasWriteSlot, FiresOf}
 
 -- ---- K1: each list names what it is a list of, each once, and nothing else
@@ -138,26 +139,6 @@ pub record IsEdgeSignal (d : Parts) (v : ℕ) : Type 0 where
   pub edge : is_level term ≡ false
   pub of : term.range.signal ≡ v
 
--- it has one bit, and is no array: an array of one word of one bit isn't such a signal
-abbrev pub IsOneBit : Parts → ℕ → Type 0
-IsOneBit d v = (s : Signal) × (slice_get d.signals v ≡ Some s) × (s.width ≡ 1) × (s.count ≡ 1) × (s.words ≡ None)
-
--- a net that one continuous assignment alone drives, which copies a whole signal into the whole of it, at the same size
-pub record IsCopy (d : Parts) (v u : ℕ) : Type 0 where
-  pub is_net : HasKind false d v
-  pub number : ℕ
-  pub assign : Assign
-  pub is : slice_get d.assigns number ≡ Some assign
-  pub whole : IsWholeTarget d v assign.target
-  pub copies : IsWhole d u assign.source
-  pub same : (s t : Signal) → slice_get d.signals v ≡ Some s → slice_get d.signals u ≡ Some t → s.width ≡ t.width
-  pub alone : (j : ℕ) (a : Assign) → slice_get d.assigns j ≡ Some a → ListsSignal d (writes a.target) v → j ≡ number
-
--- it is its root, or a copy of a signal of which this holds with the same root; all have one bit
-pub data CopiesRoot (d : Parts) (root : ℕ) : ℕ → Type 0 where
-  itself : IsOneBit d root → CopiesRoot d root root
-  copy : (v u : ℕ) → IsOneBit d v → IsCopy d v u → CopiesRoot d root u → CopiesRoot d root v
-
 -- a variable of mode blocking, with a writer of kind delay, and not hot where that writes it
 pub record IsSoundRoot (d : Parts) (c : Claims) (root : ℕ) : Type 0 where
   pub variable : HasKind true d root
@@ -170,8 +151,8 @@ pub record K6 (d : Parts) (c : Claims) (v : ℕ) : Type 0 where
   -- it has one entry where an edge term names it, else none
   pub one_entry : (name : Name) → IsSignalNamed d v name → IsEdgeSignal d v → times_in name (edge_signals c) ≡ 1
   pub no_entry : (name : Name) → IsSignalNamed d v name → (IsEdgeSignal d v → ⊥) → times_in name (edge_signals c) ≡ 0
-  -- it copies the root of its entry
-  pub copies : (root : ℕ) → IsRootOf d c root v → CopiesRoot d root v
+  -- it copies the root of its entry, in version 3 its inverse too
+  pub copies : (root : ℕ) → IsRootOf d c root v → CopiesRoot d (is_wide c) root v
   pub root : (root : ℕ) → IsRootOf d c root v → IsSoundRoot d c root
 
 -- ---- K7: a process of kind edge waits for edges alone; it and a mixed one in a slot for those of one root alone
@@ -264,8 +245,8 @@ pub record FiresNone (d : Parts) (c : Claims) (root : ℕ) (k : Todo) : Type 0 w
   pub known : IsKnown digit
   pub gives : Gives k (bit_of root) digit
   -- in version 3 terms of other event controls than those at slot-0 points don't count: nothing waits there yet
-  pub silent : (j : ℕ) (t : EventTerm) → HasTerm d j t → (IsWide c → IsHeardAtStart d j t) → is_level t ≡ false →
-      IsRootOf d c root t.range.signal → is_edge t.edge X digit ≡ false
+  pub silent : (j : ℕ) (t : EventTerm) (edge : Edge) → HasTerm d j t → (IsWide c → IsHeardAtStart d j t) → is_level t ≡ false →
+      IsRootOf d c root t.range.signal → SeenAs d (is_wide c) t edge → is_edge edge X digit ≡ false
 
 pub record K10_Signal (d : Parts) (c : Claims) (v : ℕ) : Type 0 where
   -- one statement at most, of all processes, writes it at slot-0 points

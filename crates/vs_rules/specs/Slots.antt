@@ -10,9 +10,10 @@ use Rattle.vs_design.specs.Parts.{Parts}
 use Rattle.vs_threads.specs.vs_process.specs.Places.{Todo}
 use Rattle.vs_threads.specs.vs_process.specs.Steps.{Next, on, after, wait}
 use Rattle.vs_rules.specs.Controls.{controls_of, list_of}
-use Rattle.vs_rules.specs.Claims.{Claims, Kind, block, edges, delays, mixed, kind_of, HasLists, IsWriter, IsRootOf}
+use Rattle.vs_rules.specs.Claims.{Claims, Kind, block, edges, delays, mixed, kind_of, HasLists, IsWriter, IsRootOf, is_wide}
 use Rattle.vs_rules.specs.Paths.{IsPoint, WritesNow, WritesAny, HasTerm, RunsBehind}
 use Rattle.vs_rules.specs.Constants.{bit_of, Gives, IsClock}
+use Rattle.vs_rules.specs.Copies.{SeenAs}
 
 -- ---- of a process of kind delay
 
@@ -47,7 +48,7 @@ InPhase d c root edge r =
     r % (2 * half) ≡ phase edge digit offset half % (2 * half)
 
 -- an event term can fire at a residue: the writer of its signal's root, of kind delay, writes the root there, by no constant that doesn't count for
--- the edge, and in phase where the root is a clock
+-- the edge that the root then has, and in phase where the root is a clock
 pub record Fires (d : Parts) (c : Claims) (t : EventTerm) (r : ℕ) : Type 0 where
   pub root : ℕ
   pub writer : ℕ
@@ -59,8 +60,10 @@ pub record Fires (d : Parts) (c : Claims) (t : EventTerm) (r : ℕ) : Type 0 whe
   pub point : IsPoint d writer at
   pub writes : WritesAny d at root
   pub runs : RunsByDelays d writer lists at r
-  pub counted : (digit : Digit) → Gives at (bit_of root) digit → counts t.edge digit ≡ true
-  pub in_phase : InPhase d c root t.edge r
+  pub edge : Edge
+  pub seen : SeenAs d (is_wide c) t edge
+  pub counted : (digit : Digit) → Gives at (bit_of root) digit → counts edge digit ≡ true
+  pub in_phase : InPhase d c root edge r
 
 -- ---- of any process
 

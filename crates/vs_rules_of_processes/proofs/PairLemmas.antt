@@ -25,6 +25,10 @@ one_more P xs i d within before here k x h e = elim (below_or k i h) [
 pub all_keep_it : {A : Type 0} (P : A → Type 0) (xs : List A) (i : ℕ) → length xs ≤ i → Before P xs i → (IsTrue true ↔ ((k : ℕ) (x : A) → slice_get xs k ≡ Some x → P x))
 all_keep_it P xs i past before = (λ t k x e. before k x (omega (arith, past, slice_get_within xs k x e)) e, λ f. refl)
 
+-- past the end there is none that doesn't
+pub none_past : {A : Type 0} (P : A → Type 0) (xs : List A) (i : ℕ) → length xs ≤ i → (IsTrue true ↔ ((x : A) → slice_get xs i ≡ Some x → P x))
+none_past P xs i past = (λ t x e. absurd (omega (arith, past, slice_get_within xs i x e)), λ f. refl)
+
 -- one doesn't
 pub one_breaks : {A : Type 0} (P : A → Type 0) (xs : List A) (i : ℕ) (d : A) → i < length xs → (P (get_or xs i d) → IsTrue false) →
     (IsTrue false ↔ ((k : ℕ) (x : A) → slice_get xs k ≡ Some x → P x))

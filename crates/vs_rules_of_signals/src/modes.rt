@@ -183,7 +183,7 @@ impl<'a> Claimed<'a> {
         ensures { IsTrue result ↔ (IsWide self.now.facts.now.claims
             × HasWriter self.now.facts.now.design self.now.facts.now.claims v (IsSequential self.now.facts.now.design self.now.facts.now.claims)) }
     {
-        if self.facts.version() != 3 {
+        if !self.facts.is_wide() {
             return false;
         }
         let Some(process) = self.facts.writer(v) else {

@@ -1,4 +1,4 @@
-//! Variables that a process of kind delay is sure to change in the first slot.
+//! Variables that their writers are sure to change in the first slot.
 ghost use Rattle.std.specs.Prelude.{ℕ, ◌≡◌, ◌<◌, ◌↔◌, true, Some, length, slice_get, IfOk, IsTrue};
 ghost use Rattle.vs_design.specs.WellFormed.{counts_from, numbers};
 ghost use Rattle.vs_design.specs.declared.design.Process as declared;

@@ -42,7 +42,7 @@ fn may_begin(facts: &Facts, g: usize, w: usize) -> bool
     if is_nonblocking(facts.mode(g)) && facts.is_delay(w) {
         return true;
     }
-    if facts.version() != 3 {
+    if !facts.is_wide() {
         return false;
     }
     if !is_updated(facts.mode(g)) {

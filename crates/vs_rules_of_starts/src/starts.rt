@@ -242,8 +242,7 @@ fn keeps_start_of(
 /// Whether a process keeps the rule K11: a combinational block that never ran has the outputs that a run would give it. The rules K1, K4 and K5 have to
 /// hold before: K1 and K4 make the beginning, and K5 gives a block its shape. It takes, of a block of start `cold`, as long as the design has words, the
 /// text of the block and 10,000 steps, and where some such block needs what one of start `starter` gives, the cone of what it needs; of start `sources`
-/// the text of the block; and of start `starter` as there are signals, and for each variable of mode nonblocking that a process of kind delay writes,
-/// the text of that process.
+/// the text of the block; and of start `starter` as there are signals, and for each variable that may start it, the text of that one's writer.
 pub fn keeps_start_by(
     alloc: Global,
     starts: &Starts,

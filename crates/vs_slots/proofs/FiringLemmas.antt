@@ -32,9 +32,9 @@ by_lists d c i lists k r has = subst (λ (x : Option Kind). (PathFrom d i (λ at
 
 terms_are : (d : Parts) (c : Claims) (t : EventTerm) (r : ℕ) → (TermFires d c t r ↔ Fires d c t r)
 terms_are d c t r = (
-  λ y. let f = y.2.1 in record {
+  λ y. let s = y.2 in let f = s.2.1 in record {
     root = y.0;
-    writer = y.2.0;
+    writer = s.2.0;
     lists = f.kind.0;
     at = f.at;
     is_root = y.1;
@@ -42,7 +42,9 @@ terms_are d c t r = (
     kind = f.kind.1;
     point = f.point;
     writes = f.writes;
-    runs = (by_lists d c y.2.0 f.kind.0 f.at r f.kind.1).0 f.runs;
+    runs = (by_lists d c s.2.0 f.kind.0 f.at r f.kind.1).0 f.runs;
+    edge = s.0;
+    seen = s.1;
     counted = f.counted;
     in_phase = f.in_phase;
   },
@@ -50,17 +52,21 @@ terms_are d c t r = (
     f.root,
     f.is_root,
     (
-      f.writer,
-      record {
-        at = f.at;
-        is_writer = f.is_writer;
-        kind = (f.lists, f.kind);
-        point = f.point;
-        writes = f.writes;
-        runs = (by_lists d c f.writer f.lists f.at r f.kind).1 f.runs;
-        counted = f.counted;
-        in_phase = f.in_phase;
-      },
+      f.edge,
+      f.seen,
+      (
+        f.writer,
+        record {
+          at = f.at;
+          is_writer = f.is_writer;
+          kind = (f.lists, f.kind);
+          point = f.point;
+          writes = f.writes;
+          runs = (by_lists d c f.writer f.lists f.at r f.kind).1 f.runs;
+          counted = f.counted;
+          in_phase = f.in_phase;
+        },
+      ),
     ),
   ),
 )

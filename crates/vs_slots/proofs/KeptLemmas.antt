@@ -19,9 +19,10 @@ use Rattle.vs_process.specs.Places.{Todo}
 use Rattle.vs_process.specs.Stops.{IsText}
 use Rattle.vs_process.specs.Ways.{Pause, none, delay, event, next_by}
 use Rattle.vs_maps.specs.vs_rules.specs.Claims.{Name, Claims, Kind, delays, mixed, kind_for, names_process, writer_in, claim_for, claim_of, signal_name}
-use Rattle.vs_maps.specs.vs_rules.specs.Claims.{IsRootOf, IsWriter, WaitsForEdges, WaitsForTimes}
+use Rattle.vs_maps.specs.vs_rules.specs.Claims.{IsRoot, IsRootOf, IsWriter, WaitsForEdges, WaitsForTimes, is_wide}
 use Rattle.vs_maps.specs.vs_rules.specs.Constants.{IsClock}
 use Rattle.vs_maps.specs.vs_rules.specs.Constants as k
+use Rattle.vs_maps.specs.vs_rules.specs.Copies.{SeenAs}
 use Rattle.vs_maps.specs.vs_rules.specs.Controls.{controls_at, controls_in, controls_of, list_of}
 use Rattle.vs_maps.specs.vs_rules.specs.Paths.{WritesNow}
 use Rattle.vs_maps.specs.vs_rules.specs.Slots.{EdgeEnds, HasSlot, HasWriteSlot}
@@ -34,11 +35,13 @@ use Rattle.vs_slots.specs.declared.roots.Firing.{Firing}
 use Rattle.vs_slots.specs.declared.runs.Runs.{Runs}
 use Rattle.vs_slots.specs.Firing.{RootFires}
 use Rattle.vs_slots.specs.Kept.{IsRunIn, AreAllRuns, AreBothRuns, AreClocks, AreFirings, AreTermsIn, AreWriteSlots, IsClockOf, IsFiring, IsFiringOf, IsKeptRun, IsPlaceWrite}
-use Rattle.vs_slots.specs.Kept.{IsTurned, IsWriteIn, RunsWhere}
+use Rattle.vs_slots.specs.Kept.{IsTurned, IsWriteIn, RunsWhere, table_by}
 use Rattle.vs_slots.specs.Lists.{row, IsOneOf}
 use Rattle.vs_slots.specs.Runs.{AreRuns, AreRunsBy, DelayEndsBy, DelayPauseEnds, EdgePauseEnds, HasRun, HasRunBy, TermsEnd}
+use Rattle.vs_slots.specs.Seen.{seen_by}
 use Rattle.vs_slots.specs.Terms.{TermsFire}
 use Rattle.vs_slots.proofs.FiringLemmas.{firing_is_exact, now_exact, now_numbered}
+use Rattle.vs_slots.proofs.SeenLemmas.{seen_is}
 use Rattle.vs_slots.proofs.RunLemmas.{ends_as, fired_runs, listed_runs, runs_alone, runs_are_exact, runs_parts}
 
 -- ---- numbers within
@@ -298,7 +301,7 @@ firing_are f runs clock root edge r maps all is_clock = (there, back) where
 -- a clock is turned after some ticks
 half_above : (d : Parts) (c : Claims) (v : ℕ) (digit : Digit) (offset half : ℕ) → IsClock d c v digit offset half → 0 < half
 half_above d c v digit offset half (k.alone i w body) = body.body.turns.turns.above
-half_above d c v digit offset half (k.two i j w body other now only) = body.body.turns.above
+half_above d c v digit offset half (k.two i j kind w may body other now only) = body.body.turns.above
 
 pub turned : (f : Case) (v : ℕ) (o : Option Clock) → IsClockOf f v o → IsTurned o
 turned f v o is x e = half_above f.design f.claims v x.digit x.offset x.half ((is x.digit x.offset x.half).1 e)
@@ -321,11 +324,19 @@ root_within d c root v h = named (slice_get d.signals root) (λ x e. slice_get_w
 pub terms_in : (f : Case) (x : Firing) (terms : List EventTerm) (r : ℕ) → AreFirings f x → (AreTermsIn f x terms r ↔ TermsFire f.design f.claims terms r)
 terms_in f x terms r are = (
   λ y. let t = y.0 in let i = y.2 in
-      let b = (are t.edge i.0 r (root_within f.design f.claims i.0 t.range.signal i.1)).0 i.2 in
-      (t, y.1, (firing_is_exact.terms f.design f.claims t r).0 (i.0, i.1, b.1)),
+      let b = (here t i.0 i.1).0 i.2 in
+      (t, y.1, (firing_is_exact.terms f.design f.claims t r).0 (i.0, i.1, (seen_by x.inverted.now t, (seen t (seen_by x.inverted.now t)).1 refl, b.1))),
   λ y. let t = y.0 in let i = (firing_is_exact.terms f.design f.claims t r).1 y.2 in
-      (t, y.1, (i.0, i.1, (are t.edge i.0 r (root_within f.design f.claims i.0 t.range.signal i.1)).1 ((t.range.signal, i.1), i.2))),
-)
+      let s = i.2 in
+      let fires = subst (λ (edge : Edge). RootFires f.design f.claims i.0 edge r) ((seen t s.0).0 s.1) s.2 in
+      (t, y.1, (i.0, i.1, (here t i.0 i.1).1 ((t.range.signal, i.1), fires))),
+) where
+  seen : (t : EventTerm) (edge : Edge) → (SeenAs f.design (is_wide f.claims) t edge ↔ edge ≡ seen_by x.inverted.now t)
+  seen t edge = seen_is f.design (is_wide f.claims) x.inverted.now are.inverted_are t edge
+
+  here : (t : EventTerm) (root : ℕ) → IsRootOf f.design f.claims root t.range.signal →
+      (Contains (row (table_by x (seen_by x.inverted.now t)) root) r ↔ (IsRoot f.design f.claims root × RootFires f.design f.claims root (seen_by x.inverted.now t) r))
+  here t root is = are.tables_are (seen_by x.inverted.now t) root r (root_within f.design f.claims root t.range.signal is)
 
 -- ---- tables, row by row
 
@@ -372,7 +383,8 @@ each_element P xs = (
 )
 
 -- the tables of the three sorts of edges
-pub firings : (f : Case) (x : Firing) → IsFiring f Any (rows x.any.items) → IsFiring f Posedge (rows x.posedge.items) → IsFiring f Negedge (rows x.negedge.items) → AreFirings f x
+pub firings : (f : Case) (x : Firing) → IsFiring f Any (rows x.any.items) → IsFiring f Posedge (rows x.posedge.items) → IsFiring f Negedge (rows x.negedge.items) → (edge : Edge) →
+    IsFiring f edge (table_by x edge)
 firings f x a p n Any = a
 firings f x a p n Posedge = p
 firings f x a p n Negedge = n

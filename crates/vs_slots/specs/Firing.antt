@@ -7,8 +7,9 @@ use Rattle.vs_design.specs.declared.statement.EventTerm.{EventTerm}
 use Rattle.vs_design.specs.Parts.{Parts}
 use Rattle.vs_process.specs.Places.{Todo}
 use Rattle.vs_process.specs.Stops.{Stop, IsText}
-use Rattle.vs_maps.specs.vs_rules.specs.Claims.{Claims, IsDelay, IsWriter, IsRootOf}
+use Rattle.vs_maps.specs.vs_rules.specs.Claims.{Claims, IsDelay, IsWriter, IsRootOf, is_wide}
 use Rattle.vs_maps.specs.vs_rules.specs.Constants.{bit_of, Gives}
+use Rattle.vs_maps.specs.vs_rules.specs.Copies.{SeenAs}
 use Rattle.vs_maps.specs.vs_rules.specs.Paths.{IsPoint, WritesAny}
 use Rattle.vs_maps.specs.vs_rules.specs.Slots.{counts, phase, Fires, HasSlot, InPhase}
 use Rattle.vs_slots_constants.specs.declared.clocks.Clock.{Clock}
@@ -33,9 +34,9 @@ pub record RootFiresBy (d : Parts) (c : Claims) (root : ℕ) (edge : Edge) (writ
 abbrev pub RootFires : Parts → Claims → ℕ → Edge → ℕ → Type 0
 RootFires d c root edge r = (writer : ℕ) × RootFiresBy d c root edge writer r
 
--- a term can fire at a residue: an edge of a root of its signal can
+-- a term can fire at a residue: the edge that a root of its signal then has can
 abbrev pub TermFires : Parts → Claims → EventTerm → ℕ → Type 0
-TermFires d c t r = (root : ℕ) × IsRootOf d c root t.range.signal × RootFires d c root t.edge r
+TermFires d c t r = (root : ℕ) × IsRootOf d c root t.range.signal × ((edge : Edge) × SeenAs d (is_wide c) t edge × RootFires d c root edge r)
 
 -- ---- by places
 

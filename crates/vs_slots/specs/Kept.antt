@@ -10,10 +10,11 @@ use Rattle.vs_design.specs.declared.statement.EventTerm.{EventTerm}
 use Rattle.vs_design.specs.Parts.{Parts}
 use Rattle.vs_design.specs.Tables.{rows}
 use Rattle.vs_process.specs.Ways.{Pause}
-use Rattle.vs_maps.specs.vs_rules.specs.Claims.{Claims, IsDelay, IsRoot, IsRootOf, IsWriter}
+use Rattle.vs_maps.specs.vs_rules.specs.Claims.{Claims, IsDelay, IsRoot, IsRootOf, IsWriter, is_wide}
 use Rattle.vs_maps.specs.vs_rules.specs.Constants.{IsClock}
 use Rattle.vs_maps.specs.vs_rules.specs.Slots.{HasWriteSlot}
 use Rattle.vs_slots_constants.specs.declared.clocks.Clock.{Clock}
+use Rattle.vs_slots_constants.specs.Inverted.{AreInverted}
 use Rattle.vs_claims.specs.vs_maps.specs.Ranges.{HasSignal, now_at}
 use Rattle.vs_claims.specs.vs_maps.specs.Reaches.{Chart, IsPlace, places}
 use Rattle.vs_maps.specs.Sites.{IsWrite}
@@ -25,6 +26,7 @@ use Rattle.vs_slots.specs.declared.runs.Runs.{Runs}
 use Rattle.vs_slots.specs.Firing.{CountsAt, InPhaseOf, RootFires, WritesAt}
 use Rattle.vs_slots.specs.Lists.{row, IsOneOf}
 use Rattle.vs_slots.specs.Runs.{AreRuns, DelayPauseEnds, EdgePauseEnds}
+use Rattle.vs_slots.specs.Seen.{seen_by}
 
 -- a place of a process has a run slot, as runs are kept
 abbrev pub IsRunIn : List Runs → ℕ → ℕ → ℕ → Type 0
@@ -81,12 +83,14 @@ table_by x Any = rows x.any.items
 table_by x Posedge = rows x.posedge.items
 table_by x Negedge = rows x.negedge.items
 
-abbrev pub AreFirings : Case → Firing → Type 0
-AreFirings f x = (edge : Edge) → IsFiring f edge (table_by x edge)
+-- the tables of all edges, and which signals show a variable inverted
+pub record AreFirings (f : Case) (x : Firing) : Type 0 where
+  pub tables_are : (edge : Edge) → IsFiring f edge (table_by x edge)
+  pub inverted_are : AreInverted f.design (is_wide f.claims) x.inverted.now
 
 -- a term can fire at a residue, by the tables of roots
 abbrev pub IsTermIn : Case → Firing → EventTerm → ℕ → Type 0
-IsTermIn f x t r = (root : ℕ) × IsRootOf f.design f.claims root t.range.signal × Contains (row (table_by x t.edge) root) r
+IsTermIn f x t r = (root : ℕ) × IsRootOf f.design f.claims root t.range.signal × Contains (row (table_by x (seen_by x.inverted.now t)) root) r
 
 -- one of some terms can
 abbrev pub AreTermsIn : Case → Firing → List EventTerm → ℕ → Type 0

@@ -3,6 +3,7 @@ pub mod Terms
 pub mod Runs
 pub mod Controls
 pub mod Firing
+pub mod Seen
 pub mod Kept
 pub mod Places
 pub use Rattle.vs_claims

@@ -18,7 +18,14 @@ fn clock_by<'a>(
     requires { (k : ℕ) → (Contains writers.now k ↔ Writes facts.now.design k v) }
     ensures { IfOk result (λ o. IsClockOf facts.entry.now v o) }
 {
-    clock_of(alloc, facts.design(), v, facts.writer(v), writers)
+    clock_of(
+        alloc,
+        facts.design(),
+        facts.is_wide(),
+        v,
+        facts.writer(v),
+        writers,
+    )
 }
 
 /// What each signal is as a clock. It takes as long as the texts of the processes.

@@ -18,7 +18,7 @@ use vs_claims::vs_maps::{Pause, Tables, controls_before};
 #[derive(Drop)]
 struct EdgeEnds<'a> {
     facts: &'a Facts<'a>,
-    firing: &'a Firing,
+    firing: &'a Firing<'a>,
     tables: &'a Tables<'a>,
 }
 
@@ -54,7 +54,7 @@ impl<'a> Listing for EdgeEnds<'a> {
 fn fired_runs<'a>(
     alloc: Global,
     facts: &'a Facts<'a>,
-    firing: &'a Firing,
+    firing: &'a Firing<'a>,
     tables: &'a Tables<'a>,
 ) -> Result<Runs, AllocError>
     requires { AreFirings facts.now firing.now }
@@ -75,7 +75,7 @@ fn fired_runs<'a>(
 fn runs_of_edges<'a>(
     alloc: Global,
     facts: &'a Facts<'a>,
-    firing: &'a Firing,
+    firing: &'a Firing<'a>,
     i: usize,
 ) -> Result<Runs, AllocError>
     requires { AreFirings facts.now firing.now }
@@ -97,7 +97,7 @@ fn runs_of_edges<'a>(
 pub(crate) fn edge_runs<'a>(
     alloc: Global,
     facts: &'a Facts<'a>,
-    firing: &'a Firing,
+    firing: &'a Firing<'a>,
 ) -> Result<Vec<Runs>, AllocError>
     requires { AreFirings facts.now firing.now }
     ensures { IfOk result (λ runs. AreAllRuns EdgePauseEnds facts.entry.now runs.items) }

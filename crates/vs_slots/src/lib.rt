@@ -12,6 +12,7 @@ mod phases;
 mod residues;
 mod roots;
 mod runs;
+mod seen;
 mod slots;
 
 pub use controls::{ControlLists, pause_ends};

@@ -2,7 +2,8 @@
 ghost use Rattle.std.specs.Prelude.{ℕ, ◌≡◌, ◌↔◌, ◌⊎◌, None, get_or, IfOk, OnOk};
 ghost use Rattle.std.specs.List.{Contains};
 ghost use Rattle.vs_design.specs.Tables.{rows};
-ghost use Rattle.vs_maps.specs.vs_rules.specs.Claims.{IsRoot};
+ghost use Rattle.vs_maps.specs.vs_rules.specs.Claims.{IsRoot, is_wide};
+ghost use Rattle.vs_slots_constants.specs.Inverted.{AreInverted};
 ghost use Rattle.vs_slots.specs.Kept.{AreAllRuns, AreClocks, AreFirings, AreTermsIn, IsFiring, IsFiringOf, IsTermIn, IsTurned, table_by};
 ghost use Rattle.vs_slots.specs.Lists.{row, IsOneOf};
 ghost use Rattle.vs_slots.specs.Runs.{DelayPauseEnds};
@@ -12,6 +13,7 @@ use crate::firing::fires_of;
 use crate::listing::{Listing, table_of};
 use crate::residues::row_of;
 use crate::runs::Runs;
+use crate::seen::seen_edge;
 use std::alloc::{AllocError, Global};
 use vs_claims::Facts;
 use vs_design::EventTerm;
@@ -49,15 +51,18 @@ impl<'a> Listing for RootFiring<'a> {
     }
 }
 
-/// The residues at which an edge of a root can fire, by the number of the root: one table for each sort of edges.
+/// The residues at which an edge of a root can fire, by the number of the root: one table for each sort of edges. And which signals show a variable
+/// inverted.
 #[derive(Drop)]
-pub(crate) struct Firing {
+pub(crate) struct Firing<'a> {
     /// Any change.
     pub(crate) any: Vec<Vec<u64>>,
     /// `posedge`.
     pub(crate) posedge: Vec<Vec<u64>>,
     /// `negedge`.
     pub(crate) negedge: Vec<Vec<u64>>,
+    /// For each signal, whether it shows a variable inverted.
+    pub(crate) inverted: &'a [bool],
 }
 
 // The residues at which this edge of each root can fire.
@@ -83,14 +88,16 @@ fn table_for<'a>(
     Ok(table)
 }
 
-impl Firing {
-    /// When edges of the roots can fire, by the runs behind delay controls.
-    pub(crate) fn of<'a>(
+impl<'a> Firing<'a> {
+    /// When edges of the roots can fire, by the runs behind delay controls, and by which signals show a variable inverted.
+    pub(crate) fn of(
         alloc: Global,
-        facts: &'a Facts<'a>,
-        runs: &'a [Runs],
-    ) -> Result<Firing, AllocError>
-        requires { AreAllRuns DelayPauseEnds facts.now runs.now }
+        facts: &Facts<'a>,
+        inverted: &'a [bool],
+        runs: &[Runs],
+    ) -> Result<Firing<'a>, AllocError>
+        requires runs { AreAllRuns DelayPauseEnds facts.now runs.now }
+        requires inverted { AreInverted facts.now.design (is_wide facts.now.claims) inverted.now }
         ensures { IfOk result (λ x. AreFirings facts.entry.now x) }
     {
         let clocks = clocks(alloc, &*facts)?;
@@ -101,6 +108,7 @@ impl Firing {
             any,
             posedge,
             negedge,
+            inverted,
         })
     }
 
@@ -127,10 +135,10 @@ impl Firing {
     }
 
     // Puts those at which a term can fire.
-    fn put_term<'a>(
+    fn put_term(
         &self,
         alloc: Global,
-        facts: &'a Facts<'a>,
+        facts: &Facts<'a>,
         out: &mut Gathered,
         term: EventTerm,
     ) -> Result<(), AllocError>
@@ -138,14 +146,14 @@ impl Firing {
             (Contains out.old r ⊎ IsTermIn facts.entry.now self.now term r))) }
     {
         let roots = facts.roots(alloc, term.range.signal)?;
-        self.put(out, term.edge, &roots)
+        self.put(out, seen_edge(self.inverted, term), &roots)
     }
 
     /// The residues at which one of some terms can fire.
-    pub(crate) fn of_terms<'a>(
+    pub(crate) fn of_terms(
         &self,
         alloc: Global,
-        facts: &'a Facts<'a>,
+        facts: &Facts<'a>,
         terms: &[EventTerm],
     ) -> Result<Vec<u64>, AllocError>
         ensures { IfOk result (λ all. (r : ℕ) → (Contains all.items r ↔ AreTermsIn facts.entry.now self.now terms.now r)) }

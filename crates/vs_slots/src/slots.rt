@@ -1,7 +1,9 @@
 //! The run slots, write slots and firing slots of a design and a certificate.
 ghost use Rattle.std.specs.Prelude.{ℕ, ◌≡◌, ◌<◌, ◌↔◌, Some, length, slice_get, IfOk};
 ghost use Rattle.std.specs.List.{Contains};
+ghost use Rattle.vs_maps.specs.vs_rules.specs.Claims.{is_wide};
 ghost use Rattle.vs_maps.specs.vs_rules.specs.Slots.{HasWriteSlot};
+ghost use Rattle.vs_slots_constants.specs.Inverted.{AreInverted};
 ghost use Rattle.vs_slots.specs.Kept.{AreBothRuns, AreWriteSlots, IsKeptRun, IsSiteWrite, IsWriteBy, IsWriteIn};
 ghost use Rattle.vs_maps.specs.declared.sites.Site.{Site};
 ghost use Rattle.vs_slots.specs.Places.{DelayRunsOf, RunsOf};
@@ -144,7 +146,7 @@ fn write_slots<'a>(
 #[derive(Drop)]
 pub struct Slots<'a> {
     facts: &'a Facts<'a>,
-    firing: Firing,
+    firing: Firing<'a>,
     delays: Vec<Runs>,
     edges: Vec<Runs>,
     writes: Vec<Vec<u64>>,
@@ -167,14 +169,19 @@ impl<'a> Model for Slots<'a> {
 }
 
 impl<'a> Slots<'a> {
-    /// The slots of a design and a certificate. It takes as long as the texts of the processes, and for each place of one that waits for edges or
-    /// for times as long as the lists of the controls before it.
-    pub fn new(alloc: Global, facts: &'a Facts<'a>) -> Result<Slots<'a>, AllocError>
+    /// The slots of a design and a certificate, by which signals show a variable inverted. It takes as long as the texts of the processes, and for
+    /// each place of one that waits for edges or for times as long as the lists of the controls before it.
+    pub fn new(
+        alloc: Global,
+        facts: &'a Facts<'a>,
+        inverted: &'a [bool],
+    ) -> Result<Slots<'a>, AllocError>
+        requires { AreInverted facts.now.design (is_wide facts.now.claims) inverted.now }
         ensures { IfOk result (λ x. x ≡ facts.entry.now) }
     {
         facts.maps();
         let delays = delay_runs(alloc, &*facts)?;
-        let firing = Firing::of(alloc, &*facts, &delays)?;
+        let firing = Firing::of(alloc, &*facts, inverted, &delays)?;
         let edges = edge_runs(alloc, &*facts, &firing)?;
         let writes = write_slots(alloc, &*facts, &delays, &edges)?;
         Ok(Slots {

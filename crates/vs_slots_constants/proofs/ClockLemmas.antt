@@ -16,12 +16,12 @@ use Rattle.vs_design.specs.declared.statement.Statement.TheViews.{out-Statement}
 use Rattle.vs_design.specs.declared.statement.Target.{Target}
 use Rattle.vs_design.specs.declared.statement.Ticks.{Ticks}
 use Rattle.vs_design.specs.Parts.{Parts}
-use Rattle.vs_rules.specs.Constants.{bit_of, given, GivesDigit, IsKnown, IsWholeTarget, IsInverse, IsBare, Sets, Turns, SetsAfter, TurnsForever, SetsAndTurns}
+use Rattle.vs_rules.specs.Constants.{bit_of, given, GivesDigit, IsKnown, IsWholeTarget, IsBare, Sets, Turns, SetsAfter, TurnsForever, SetsAndTurns}
 use Rattle.vs_rules.specs.Constants as k
-use Rattle.vs_slots_constants.specs.Wholes.{whole_parts, inverse_layer}
+use Rattle.vs_slots_constants.specs.Wholes.{whole_parts, turn_layer}
 use Rattle.vs_slots_constants.specs.Clocks.{IsCore, is_one, is_single, is_it, known, setting, setting_layer, turning, turning_layer, IsTurning, TurnsLayer, ForeverLayer, BeginsLayer, Begins, ArePair, PairLayer}
-use Rattle.vs_slots_constants.proofs.WholeLemmas.{target_is, inverse_is}
-use Rattle.vs_slots_constants.proofs.Cores.{core_has, core_bare}
+use Rattle.vs_slots_constants.proofs.WholeLemmas.{target_is, turn_is}
+use Rattle.vs_slots_constants.proofs.Cores.{core_has, core_bare, one_core}
 
 -- ---- digits
 
@@ -76,44 +76,44 @@ sets_is d v digit s core c = (
 
 -- ---- `u = ~u`
 
-turning_at : (d : Parts) (v : ℕ) (x : Statement-F Statement) → turning_layer d v x ≡ true →
-    (n : ℕ) × (target : Target) × (value : Typed) × (x ≡ Statement-F.Assign n target value) × (turning d v target value ≡ true)
-turning_at d v (Statement-F.Assign n target value) h = (n, target, value, refl, h)
-turning_at d v _ h = cc
+turning_at : (d : Parts) (wide : Bool) (v : ℕ) (x : Statement-F Statement) → turning_layer d wide v x ≡ true →
+    (n : ℕ) × (target : Target) × (value : Typed) × (x ≡ Statement-F.Assign n target value) × (turning d wide v target value ≡ true)
+turning_at d wide v (Statement-F.Assign n target value) h = (n, target, value, refl, h)
+turning_at d wide v _ h = cc
 
-pub turning_is : (d : Parts) (v : ℕ) (s core : Statement) → IsCore s core → (IsTurning d v s ↔ turning_layer d v (out-Statement core) ≡ true)
-turning_is d v s core c = (
+pub turning_is : (d : Parts) (wide : Bool) (v : ℕ) (s core : Statement) → IsCore s core → (IsTurning d wide v s ↔ turning_layer d wide v (out-Statement core) ≡ true)
+turning_is d wide v s core c = (
   λ h.
-      ap (turning_layer d v) (core_has s core (Statement-F.Assign h.number h.target h.value) c refl h.is)
-      ∙ and_from (is_it (whole_parts d h.target.parts.items) v) (is_it (inverse_layer d (out-Typed h.value)) v)
+      ap (turning_layer d wide v) (core_has s core (Statement-F.Assign h.number h.target h.value) c refl h.is)
+      ∙ and_from (is_it (whole_parts d h.target.parts.items) v) (is_it (turn_layer d wide (out-Typed h.value)) v)
       (it_is (whole_parts d h.target.parts.items) v ((target_is d v h.target).0 h.whole))
-      (it_is (inverse_layer d (out-Typed h.value)) v ((inverse_is d v (out-Typed h.value)).0 h.inverse)),
+      (it_is (turn_layer d wide (out-Typed h.value)) v ((turn_is d wide v h.value).0 h.inverse)),
   λ h.
-      let a = turning_at d v (out-Statement core) h in
-      let both = and_parts (is_it (whole_parts d a.1.parts.items) v) (is_it (inverse_layer d (out-Typed a.2)) v) a.4 in
+      let a = turning_at d wide v (out-Statement core) h in
+      let both = and_parts (is_it (whole_parts d a.1.parts.items) v) (is_it (turn_layer d wide (out-Typed a.2)) v) a.4 in
       record {
         number = a.0;
         target = a.1;
         value = a.2;
         is = core_bare s core (Statement-F.Assign a.0 a.1 a.2) c a.3;
         whole = (target_is d v a.1).1 (it_back (whole_parts d a.1.parts.items) v both.0);
-        inverse = (inverse_is d v (out-Typed a.2)).1 (it_back (inverse_layer d (out-Typed a.2)) v both.1);
+        inverse = (turn_is d wide v a.2).1 (it_back (turn_layer d wide (out-Typed a.2)) v both.1);
       },
 )
 
 -- ---- `#h u = ~u`
 
-turns_at : (d : Parts) (v half : ℕ) (x : Statement-F Statement) → TurnsLayer d v half x →
-    (n : ℕ) × (ticks : Ticks) × (inner : Box Statement Global) × (x ≡ Statement-F.Delay n ticks inner) × (ticks.count ≡ half) × (0 < half) × IsTurning d v inner.value
-turns_at d v half (Statement-F.Delay n ticks inner) h = (n, ticks, inner, refl, h.0, h.1, h.2)
-turns_at d v half _ h = absurd h
+turns_at : (d : Parts) (wide : Bool) (v half : ℕ) (x : Statement-F Statement) → TurnsLayer d wide v half x →
+    (n : ℕ) × (ticks : Ticks) × (inner : Box Statement Global) × (x ≡ Statement-F.Delay n ticks inner) × (ticks.count ≡ half) × (0 < half) × IsTurning d wide v inner.value
+turns_at d wide v half (Statement-F.Delay n ticks inner) h = (n, ticks, inner, refl, h.0, h.1, h.2)
+turns_at d wide v half _ h = absurd h
 
-pub turns_is : (d : Parts) (v half : ℕ) (s core : Statement) → IsCore s core → (Turns d v half s ↔ TurnsLayer d v half (out-Statement core))
-turns_is d v half s core c = (
-  λ h. subst (TurnsLayer d v half) (sym (core_has s core (Statement-F.Delay h.number h.ticks h.inner) c refl h.is))
+pub turns_is : (d : Parts) (wide : Bool) (v half : ℕ) (s core : Statement) → IsCore s core → (Turns d wide v half s ↔ TurnsLayer d wide v half (out-Statement core))
+turns_is d wide v half s core c = (
+  λ h. subst (TurnsLayer d wide v half) (sym (core_has s core (Statement-F.Delay h.number h.ticks h.inner) c refl h.is))
       (h.half_is, h.above, record { number = h.assigns; target = h.target; value = h.value; is = h.body; whole = h.whole; inverse = h.inverse }),
   λ h.
-      let a = turns_at d v half (out-Statement core) h in
+      let a = turns_at d wide v half (out-Statement core) h in
       record {
         number = a.0;
         ticks = a.1;
@@ -132,15 +132,15 @@ turns_is d v half s core c = (
 
 -- ---- `forever #h u = ~u`
 
-forever_at : (d : Parts) (v half : ℕ) (x : Statement-F Statement) → ForeverLayer d v half x → (n : ℕ) × (inner : Box Statement Global) × (x ≡ Statement-F.Forever n inner) × Turns d v half inner.value
-forever_at d v half (Statement-F.Forever n inner) h = (n, inner, refl, h)
-forever_at d v half _ h = absurd h
+forever_at : (d : Parts) (wide : Bool) (v half : ℕ) (x : Statement-F Statement) → ForeverLayer d wide v half x → (n : ℕ) × (inner : Box Statement Global) × (x ≡ Statement-F.Forever n inner) × Turns d wide v half inner.value
+forever_at d wide v half (Statement-F.Forever n inner) h = (n, inner, refl, h)
+forever_at d wide v half _ h = absurd h
 
-pub forever_is : (d : Parts) (v half : ℕ) (s core : Statement) → IsCore s core → (TurnsForever d v half s ↔ ForeverLayer d v half (out-Statement core))
-forever_is d v half s core c = (
-  λ h. subst (ForeverLayer d v half) (sym (core_has s core (Statement-F.Forever h.number h.inner) c refl h.is)) h.turns,
+pub forever_is : (d : Parts) (wide : Bool) (v half : ℕ) (s core : Statement) → IsCore s core → (TurnsForever d wide v half s ↔ ForeverLayer d wide v half (out-Statement core))
+forever_is d wide v half s core c = (
+  λ h. subst (ForeverLayer d wide v half) (sym (core_has s core (Statement-F.Forever h.number h.inner) c refl h.is)) h.turns,
   λ h.
-      let a = forever_at d v half (out-Statement core) h in
+      let a = forever_at d wide v half (out-Statement core) h in
       record { number = a.0; inner = a.1; is = core_bare s core (Statement-F.Forever a.0 a.1) c a.2; turns = a.3 },
 )
 
@@ -175,24 +175,38 @@ begins_is d v offset digit s core c = (begins_there d v offset digit s core c, �
 two_not_one : (all : Vec Statement Global) (a b : Statement) → all.items ≡ a ∷ b ∷ [] → is_single (Statement-F.Block all) ≡ false
 two_not_one all a b e = ap is_one e
 
-pair_in : (d : Parts) (v offset half : ℕ) (digit : Digit) (all : List Statement) → ArePair d v offset half digit all →
-    (a : Statement) × (b : Statement) × (all ≡ a ∷ b ∷ []) × Begins d v offset digit a × TurnsForever d v half b
-pair_in d v offset half digit [] h = absurd h
-pair_in d v offset half digit (a ∷ []) h = absurd h
-pair_in d v offset half digit (a ∷ b ∷ []) h = (a, b, refl, h.0, h.1)
-pair_in d v offset half digit (a ∷ b ∷ x ∷ rest) h = absurd h
+pair_in : (d : Parts) (wide : Bool) (v offset half : ℕ) (digit : Digit) (all : List Statement) → ArePair d wide v offset half digit all →
+    (a : Statement) × (b : Statement) × (all ≡ a ∷ b ∷ []) × Begins d v offset digit a × TurnsForever d wide v half b
+pair_in d wide v offset half digit [] h = absurd h
+pair_in d wide v offset half digit (a ∷ []) h = absurd h
+pair_in d wide v offset half digit (a ∷ b ∷ []) h = (a, b, refl, h.0, h.1)
+pair_in d wide v offset half digit (a ∷ b ∷ x ∷ rest) h = absurd h
 
-pair_at : (d : Parts) (v offset half : ℕ) (digit : Digit) (x : Statement-F Statement) → PairLayer d v offset half digit x →
-    (all : Vec Statement Global) × (x ≡ Statement-F.Block all) × ArePair d v offset half digit all.items
-pair_at d v offset half digit (Statement-F.Block all) h = (all, refl, h)
-pair_at d v offset half digit _ h = absurd h
+pair_at : (d : Parts) (wide : Bool) (v offset half : ℕ) (digit : Digit) (x : Statement-F Statement) → PairLayer d wide v offset half digit x →
+    (all : Vec Statement Global) × (x ≡ Statement-F.Block all) × ArePair d wide v offset half digit all.items
+pair_at d wide v offset half digit (Statement-F.Block all) h = (all, refl, h)
+pair_at d wide v offset half digit _ h = absurd h
 
-pub pair_is : (d : Parts) (v offset half : ℕ) (digit : Digit) (s core : Statement) → IsCore s core → (SetsAndTurns d v offset half digit s ↔ PairLayer d v offset half digit (out-Statement core))
-pair_is d v offset half digit s core c = (
-  λ h. subst (PairLayer d v offset half digit) (sym (core_has s core (Statement-F.Block h.all) c (two_not_one h.all h.first h.second h.two) h.is))
-      (subst (ArePair d v offset half digit) (sym h.two) (h.sets, h.turns)),
+pub pair_is : (d : Parts) (wide : Bool) (v offset half : ℕ) (digit : Digit) (s core : Statement) → IsCore s core → (SetsAndTurns d wide v offset half digit s ↔ PairLayer d wide v offset half digit (out-Statement core))
+pair_is d wide v offset half digit s core c = (
+  λ h. subst (PairLayer d wide v offset half digit) (sym (core_has s core (Statement-F.Block h.all) c (two_not_one h.all h.first h.second h.two) h.is))
+      (subst (ArePair d wide v offset half digit) (sym h.two) (h.sets, h.turns)),
   λ h.
-      let a = pair_at d v offset half digit (out-Statement core) h in
-      let b = pair_in d v offset half digit a.0.items a.2 in
+      let a = pair_at d wide v offset half digit (out-Statement core) h in
+      let b = pair_in d wide v offset half digit a.0.items a.2 in
       record { all = a.0; is = core_bare s core (Statement-F.Block a.0) c a.1; first = b.0; second = b.1; two = b.2; sets = b.3; turns = b.4 },
 )
+
+-- ---- a statement has one form
+
+-- what sets and turns a clock isn't what turns one alone
+pub sets_or_turns : (d : Parts) (wide : Bool) (v offset half ticks : ℕ) (digit : Digit) (s : Statement) → SetsAndTurns d wide v offset half digit s → TurnsForever d wide v ticks s → ⊥
+sets_or_turns d wide v offset half ticks digit s a b =
+    let e = one_core s (Statement-F.Block a.all) (Statement-F.Forever b.number b.inner) a.is (two_not_one a.all a.first a.second a.two) b.is refl in
+    cc
+
+-- nor is what sets one
+pub set_or_turns : (d : Parts) (wide : Bool) (v half : ℕ) (digit : Digit) (s : Statement) → Sets d v digit s → TurnsForever d wide v half s → ⊥
+set_or_turns d wide v half digit s a b =
+    let e = one_core s (Statement-F.Assign a.number a.target a.value) (Statement-F.Forever b.number b.inner) a.is refl b.is refl in
+    cc

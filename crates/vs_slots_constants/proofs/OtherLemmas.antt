@@ -1,12 +1,13 @@
 -- The one other number of a list, and clocks by their writers.
-use Rattle.std.proofs.Common.{◌≡◌, ℕ, ◌<◌, ◌≤◌, ◌⊎◌, ◌↔◌, inl, inr, Option, Some, None, List, [], length, map, get_or, slice_get, refl, sym, ◌∙◌, ap, subst, arith}
+use Rattle.std.proofs.Common.{◌≡◌, ℕ, ◌<◌, ◌≤◌, ◌⊎◌, ◌↔◌, inl, inr, Bool, Option, Some, None, List, [], length, map, get_or, slice_get, refl, sym, ◌∙◌, ap, subst, arith}
 use Rattle.std.specs.List.{Contains}
 use Rattle.std.proofs.lemmas.Option.{same_Some, slice_get-get_or}
 use Rattle.std.proofs.lemmas.List.Elements.{Contains-append_left}
 use borrow.Author.Tests.{ltb-true}
-use Rattle.std.proofs.Common.{true, ltb}
+use Rattle.std.proofs.Common.{true, false, ltb}
 use Rattle.vs_design.specs.vs_logic4.specs.declared.digit.Digit.{Digit}
 use Rattle.vs_design.specs.declared.design.Process.{Process}
+use Rattle.vs_design.specs.declared.design.ProcessKind.{ProcessKind}
 use Rattle.vs_design.specs.declared.design.ProcessKind.TheVariants.{Initial, Always}
 use Rattle.vs_design.specs.declared.range.BitRange.{BitRange}
 use Rattle.vs_design.specs.declared.statement.Statement.{Statement}
@@ -17,10 +18,12 @@ use Rattle.vs_design.specs.Uses.{aim_range, joined, slice_range}
 use Rattle.vs_design.specs.Parts.{Parts}
 use Rattle.vs_rules.specs.vs_threads.specs.Blocks.{outputs_for}
 use Rattle.vs_threads.specs.Writes.{statement_writes, statement_writes_step}
-use Rattle.vs_rules.specs.Constants.{HasBody, IsBare, itself, inside, Sets, SetsAndTurns, TurnsForever}
+use Rattle.vs_rules.specs.Constants.{HasBody, IsBare, itself, inside, MayTurn, Sets, SetsAndTurns, TurnsForever}
 use Rattle.vs_rules.specs.Constants as k
+use Rattle.vs_rules.specs.Claims.{is_wide}
 use Rattle.vs_rules.specs.Paths.{Writes}
-use Rattle.vs_slots_constants.specs.Clocks.{IsOther, IsTurnedBy, IsClockBy, alone, two, ClocksByWriters}
+use Rattle.vs_slots_constants.specs.Clocks.{IsOther, IsBodyOf, IsTurnedBy, IsBegunBy, IsClockBy, alone, two, ClocksByWriters}
+use Rattle.vs_slots_constants.proofs.ClockLemmas.{sets_or_turns, set_or_turns}
 
 -- ---- the one other number
 
@@ -66,22 +69,14 @@ two_others xs i f x in_f not_f in_x not_x apart j = (
 pub found_there : {A : Type 0} (xs : List A) (i : ℕ) (x : A) → true ≡ ltb i (length xs) → x ≡ get_or xs i x → slice_get xs i ≡ Some x
 found_there xs i x within is = slice_get-get_or xs i x (ltb-true i (length xs) (sym within)) ∙ ap Some (sym is)
 
-pub body_is : (d : Parts) (i : ℕ) (p : Process) → slice_get d.processes i ≡ Some p → p.kind ≡ Initial → (P : Statement → Type 0) → (HasBody d i Initial P ↔ P p.body)
-body_is d i p is initial P = (
+pub body_is : (d : Parts) (i : ℕ) (p : Process) (kind : ProcessKind) → slice_get d.processes i ≡ Some p → p.kind ≡ kind → (P : Statement → Type 0) → (HasBody d i kind P ↔ P p.body)
+body_is d i p kind is same P = (
   λ h. subst (λ (q : Process). P q.body) (same_Some h.process p (sym h.is ∙ is)) h.body,
-  λ h. record { process = p; is = is; kind_is = initial; body = h },
+  λ h. record { process = p; is = is; kind_is = same; body = h },
 )
 
-pub body_always : (d : Parts) (i : ℕ) (p : Process) → slice_get d.processes i ≡ Some p → p.kind ≡ Always → (P : Statement → Type 0) → (HasBody d i Always P ↔ P p.body)
-body_always d i p is always P = (
-  λ h. subst (λ (q : Process). P q.body) (same_Some h.process p (sym h.is ∙ is)) h.body,
-  λ h. record { process = p; is = is; kind_is = always; body = h },
-)
-
-pub not_both : (d : Parts) (i : ℕ) (P Q : Statement → Type 0) → HasBody d i Initial P → HasBody d i Always Q → ⊥
-not_both d i P Q a b =
-    let e : Initial ≡ Always = sym a.kind_is ∙ ap (λ (q : Process). q.kind) (same_Some a.process b.process (sym a.is ∙ b.is)) ∙ b.kind_is in
-    cc
+pub kind_is : (d : Parts) (i : ℕ) (p : Process) (kind : ProcessKind) (P : Statement → Type 0) → slice_get d.processes i ≡ Some p → HasBody d i kind P → p.kind ≡ kind
+kind_is d i p kind P is h = ap (λ (q : Process). q.kind) (same_Some p h.process (sym is ∙ h.is)) ∙ h.kind_is
 
 -- ---- what sets a signal writes it
 
@@ -114,46 +109,96 @@ sets_writes d v j digit h =
 
 -- ---- clocks
 
-pub by_initial : (d : Parts) (v i : ℕ) (writer : Option ℕ) (p : Process) → writer ≡ Some i → slice_get d.processes i ≡ Some p → p.kind ≡ Initial → (digit : Digit) (offset half : ℕ) →
-    (IsClockBy d v writer digit offset half ↔ SetsAndTurns d v offset half digit p.body)
-by_initial d v i writer p is at initial digit offset half = (there, λ h. alone i is ((body_is d i p at initial (SetsAndTurns d v offset half digit)).1 h)) where
-  there : IsClockBy d v writer digit offset half → SetsAndTurns d v offset half digit p.body
-  there (alone k w body) =
-      (body_is d i p at initial (SetsAndTurns d v offset half digit)).0
-      (subst (λ (n : ℕ). HasBody d n Initial (SetsAndTurns d v offset half digit)) (same_Some k i (sym w ∙ is)) body)
-  there (two k j w turns sets none all) =
-      let h = subst (λ (n : ℕ). HasBody d n Always (TurnsForever d v half)) (same_Some k i (sym w ∙ is)) turns in
-      absurd (not_both d i (λ (s : Statement). s ≡ p.body) (TurnsForever d v half) (record { process = p; is = at; kind_is = initial; body = refl }) h)
-
-pub by_always : (d : Parts) (v i : ℕ) (writer : Option ℕ) (p : Process) → writer ≡ Some i → slice_get d.processes i ≡ Some p → p.kind ≡ Always → (digit : Digit) (offset half : ℕ) →
-    (IsClockBy d v writer digit offset half ↔ IsTurnedBy d v i p.body offset half digit)
-by_always d v i writer p is at always digit offset half = (there, λ h. two i h.2.0 is ((body_always d i p at always (TurnsForever d v half)).1 h.1) h.2.1 h.0 h.2.2) where
-  there : IsClockBy d v writer digit offset half → IsTurnedBy d v i p.body offset half digit
-  there (alone k w body) =
-      let h = subst (λ (n : ℕ). HasBody d n Initial (SetsAndTurns d v offset half digit)) (same_Some k i (sym w ∙ is)) body in
-      absurd (not_both d i (SetsAndTurns d v offset half digit) (λ (s : Statement). s ≡ p.body) h (record { process = p; is = at; kind_is = always; body = refl }))
-  there (two k j w turns sets none all) =
-      let e = same_Some k i (sym w ∙ is) in (
-        none,
-        (body_always d i p at always (TurnsForever d v half)).0 (subst (λ (n : ℕ). HasBody d n Always (TurnsForever d v half)) e turns),
-        (j, sets, λ n h. subst (λ (m : ℕ). (n ≡ m) ⊎ (n ≡ j)) e (all n h)),
-      )
+-- a body that turns a signal doesn't set it
+apart : (d : Parts) (wide : Bool) (v i half : ℕ) (digit : Digit) (body : Statement) → IsBodyOf d i body → TurnsForever d wide v half body → HasBody d i Initial (Sets d v digit) → ⊥
+apart d wide v i half digit body its turns sets =
+    set_or_turns d wide v half digit body (subst (Sets d v digit) (its sets.process sets.is) sets.body) turns
 
 -- the process that sets the signal is the one other writer of it
-pub other_writer : (d : Parts) (v i j : ℕ) (digit : Digit) (writers : List ℕ) (P : Statement → Type 0) → ((k : ℕ) → (Contains writers k ↔ Writes d k v)) → HasBody d i Always P →
-    HasBody d j Initial (Sets d v digit) → ((k : ℕ) → Writes d k v → (k ≡ i) ⊎ (k ≡ j)) → IsOther writers i j
-other_writer d v i j digit writers P are always sets all = (
+pub other_writer : (d : Parts) (wide : Bool) (v i j half : ℕ) (digit : Digit) (body : Statement) (writers : List ℕ) → ((k : ℕ) → (Contains writers k ↔ Writes d k v)) → IsBodyOf d i body →
+    TurnsForever d wide v half body → HasBody d j Initial (Sets d v digit) → ((k : ℕ) → Writes d k v → (k ≡ i) ⊎ (k ≡ j)) → IsOther writers i j
+other_writer d wide v i j half digit body writers are its turns sets all = (
   (are j).1 (sets_writes d v j digit sets),
-  λ e. not_both d i (Sets d v digit) P (subst (λ (n : ℕ). HasBody d n Initial (Sets d v digit)) e sets) always,
+  λ e. apart d wide v i half digit body its turns (subst (λ (n : ℕ). HasBody d n Initial (Sets d v digit)) e sets),
   λ k h. all k ((are k).0 h),
 )
 
+-- what a process of this kind turns, by the number of the writer
+turned_there : (d : Parts) (wide : Bool) (v i j k half offset : ℕ) (writer : Option ℕ) (p : Process) (kind : ProcessKind) (digit : Digit) → writer ≡ Some i → slice_get d.processes i ≡ Some p →
+    writer ≡ Some k → HasBody d k kind (TurnsForever d wide v half) → HasBody d j Initial (Sets d v digit) → (offset ≡ 0) → ((n : ℕ) → Writes d n v → (n ≡ k) ⊎ (n ≡ j)) →
+    (p.kind ≡ kind) × IsTurnedBy d wide v i p.body offset half digit
+turned_there d wide v i j k half offset writer p kind digit is at w turns sets none all =
+    let e = same_Some k i (sym w ∙ is) in
+    let here = subst (λ (n : ℕ). HasBody d n kind (TurnsForever d wide v half)) e turns in
+    let same = kind_is d i p kind (TurnsForever d wide v half) at here in (
+      same,
+      (
+        none,
+        (body_is d i p kind at same (TurnsForever d wide v half)).0 here,
+        (j, sets, λ n h. subst (λ (m : ℕ). (n ≡ m) ⊎ (n ≡ j)) e (all n h)),
+      ),
+    )
+
+turned_back : (d : Parts) (wide : Bool) (v i half offset : ℕ) (writer : Option ℕ) (p : Process) (digit : Digit) → writer ≡ Some i → slice_get d.processes i ≡ Some p →
+    MayTurn wide p.kind → IsTurnedBy d wide v i p.body offset half digit → IsClockBy d wide v writer digit offset half
+turned_back d wide v i half offset writer p digit is at may h =
+    two i h.2.0 p.kind is may ((body_is d i p p.kind at refl (TurnsForever d wide v half)).1 h.1) h.2.1 h.0 h.2.2
+
+may_wide : (wide : Bool) (kind : ProcessKind) → kind ≡ Initial → MayTurn wide kind → wide ≡ true
+may_wide wide kind e (inl a) = cc
+may_wide wide kind e (inr w) = w
+
+pub by_initial : (d : Parts) (wide : Bool) (v i : ℕ) (writer : Option ℕ) (p : Process) → writer ≡ Some i → slice_get d.processes i ≡ Some p → p.kind ≡ Initial → (digit : Digit) (offset half : ℕ) →
+    (IsClockBy d wide v writer digit offset half ↔ IsBegunBy d wide v i p.body offset half digit)
+by_initial d wide v i writer p is at initial digit offset half = (there, back) where
+  there : IsClockBy d wide v writer digit offset half → IsBegunBy d wide v i p.body offset half digit
+  there (alone k w body) =
+      inl ((body_is d i p Initial at initial (SetsAndTurns d wide v offset half digit)).0
+      (subst (λ (n : ℕ). HasBody d n Initial (SetsAndTurns d wide v offset half digit)) (same_Some k i (sym w ∙ is)) body))
+  there (two k j kind w may turns sets none all) =
+      let t = turned_there d wide v i j k half offset writer p kind digit is at w turns sets none all in
+      inr (may_wide wide kind (sym t.0 ∙ initial) may, t.1)
+
+  back : IsBegunBy d wide v i p.body offset half digit → IsClockBy d wide v writer digit offset half
+  back (inl h) = alone i is ((body_is d i p Initial at initial (SetsAndTurns d wide v offset half digit)).1 h)
+  back (inr h) = turned_back d wide v i half offset writer p digit is at (inr h.0) h.1
+
+pub by_always : (d : Parts) (wide : Bool) (v i : ℕ) (writer : Option ℕ) (p : Process) → writer ≡ Some i → slice_get d.processes i ≡ Some p → p.kind ≡ Always → (digit : Digit) (offset half : ℕ) →
+    (IsClockBy d wide v writer digit offset half ↔ IsTurnedBy d wide v i p.body offset half digit)
+by_always d wide v i writer p is at always digit offset half = (there, λ h. turned_back d wide v i half offset writer p digit is at (inl always) h) where
+  there : IsClockBy d wide v writer digit offset half → IsTurnedBy d wide v i p.body offset half digit
+  there (alone k w body) =
+      let h = subst (λ (n : ℕ). HasBody d n Initial (SetsAndTurns d wide v offset half digit)) (same_Some k i (sym w ∙ is)) body in
+      let e : Initial ≡ Always = sym (kind_is d i p Initial (SetsAndTurns d wide v offset half digit) at h) ∙ always in
+      cc
+  there (two k j kind w may turns sets none all) = (turned_there d wide v i j k half offset writer p kind digit is at w turns sets none all).1
+
+-- an `initial` process that sets and turns a signal turns no other one's
+pub begun_alone : (d : Parts) (wide : Bool) (v i : ℕ) (body : Statement) (o h : ℕ) (z : Digit) → SetsAndTurns d wide v o h z body → (offset half : ℕ) (digit : Digit) →
+    (IsBegunBy d wide v i body offset half digit ↔ SetsAndTurns d wide v offset half digit body)
+begun_alone d wide v i body o h z has offset half digit = (there, λ a. inl a) where
+  there : IsBegunBy d wide v i body offset half digit → SetsAndTurns d wide v offset half digit body
+  there (inl a) = a
+  there (inr b) = absurd (sets_or_turns d wide v o h half z body has b.1.1)
+
+pub begun_turned : (d : Parts) (wide : Bool) (v i : ℕ) (body : Statement) (offset half : ℕ) (digit : Digit) → (SetsAndTurns d wide v offset half digit body → ⊥) → wide ≡ true →
+    (IsBegunBy d wide v i body offset half digit ↔ IsTurnedBy d wide v i body offset half digit)
+begun_turned d wide v i body offset half digit not is = (there, λ b. inr (is, b)) where
+  there : IsBegunBy d wide v i body offset half digit → IsTurnedBy d wide v i body offset half digit
+  there (inl a) = absurd (not a)
+  there (inr b) = b.1
+
+pub begun_never : (d : Parts) (wide : Bool) (v i : ℕ) (body : Statement) (offset half : ℕ) (digit : Digit) → (SetsAndTurns d wide v offset half digit body → ⊥) → wide ≡ false →
+    IsBegunBy d wide v i body offset half digit → ⊥
+begun_never d wide v i body offset half digit not narrow (inl a) = not a
+begun_never d wide v i body offset half digit not narrow (inr b) = let e : false ≡ true = sym narrow ∙ b.0 in cc
+
 pub clocks_by_writers : ClocksByWriters
 clocks_by_writers d c v writer same digit offset half = (there, back) where
-  there : IsClockBy d v writer digit offset half → k.IsClock d c v digit offset half
+  there : IsClockBy d (is_wide c) v writer digit offset half → k.IsClock d c v digit offset half
   there (alone i is body) = k.alone i ((same i).1 is) body
-  there (two i j is turns sets at all) = k.two i j ((same i).1 is) turns sets at all
+  there (two i j kind is may turns sets at all) = k.two i j kind ((same i).1 is) may turns sets at all
 
-  back : k.IsClock d c v digit offset half → IsClockBy d v writer digit offset half
+  back : k.IsClock d c v digit offset half → IsClockBy d (is_wide c) v writer digit offset half
   back (k.alone i is body) = alone i ((same i).0 is) body
-  back (k.two i j is turns sets at all) = two i j ((same i).0 is) turns sets at all
+  back (k.two i j kind is may turns sets at all) = two i j kind ((same i).0 is) may turns sets at all

@@ -15,8 +15,8 @@ use Rattle.vs_design.specs.declared.statement.Aim.{Aim}
 use Rattle.vs_design.specs.declared.statement.Aim.TheVariants.{Fixed, Chosen}
 use Rattle.vs_design.specs.declared.statement.Target.{Target}
 use Rattle.vs_design.specs.Parts.{Parts}
-use Rattle.vs_rules.specs.Constants.{IsWholeSlice, IsWholeName, IsWholeSelect, IsWholeLayer, IsInverseLayer, IsWholeTarget}
-use Rattle.vs_slots_constants.specs.Wholes.{is_absent, is_plain, is_zero, whole_slice, whole_name, whole_select, whole_layer, inverse_layer, whole_parts}
+use Rattle.vs_rules.specs.Constants.{IsWholeSlice, IsWholeName, IsWholeSelect, IsWholeLayer, IsInverseLayer, IsNegationLayer, InvertsLayer, IsTurn, IsWholeTarget}
+use Rattle.vs_slots_constants.specs.Wholes.{is_absent, is_plain, is_zero, whole_slice, whole_name, whole_select, whole_layer, inverse_layer, negation_layer, inverts_layer, turn_layer, whole_parts}
 
 -- ---- choices
 
@@ -134,6 +134,28 @@ layer_is d v _ = (λ h. absurd h, λ h. cc)
 pub inverse_is : (d : Parts) (v : ℕ) (x : Typed-F Typed) → (IsInverseLayer d v x ↔ inverse_layer d x ≡ Some v)
 inverse_is d v (t.Unary u.Not x) = layer_is d v (out-Typed x.value)
 inverse_is d v _ = (λ h. absurd h, λ h. cc)
+
+negation_is : (d : Parts) (v : ℕ) (x : Typed-F Typed) → (IsNegationLayer d v x ↔ negation_layer d x ≡ Some v)
+negation_is d v (t.Unary u.LogicalNot x) = layer_is d v (out-Typed x.value)
+negation_is d v _ = (λ h. absurd h, λ h. cc)
+
+pub inverts_is : (d : Parts) (v : ℕ) (x : Typed-F Typed) → (InvertsLayer d v x ↔ inverts_layer d x ≡ Some v)
+inverts_is d v (t.Unary u.Not x) = layer_is d v (out-Typed x.value)
+inverts_is d v (t.Resized size x) = (there, back) where
+  there : (size.width ≡ 1) × IsNegationLayer d v (out-Typed x.value) → inverts_layer d (t.Resized size x) ≡ Some v
+  there h =
+      ap (λ (b : Bool). if b then negation_layer d (out-Typed x.value) else None) (same_self size.width 1 h.0)
+      ∙ (negation_is d v (out-Typed x.value)).0 h.1
+
+  back : inverts_layer d (t.Resized size x) ≡ Some v → (size.width ≡ 1) × IsNegationLayer d v (out-Typed x.value)
+  back h =
+      let c = taken (size.width == 1) (negation_layer d (out-Typed x.value)) v h in
+      (eqb-true size.width 1 c.0, (negation_is d v (out-Typed x.value)).1 c.1)
+inverts_is d v _ = (λ h. absurd h, λ h. cc)
+
+pub turn_is : (d : Parts) (wide : Bool) (v : ℕ) (e : Typed) → (IsTurn d wide v e ↔ turn_layer d wide (out-Typed e) ≡ Some v)
+turn_is d false v e = inverse_is d v (out-Typed e)
+turn_is d true v e = inverts_is d v (out-Typed e)
 
 parts_back : (d : Parts) (v : ℕ) (aims : List Aim) → whole_parts d aims ≡ Some v → (s : Slice) × (aims ≡ Fixed s ∷ []) × IsWholeSlice d v s
 parts_back d v [] h = cc

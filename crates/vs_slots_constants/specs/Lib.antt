@@ -1,4 +1,5 @@
 pub mod Givings
 pub mod Wholes
+pub mod Inverted
 pub mod Clocks
 pub use Rattle.vs_rules

@@ -55,6 +55,25 @@ abbrev pub inverse_layer : Parts → Typed-F Typed → Option ℕ
 inverse_layer d (t.Unary op x) = inverse_under d op x.value
 inverse_layer d _ = None
 
+abbrev pub negated_under : Parts → Unary → Typed → Option ℕ
+negated_under d u.LogicalNot e = whole_layer d (out-Typed e)
+negated_under d _ e = None
+
+-- the signal `u` of which an expression is `!u`, of its whole
+abbrev pub negation_layer : Parts → Typed-F Typed → Option ℕ
+negation_layer d (t.Unary op x) = negated_under d op x.value
+negation_layer d _ = None
+
+-- the signal `u` of which an expression is `~u` or, as one bit, `!u`
+abbrev pub inverts_layer : Parts → Typed-F Typed → Option ℕ
+inverts_layer d (t.Unary op x) = inverse_under d op x.value
+inverts_layer d (t.Resized size x) = if size.width == 1 then negation_layer d (out-Typed x.value) else None
+inverts_layer d _ = None
+
+-- the signal that an assignment of the expression to it turns
+abbrev pub turn_layer : Parts → Bool → Typed-F Typed → Option ℕ
+turn_layer d wide e = if wide then inverts_layer d e else inverse_layer d e
+
 abbrev pub whole_aim : Parts → Aim → Option ℕ
 whole_aim d (Fixed s) = whole_slice d s
 whole_aim d (Chosen s word low) = None

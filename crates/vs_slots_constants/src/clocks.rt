@@ -2,15 +2,15 @@
 ghost use Rattle.std.specs.Prelude.{ℕ, ◌≡◌, ◌<◌, ◌↔◌, Some, IfOk, IsTrue};
 ghost use Rattle.std.specs.List.{Contains};
 ghost use Rattle.vs_design.specs.vs_logic4.specs.declared.digit.Digit.{Digit};
-ghost use Rattle.vs_design.specs.declared.design.ProcessKind.TheVariants.{Initial, Always};
+ghost use Rattle.vs_design.specs.declared.design.ProcessKind.TheVariants.{Initial};
 ghost use Rattle.vs_design.specs.declared.statement.Statement.TheViews.{out-Statement};
 ghost use Rattle.vs_rules.specs.Constants.{Sets, Turns, TurnsForever, SetsAndTurns, HasBody};
 ghost use Rattle.vs_rules.specs.Paths.{Writes};
 ghost use Rattle.vs_slots_constants.specs.Clocks.{IsCore, is_it, known, setting, setting_layer, turning, turning_layer, IsTurning};
-ghost use Rattle.vs_slots_constants.specs.Clocks.{TurnsLayer, ForeverLayer, BeginsLayer, Begins, ArePair, PairLayer, IsOther, IsTurnedBy, IsClockBy};
+ghost use Rattle.vs_slots_constants.specs.Clocks.{TurnsLayer, ForeverLayer, BeginsLayer, Begins, ArePair, PairLayer, IsOther, IsBodyOf, IsTurnedBy, IsBegunBy, IsClockBy};
 
 use crate::constants::{Bit, given};
-use crate::wholes::{inverse_layer, whole_parts};
+use crate::wholes::{turn_layer, whole_parts};
 use std::alloc::{AllocError, Global};
 use vs_design::vs_logic4::Digit;
 use vs_design::{Design, ProcessKind, Statement, Target, Typed};
@@ -101,65 +101,72 @@ pub fn sets(
     setting_layer(alloc, design, v, core_of(s))
 }
 
-fn turning_layer(design: &Design, v: usize, s: &Statement) -> bool
-    ensures { result ≡ turning_layer design.now v (out-Statement s.now) }
+fn turning_layer(design: &Design, wide: bool, v: usize, s: &Statement) -> bool
+    ensures { result ≡ turning_layer design.now wide v (out-Statement s.now) }
 {
     match s {
         Statement::Assign(_, target, value) => {
-            is_it(whole_parts(design, &target.parts), v) && is_it(inverse_layer(design, value), v)
+            is_it(whole_parts(design, &target.parts), v)
+                && is_it(turn_layer(design, wide, value), v)
         }
         _ => false,
     }
 }
 
-// Whether a statement is `u = ~u`, but for `begin` and `end` round it.
-fn is_turning(design: &Design, v: usize, s: &Statement) -> bool
-    ensures { IsTrue result ↔ IsTurning design.now v s.now }
+// Whether a statement is `u = ~u`, but for `begin` and `end` round it; `!u` turns too where clocks are wide.
+fn is_turning(design: &Design, wide: bool, v: usize, s: &Statement) -> bool
+    ensures { IsTrue result ↔ IsTurning design.now wide v s.now }
 {
-    turning_layer(design, v, core_of(s))
+    turning_layer(design, wide, v, core_of(s))
 }
 
 // Some ticks, where they are above 0 and the statement after them is `u = ~u`.
-fn turning_after(design: &Design, v: usize, ticks: u64, inner: &Statement) -> Option<u64>
-    ensures { (half : ℕ) → (((ticks ≡ half) × (0 < half) × IsTurning design.now v inner.now) ↔ result ≡ Some half) }
+fn turning_after(
+    design: &Design,
+    wide: bool,
+    v: usize,
+    ticks: u64,
+    inner: &Statement,
+) -> Option<u64>
+    ensures { (half : ℕ) → (((ticks ≡ half) × (0 < half) × IsTurning design.now wide v inner.now) ↔ result ≡ Some half) }
 {
-    if ticks > 0 && is_turning(design, v, inner) {
+    if ticks > 0 && is_turning(design, wide, v, inner) {
         Some(ticks)
     } else {
         None
     }
 }
 
-fn turns_layer(design: &Design, v: usize, s: &Statement) -> Option<u64>
-    ensures { (half : ℕ) → (TurnsLayer design.now v half (out-Statement s.now) ↔ result ≡ Some half) }
+fn turns_layer(design: &Design, wide: bool, v: usize, s: &Statement) -> Option<u64>
+    ensures { (half : ℕ) → (TurnsLayer design.now wide v half (out-Statement s.now) ↔ result ≡ Some half) }
 {
     match s {
-        Statement::Delay(_, ticks, inner) => turning_after(design, v, ticks.count, inner),
+        Statement::Delay(_, ticks, inner) => turning_after(design, wide, v, ticks.count, inner),
         _ => None,
     }
 }
 
-/// The ticks `h` of a statement that is `#h u = ~u`, with h above 0, but for `begin` and `end`.
-pub fn turns(design: &Design, v: usize, s: &Statement) -> Option<u64>
-    ensures { (half : ℕ) → (Turns design.now v half s.now ↔ result ≡ Some half) }
+/// The ticks `h` of a statement that is `#h u = ~u`, with h above 0, but for `begin` and `end`. Where clocks are wide, `!u` is as good as `~u`.
+pub fn turns(design: &Design, wide: bool, v: usize, s: &Statement) -> Option<u64>
+    ensures { (half : ℕ) → (Turns design.now wide v half s.now ↔ result ≡ Some half) }
 {
-    turns_layer(design, v, core_of(s))
+    turns_layer(design, wide, v, core_of(s))
 }
 
-fn forever_layer(design: &Design, v: usize, s: &Statement) -> Option<u64>
-    ensures { (half : ℕ) → (ForeverLayer design.now v half (out-Statement s.now) ↔ result ≡ Some half) }
+fn forever_layer(design: &Design, wide: bool, v: usize, s: &Statement) -> Option<u64>
+    ensures { (half : ℕ) → (ForeverLayer design.now wide v half (out-Statement s.now) ↔ result ≡ Some half) }
 {
     match s {
-        Statement::Forever(_, inner) => turns(design, v, inner),
+        Statement::Forever(_, inner) => turns(design, wide, v, inner),
         _ => None,
     }
 }
 
 // The ticks `h` of a statement that is `forever #h u = ~u`.
-fn turns_forever(design: &Design, v: usize, s: &Statement) -> Option<u64>
-    ensures { (half : ℕ) → (TurnsForever design.now v half s.now ↔ result ≡ Some half) }
+fn turns_forever(design: &Design, wide: bool, v: usize, s: &Statement) -> Option<u64>
+    ensures { (half : ℕ) → (TurnsForever design.now wide v half s.now ↔ result ≡ Some half) }
 {
-    forever_layer(design, v, core_of(s))
+    forever_layer(design, wide, v, core_of(s))
 }
 
 // A digit with the ticks after which it is set.
@@ -223,30 +230,32 @@ fn joined(begins: Option<(Digit, u64)>, half: Option<u64>) -> Option<Clock>
 fn pair(
     alloc: Global,
     design: &Design,
+    wide: bool,
     v: usize,
     all: &[Statement],
 ) -> Result<Option<Clock>, AllocError>
-    ensures { IfOk result (λ o. (offset half : ℕ) (digit : Digit) → (ArePair design.now v offset half digit all.now
+    ensures { IfOk result (λ o. (offset half : ℕ) (digit : Digit) → (ArePair design.now wide v offset half digit all.now
         ↔ o ≡ Some (record { digit = digit; offset = offset; half = half }))) }
 {
     if all.len() != 2 {
         return Ok(None);
     }
     let first = begins(alloc, design, v, &all[0])?;
-    Ok(joined(first, turns_forever(design, v, &all[1])))
+    Ok(joined(first, turns_forever(design, wide, v, &all[1])))
 }
 
 fn pair_layer(
     alloc: Global,
     design: &Design,
+    wide: bool,
     v: usize,
     s: &Statement,
 ) -> Result<Option<Clock>, AllocError>
-    ensures { IfOk result (λ o. (offset half : ℕ) (digit : Digit) → (PairLayer design.now v offset half digit (out-Statement s.now)
+    ensures { IfOk result (λ o. (offset half : ℕ) (digit : Digit) → (PairLayer design.now wide v offset half digit (out-Statement s.now)
         ↔ o ≡ Some (record { digit = digit; offset = offset; half = half }))) }
 {
     match s {
-        Statement::Block(all) => pair(alloc, design, v, all),
+        Statement::Block(all) => pair(alloc, design, wide, v, all),
         _ => Ok(None),
     }
 }
@@ -255,13 +264,14 @@ fn pair_layer(
 fn sets_and_turns(
     alloc: Global,
     design: &Design,
+    wide: bool,
     v: usize,
     s: &Statement,
 ) -> Result<Option<Clock>, AllocError>
-    ensures { IfOk result (λ o. (offset half : ℕ) (digit : Digit) → (SetsAndTurns design.now v offset half digit s.now
+    ensures { IfOk result (λ o. (offset half : ℕ) (digit : Digit) → (SetsAndTurns design.now wide v offset half digit s.now
         ↔ o ≡ Some (record { digit = digit; offset = offset; half = half }))) }
 {
-    pair_layer(alloc, design, v, core_of(s))
+    pair_layer(alloc, design, wide, v, core_of(s))
 }
 
 // The one other number of a list.
@@ -312,21 +322,22 @@ fn at_once(digit: Option<Digit>, half: u64) -> Option<Clock>
     }
 }
 
-// The clock that an `always` process turns by such a body, and the one other process that writes it sets at the start.
+// The clock that a process turns by its body, and the one other process that writes it sets at the start.
 fn turned(
     alloc: Global,
     design: &Design,
+    wide: bool,
     v: usize,
     i: usize,
     body: &Statement,
     writers: &[usize],
 ) -> Result<Option<Clock>, AllocError>
-    requires always { HasBody design.now i Always (λ s. s ≡ body.now) }
+    requires its { IsBodyOf design.now i body.now }
     requires writers { (k : ℕ) → (Contains writers.now k ↔ Writes design.now k v) }
-    ensures { IfOk result (λ o. (offset half : ℕ) (digit : Digit) → (IsTurnedBy design.now v i body.now offset half digit
+    ensures { IfOk result (λ o. (offset half : ℕ) (digit : Digit) → (IsTurnedBy design.now wide v i body.now offset half digit
         ↔ o ≡ Some (record { digit = digit; offset = offset; half = half }))) }
 {
-    let Some(half) = turns_forever(design, v, body) else {
+    let Some(half) = turns_forever(design, wide, v, body) else {
         return Ok(None);
     };
     let Some(j) = other(writers, i) else {
@@ -336,17 +347,45 @@ fn turned(
     Ok(at_once(digit, half))
 }
 
+// The clock of an `initial` process by its body: it sets the clock and turns it, or where clocks are wide turns what the one other process sets.
+fn begun(
+    alloc: Global,
+    design: &Design,
+    wide: bool,
+    v: usize,
+    i: usize,
+    body: &Statement,
+    writers: &[usize],
+) -> Result<Option<Clock>, AllocError>
+    requires its { IsBodyOf design.now i body.now }
+    requires writers { (k : ℕ) → (Contains writers.now k ↔ Writes design.now k v) }
+    ensures { IfOk result (λ o. (offset half : ℕ) (digit : Digit) → (IsBegunBy design.now wide v i body.now offset half digit
+        ↔ o ≡ Some (record { digit = digit; offset = offset; half = half }))) }
+{
+    let alone = sets_and_turns(alloc, design, wide, v, body)?;
+    match alone {
+        Some(clock) => Ok(Some(clock)),
+        None => if wide {
+            turned(alloc, design, wide, v, i, body, writers)
+        } else {
+            Ok(None)
+        },
+    }
+}
+
 /// The clock that a signal is, by its writer and all processes that write it: its writer sets it once and then turns it for ever; or it is an
-/// `always` that turns it, and the one other process that writes it sets it at the start. It takes as long as the texts of these two processes.
+/// `always` that turns it, where clocks are wide an `initial` too, and the one other process that writes it sets it at the start. It takes as long
+/// as the texts of these two processes.
 pub fn clock_of(
     alloc: Global,
     design: &Design,
+    wide: bool,
     v: usize,
     writer: Option<usize>,
     writers: &[usize],
 ) -> Result<Option<Clock>, AllocError>
     requires { (k : ℕ) → (Contains writers.now k ↔ Writes design.now k v) }
-    ensures { IfOk result (λ o. (digit : Digit) (offset half : ℕ) → (IsClockBy design.now v writer digit offset half
+    ensures { IfOk result (λ o. (digit : Digit) (offset half : ℕ) → (IsClockBy design.now wide v writer digit offset half
         ↔ o ≡ Some (record { digit = digit; offset = offset; half = half }))) }
 {
     let Some(i) = writer else {
@@ -356,7 +395,7 @@ pub fn clock_of(
         return Ok(None);
     };
     match process.kind {
-        ProcessKind::Initial => sets_and_turns(alloc, design, v, &process.body),
-        ProcessKind::Always => turned(alloc, design, v, i, &process.body, writers),
+        ProcessKind::Initial => begun(alloc, design, wide, v, i, &process.body, writers),
+        ProcessKind::Always => turned(alloc, design, wide, v, i, &process.body, writers),
     }
 }

@@ -9,4 +9,4 @@ mod wholes;
 pub use clocks::{Clock, clock_of, sets, turns};
 pub use constants::{Bit, given, given_by};
 pub use laws::gives_by_places;
-pub use wholes::{inverse, is_plain, whole, whole_target};
+pub use wholes::{inverse, inverts, is_plain, whole, whole_target};

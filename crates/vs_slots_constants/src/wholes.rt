@@ -1,8 +1,8 @@
 //! Expressions and targets that are a whole signal.
 ghost use Rattle.std.specs.Prelude.{ℕ, ◌≡◌, ◌↔◌, Some, slice_get, IsTrue};
 ghost use Rattle.vs_design.specs.declared.expression.Typed.TheViews.{out-Typed};
-ghost use Rattle.vs_rules.specs.Constants.{IsWhole, IsInverse, IsWholeTarget};
-ghost use Rattle.vs_slots_constants.specs.Wholes.{is_plain, whole_name, whole_slice, whole_select, whole_layer, inverse_layer, whole_parts};
+ghost use Rattle.vs_rules.specs.Constants.{IsWhole, IsInverse, Inverts, IsWholeTarget};
+ghost use Rattle.vs_slots_constants.specs.Wholes.{is_plain, whole_name, whole_slice, whole_select, whole_layer, inverse_layer, negation_layer, inverts_layer, turn_layer, whole_parts};
 
 use vs_design::vs_logic4::Unary;
 use vs_design::{Aim, Design, Operand, Slice, Target, Typed};
@@ -73,7 +73,7 @@ pub fn whole(design: &Design, e: &Typed) -> Option<usize>
     whole_layer(design, e)
 }
 
-pub(crate) fn inverse_layer(design: &Design, e: &Typed) -> Option<usize>
+fn inverse_layer(design: &Design, e: &Typed) -> Option<usize>
     ensures { result ≡ inverse_layer design.now (out-Typed e.now) }
 {
     match e {
@@ -87,6 +87,49 @@ pub fn inverse(design: &Design, e: &Typed) -> Option<usize>
     ensures { (v : ℕ) → (IsInverse design.now v e.now ↔ result ≡ Some v) }
 {
     inverse_layer(design, e)
+}
+
+// The signal `u` of which an expression is `!u`, of its whole.
+fn negation_layer(design: &Design, e: &Typed) -> Option<usize>
+    ensures { result ≡ negation_layer design.now (out-Typed e.now) }
+{
+    match e {
+        Typed::Unary(Unary::LogicalNot, x) => whole_layer(design, x),
+        _ => None,
+    }
+}
+
+fn inverts_layer(design: &Design, e: &Typed) -> Option<usize>
+    ensures { result ≡ inverts_layer design.now (out-Typed e.now) }
+{
+    match e {
+        Typed::Resized(size, x) => {
+            if size.width == 1 {
+                negation_layer(design, x)
+            } else {
+                None
+            }
+        }
+        _ => inverse_layer(design, e),
+    }
+}
+
+/// The signal `u` of which an expression is `~u` or, as one bit, `!u` (IEEE 1364-2005, clauses 5.1.9 and 5.1.10): where u has one bit they are one.
+pub fn inverts(design: &Design, e: &Typed) -> Option<usize>
+    ensures { (v : ℕ) → (Inverts design.now v e.now ↔ result ≡ Some v) }
+{
+    inverts_layer(design, e)
+}
+
+// The signal that an assignment of the expression to it turns: by `~u`, where clocks are wide by `!u` too.
+pub(crate) fn turn_layer(design: &Design, wide: bool, e: &Typed) -> Option<usize>
+    ensures { result ≡ turn_layer design.now wide (out-Typed e.now) }
+{
+    if wide {
+        inverts_layer(design, e)
+    } else {
+        inverse_layer(design, e)
+    }
 }
 
 pub(crate) fn whole_parts(design: &Design, aims: &[Aim]) -> Option<usize>

@@ -119,6 +119,7 @@ copy_is_link d m n c =
       writes = ap (list_any (is_of n)) (target_writes c.assign.target c.place c.one_place) ∙ at_any (is_of n) (slice_range c.place ∷ []) 0 (slice_range c.place) refl (eq-eqb c.place.signal n c.is_net.signal);
       only = λ v. one_named c.assign.target c.place n v c.one_place c.is_net.signal;
       alone = c.alone;
+      inverts = false;
       copies = λ store time y z source net.
           let value : target_value c.assign.target c.assign.source store time ≡ z ∷ [] =
           ap (λ w. resized false w (value_of c.assign.source store time)) c.size ∙ ap (resized false 1) (source_value store time m z c.assign.source c.is_signal source) in

@@ -1,7 +1,8 @@
 -- The signals that event controls wait for, and where their values come from.
-use Rattle.std.specs.Prelude.{ℕ, ◌≡◌, Bool, true, false, Some, List, [], ◌∷◌, slice_get}
+use Rattle.std.specs.Prelude.{ℕ, zero, suc, ◌≡◌, Bool, true, false, Option, Some, List, [], ◌∷◌, map, option_map, slice_get, if◌then◌else◌}
 use Rattle.vs_design.specs.vs_logic4.specs.declared.digit.Digit.{Digit}
 use Rattle.vs_design.specs.vs_logic4.specs.declared.digit.Digit.TheVariants.{X}
+use Rattle.vs_design.specs.vs_logic4.specs.Tables.{not_digit}
 use Rattle.vs_design.specs.declared.design.Assign.{Assign}
 use Rattle.vs_design.specs.declared.design.Process.{Process}
 use Rattle.vs_design.specs.declared.range.BitRange.{BitRange}
@@ -19,7 +20,20 @@ one_bit digit = (digit ∷ []) ∷ []
 abbrev pub IsBit : Parts → ℕ → Type 0
 IsBit d v = slice_get (start_store d) v ≡ Some (one_bit X)
 
--- one continuous assignment copies the signal `m` whole to the net `n`, which nothing else drives
+-- a digit behind so many inverters: x and z behind one are x
+abbrev pub inverted : ℕ → Digit → Digit
+inverted zero z = z
+inverted (suc count) z = not_digit (inverted count z)
+
+-- what a signal holds that has the value of another one, behind so many inverters
+abbrev pub shown : ℕ → Option (List (List Digit)) → Option (List (List Digit))
+shown count content = option_map (map (map (inverted count))) content
+
+-- one more, where there is one
+abbrev pub one_more : Bool → ℕ → ℕ
+one_more inverts count = if inverts then suc count else count
+
+-- one continuous assignment copies the signal `m` whole, or its inverse, to the net `n`, which nothing else drives
 pub record IsLink (d : Parts) (m n : ℕ) : Type 0 where
   pub number : ℕ
   pub assign : Assign
@@ -32,14 +46,20 @@ pub record IsLink (d : Parts) (m n : ℕ) : Type 0 where
   pub writes : writes_signal assign.target n ≡ true
   pub only : (v : ℕ) → writes_signal assign.target v ≡ true → v ≡ n
   pub alone : (j : ℕ) (a : Assign) → slice_get d.assigns j ≡ Some a → writes_signal a.target n ≡ true → j ≡ number
-  -- what it makes of the net is what the signal holds
+  -- what it makes of the net is what the signal holds, or its inverse
+  pub inverts : Bool
   pub copies : (store : Store) (time : ℕ) (y z : Digit) → slice_get store m ≡ Some (one_bit z) → slice_get store n ≡ Some (one_bit y) →
-      slice_get (put store (assignment assign.target assign.source store time)) n ≡ Some (one_bit z)
+      slice_get (put store (assignment assign.target assign.source store time)) n ≡ Some (one_bit (inverted (one_more inverts zero) z))
 
--- a signal has the value of a root: it is the root, a variable of one bit, or a net of one bit to which such a signal is copied
+-- a signal has the value of a root, or its inverse: it is the root, a variable of one bit, or a net of one bit to which such a signal is copied
 pub data Copies (d : Parts) (root : ℕ) : ℕ → Type 0 where
   itself : IsBit d root → is_driven d.assigns root ≡ false → Copies d root root
   through : (m n : ℕ) → Copies d root m → IsLink d m n → IsBit d n → Copies d root n
+
+-- how many of the copies between a root and a signal are inverse
+abbrev pub inverses : {d : Parts} {root v : ℕ} → Copies d root v → ℕ
+inverses (itself bit undriven) = zero
+inverses (through m n before link bit) = one_more link.inverts (inverses before)
 
 -- an event control of some process that is no combinational block has a term of the signal
 pub record IsHeard (d : Parts) (blocks : ℕ → Bool) (v : ℕ) : Type 0 where

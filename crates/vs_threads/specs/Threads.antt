@@ -22,7 +22,7 @@ use Rattle.vs_process.specs.Places.{perform, turns, Todo, Place, going, sleeping
 use Rattle.vs_process.specs.Steps.{Out, step}
 use Rattle.vs_process.specs.vs_edges.specs.Waking.{wakes}
 use Rattle.vs_process.specs.States.{State, Update, Called, place_behind, updates_behind, calls_behind, roused, triggered}
-use Rattle.vs_threads.specs.Edges.{Copies}
+use Rattle.vs_threads.specs.Edges.{Copies, inverses, shown}
 
 -- a process on a store of its own: where it is, its store, what it has written by blocking assignments, the updates and the calls of `$strobe`
 -- that it has made, and whether it has called `$finish`
@@ -120,7 +120,7 @@ pub record IsTimed (blocks : ℕ → Bool) (b : State) (i : ℕ) (th : Thread) :
   pub is : iterate count (turn b.time i) (opening blocks b i None) ≡ th
 
 -- the slot that begins with the state `b` makes this of the signal of a term, which wakes: a process that waits for no event writes the root of the
--- signal, and this is what the root then holds
+-- signal, and this is what the signal then shows of the root
 pub record Fires (d : Parts) (blocks : ℕ → Bool) (b : State) (t : EventTerm) (f : Fired) : Type 0 where
   pub term : t.range.signal ≡ f.signal
   pub root : ℕ
@@ -129,7 +129,7 @@ pub record Fires (d : Parts) (blocks : ℕ → Bool) (b : State) (t : EventTerm)
   pub by : Thread
   pub timed : IsTimed blocks b writer by
   pub writes : writes by root ≡ true
-  pub value : slice_get by.view root ≡ Some f.value
+  pub value : shown (inverses copies) (slice_get by.view root) ≡ Some f.value
   pub wakes : wakes b.store (given f b.store) t ≡ true
 
 -- a thread waits for a term that the slot wakes

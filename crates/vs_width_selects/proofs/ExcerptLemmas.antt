@@ -52,7 +52,7 @@ cut_fixed digits value low e z h k l s p =
       value = λ store time.
           ap (λ y. y.at store time w e.shape.signed) same ∙ resized_same e.shape.signed w value long ∙ l
           ∙ sym (span_valued digits s e store time z p (p.low store time ∙ ap (place_of e.axis w) (h.value store time) ∙ sym k));
-      layer = ap (λ z. brought z.layer) same;
+      layer = λ width size. ap (λ z. brought width (z.layer size)) same;
     }
 
 -- bits that any other index chooses
@@ -67,7 +67,7 @@ cut_chosen digits e x b q h k l s p =
       value = λ store time.
           ap (λ y. y.at store time w e.shape.signed) same ∙ ap (excerpt_value x.value) (q.value store time w e.shape.signed)
           ∙ rw (h, k, l) (sym (span_valued digits s e store time _ p (p.low store time)));
-      layer = ap (λ z. brought z.layer) same;
+      layer = λ width size. ap (λ z. brought width (z.layer size)) same;
     }
 
 pub excerpt_as : (digits : List Digit) (e : Extent) (y : Sizable) (b : Box Sizable Global) → b.value ≡ y → ((s : Span) → IsExtent s e → IsExcerpt digits s e.shape y) → (s : Span) → IsExtent s e →
@@ -80,6 +80,6 @@ excerpt_as digits e y b i k s h =
       means = meant_same (excerpt_meant digits s) (meaning (record { shape = shape; form = v.Closed shape b })) h.found
           (sym (ap (λ z. z.reads) same ∙ c.ranges))
           (λ store time width signed. sym (ap (λ z. z.at store time width signed) same ∙ ap (resized signed width) (c.value store time)))
-          (sym (ap (λ z. z.layer) same ∙ c.layer));
+          (λ width. sym (ap (λ z. z.layer width) same ∙ c.layer width shape.width));
       flexible = λ width. ap (λ z. z.size width) same ∙ ap (option_map (λ n. width)) c.size;
     }

@@ -59,7 +59,7 @@ pub fitted_as : (x : Sizable-F Sizable) (z : Sizable) → roll-Sizable x ≡ z �
     size_step (map-Typed Typed (Option ℕ) size_of y) ≡ (form_step (map-Sizable Sizable Sense sense x)).size w →
     ((store : Store) (time : ℕ) → value_step store time (map-Typed Typed (List Digit) (λ e. value_of e store time) y) ≡ (form_step (map-Sizable Sizable Sense sense x)).at store time w g) →
     reads_step (map-Typed Typed (List BitRange) reads y) ≡ (form_step (map-Sizable Sizable Sense sense x)).reads →
-    layer_step (map-Typed Typed Layer layer_of y) ≡ (form_step (map-Sizable Sizable Sense sense x)).layer → IsFitted (sense z) w g e
+    layer_step (map-Typed Typed Layer layer_of y) ≡ (form_step (map-Sizable Sizable Sense sense x)).layer w → IsFitted (sense z) w g e
 fitted_as x z h w g y e k size value ranges outermost =
     let same = layer x z h in
     subst (λ s. IsFitted s w g e) (sym same) (record {
@@ -73,7 +73,7 @@ fitted_as x z h w g y e k size value ranges outermost =
 pub fitted_extended : (x : Sizable-F Sizable) (z : Sizable) → roll-Sizable x ≡ z → (w : ℕ) (g : Bool) (y e : Typed) → IsExtended y w g e →
     option_map (λ n. w) (size_of y) ≡ (form_step (map-Sizable Sizable Sense sense x)).size w →
     ((store : Store) (time : ℕ) → resized g w (value_of y store time) ≡ (form_step (map-Sizable Sizable Sense sense x)).at store time w g) →
-    reads y ≡ (form_step (map-Sizable Sizable Sense sense x)).reads → brought (layer_of y) ≡ (form_step (map-Sizable Sizable Sense sense x)).layer → IsFitted (sense z) w g e
+    reads y ≡ (form_step (map-Sizable Sizable Sense sense x)).reads → brought w (layer_of y) ≡ (form_step (map-Sizable Sizable Sense sense x)).layer w → IsFitted (sense z) w g e
 fitted_extended x z h w g y e k size value ranges outermost =
     let same = layer x z h in
     subst (λ s. IsFitted s w g e) (sym same) (record {
@@ -100,7 +100,7 @@ fits_Select s c xw xl aw al bw bl w g hc hw hl pw pl =
 pub fits_Signal : (n : ℕ) (k : Operand) (w : ℕ) (g : Bool) → k.signal ≡ n → k.width ≡ w → k.signed ≡ g → IsFitted (sense (v.Signal n)) w g (t.Signal k)
 fits_Signal n k w g hn hw hg =
     fitted_as (f.Signal n) (v.Signal n) (v.rolls-Signal n) w g (o.Signal k) (t.Signal k) (t.rolls-Signal k)
-    (ap (λ z. Some z) hw) (λ store time. rw (hn, hw, hg) refl) (ap (λ z. whole z ∷ []) hn) (ap name hn)
+    (ap (λ z. Some z) hw) (λ store time. rw (hn, hw, hg) refl) (ap (λ z. whole z ∷ []) hn) (ap₂ name hn hw)
 
 pub fits_Excerpt : (s : Box Excerpt Global) (c : Excerpt) (x : Box Sizable Global) (a : Sizable) (b : Box Typed Global) (w : ℕ) (g : Bool) → c ≡ s.value → a ≡ x.value → IsFitted (sense a) w g b.value →
     IsFitted (sense (v.Excerpt s x)) w g (t.Excerpt c b)
@@ -220,7 +220,7 @@ fits_Tests x ls a ks b ys w g e h l p r z =
     ∙ ap (λ z. chained z (links_valued store time ys.items)) (q.value store time) ∙ tests_valued store time (first.at store time 1 false) ls.items ys.items d
     ))
     (ap reads (sym (t.rolls-Chain b ys)) ∙ fold-roll-Typed (List BitRange) reads_step (o.Chain b ys) ∙ ap₂ (λ c d. c ++ d) q.ranges (tests_reads ls.items ys.items d))
-    (ap brought (ap layer_of (sym (t.rolls-Chain b ys)) ∙ fold-roll-Typed Layer layer_step (o.Chain b ys)))
+    (ap (brought w) (ap layer_of (sym (t.rolls-Chain b ys)) ∙ fold-roll-Typed Layer layer_step (o.Chain b ys)))
 
 -- ---- choices
 
@@ -297,7 +297,7 @@ pub fits_Closed : (s : Shape) (x : Box Sizable Global) (a : Sizable) (y e : Type
 fits_Closed s x a y e w g h p k =
     let q : IsFitted (sense x.value) s.width s.signed y = subst (λ z. IsFitted (sense z) s.width s.signed y) h p in
     fitted_extended (f.Closed s x) (v.Closed s x) (v.rolls-Closed s x) w g y e k
-    (ap (option_map (λ n. w)) q.size) (λ store time. ap (resized g w) (q.value store time)) q.ranges (ap brought q.layer)
+    (ap (option_map (λ n. w)) q.size) (λ store time. ap (resized g w) (q.value store time)) q.ranges (ap (brought w) q.layer)
 
 -- ---- what is brought to a context, where memory suffices
 

@@ -117,12 +117,12 @@ valued n w s store time h = ap (λ z. at_found z (λ width signed. bits_value (n
 
 -- what is outermost in what has constant indices, and in what has others
 layer_none : (rs : List BitRange) (n : Named) (s : Slice) → rs ≡ [] → s.signal ≡ n.signal → s.word ≡ n.word [] 0 → s.low ≡ n.low [] 0 → s.width ≡ size_found n.finding →
-    brought (bits (slice_bits s)) ≡ selected_layer rs (named_bits n)
-layer_none _ n s h e i j d = rw (h, e, i, j, d) refl
+    (width : ℕ) → brought width (bits (slice_bits s)) ≡ selected_layer rs (named_bits n) width
+layer_none _ n s h e i j d width = rw (h, e, i, j, d) refl
 
-layer_some : (rs : List BitRange) (q : FixedBits) → (rs ≡ [] → ⊥) → other ≡ selected_layer rs q
-layer_some [] q h = absurd (h refl)
-layer_some (r ∷ rs) q h = refl
+layer_some : (rs : List BitRange) (q : FixedBits) (width : ℕ) → (rs ≡ [] → ⊥) → other ≡ selected_layer rs q width
+layer_some [] q width h = absurd (h refl)
+layer_some (r ∷ rs) q width h = refl
 
 -- the range of what has constant indices
 pub fixed_range : (p : ChosenBits) (s : Slice) → IsFixed p s → (n : Named) → IsPlaced n p → slice_range s ≡ named_range n
@@ -151,9 +151,9 @@ fixed_chosen p s q n h =
           ∙ ap₂ (λ a b. bits_value a b (word_of store s.signal s.word)) (sym (h.low store time ∙ q.low store time)) q.width
           ∙ ap₂ (λ a b. bits_value (n.low store time) w (word_of store a b)) (q.signal ∙ sym h.signal) (sym (h.word store time ∙ q.word store time))
           ∙ sym (valued n w p.extent.shape.signed store time h.found);
-      layer = ap (λ z. brought z.layer) same
+      layer = λ width size. ap (λ z. brought width (z.layer size)) same
           ∙ layer_none n.reads n s (fixed_reads p s q n h) (q.signal ∙ sym h.signal) (sym (h.word [] 0 ∙ q.word [] 0)) (sym (h.low [] 0 ∙ q.low [] 0))
-          (q.width ∙ sym (sized n w p.extent.shape.signed h.found));
+          (q.width ∙ sym (sized n w p.extent.shape.signed h.found)) width;
     }
 
 pub select_chosen : (p : ChosenBits) (s : Box Selection Global) (b d : Box Sizable Global) → IsOwnPart p.word b.value → IsOwnPart p.extent.index d.value → s.value.signal ≡ p.signal → s.value.words ≡ p.words → s.value.bits ≡ p.extent.axis → s.value.width ≡ p.extent.shape.width →
@@ -176,15 +176,15 @@ select_chosen p s b d k l e i j w q n h =
           ∙ ap (λ a. bits_value (n.low store time) p.extent.shape.width (word_of store a (n.word store time))) (sym h.signal)
           ∙ sym (valued n p.extent.shape.width p.extent.shape.signed store time h.found)
           );
-      layer = ap (λ z. brought z.layer) same
-          ∙ layer_some n.reads (named_bits n) (λ r. both_empty (sense p.word.form).reads (sense p.extent.index.form).reads q (sym h.ranges ∙ r));
+      layer = λ width size. ap (λ z. brought width (z.layer size)) same
+          ∙ layer_some n.reads (named_bits n) width (λ r. both_empty (sense p.word.form).reads (sense p.extent.index.form).reads q (sym h.ranges ∙ r));
     }
 
 -- ---- operands
 
 -- two meanings that agree at each point
-pub meant_same : (a b : Meant) → a.finding ≡ b.finding → a.reads ≡ b.reads → ((store : Store) (time width : ℕ) (signed : Bool) → a.at store time width signed ≡ b.at store time width signed) → a.layer ≡ b.layer → a ≡ b
-meant_same a b p q h l = λ i. record { finding = p i; reads = q i; at = λ store time width signed. h store time width signed i; layer = l i }
+pub meant_same : (a b : Meant) → a.finding ≡ b.finding → a.reads ≡ b.reads → ((store : Store) (time width : ℕ) (signed : Bool) → a.at store time width signed ≡ b.at store time width signed) → ((width : ℕ) → a.layer width ≡ b.layer width) → a ≡ b
+meant_same a b p q h l = λ i. record { finding = p i; reads = q i; at = λ store time width signed. h store time width signed i; layer = λ width. l width i }
 
 pub operand_as : (p : ChosenBits) (y : Sizable) (b : Box Sizable Global) → b.value ≡ y → ((n : Named) → IsPlaced n p → IsChosen n y) → (n : Named) → IsPlaced n p →
     IsMeasured (operand_meant n) (record { shape = p.extent.shape; form = v.Closed p.extent.shape b })
@@ -196,6 +196,6 @@ operand_as p y b e k n h =
       means = meant_same (operand_meant n) (meaning (record { shape = shape; form = v.Closed shape b })) h.found
           (ap (λ z. named_reads z n) h.found ∙ sym (ap (λ z. z.reads) same ∙ c.ranges))
           (λ store time width signed. sym (ap (λ z. z.at store time width signed) same ∙ ap (resized signed width) (c.value store time shape.width shape.signed)))
-          (sym (ap (λ z. z.layer) same ∙ c.layer));
+          (λ width. sym (ap (λ z. z.layer width) same ∙ c.layer width shape.width));
       flexible = λ width. ap (λ z. z.size width) same ∙ ap (option_map (λ n. width)) (c.size shape.width);
     }

@@ -225,7 +225,7 @@ operand_meant n = record {
   finding = n.finding;
   reads = named_reads n.finding n;
   at = λ store time width signed. resized signed width (named_value n store time);
-  layer = selected_layer n.reads (named_bits n);
+  layer = λ width. selected_layer n.reads (named_bits n) width;
 }
 
 -- ---- bits of a constant
@@ -247,7 +247,7 @@ excerpt_meant digits s = record {
   finding = s.finding;
   reads = s.reads;
   at = λ store time width signed. resized signed width (span_value digits s store time);
-  layer = other;
+  layer = λ width. other;
 }
 
 -- ---- operands

@@ -19,12 +19,12 @@ use Rattle.vs_width_selects.specs.declared.forms.Sizable.TheFolds.{fold-Sizable}
 use Rattle.vs_width_selects.specs.Layers.{slice_bits, Layer, name, bits, other, brought, operator_layer, layer_of}
 use Rattle.vs_width_selects.specs.Operations.{operated}
 
--- what a form is at the size and with the sign of its context: its size, what it reads, its value, and what is outermost in it
+-- what a form is at the size and with the sign of its context: its size, what it reads, its value, and what is outermost in it at that size
 pub record Sense : Type 0 where
   pub size : ℕ → Option ℕ
   pub reads : List BitRange
   pub at : Store → ℕ → ℕ → Bool → List Digit
-  pub layer : Layer
+  pub layer : ℕ → Layer
 
 -- the size of what an operator gives of two operands, in a context of this size
 abbrev pub open_link : ℕ → Option ℕ → Binary × Option ℕ → Option ℕ
@@ -52,37 +52,37 @@ form_step (f.Number v) = record {
   size = λ width. Some width;
   reads = [];
   at = λ store time width signed. resized signed width v;
-  layer = other;
+  layer = λ width. other;
 }
 form_step (f.Signal n) = record {
   size = λ width. Some width;
   reads = whole n ∷ [];
   at = λ store time width signed. operand_value signed width (word_of store n 0);
-  layer = name n;
+  layer = λ width. name n width;
 }
 form_step (f.Slice s) = record {
   size = λ width. Some s.width;
   reads = slice_range s ∷ [];
   at = λ store time width signed. bits_value s.low s.width (word_of store s.signal s.word);
-  layer = bits (slice_bits s);
+  layer = λ width. bits (slice_bits s);
 }
 form_step (f.Select s word low) = record {
   size = λ width. indexed_size s.value.width (word.value.size width) (low.value.size width);
   reads = all_words s.value.signal ∷ word.value.reads ++ low.value.reads;
   at = λ store time width signed. selection_value s.value store (word.value.at store time width signed) (low.value.at store time width signed);
-  layer = other;
+  layer = λ width. other;
 }
 form_step (f.Excerpt s low) = record {
   size = λ width. option_map (λ n. s.value.width) (low.value.size width);
   reads = low.value.reads;
   at = λ store time width signed. excerpt_value s.value (low.value.at store time width signed);
-  layer = other;
+  layer = λ width. other;
 }
 form_step (f.Unary op x) = record {
   size = λ width. option_map (λ n. if gives_bit op then 1 else n) (x.value.size width);
   reads = x.value.reads;
   at = λ store time width signed. unary op (x.value.at store time width signed);
-  layer = operator_layer op x.value.layer;
+  layer = λ width. operator_layer op (x.value.layer width);
 }
 form_step (f.Chain x links) = record {
   size = λ width. open_size width (x.value.size width) (map (λ (l : Binary × Sense). (l.0, l.1.size width)) links.items);
@@ -90,14 +90,14 @@ form_step (f.Chain x links) = record {
   at = λ store time width signed.
       open_value width signed (x.value.at store time width signed)
       (map (λ (l : Binary × Sense). (l.0, l.1.at store time width signed)) links.items);
-  layer = other;
+  layer = λ width. other;
 }
 form_step (f.Tests x links) = record {
   size = λ width.
       option_map (λ n. width) (chain_size (x.value.size 1) (map (λ (l : Link × Sense). (l.0, l.1.size l.0.width)) links.items));
   reads = x.value.reads ++ joined (map (λ (l : Link × Sense). l.1.reads) links.items);
   at = λ store time width signed. resized signed width (tests_value x.value links.items store time);
-  layer = other;
+  layer = λ width. other;
 }
 form_step (f.Choice pairs last) = record {
   size = λ width. choice_size (map (λ (p : Sense × Sense). (p.0.size width, p.1.size width)) pairs.items) (last.value.size width);
@@ -105,32 +105,32 @@ form_step (f.Choice pairs last) = record {
   at = λ store time width signed.
       chosen (map (λ (p : Sense × Sense). (p.0.at store time width signed, p.1.at store time width signed)) pairs.items)
       (last.value.at store time width signed);
-  layer = other;
+  layer = λ width. other;
 }
 form_step (f.Concat x rest) = record {
   size = λ width. at_most_64 (sum_size (x.value.size width ∷ map (λ (s : Sense). s.size width) rest.items));
   reads = x.value.reads ++ joined (map (λ (s : Sense). s.reads) rest.items);
   at = λ store time width signed.
       concatenated (x.value.at store time width signed) (map (λ (s : Sense). s.at store time width signed) rest.items);
-  layer = other;
+  layer = λ width. other;
 }
 form_step (f.Repeat n x) = record {
   size = λ width. at_most_64 (option_map (λ m. n.times * m) (x.value.size width));
   reads = x.value.reads;
   at = λ store time width signed. take 64 (replication n.times (x.value.at store time width signed));
-  layer = other;
+  layer = λ width. other;
 }
 form_step (f.Own s x) = record {
   size = λ width. x.value.size s.width;
   reads = x.value.reads;
   at = λ store time width signed. x.value.at store time s.width s.signed;
-  layer = x.value.layer;
+  layer = λ width. x.value.layer s.width;
 }
 form_step (f.Closed s x) = record {
   size = λ width. option_map (λ n. width) (x.value.size s.width);
   reads = x.value.reads;
   at = λ store time width signed. resized signed width (x.value.at store time s.width s.signed);
-  layer = brought x.value.layer;
+  layer = λ width. brought width (x.value.layer s.width);
 }
 
 -- the sense of a form
@@ -144,14 +144,14 @@ pub record IsFitted (s : Sense) (width : ℕ) (signed : Bool) (y : Typed) : Type
   pub size : size_of y ≡ s.size width
   pub value : (store : Store) (time : ℕ) → value_of y store time ≡ s.at store time width signed
   pub ranges : reads y ≡ s.reads
-  pub layer : layer_of y ≡ s.layer
+  pub layer : layer_of y ≡ s.layer width
 
 -- a typed expression brought to a size and sign
 pub record IsExtended (x : Typed) (width : ℕ) (signed : Bool) (y : Typed) : Type 0 where
   pub size : size_of y ≡ option_map (λ n. width) (size_of x)
   pub value : (store : Store) (time : ℕ) → value_of y store time ≡ resized signed width (value_of x store time)
   pub ranges : reads y ≡ reads x
-  pub layer : layer_of y ≡ brought (layer_of x)
+  pub layer : layer_of y ≡ brought width (layer_of x)
 
 -- an operand behind the first one, typed in a context
 pub record IsLink (width : ℕ) (signed : Bool) (l : Binary × Sizable) (k : Link × Typed) : Type 0 where

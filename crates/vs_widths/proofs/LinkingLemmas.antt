@@ -78,7 +78,7 @@ operated_more c ls ns op right k =
       value = λ store time w g.
           ap (λ z. z.at store time w g) new ∙ ap (λ l. open_value w g (x.at store time w g) (map (λ (l : Binary × Sense). (l.0, l.1.at store time w g)) (links_sensed l))) k
           ∙ open_value_push w g store time (x.at store time w g) ls.items op right ∙ ap (λ z. operated op w g (z.at store time w g) ((sense right).at store time w g)) (sym old);
-      layer = ap (λ z. z.layer) new;
+      layer = λ w. ap (λ z. z.layer w) new;
     }
 
 sized_alike : (z : Sizing) (w : ℕ) → z ≡ Alike → sized_by z w w w ≡ Some w
@@ -95,7 +95,7 @@ alike_measured left right op s y h p q a o = record {
   means = meant_same (linked_meant (meaning left) (op, meaning right)) (meaning (record { shape = s; form = y }))
       (ap (λ z. linked_shape z left.shape.width left.shape.signed right.shape.width right.shape.signed) h ∙ a) (sym o.ranges)
       (λ store time w g. ap (λ z. linked_value z op (meaning left) (meaning right) store time w g) h ∙ sym (o.value store time w g))
-      (sym o.layer);
+      (λ w. sym (o.layer w));
   flexible = λ w. o.size w ∙ ap₂ (λ b c. open_link w b (op, c)) (p w) (q w) ∙ sized_alike (sizing_of op) w h;
 }
 
@@ -107,7 +107,7 @@ shift_measured left right op a y h p q k o = record {
       (ap (λ z. linked_shape z left.shape.width left.shape.signed right.shape.width right.shape.signed) h) (ap (λ z. (sense left.form).reads ++ z) (sym k.ranges) ∙ sym o.ranges)
       (λ store time w g. ap (λ z. linked_value z op (meaning left) (meaning right) store time w g) h
       ∙ ap (operated op w g ((sense left.form).at store time w g)) (sym (k.value store time w g)) ∙ sym (o.value store time w g))
-      (sym o.layer);
+      (λ w. sym (o.layer w));
   flexible = λ w. o.size w ∙ ap₂ (λ b c. open_link w b (op, c)) (p w) (k.size w ∙ q right.shape.width) ∙ sized_shift (sizing_of op) w right.shape.width h;
 }
 
@@ -227,7 +227,7 @@ tested_more c ls ns s link right k sign wide ends sized test =
           test_value_push store time (x.at store time 1 false) ls.items link right ∙ kept
           ∙ ap₂ (λ a b. side (resized a b before)) (sym sign) (sym wide) ∙ ap (λ z. side (z.at store time s.width s.signed)) (sym old)
           );
-      layer = ap (λ z. z.layer) new;
+      layer = λ w. ap (λ z. z.layer w) new;
     }
 
 -- ---- `&&` and `||`

@@ -33,6 +33,7 @@ use Rattle.vs_width_selects.specs.declared.forms.Measured.{Measured}
 use Rattle.vs_width_selects.specs.Environment.{Environment}
 use Rattle.vs_width_selects.specs.Findings.{Finding, Has, Lacks, stands, together, alone, alike, linked_shape, second, unsigned, beside, repeated, too_wide, Refuses}
 use Rattle.vs_width_selects.specs.Layers.{brought}
+use Rattle.vs_width_selects.specs.Selects.{size_found}
 use Rattle.vs_width_selects.specs.Meants.{Meant, own}
 use Rattle.vs_widths.specs.Expressions.{meant, meant_step, number_meant, name_meant, unary_finding, unary_meant, cast_meant, linked_meant, chain_meant, choice_finding, choice_meant, sum_finding, joined_value, concat_meant, repeated_value, repeat_meant}
 use Rattle.vs_width_selects.specs.Constants.{where_none, where_some, constant_finding, count_finding, natural_of, positive}
@@ -244,7 +245,7 @@ module _ (env : Environment) where
             (sym whole ∙ ap (λ z. choice_finding (Has s.width s.signed) (pairs_meant env z)) (drop_end ps i h))
             (sym (ap (λ z. z.reads) same ∙ ap₂ (λ a z. a ++ (sense z).reads) (pairs_reads ps qs.items all) k))
             (λ store time w g. sym (ap (λ z. z.at store time w g) same ∙ ap₂ (λ a z. chosen a ((sense z).at store time w g)) (pairs_value store time w g ps qs.items all) k))
-            (sym (ap (λ z. z.layer) same));
+            (λ w. sym (ap (λ z. z.layer w) same));
         flexible = λ w. ap (λ z. z.size w) same ∙ ap (λ z. choice_size (map (λ (q : Sense × Sense). (q.0.size w, q.1.size w)) (pairs_sensed qs.items)) z) (ap (λ z. (sense z).size w) k ∙ p w) ∙ pairs_size w ps qs.items all;
       }
 
@@ -353,7 +354,7 @@ module _ (env : Environment) where
             ∙ ap at_most_64 (sum w) ∙ at_most_is n fits ∙ ap Some (sym wide);
         ranges = ap (λ z. z.reads) same ∙ ap₂ (λ c d. c ++ d) (ap (λ z. (sense z).reads) k ∙ q.ranges) (parts_reads es xs.items all);
         value = λ store time w g. ap (λ z. z.at store time w g) same ∙ ap₂ concatenated (ap (λ z. (sense z).at store time w g) k ∙ q.value store time w g) (parts_value store time w g es xs.items all);
-        layer = ap (λ z. z.layer) same;
+        layer = λ w. ap (λ z. z.layer w) same;
       }
 
 -- ---- replications
@@ -368,7 +369,7 @@ is_repeat count n first rest x y k h r =
           (sym (r.ranges ∙ h.ranges))
           (λ store time w g. ap (λ z. resized g w (repeated_value z (joined_value first rest store time))) k.times
           ∙ sym (r.value store time w g ∙ ap (λ z. resized g w (take 64 (replication n z))) (h.value store time y.shape.width y.shape.signed)))
-          (sym r.layer);
+          (λ w. sym (r.layer w));
       flexible = λ w. r.size w ∙ ap (λ z. option_map (λ m. w) (at_most_64 (option_map (λ m. n * m) z))) (h.size y.shape.width) ∙ ap (option_map (λ m. w)) (at_most_is (n * x.shape.width) r.most);
     }
 
@@ -388,7 +389,7 @@ pub concat_closed : (first : Meant) (rest : List Meant) (x : Measured) (r : Resu
 concat_closed first rest x (Ok y) h k = record {
   means = meant_same (concat_meant first rest) (meaning y) (h.found ∙ ap (λ z. Has z.width z.signed) (sym k.shape_is)) (sym (k.ranges ∙ h.ranges))
       (λ store time w g. sym (k.value store time w g ∙ ap (resized g w) (h.value store time x.shape.width x.shape.signed)))
-      (sym (k.layer ∙ ap brought h.layer));
+      (λ w. sym (k.layer w ∙ ap (brought w) (h.layer x.shape.width)));
   flexible = λ w. k.size w ∙ ap (option_map (λ n. w)) (h.size x.shape.width);
 }
 concat_closed first rest x (Err d) h k = rw k tt
@@ -399,7 +400,7 @@ cast_closed sign m x s (Ok y) h p q k = record {
       (ap (λ z. alone (λ width signed. Has width sign) z.finding) h.means ∙ ap₂ Has (sym p) (sym q) ∙ ap (λ z. Has z.width z.signed) (sym k.shape_is))
       (ap (λ z. z.reads) h.means ∙ sym k.ranges)
       (λ store time w g. ap (λ z. resized g w (own z store time)) h.means ∙ sym (k.value store time w g))
-      (ap (λ z. brought z.layer) h.means ∙ sym k.layer);
+      (λ w. ap (λ z. brought w (z.layer (size_found z.finding))) h.means ∙ sym (k.layer w));
   flexible = λ w. k.size w ∙ ap (option_map (λ n. w)) (h.flexible x.shape.width);
 }
 cast_closed sign m x s (Err d) h p q k = rw k tt

@@ -14,5 +14,5 @@ typed_as m x width signed y h p = record {
   size = p.size ∙ h.flexible width;
   value = λ store time. p.value store time ∙ sym (ap (λ (z : Meant). z.at store time width signed) h.means);
   ranges = p.ranges ∙ sym (ap (λ (z : Meant). z.reads) h.means);
-  layer = p.layer ∙ sym (ap (λ (z : Meant). z.layer) h.means);
+  layer = p.layer ∙ sym (ap (λ (z : Meant). z.layer width) h.means);
 }

@@ -28,7 +28,7 @@ use Rattle.vs_width_selects.specs.Findings.{Finding, Has, Lacks, unknown, wrong_
 use Rattle.vs_width_selects.specs.Layers.{Layer, name, other, brought, operator_layer}
 use Rattle.vs_width_selects.specs.Meants.{Meant, own}
 use Rattle.vs_width_selects.specs.Constants.{natural_of, positive, count_finding}
-use Rattle.vs_width_selects.specs.Selects.{Select, select_meant}
+use Rattle.vs_width_selects.specs.Selects.{Select, size_found, select_meant}
 
 -- ---- names
 
@@ -57,10 +57,10 @@ name_value (Some (Signal m signal)) store time width signed = operand_value sign
 name_value (Some (Constant c)) store time width signed = resized signed width c.value
 name_value _ store time width signed = []
 
--- what is outermost in a name
-abbrev pub name_layer : Option Binding → Layer
-name_layer (Some (Signal m signal)) = name signal
-name_layer _ = other
+-- what is outermost in a name, at the size of its context
+abbrev pub name_layer : Option Binding → ℕ → Layer
+name_layer (Some (Signal m signal)) width = name signal width
+name_layer _ width = other
 
 -- ---- operators of one operand
 
@@ -74,10 +74,10 @@ abbrev pub unary_value : Bool → Unary → Meant → Store → ℕ → ℕ → 
 unary_value true op m store time width signed = resized signed width (unary op (own m store time))
 unary_value false op m store time width signed = unary op (m.at store time width signed)
 
--- what is outermost in the result: that of an operator that gives one bit is brought to its context
-abbrev pub unary_layer : Bool → Unary → Layer → Layer
-unary_layer true op x = brought (operator_layer op x)
-unary_layer false op x = operator_layer op x
+-- what is outermost in the result: an operator that gives one bit takes its operand at its own size, and is brought to its context
+abbrev pub unary_layer : Bool → Unary → Meant → ℕ → Layer
+unary_layer true op m width = brought width (operator_layer op (m.layer (size_found m.finding)))
+unary_layer false op m width = operator_layer op (m.layer width)
 
 -- ---- operators of two operands
 
@@ -99,7 +99,7 @@ linked_meant a l = record {
   finding = together (linked_shape (sizing_of l.0)) a.finding l.1.finding;
   reads = a.reads ++ l.1.reads;
   at = linked_value (sizing_of l.0) l.0 a l.1;
-  layer = other;
+  layer = λ width. other;
 }
 
 -- operands with operators between them, from left to right (clause 5.1.2)
@@ -121,7 +121,7 @@ choice_meant pairs last = record {
   reads = joined (map (λ (p : Meant × Meant). p.0.reads ++ p.1.reads) pairs) ++ last.reads;
   at = λ store time width signed.
       chosen (map (λ (p : Meant × Meant). (own p.0 store time, p.1.at store time width signed)) pairs) (last.at store time width signed);
-  layer = other;
+  layer = λ width. other;
 }
 
 -- ---- concatenations
@@ -141,7 +141,7 @@ concat_meant first rest = record {
   finding = sum_finding (alone (λ width signed. Has width false) first.finding) rest;
   reads = first.reads ++ joined (map (λ (m : Meant). m.reads) rest);
   at = λ store time width signed. resized signed width (joined_value first rest store time);
-  layer = other;
+  layer = λ width. other;
 }
 
 -- ---- replications
@@ -160,7 +160,7 @@ repeat_meant count first rest = record {
   reads = (concat_meant first rest).reads;
   at = λ store time width signed.
       resized signed width (repeated_value (positive (natural_of count)) (joined_value first rest store time));
-  layer = other;
+  layer = λ width. other;
 }
 
 -- ---- expressions
@@ -171,7 +171,7 @@ digits_meant value sign = record {
   finding = Has (length value) sign;
   reads = [];
   at = λ store time width signed. resized signed width value;
-  layer = other;
+  layer = λ width. other;
 }
 
 -- a number (clauses 3.5.1 and 5.5.1)
@@ -188,7 +188,7 @@ unary_meant op x = record {
   finding = unary_finding (gives_bit op) x.finding;
   reads = x.reads;
   at = unary_value (gives_bit op) op x;
-  layer = unary_layer (gives_bit op) op x.layer;
+  layer = unary_layer (gives_bit op) op x;
 }
 
 -- `$signed(x)` or `$unsigned(x)` (clause 5.5)
@@ -197,7 +197,7 @@ cast_meant sign x = record {
   finding = alone (λ width signed. Has width sign) x.finding;
   reads = x.reads;
   at = λ store time width signed. resized signed width (own x store time);
-  layer = brought x.layer;
+  layer = λ width. brought width (x.layer (size_found x.finding));
 }
 
 -- one layer of an expression, with what each inner expression means in its place

@@ -21,13 +21,13 @@ use Rattle.vs_width_selects.specs.Constants.{constant_finding, plain_range}
 use Rattle.vs_widths.specs.Expressions.{meant}
 
 -- The expression of a design that means this at a size and a sign: no fault stands, and it has this size and this value in each store, reads
--- this (clauses 5.4 and 5.5), and this is outermost in it: it is a name alone, or `~` of one, exactly where the expression of the source is.
+-- this (clauses 5.4 and 5.5), and this is outermost in it: it is a name alone, or `~` or `!` of one, exactly where the expression of the source is.
 pub record IsTypedAs (m : Meant) (width : ℕ) (signed : Bool) (y : Typed) : Type 0 where
   pub sound : (r : WidthReason) → stands r m.finding ≡ false
   pub size : size_of y ≡ Some width
   pub value : (store : Store) (time : ℕ) → value_of y store time ≡ m.at store time width signed
   pub ranges : reads y ≡ m.reads
-  pub layer : layer_of y ≡ m.layer
+  pub layer : layer_of y ≡ m.layer width
 
 -- the expression of a design that one of a source is at a size and a sign
 abbrev pub IsTyped : Environment → Expr → ℕ → Bool → Typed → Type 0

@@ -51,7 +51,7 @@ pub record IsClosedPart (x : Measured) (shape : Shape) (y : Measured) : Type 0 w
   pub ranges : (sense y.form).reads ≡ (sense x.form).reads
   pub value : (store : Store) (time width : ℕ) (signed : Bool) →
       (sense y.form).at store time width signed ≡ resized signed width ((sense x.form).at store time x.shape.width x.shape.signed)
-  pub layer : (sense y.form).layer ≡ brought (sense x.form).layer
+  pub layer : (width : ℕ) → (sense y.form).layer width ≡ brought width ((sense x.form).layer x.shape.width)
 
 -- ---- constants
 

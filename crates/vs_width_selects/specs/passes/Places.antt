@@ -105,11 +105,11 @@ pub record IsChosen (n : Named) (y : Sizable) : Type 0 where
   pub size : (width : ℕ) → (sense y).size width ≡ Some (size_found n.finding)
   pub ranges : (sense y).reads ≡ named_range n ∷ n.reads
   pub value : (store : Store) (time width : ℕ) (signed : Bool) → (sense y).at store time width signed ≡ named_value n store time
-  pub layer : brought (sense y).layer ≡ selected_layer n.reads (named_bits n)
+  pub layer : (width size : ℕ) → brought width ((sense y).layer size) ≡ selected_layer n.reads (named_bits n) width
 
 -- chosen bits of digits, before they are brought to a context
 pub record IsExcerpt (digits : List Digit) (s : Span) (shape : Shape) (y : Sizable) : Type 0 where
   pub size : (sense y).size shape.width ≡ Some shape.width
   pub ranges : (sense y).reads ≡ s.reads
   pub value : (store : Store) (time : ℕ) → (sense y).at store time shape.width shape.signed ≡ span_value digits s store time
-  pub layer : brought (sense y).layer ≡ other
+  pub layer : (width size : ℕ) → brought width ((sense y).layer size) ≡ other

@@ -47,7 +47,7 @@ pub record IsOperated (left : Sizable) (op : Binary) (right y : Sizable) : Type 
   pub value : (store : Store) (time width : ℕ) (signed : Bool) →
       (sense y).at store time width signed
       ≡ operated op width signed ((sense left).at store time width signed) ((sense right).at store time width signed)
-  pub layer : (sense y).layer ≡ other
+  pub layer : (width : ℕ) → (sense y).layer width ≡ other
 
 -- a link of a comparison, `&&` or `||`, whose left side has this size or one bit: it takes a digit as it takes it at its own size
 pub record IsTestLink (size : ℕ) (link : Link) (right : Option ℕ) : Type 0 where
@@ -66,7 +66,7 @@ pub record IsTested (left : Sizable) (at : Shape) (link : Link) (right y : Sizab
       (sense y).at store time width signed
       ≡ resized signed width
       (linked ((sense left).at store time at.width at.signed) (link, (sense right).at store time link.width link.signed))
-  pub layer : (sense y).layer ≡ other
+  pub layer : (width : ℕ) → (sense y).layer width ≡ other
 
 -- ---- parts of choices and concatenations
 
@@ -109,7 +109,7 @@ pub record AreJoined (first : Meant) (rest : List Meant) (x : Measured) : Type 0
   pub ranges : (sense x.form).reads ≡ (concat_meant first rest).reads
   pub value : (store : Store) (time width : ℕ) (signed : Bool) →
       (sense x.form).at store time width signed ≡ joined_value first rest store time
-  pub layer : (sense x.form).layer ≡ other
+  pub layer : (width : ℕ) → (sense x.form).layer width ≡ other
 
 -- joined parts, or a fault of them
 abbrev pub Joins : Meant → List Meant → Result Measured WidthFault → Type 0
@@ -131,7 +131,7 @@ pub record IsRepetition (n : ℕ) (x y : Measured) : Type 0 where
   pub value : (store : Store) (time width : ℕ) (signed : Bool) →
       (sense y.form).at store time width signed
       ≡ resized signed width (take 64 (replication n ((sense x.form).at store time y.shape.width y.shape.signed)))
-  pub layer : (sense y.form).layer ≡ other
+  pub layer : (width : ℕ) → (sense y.form).layer width ≡ other
 
 -- joined parts so many times, or the fault that these are too many bits
 abbrev pub Repeats : ℕ → Measured → Result Measured WidthFault → Type 0

@@ -1,4 +1,4 @@
-use Rattle.std.proofs.Common.{◌≡◌, ℕ, ◌↔◌, Some, subst}
+use Rattle.std.proofs.Common.{◌≡◌, ℕ, ◌↔◌, Bool, Some, subst}
 use Rattle.std.proofs.lemmas.Result.{IfOk-weaker}
 use Rattle.vs_design.specs.Parts.{Parts}
 use Rattle.vs_design.specs.vs_logic4.specs.declared.digit.Digit.{Digit}
@@ -9,12 +9,17 @@ use Rattle.vs_slots.proofs.clocks.clock_by.Goals as goal
 
 pub returns : goal.returns
 returns c =
+    let f = c.args.facts.now in
+    let v = c.args.v in
+    let w = c.writer.result in
     IfOk-weaker c.clock_of.result
-    (λ o. (digit : Digit) (offset half : ℕ) → (IsClockBy c.design.result.now c.args.v c.writer.result digit offset half ↔ o ≡ Some (record { digit = digit; offset = offset; half = half })))
-    (λ o. IsClockOf c.args.facts.now c.args.v o)
+    (λ o. (digit : Digit) (offset half : ℕ) →
+    (IsClockBy c.design.result.now c.is_wide.result v w digit offset half ↔ o ≡ Some (record { digit = digit; offset = offset; half = half })))
+    (λ o. IsClockOf f v o)
     (λ o h digit offset half.
-    let both = subst (λ (d : Parts). (IsClockBy d c.args.v c.writer.result digit offset half ↔ o ≡ Some (record { digit = digit; offset = offset; half = half }))) c.design.ensures
-    (h digit offset half) in
-    let by = clocks_by_writers c.args.facts.now.design c.args.facts.now.claims c.args.v c.writer.result c.writer.ensures digit offset half in
+    let both = subst (λ (wide : Bool). (IsClockBy f.design wide v w digit offset half ↔ o ≡ Some (record { digit = digit; offset = offset; half = half }))) c.is_wide.ensures
+    (subst (λ (d : Parts). (IsClockBy d c.is_wide.result v w digit offset half ↔ o ≡ Some (record { digit = digit; offset = offset; half = half }))) c.design.ensures
+    (h digit offset half)) in
+    let by = clocks_by_writers f.design f.claims v w c.writer.ensures digit offset half in
     (λ k. both.0 (by.1 k), λ e. by.0 (both.1 e)))
     c.clock_of.ensures

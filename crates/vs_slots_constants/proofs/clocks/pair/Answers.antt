@@ -7,7 +7,7 @@ use Rattle.vs_slots_constants.proofs.clocks.pair.Goals as goal
 pub returns : goal.returns
 returns c offset half digit =
     let two = only_two c.args.all.now c.index-all-0.result c.index-all-1.result (omega arith) c.index-all-0.is c.index-all-1.is in
-    let pairs = λ (x : List Statement). ArePair c.args.design.now c.args.v offset half digit x in
+    let pairs = λ (x : List Statement). ArePair c.args.design.now c.args.wide c.args.v offset half digit x in
     let made = c.joined.ensures offset half digit in
     let first = c.in_ok-first.ensures offset digit in
     let second = c.turns_forever.ensures half in (

@@ -1,7 +1,6 @@
 use Rattle.std.proofs.Common.{ℕ, ◌≡◌, Some, None, refl, sym, ap, subst}
 use Rattle.std.proofs.lemmas.Option.{same_Some}
 use Rattle.vs_design.specs.declared.design.ProcessKind.TheVariants.{Initial}
-use Rattle.vs_design.specs.declared.statement.Statement.{Statement}
 use Rattle.vs_rules.specs.Constants.{HasBody, Sets}
 use Rattle.vs_slots_constants.proofs.OtherLemmas.{other_writer}
 use Rattle.vs_slots_constants.proofs.clocks.turned.Goals as goal
@@ -13,7 +12,7 @@ pub returns-in_default-other : goal.returns-in_default-other
 returns-in_default-other c offset half digit = (
   λ h.
       let j = h.2.0 in
-      let o = other_writer c.args.design.now c.args.v c.args.i j digit c.args.writers.now (λ (s : Statement). s ≡ c.args.body.now) c.requires.writers c.requires.always h.2.1 h.2.2 in
+      let o = other_writer c.args.design.now c.args.wide c.args.v c.args.i j half digit c.args.body.now c.args.writers.now c.requires.writers c.requires.its h.1 h.2.1 h.2.2 in
       let e : None ≡ Some j = (c.in_default-other.ensures j).0 o in
       cc,
   λ h. cc,
@@ -23,7 +22,7 @@ pub returns : goal.returns
 returns c offset half digit = (
   λ h.
       let j = h.2.0 in
-      let o = other_writer c.args.design.now c.args.v c.args.i j digit c.args.writers.now (λ (s : Statement). s ≡ c.args.body.now) c.requires.writers c.requires.always h.2.1 h.2.2 in
+      let o = other_writer c.args.design.now c.args.wide c.args.v c.args.i j half digit c.args.body.now c.args.writers.now c.requires.writers c.requires.its h.1 h.2.1 h.2.2 in
       let e = same_Some c.in-Some-other.j j ((c.in-Some-other.ensures j).0 o) in
       let sets = subst (λ (n : ℕ). HasBody c.args.design.now n Initial (Sets c.args.design.now c.args.v digit)) (sym e) h.2.1 in
       (c.at_once.ensures offset half digit).0 (h.0, (c.in_ok-digit.ensures digit).0 sets, same_Some c.in-Some.half half ((c.in-Some.ensures half).0 h.1)),

@@ -12,5 +12,5 @@ returns-in-Delay c half =
     let l = layer_of c.args.s.now (f.Delay c.in-Delay.field-0 c.in-Delay.ticks c.in-Delay.inner) (rolls-Delay c.in-Delay.field-0 c.in-Delay.ticks c.in-Delay.inner ∙ sym c.in-Delay.is) in
     let e = c.turning_after.ensures half in
     let d = c.deref.ensures in
-    subst (λ (x : Statement-F Statement). (TurnsLayer c.args.design.now c.args.v half x ↔ c.turning_after.result ≡ Some half)) (sym l)
-    (λ h. e.0 (h.0, h.1, subst (IsTurning c.args.design.now c.args.v) (sym d) h.2), λ h. let r = e.1 h in (r.0, r.1, subst (IsTurning c.args.design.now c.args.v) d r.2))
+    subst (λ (x : Statement-F Statement). (TurnsLayer c.args.design.now c.args.wide c.args.v half x ↔ c.turning_after.result ≡ Some half)) (sym l)
+    (λ h. e.0 (h.0, h.1, subst (IsTurning c.args.design.now c.args.wide c.args.v) (sym d) h.2), λ h. let r = e.1 h in (r.0, r.1, subst (IsTurning c.args.design.now c.args.wide c.args.v) d r.2))

@@ -8,5 +8,5 @@ pub returns : goal.returns
 returns c =
     let K = c.args.self.now in
     let C = c.self.inside.claimed in
-    let inv : KeepsFirst K C = subst (λ (k : Case). KeepsFirst k C) c.self.view_is c.self.invariant in
+    let inv : KeepsFirst K c.self.inside.inverted.now C = subst (λ (k : Case). KeepsFirst k c.self.inside.inverted.now C) c.self.view_is c.self.invariant in
     any_claims K.design K.claims.edges C c.args.root c.row.result.now inv.roots_long inv.roots_are c.row.ensures

@@ -1,7 +1,9 @@
 use Rattle.std.proofs.Common.{◌≡◌, ◌↔◌, ◌<◌, ℕ, Option, Some, None, IsTrue, length, refl, subst, ◌∙◌}
+use Rattle.vs_design.specs.vs_logic4.specs.declared.digit.Digit.{Digit}
 use Rattle.vs_rules_of_signals.specs.vs_claims.specs.Facts.{Case, IsRootAt}
-use Rattle.vs_cert_roots.specs.First.{WakesSignal}
+use Rattle.vs_cert_roots.specs.First.{KeepsFirst, WakesSignal}
 use Rattle.vs_cert_roots.proofs.FirstRows.{no_entry_calm, other_root_calm, entry_calm, entry_within}
+use Rattle.vs_cert_roots.proofs.SeenLemmas.{woken_is}
 use Rattle.vs_cert_roots.proofs.first.FirstWrites.is_calm.Goals as goal
 
 -- what an entry is told to be, of a case
@@ -35,5 +37,9 @@ returns-else-of-root c =
     let here = subst (λ (o : Option (ℕ × ℕ)). Told c.facts.result.now c.args.place o) c.in-Some.is c.edge.ensures in
     let f = subst (λ (k : Case). Told k c.args.place (Some (c.in-Some.of, c.in-Some.v))) (c.facts.ensures ∙ c.self.view_is) here in
     let l = entry_calm K.design K.claims c.args.place c.args.root c.in-Some.of c.in-Some.v c.args.digit f c.if-of-root.false in
-    let e = subst (λ (k : Case). (IsTrue c.is_calm.result ↔ (WakesSignal k.design k.claims c.in-Some.v c.args.digit → ⊥))) c.self.view_is c.is_calm.ensures in
-    (λ t. l.0 (e.0 t), λ n. e.1 (l.1 n))
+    let inverted = c.self.inside.inverted.now in
+    let inv : KeepsFirst K inverted c.self.inside.claimed = subst (λ (k : Case). KeepsFirst k inverted c.self.inside.claimed) c.self.view_is c.self.invariant in
+    let g = woken_is K.design K.claims inverted inv.inverted_are c.in-Some.v c.args.digit in
+    let same = λ (k : Case) (digit : Digit). IsTrue c.is_calm.result ↔ (WakesSignal k.design k.claims c.in-Some.v digit → ⊥) in
+    let e = subst (same K) c.shown.ensures (subst (λ (k : Case). same k c.shown.result) c.self.view_is c.is_calm.ensures) in
+    (λ t. l.0 (λ w. e.0 t (g.1 w)), λ n. e.1 (λ w. l.1 n (g.0 w)))

@@ -2,8 +2,14 @@ use Rattle.std.proofs.Common.{◌≡◌, ℕ, Some, slice_get, arith}
 use Rattle.vs_design.specs.declared.statement.EventTerm.{EventTerm}
 use Rattle.std.proofs.lemmas.Option.{slice_get_within}
 use Rattle.vs_rules_of_processes.specs.ReadingPlaces.{IsTermApart}
-use Rattle.vs_rules_of_processes.proofs.PairLemmas.{here_only}
+use Rattle.vs_rules_of_processes.proofs.PairLemmas.{here_only, none_past}
 use Rattle.vs_rules_of_processes.proofs.readings.RootsRule.test.Goals as goal
+
+pub returns-then-i-self : goal.returns-then-i-self
+returns-then-i-self c =
+    let s = c.args.self.now in
+    none_past (λ (root : ℕ). (k : ℕ) (x : EventTerm) → slice_get s.terms.now k ≡ Some x → IsTermApart s.slots.now.design s.slots.now.claims root x) s.roots.now c.args.i
+    (omega (arith, c.if-i-self.true))
 
 pub returns : goal.returns
 returns c =

@@ -1,7 +1,7 @@
 use Rattle.std.proofs.Common.{sym, ◌∙◌, ap}
 use Rattle.vs_design.specs.declared.design.Process.{Process}
-use Rattle.vs_propose_plan.proofs.Numbered.{counted_in}
-use Rattle.vs_propose_plan.proofs.facts.text_facts.Goals as goal
+use Rattle.vs_propose_texts.proofs.Numbered.{counted_in}
+use Rattle.vs_propose_texts.proofs.facts.text_facts.Goals as goal
 
 pub facts_by-requires : goal.facts_by-requires
 facts_by-requires c =

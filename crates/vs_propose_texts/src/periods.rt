@@ -11,8 +11,10 @@ use vs_process::{Stop, TextMap};
 pub struct Timing {
     /// What the turns of its loops are multiples of; 0 where it has no turns that take time.
     pub period: u64,
-    /// Whether it turns a signal over, which then is as before after two turns.
+    /// Whether it turns a signal over by `~`, which then is as before after two turns.
     pub turns_over: bool,
+    /// Whether it does so by `!`.
+    pub negates: bool,
     /// A time that each of its places has been come to by.
     pub last: u64,
 }
@@ -44,12 +46,26 @@ fn ticks_of(statement: Option<&Statement>) -> u64 {
     }
 }
 
-// Whether a statement turns a signal over.
-fn turns_over(statement: Option<&Statement>) -> bool {
+// Whether an expression is `!` of another one.
+fn is_negation(value: &Typed) -> bool {
+    matches!(value, Typed::Unary(Unary::LogicalNot, _))
+}
+
+// Whether an expression is the inverse of another one: by `~`, or else by `!`, which is brought to the size of what takes it.
+fn is_inverse(value: &Typed, negates: bool) -> bool {
+    match value {
+        Typed::Unary(Unary::Not, _) => !negates,
+        Typed::Resized(_, inner) => negates && is_negation(inner),
+        _ => false,
+    }
+}
+
+// Whether a statement turns a signal over by `~`, or else by `!`.
+fn turns_over(statement: Option<&Statement>, negates: bool) -> bool {
     match statement {
         None => false,
         Some(s) => match s {
-            Statement::Assign(_, _, value) => matches!(value, Typed::Unary(Unary::Not, _)),
+            Statement::Assign(_, _, value) => is_inverse(value, negates),
             _ => false,
         },
     }
@@ -107,10 +123,10 @@ impl Clocked {
     }
 }
 
-// Whether some statement turns a signal over.
-fn any_turns_over(stops: &[Stop]) -> bool {
+// Whether some statement turns a signal over by `~`, or else by `!`.
+fn any_turns_over(stops: &[Stop], negates: bool) -> bool {
     for stop in stops {
-        if turns_over(stop.statement) {
+        if turns_over(stop.statement, negates) {
             return true;
         }
     }
@@ -138,7 +154,8 @@ pub(crate) fn timing_of(alloc: Global, map: &TextMap) -> Result<Timing, AllocErr
     }
     Ok(Timing {
         period: walk.period,
-        turns_over: any_turns_over(&map.stops),
+        turns_over: any_turns_over(&map.stops, false),
+        negates: any_turns_over(&map.stops, true),
         last: walk.last,
     })
 }

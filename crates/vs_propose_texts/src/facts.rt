@@ -143,7 +143,7 @@ fn fires_by(alloc: Global, code: &Code, rules: Rules, root: Root) -> Result<Firi
 
 /// The residues at which the edges of a root can fire that a process writes, by its delay controls. It takes as long as the text, times how many
 /// residues there are.
-pub(crate) fn text_firing(
+pub fn text_firing(
     alloc: Global,
     design: &Design,
     i: usize,

@@ -1,6 +1,6 @@
 //! Which roots are clocks.
 
-use crate::plans::SignalPlan;
+use crate::vs_certificate::Rules;
 use std::alloc::{AllocError, Global};
 use vs_design::vs_logic4::{Digit, Edge};
 use vs_design::{Design, ProcessKind, Statement};
@@ -34,10 +34,10 @@ fn core_of<'a>(s: &'a Statement) -> &'a Statement {
     }
 }
 
-// The ticks `h` of a statement that is `forever #h u = ~u`.
-fn turns_forever(design: &Design, v: usize, s: &Statement) -> Option<u64> {
+// The ticks `h` of a statement that is `forever #h u = ~u`; by wide rules `!u` turns it too.
+fn turns_forever(design: &Design, rules: Rules, v: usize, s: &Statement) -> Option<u64> {
     match core_of(s) {
-        Statement::Forever(_, inner) => turns(design, v, inner),
+        Statement::Forever(_, inner) => turns(design, matches!(rules, Rules::Wide), v, inner),
         _ => None,
     }
 }
@@ -63,6 +63,7 @@ fn begins(
 fn of_pair(
     alloc: Global,
     design: &Design,
+    rules: Rules,
     v: usize,
     all: &[Statement],
 ) -> Result<Option<Clock>, AllocError> {
@@ -72,7 +73,7 @@ fn of_pair(
     let Some((offset, digit)) = begins(alloc, design, v, &all[0])? else {
         return Ok(None);
     };
-    match turns_forever(design, v, &all[1]) {
+    match turns_forever(design, rules, v, &all[1]) {
         None => Ok(None),
         Some(half) => Ok(Some(Clock {
             digit,
@@ -101,15 +102,16 @@ fn set_by(
     }
 }
 
-// The clock that an `always` with such a body turns, and that the second sets.
+// The clock that a process with such a body turns, and that the second sets.
 fn of_turned(
     alloc: Global,
     design: &Design,
+    rules: Rules,
     v: usize,
     body: &Statement,
     second: Option<usize>,
 ) -> Result<Option<Clock>, AllocError> {
-    let Some(half) = turns_forever(design, v, body) else {
+    let Some(half) = turns_forever(design, rules, v, body) else {
         return Ok(None);
     };
     match set_by(alloc, design, v, second)? {
@@ -122,25 +124,39 @@ fn of_turned(
     }
 }
 
-/// The clock that a signal is, by what is to be claimed of it: its writer sets it once and then turns it for ever, or its writer turns it and its
-/// second sets it. It takes as long as their texts.
-pub(crate) fn clock_by_plan(
+// The clock of an `initial` with such a body: it sets it and turns it, or by wide rules it turns what the second sets.
+fn of_initial(
     alloc: Global,
     design: &Design,
+    rules: Rules,
     v: usize,
-    plan: SignalPlan,
+    body: &Statement,
+    second: Option<usize>,
 ) -> Result<Option<Clock>, AllocError> {
-    let Some(i) = plan.writer else {
-        return Ok(None);
-    };
-    let Some(process) = design.processes().get(i) else {
+    match core_of(body) {
+        Statement::Block(all) => of_pair(alloc, design, rules, v, all),
+        _ => match rules {
+            Rules::Narrow => Ok(None),
+            Rules::Wide => of_turned(alloc, design, rules, v, body, second),
+        },
+    }
+}
+
+/// The clock that a signal is, by its writer and its second: its writer sets it once and then turns it for ever, or its writer turns it and its second
+/// sets it. It takes as long as their texts.
+pub fn clock_by(
+    alloc: Global,
+    design: &Design,
+    rules: Rules,
+    v: usize,
+    writer: usize,
+    second: Option<usize>,
+) -> Result<Option<Clock>, AllocError> {
+    let Some(process) = design.processes().get(writer) else {
         return Ok(None);
     };
     match process.kind {
-        ProcessKind::Initial => match core_of(&process.body) {
-            Statement::Block(all) => of_pair(alloc, design, v, all),
-            _ => Ok(None),
-        },
-        ProcessKind::Always => of_turned(alloc, design, v, &process.body, plan.second),
+        ProcessKind::Initial => of_initial(alloc, design, rules, v, &process.body, second),
+        ProcessKind::Always => of_turned(alloc, design, rules, v, &process.body, second),
     }
 }
