@@ -7,7 +7,7 @@ use vs_row_files::{Answers, Text, put_pieces};
 
 /// Who elaborates.
 #[derive(Clone, Copy)]
-pub(crate) struct Sources;
+pub struct Sources;
 
 /// Whether what is told is one of some answers, with `; ` between these.
 fn is_one(told: &[u8], answers: &str) -> bool {

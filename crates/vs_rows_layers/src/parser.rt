@@ -11,7 +11,7 @@ use vs_row_files::{Answers, Text, put_pieces};
 
 /// Who parses.
 #[derive(Clone, Copy)]
-pub(crate) struct Texts;
+pub struct Texts;
 
 /// What is asked with some words, and what stands before and behind the question in its source; a fault of the question alone with any others.
 static KINDS: [(&str, Asked, &str, &str); 10] = [

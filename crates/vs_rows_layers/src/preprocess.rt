@@ -6,7 +6,7 @@ use vs_row_files::{Answers, Text};
 
 /// Who preprocesses.
 #[derive(Clone, Copy)]
-pub(crate) struct Preprocesses;
+pub struct Preprocesses;
 
 impl Answers for Preprocesses {
     fn answer(&self, words: &str, question: &str, text: &mut Text) {

@@ -8,7 +8,7 @@ use vs_vcd_reader::{VcdFault, read};
 
 /// Who reads a dump and writes it again.
 #[derive(Clone, Copy)]
-pub(crate) struct Again;
+pub struct Again;
 
 /// What is written of a dump that was read.
 fn written_again(alloc: Global, text: &[u8]) -> Result<Text, VcdFault> {
