@@ -8,7 +8,7 @@ use vs_explain_writers::vs_explain_outline::{Page, found, put_marked};
 use vs_explain_writers::{
     ClockForm, Site, common, form_of, free_before, has_clocks, longer_initial, mark_site, point_at,
     put_path, put_residues, put_rule, put_short, put_signal, put_site, put_times, residues_of,
-    text_at, turner_of, turning_in, turning_of,
+    text_at, turner_of, turning_in, turning_of, unlike_start,
 };
 
 /// What a race is.
@@ -54,9 +54,9 @@ fn shares_root(facts: &Facts, text: &TextFacts, roots: &[usize]) -> bool {
         .any(|t| roots.contains(&facts.root(t.term.range.signal)))
 }
 
-/// Whether a process writes one of some signals.
+/// Whether a process writes one of some signals behind a control: what only starts a clock doesn't.
 fn writes_one(text: &TextFacts, signals: &[usize]) -> bool {
-    signals.iter().any(|s| text.writes_signal(*s))
+    signals.iter().any(|s| text.writes_late(*s))
 }
 
 /// Whether a process reads what another one writes.
@@ -343,6 +343,7 @@ fn culprit_of(question: Question, root: usize, form: ClockForm) -> Option<Site> 
             let number = text.points.iter().position(|p| p.writes_signal(root))?;
             Some(Site { process, number })
         }
+        ClockForm::Start => unlike_start(question.facts, root, turner),
         _ => {
             let (number, _) = turning_in(text_at(question, turner)?, root)?;
             Some(Site {
@@ -359,6 +360,7 @@ fn lack_of(form: ClockForm) -> &'static str {
         ClockForm::LogicalNot => "it is turned over by `!`",
         ClockForm::Block => "the delay and the assignment are two statements",
         ClockForm::Initial => "the `initial` that sets it does more than that",
+        ClockForm::Start => "what sets it isn't one constant by `=`",
         ClockForm::Forever => "the `initial` that turns it over doesn't set it first",
         ClockForm::Repeat => "it turns over in a `repeat`",
         ClockForm::Clock | ClockForm::Still => "",
@@ -371,6 +373,7 @@ fn form_remedy(form: ClockForm) -> &'static str {
         ClockForm::LogicalNot => "Write `clk = ~clk;`.\n",
         ClockForm::Block => "Write `always #5 clk = ~clk;`.\n",
         ClockForm::Initial => "Set the clock by itself: `reg clk = 0;` or `initial clk = 0;`.\n",
+        ClockForm::Start => "Set the clock to one constant: `clk = 0;`.\n",
         ClockForm::Forever =>
             "Set it first in the same process: `initial begin clk = 0; forever #5 clk = ~clk; end`.\n",
         ClockForm::Repeat => "Write `always #5 clk = ~clk;`, and end by `$finish`.\n",

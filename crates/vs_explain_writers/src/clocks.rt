@@ -1,9 +1,10 @@
 //! Variables that turn over, and whether they do so in the form of a clock.
 
 use crate::spots::Site;
+use crate::writes::bit_given;
 use vs_design::vs_logic4::Unary;
 use vs_design::{ProcessKind, Statement, Typed};
-use vs_explain_facts::{Facts, TextFacts, TextKind};
+use vs_explain_facts::{Facts, Point, TextFacts, TextKind};
 
 /// How deep a statement is looked into.
 const DEEPEST: usize = 256;
@@ -21,6 +22,8 @@ pub enum ClockForm {
     Block,
     /// The `initial` that sets it does more.
     Initial,
+    /// What sets it isn't one constant by `=`. In version 3 the process that does may do more.
+    Start,
     /// The `initial` that turns it doesn't set it first.
     Forever,
     /// It turns over in a `repeat`.
@@ -141,6 +144,61 @@ pub fn longer_initial(facts: &Facts, signal: usize, turner: usize) -> Option<usi
     None
 }
 
+/// The 0 or 1 to which a statement sets a signal by `=`, where it is a constant.
+fn set_at(point: &Point, signal: usize) -> Option<bool> {
+    if point.is_blocking() {
+        bit_given(point.statement, signal)
+    } else {
+        None
+    }
+}
+
+/// The statement of a text that writes a signal and doesn't set it to the constant to which the first one does.
+fn unlike_in(text: &TextFacts, signal: usize) -> Option<usize> {
+    let mut first = None;
+    for (number, point) in text.points.iter().enumerate() {
+        if point.writes_signal(signal) {
+            let digit = set_at(point, signal);
+            if digit.is_none() || (first.is_some() && first != digit) {
+                return Some(number);
+            }
+            first = digit;
+        }
+    }
+    None
+}
+
+/// Where another process than the one that turns a signal over sets it to what isn't one constant by `=`.
+pub fn unlike_start(facts: &Facts, signal: usize, turner: usize) -> Option<Site> {
+    for process in facts.writers_of(signal) {
+        if *process != turner {
+            if let Some(text) = facts.texts.get(*process) {
+                if let Some(number) = unlike_in(text, signal) {
+                    return Some(Site {
+                        process: *process,
+                        number,
+                    });
+                }
+            }
+        }
+    }
+    None
+}
+
+/// What keeps a signal from being a clock that another process than the one that turns it over sets, alone but in version 3.
+fn form_by_start(facts: &Facts, signal: usize, turner: usize) -> ClockForm {
+    if facts.is_third {
+        return match unlike_start(facts, signal, turner) {
+            Some(_) => ClockForm::Start,
+            None => ClockForm::Clock,
+        };
+    }
+    match longer_initial(facts, signal, turner) {
+        Some(_) => ClockForm::Initial,
+        None => ClockForm::Clock,
+    }
+}
+
 /// What keeps a signal that a process with such a body turns over from being a clock, which another one sets.
 fn form_of_always(facts: &Facts, signal: usize, process: usize, body: &Statement) -> ClockForm {
     let turns = match body {
@@ -150,10 +208,7 @@ fn form_of_always(facts: &Facts, signal: usize, process: usize, body: &Statement
     if !turns {
         return ClockForm::Block;
     }
-    match longer_initial(facts, signal, process) {
-        Some(_) => ClockForm::Initial,
-        None => ClockForm::Clock,
-    }
+    form_by_start(facts, signal, process)
 }
 
 /// What keeps a signal that an `initial` turns over by a `forever` alone from being a clock: in version 3 another one may set it.

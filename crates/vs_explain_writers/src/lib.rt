@@ -16,7 +16,8 @@ mod writes;
 
 pub use claimed::{put_anew, put_subject};
 pub use clocks::{
-    ClockForm, form_of, has_clocks, longer_initial, turner_of, turning_in, turning_of, unsized_of,
+    ClockForm, form_of, has_clocks, longer_initial, turner_of, turning_in, turning_of,
+    unlike_start, unsized_of,
 };
 pub use residues::{push_edge, put_residues, residues_of};
 pub use sentences::{put_rule, sentence_of};

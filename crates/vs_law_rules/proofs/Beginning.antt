@@ -19,8 +19,8 @@ use Rattle.vs_independence.proofs.Making.{none_get}
 use Rattle.vs_independence.proofs.InnerMoves.{AtEnd}
 use Rattle.vs_independence.proofs.Times.{is_after, after_next, get_from_all}
 use Rattle.vs_rules.specs.Points.{Goes, Point, first_todo}
-use Rattle.vs_rules.proofs.Points.{erased_flat, step_follows}
-use Rattle.vs_rules.specs.Claims.{kind_of, Claims, Kind, IsEdge, IsDelay, HasMixedLists, WaitsForEdges, WaitsForTimes, IsSequential}
+use Rattle.vs_rules.proofs.Points.{by_path, erased_flat, step_follows}
+use Rattle.vs_rules.specs.Claims.{kind_of, Claims, Kind, IsEdge, IsDelay, HasMixedLists, WaitsForEdges, WaitsForTimes, IsSequential, is_wide}
 use Rattle.vs_rules.specs.Paths.{Path, begins, goes, is_zero_time, IsPoint, RunsBehind}
 use Rattle.vs_rules.specs.Slots.{Ends, DelayEnds, EdgeEnds, RunsByDelays, RunsByEdges, HasSlot}
 use Rattle.vs_rules.specs.Rules.{K7, K8}
@@ -37,8 +37,8 @@ path_point d i ok from k p (goes j l next path g may is) = subst (IsPoint d i) i
 pub slot0_point : (d : Parts) (i : ℕ) (k : Todo) → Path is_zero_time (first_todo d i) k → IsPoint d i k
 slot0_point d i k path = path_point d i is_zero_time (first_todo d i) k Point.begins path
 
-pub runs_point : (d : Parts) (i : ℕ) (can_end : Next → ℕ → Type 0) (k : Todo) (r : ℕ) → RunsBehind d i can_end k r → IsPoint d i k
-runs_point d i can_end k r h = path_point d i _ (todo_behind h.next) k (point_on d i h.at h.next h.point h.goes) h.path
+pub runs_point : (d : Parts) (wide : Bool) (i : ℕ) (can_end : Next → ℕ → Type 0) (k : Todo) (r : ℕ) → RunsBehind d wide i can_end k r → IsPoint d i k
+runs_point d wide i can_end k r h = path_point d i _ (todo_behind h.next) k (point_on d i h.at h.next h.point h.goes) (by_path wide _ (todo_behind h.next) k h.path)
 
 -- ---- residues are closed
 
@@ -54,11 +54,11 @@ edge_ends d c i (inr m) next r h = subst (λ (kind : Option Kind). Ends d c i ki
 
 -- a run slot of a process that waits for times is one of its delay controls, or, where it is mixed, of its event controls
 slot_sort : (d : Parts) (c : Claims) (i : ℕ) (lists : List (List ℕ)) → WaitsForTimes d c i lists → (k : Todo) (r : ℕ) → HasSlot d c i k r →
-    RunsByDelays d i lists k r ⊎ (HasMixedLists d c i lists × RunsByEdges d c i k r)
-slot_sort d c i lists (inl e) k r h = inl (subst (λ (kind : Option Kind). RunsBehind d i (Ends d c i kind) k r) e h)
-slot_sort d c i lists (inr e) k r h = by_start (subst (λ (kind : Option Kind). RunsBehind d i (Ends d c i kind) k r) e h)
+    RunsByDelays d (is_wide c) i lists k r ⊎ (HasMixedLists d c i lists × RunsByEdges d c i k r)
+slot_sort d c i lists (inl e) k r h = inl (subst (λ (kind : Option Kind). RunsBehind d (is_wide c) i (Ends d c i kind) k r) e h)
+slot_sort d c i lists (inr e) k r h = by_start (subst (λ (kind : Option Kind). RunsBehind d (is_wide c) i (Ends d c i kind) k r) e h)
   where
-    by_start : RunsBehind d i (Ends d c i (Some (Kind.mixed lists))) k r → RunsByDelays d i lists k r ⊎ (HasMixedLists d c i lists × RunsByEdges d c i k r)
+    by_start : RunsBehind d (is_wide c) i (Ends d c i (Some (Kind.mixed lists))) k r → RunsByDelays d (is_wide c) i lists k r ⊎ (HasMixedLists d c i lists × RunsByEdges d c i k r)
     by_start h = elim h.starts [
       | inl delay ↦ inl (record { at = h.at; next = h.next; point = h.point; goes = h.goes; starts = delay; path = h.path })
       | inr edge ↦ inr (e, record { at = h.at; next = h.next; point = h.point; goes = h.goes; starts = edge; path = h.path })
@@ -76,7 +76,7 @@ closed_times d c i lists is r = record {
 closed_edge : (d : Parts) (c : Claims) (i : ℕ) → IsEdge d c i → K7 d c i → Closed d c i
 closed_edge d c i e r = record {
   from_start = λ k l number ticks s g up. absurd (r.no_delay k l number ticks e (slot0_point d i k s) g);
-  from_residue = λ k l number ticks q h g. absurd (r.no_delay k l number ticks e (runs_point d i (Ends d c i (kind_of d c i)) k q h) g);
+  from_residue = λ k l number ticks q h g. absurd (r.no_delay k l number ticks e (runs_point d (is_wide c) i (Ends d c i (kind_of d c i)) k q h) g);
 }
 
 pub closed_of : (d : Parts) (c : Claims) (i : ℕ) → IsSequential d c i → K7 d c i → K8 d c i → Closed d c i

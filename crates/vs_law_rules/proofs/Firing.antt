@@ -9,6 +9,7 @@ use Rattle.std.proofs.lemmas.Nat.Gcd.{dvd_of_mod-eq-zero}
 use Rattle.vs_design.specs.vs_logic4.specs.declared.digit.Digit.{Digit}
 use Rattle.vs_design.specs.vs_logic4.specs.declared.digit.Digit.TheVariants.{X}
 use Rattle.vs_design.specs.vs_logic4.specs.declared.edge.Edge.{Edge}
+use Rattle.vs_design.specs.vs_logic4.specs.declared.edge.Edge.TheVariants.{Any, Posedge, Negedge}
 use Rattle.vs_design.specs.vs_logic4.specs.Edges.{is_edge}
 use Rattle.vs_design.specs.declared.design.Process.{Process}
 use Rattle.vs_design.specs.declared.statement.EventTerm.{EventTerm}
@@ -34,9 +35,10 @@ use Rattle.vs_rules.specs.Copies.{CopiesRoot, is_odd, SeenAs}
 use Rattle.vs_rules.specs.vs_threads.specs.Edges.{one_bit, IsBit, Copies, inverted, inverses, shown}
 use Rattle.vs_rules.specs.vs_threads.specs.Threads.{Fired, given, opening, IsTimed, Fires as Wakes}
 use Rattle.vs_law_rules.proofs.Beginning.{AllStopped}
-use Rattle.vs_law_rules.specs.Laws.{ClockTurns}
+use Rattle.vs_law_rules.specs.Laws.{ClockTurns, StaysUnset}
 use Rattle.vs_law_rules.proofs.Fire.{Begun, Walking, timed_writes, stopped_writes, closed, stands_found, bit_shape, bit_digit, edge_of, edge_counts, edge_phase, zero_less}
-use Rattle.vs_rules.specs.vs_threads.proofs.Links.{copies_bit, root_bit, inverted_x}
+use Rattle.vs_independence.proofs.WellFormed.{drives_well}
+use Rattle.vs_rules.specs.vs_threads.proofs.Links.{copies_bit, copies_settled, root_bit, inverted_x}
 use Rattle.vs_law_rules.proofs.Lasts.{Last, Bitwise, bit_iterate}
 use Rattle.vs_law_rules.proofs.Inverses.{odd, same_root, parity_of, seen_of, seen, seen_level, edge_seen}
 use Rattle.vs_law_rules.proofs.Roots.{entry_root, copies_signal}
@@ -229,6 +231,20 @@ none_fires d c b g i t f has level w heard zero_time = by_first g.begin.first
     by_first (inr (inl up)) = zero_less b.time up zero_time
     by_first (inr (inr still)) = stopped_writes d c b g still w.writer w.root w.by w.timed w.writes
 
+-- above time 0, where a root is x, all that copies it is
+root_x : (d : Parts) (c : Claims) (b : State) → Begun d c b → 0 < b.time → (root v : ℕ) → Copies d root v → digit_of b.store root 0 0 ≡ Some X → slice_get b.store v ≡ Some (one_bit X)
+root_x d c b g up root v copies x =
+    let is = bit_shape b.store (start_store d) root X g.assigns.shaped (root_bit d root v copies) in
+    let same : is.0 ≡ X = same_digits b.store root is.0 X (bit_digit b.store root is.0 is.1) x in
+    copies_settled d (drives_well d g.formed) b.store b.assigns g.assigns (g.idle up) root v copies ∙ ap (shown (inverses copies)) (is.1 ∙ ap (λ z. Some (one_bit z)) same)
+    ∙ ap (λ z. Some (one_bit z)) (inverted_x (inverses copies))
+
+-- from x to x there is no edge
+no_edge : (edge : Edge) → is_any edge ≡ false → is_edge edge X X ≡ true → ⊥
+no_edge Any level h = true≢false level
+no_edge Posedge level h = false≢true h
+no_edge Negedge level h = false≢true h
+
 -- a process is fired at firing slots of the term
 pub fires_at : (d : Parts) (c : Claims) (b : State) → Begun d c b → ClockTurns d c b → (i : ℕ) (t : EventTerm) (f : Fired) → HasTerm d i t → is_level t ≡ false → Wakes d (blocks_of d c) b t f → 0 < b.time →
     Fires d c t (b.time % c.modulus)
@@ -245,10 +261,19 @@ fires_at d c b g clocks i t f has level w up = by_at ch.last.here.at
         let known = ch.rooted.sound.writer in
         subst (IsDelay d c) (one_writer d c g.formed w.root known.0 w.writer known.1 writer) known.2
 
+    -- a clock that stays x fires nothing
+    unset : StaysUnset c b w.root ch.new → ⊥
+    unset (wide, new, x) =
+        let old : ch.old ≡ X = ch.was_x (root_x d c b g up w.root t.range.signal (subst (Copies d w.root) (sym w.term) w.copies) x) in
+        no_edge ch.edge ch.level (subst (λ z. is_edge ch.edge z X ≡ true) old (subst (λ z. is_edge ch.edge ch.old z ≡ true) new ch.comes))
+
     in_phase : InPhase d c w.root ch.edge (b.time % c.modulus)
     in_phase digit offset half clock divides =
         let turns = clocks w.root w.writer w.by digit ch.new offset half w.timed writer w.writes (t.range.signal, ch.rooted.is) clock ch.has in
-        mod-mod_of_dvd (2 * half) b.time (dvd_of_mod-eq-zero (2 * half) divides) ∙ edge_phase ch.edge ch.old ch.new digit offset half b.time turns.0 ch.comes ch.level turns.1
+        mod-mod_of_dvd (2 * half) b.time (dvd_of_mod-eq-zero (2 * half) divides) ∙ elim turns.1 [
+          | inl stays ↦ absurd (unset stays)
+          | inr at ↦ edge_phase ch.edge ch.old ch.new digit offset half b.time turns.0 ch.comes ch.level at
+        ]
 
     by_at : At d c w.writer b.time ch.last.k → Fires d c t (b.time % c.modulus)
     by_at (at_zero z s) = absurd (zero_less b.time up z)
@@ -262,7 +287,7 @@ fires_at d c b g clocks i t f has level w up = by_at ch.last.here.at
       kind = kind.1;
       point = ch.last.here.point;
       writes = inl ch.last.writes;
-      runs = subst (λ (o : Option Kind). RunsBehind d w.writer (Ends d c w.writer o) ch.last.k (b.time % c.modulus)) kind.1 slot;
+      runs = subst (λ (o : Option Kind). RunsBehind d (is_wide c) w.writer (Ends d c w.writer o) ch.last.k (b.time % c.modulus)) kind.1 slot;
       edge = ch.edge;
       seen = ch.seen;
       counted = λ digit gives.

@@ -1,6 +1,6 @@
 -- What the write of a constant makes of a signal of one bit.
 use Rattle.std.proofs.Common.{◌≡◌, ℕ, zero, suc, ◌+◌, ◌==◌, ◌||◌, ◌⊎◌, if◌then◌else◌, ℤ, pos, negsuc, ◌+ℤ◌, neg_ℤ, true, false, Option, Some, None, option_map, List, [], ◌∷◌, slice_get, refl, sym, ◌∙◌, ap, subst, inl, inr}
-use Rattle.std.proofs.lemmas.Bool.{cases_Bool, eqb-false, false≢true}
+use Rattle.std.proofs.lemmas.Bool.{cases_Bool, false≢true}
 use Rattle.std.proofs.lemmas.Option.{none-some, same_Some}
 use Rattle.std.specs.List.{list_any}
 use Rattle.std.specs.Prelude.{slice_index_or}
@@ -28,7 +28,6 @@ use Rattle.vs_independence.specs.vs_process.proofs.Digits.{laid, laid_part, laid
 use Rattle.vs_independence.specs.vs_process.proofs.Values.{target_value_unchanged}
 use Rattle.vs_rules.specs.Paths.{Bit}
 use Rattle.vs_rules.specs.Constants.{any_aims, bit_of, digit_there, given_by, is_nothing, place_gives, places_give, GivesDigit, Gives, statement_assigns}
-use Rattle.vs_design.specs.vs_logic4.proofs.Basics.{same_self as both_same}
 
 -- what some parts name their places name
 names_parts : (from : ℕ) (aims : List Aim) (digits : List Digit) (store : Store) (time v : ℕ) → names (parts_from from aims digits store time) v ≡ any_aims v aims

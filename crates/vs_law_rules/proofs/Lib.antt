@@ -30,6 +30,7 @@ pub mod Clocks
 pub mod Turned
 pub mod Turning
 pub mod Seconds
+pub mod Beside
 pub mod Phases
 pub mod Started
 pub mod Begins

@@ -1,8 +1,8 @@
 -- The clocks of a design that keeps the rules turn in phase.
-use Rattle.std.proofs.Common.{None, ◌≡◌, ℕ, zero, suc, ◌<◌, ◌⊎◌, ◌++◌, ◌&&◌, Bool, true, Some, List, [], ◌∷◌, map, get_or, slice_get, refl, sym, ◌∙◌, ap, subst, inl, inr, arith}
+use Rattle.std.proofs.Common.{None, ◌≡◌, ℕ, zero, suc, ◌<◌, ◌⊎◌, ◌++◌, ◌&&◌, Bool, true, false, Some, List, [], ◌∷◌, map, get_or, slice_get, refl, sym, ◌∙◌, ap, subst, inl, inr, arith}
 use Rattle.std.specs.declared.vec.Vec.{Vec}
 use Rattle.std.specs.declared.alloc.Global.{Global}
-use Rattle.std.proofs.lemmas.Bool.{and_parts, false≢true}
+use Rattle.std.proofs.lemmas.Bool.{and_parts, eqb-true, false≢true}
 use Rattle.std.proofs.lemmas.Option.{get_or_from_slice_get, same_Some, none-some}
 use Rattle.vs_design.specs.vs_logic4.specs.declared.digit.Digit.{Digit}
 use Rattle.vs_design.specs.declared.design.Process.{Process}
@@ -30,12 +30,13 @@ use Rattle.vs_independence.specs.vs_process.proofs.WellFormed.{variable_undriven
 use Rattle.vs_rules.specs.vs_threads.specs.Threads.{store_behind, Thread, opening, writes, IsTimed}
 use Rattle.vs_rules.specs.vs_threads.proofs.Threads.{is_stopped}
 use Rattle.vs_independence.proofs.Times.{is_after}
-use Rattle.vs_rules.specs.Claims.{Claims, IsWriter, IsSecond, IsDelay, IsRoot, blocks_of, is_wide}
-use Rattle.vs_rules.specs.Constants.{IsBare, itself, inside, IsKnown, Sets, IsClock, alone, two, HasBody, SetsAfter, SetsAndTurns, TurnsForever}
-use Rattle.vs_law_rules.specs.Laws.{TimeRises, ClockTurns}
+use Rattle.vs_rules.specs.Claims.{Claims, IsWriter, IsSecond, IsDelay, IsRoot, IsWide, blocks_of, is_wide}
+use Rattle.vs_rules.specs.Constants.{IsBare, itself, inside, IsKnown, Sets, IsClock, alone, two, HasBody, SetsAfter, SetsAlike, SetsAndTurns, SetsFirst, TurnsForever}
+use Rattle.vs_law_rules.specs.Laws.{TimeRises, ClockTurns, StaysUnset}
 use Rattle.vs_rules.specs.Paths.{Writes, IsSlot0, WritesNow, Path, begins, is_zero_time, statement_now, todo_now}
 use Rattle.vs_rules.specs.Copies.{IsOneBit, CopiesRoot}
 use Rattle.vs_rules.specs.Copies as r
+use Rattle.vs_law_rules.proofs.Beside.{Beside, beside_is, beside_seen, Unset, unset_watched}
 use Rattle.vs_law_rules.proofs.Beginning.{delay_steady, closed_of, start_stands, still_at_end}
 use Rattle.vs_law_rules.proofs.Boundary.{holds_after}
 use Rattle.vs_law_rules.proofs.Clocks.{Bared, bare_flat, flat_inside, not_both, Loop, loop_of}
@@ -45,8 +46,8 @@ use Rattle.vs_law_rules.proofs.Firing.{one_writer, one_second}
 use Rattle.vs_law_rules.proofs.Walks.{At, at_zero, at_later, Here, Stands}
 use Rattle.vs_law_rules.proofs.Seconds.{LedAt, RootOf, led_at, alone_now, role_now, updates_miss}
 use Rattle.vs_law_rules.proofs.Turned.{turned, Phase, turn_sized, bare_sound}
-use Rattle.vs_law_rules.proofs.Turning.{IsBefore, Turner, Guard, guard_of, Clocked, clocked_watched, Setter, Before, bit_put, set_gives, before_is, before_goes_on, BitIn, Early, early_any, early_is, early_goes_on, HasAtEnd, Has, thread_has, Ahead}
-use Rattle.vs_law_rules.proofs.Watch.{IsWatched, IsLeft, Seen, seen_after}
+use Rattle.vs_law_rules.proofs.Turning.{IsBefore, Turner, Guard, guard_of, SetAt, Clocked, clocked_watched, Setter, Before, bit_put, set_gives, before_is, before_goes_on, BitIn, Early, early_any, early_is, early_goes_on, HasAtEnd, Has, thread_has, Ahead}
+use Rattle.vs_law_rules.proofs.Watch.{IsWatched, IsLeft, Nowhere, nowhere_watched, Seen, seen_after, thread_watched}
 use Rattle.vs_law_rules.proofs.Words.{step_now, lists_signal}
 use Rattle.std.specs.List.{list_all, list_any}
 use Rattle.vs_design.specs.vs_logic4.specs.declared.digit.Digit.TheVariants.{X}
@@ -122,17 +123,18 @@ turner d wide root process digit offset half known text loop one = record {
 -- in every execution
 one_seen : (grain : Grain) (d : Parts) (c : Claims) (T : Turner d) → RootOf d c T.root → TimeRises grain d → IsWriter d c T.root T.process → (S : Setter d T) →
     ((time : ℕ) → time ≡ T.offset → Guard d T time) → Before d T S 0 (get_or (start d).places T.process ended) (start d).store →
-    (moves : List Move) → Legal grain d moves → Seen (Clocked d T (Before d T S)) T.process (reached d moves)
+    (moves : List Move) → Legal grain d moves → Seen (Clocked d T (Before d T S) Nowhere) T.process (reached d moves)
 one_seen grain d c T root up writer S guard first =
-    seen_after grain d root.formed up T.root (λ time store. Unit {0}) (Clocked d T (Before d T S))
-    (clocked_watched d T (λ time store. Unit {0}) (Before d T S) (before_is d T S guard) (λ time t p store still due less known h. inl (before_goes_on d T S time t p store still h)))
+    seen_after grain d root.formed up T.root (λ time store. Unit {0}) (Clocked d T (Before d T S) Nowhere)
+    (clocked_watched d T (λ time store. Unit {0}) (Before d T S) Nowhere (before_is d T S guard) (nowhere_watched T.root (λ time store. Unit {0})) (λ time t p store still due less known h. inl (before_goes_on d T S time t p store still h)))
     (λ moves l e. tt) T.process left (inl first)
   where
-    stays : (time j : ℕ) (k : Todo) (p : Place) (store : Store) (w : Write) → LedAt d j time k → WritesNow d k T.root → (T.process ≡ j → ⊥) → Clocked d T (Before d T S) time p store → Clocked d T (Before d T S) time p (put store w)
+    stays : (time j : ℕ) (k : Todo) (p : Place) (store : Store) (w : Write) → LedAt d j time k → WritesNow d k T.root → (T.process ≡ j → ⊥) → Clocked d T (Before d T S) Nowhere time p store → Clocked d T (Before d T S) Nowhere time p (put store w)
     stays time j k p store w led now ne (inl h) = inl (h.0, bit_put d T store w h.1)
-    stays time j k p store w led now ne (inr h) = absurd (alone_now d c T.root root T.process writer time j k led now (guard_of d T time p store h) ne)
+    stays time j k p store w led now ne (inr (inl h)) = absurd (alone_now d c T.root root T.process writer time j k led now (guard_of d T time p store h) ne)
+    stays time j k p store w led now ne (inr (inr h)) = absurd h
 
-    left : IsLeft grain d T.root T.process (Clocked d T (Before d T S))
+    left : IsLeft grain d T.root T.process (Clocked d T (Before d T S) Nowhere)
     left = record {
       undriven = variable_undriven d root.formed T.root root.sound.variable;
       updates = λ moves l j u is. updates_miss grain d c T.root root moves l j u is;
@@ -241,10 +243,11 @@ first_seen grain d c T root up writer S j second first =
 
 two_seen : (grain : Grain) (d : Parts) (c : Claims) (T : Turner d) → RootOf d c T.root → TimeRises grain d → IsWriter d c T.root T.process → (S : Setter d T) → (j : ℕ) → IsSecond d c T.root j → T.offset ≡ 0 →
     First d T S 0 (get_or (start d).places j ended) (start d).store → Early d T 0 (get_or (start d).places T.process ended) (start d).store →
-    (moves : List Move) → Legal grain d moves → Seen (Clocked d T (Early d T)) T.process (reached d moves)
+    (moves : List Move) → Legal grain d moves → Seen (Clocked d T (Early d T) Nowhere) T.process (reached d moves)
 two_seen grain d c T root up writer S j second none first early =
-    seen_after grain d root.formed up T.root (HasAtEnd d T) (Clocked d T (Early d T))
-    (clocked_watched d T (HasAtEnd d T) (Early d T) (early_is d T) (λ time t p store still due less known h. early_goes_on d T none time t p store still due less known h))
+    seen_after grain d root.formed up T.root (HasAtEnd d T) (Clocked d T (Early d T) Nowhere)
+    (clocked_watched d T (HasAtEnd d T) (Early d T) Nowhere (early_is d T) (nowhere_watched T.root (HasAtEnd d T))
+    (λ time t p store still due less known h. inr (inl (early_goes_on d T none time t p store still less known h))))
     (λ moves l e. at_ends (reached d moves).time (get_or (reached d moves).places j ended) (reached d moves).store (still_at_end (reached d moves) e j) (first_seen grain d c T root up writer S j second first moves l))
     T.process left (inl early)
   where
@@ -255,11 +258,12 @@ two_seen grain d c T root up writer S j second none first early =
     at_ends time (inactive k) store still h = absurd h
     at_ends time (waiting terms k) store still h = absurd h
 
-    stays : (time i : ℕ) (k : Todo) (p : Place) (store : Store) (w : Write) → LedAt d i time k → WritesNow d k T.root → (T.process ≡ i → ⊥) → Clocked d T (Early d T) time p store → Clocked d T (Early d T) time p (put store w)
+    stays : (time i : ℕ) (k : Todo) (p : Place) (store : Store) (w : Write) → LedAt d i time k → WritesNow d k T.root → (T.process ≡ i → ⊥) → Clocked d T (Early d T) Nowhere time p store → Clocked d T (Early d T) Nowhere time p (put store w)
     stays time i k p store w led now ne (inl h) = inl (early_any d T time p store (put store w) h)
-    stays time i k p store w led now ne (inr h) = absurd (alone_now d c T.root root T.process writer time i k led now (guard_of d T time p store h) ne)
+    stays time i k p store w led now ne (inr (inl h)) = absurd (alone_now d c T.root root T.process writer time i k led now (guard_of d T time p store h) ne)
+    stays time i k p store w led now ne (inr (inr h)) = absurd h
 
-    left : IsLeft grain d T.root T.process (Clocked d T (Early d T))
+    left : IsLeft grain d T.root T.process (Clocked d T (Early d T) Nowhere)
     left = record {
       undriven = variable_undriven d root.formed T.root root.sound.variable;
       updates = λ moves l i u is. updates_miss grain d c T.root root moves l i u is;
@@ -270,14 +274,45 @@ two_seen grain d c T root up writer S j second none first early =
 
 -- ---- a thread
 
+-- a property of the process where the slot begins and behind the thread
+abbrev Stays : (ℕ → Place → Store → Type 0) → ℕ → State → Thread → Type 0
+Stays U i b by = Seen U i b × U b.time by.place by.view
+
 -- what a timed thread that has written the signal leaves
-phase_at : (grain : Grain) (d : Parts) (c : Claims) (b : State) → BeginsSlot grain d b → (T : Turner d) (P : ℕ → Place → Store → Type 0) → IsBefore d T P → IsDelay d c T.process →
-    ((moves : List Move) → Legal grain d moves → Seen (Clocked d T P) T.process (reached d moves)) → (by : Thread) → IsTimed (blocks_of d c) b T.process by → writes by T.root ≡ true → Has d T b.time by.view
-phase_at grain d c b h T P before kind seen by timed wrote =
-    subst (λ (t : Thread). Has d T b.time t.view) timed.is
-    (thread_has d T P before b.time T.process timed.count (opening (blocks_of d c) b T.process None) refl
-    (subst (λ p. Clocked d T P b.time p b.store) (sym (seq_found d c b T.process (inr (inl kind)))) (subst (λ (s : State). Seen (Clocked d T P) T.process s) h.is (seen h.moves h.legal)))
-    (subst (λ (t : Thread). writes t T.root ≡ true) (sym timed.is) wrote))
+phase_at : (grain : Grain) (d : Parts) (c : Claims) (b : State) → BeginsSlot grain d b → (T : Turner d) (E : ℕ → Store → Type 0) (P U : ℕ → Place → Store → Type 0) → IsBefore d T P → IsWatched T.root E U → IsDelay d c T.process →
+    ((moves : List Move) → Legal grain d moves → Seen (Clocked d T P U) T.process (reached d moves)) → (by : Thread) → IsTimed (blocks_of d c) b T.process by → writes by T.root ≡ true →
+    Has d T b.time by.view ⊎ Stays U T.process b by
+phase_at grain d c b h T E P U before other kind seen by timed wrote = by_state (subst (λ (s : State). Seen (Clocked d T P U) T.process s) h.is (seen h.moves h.legal))
+  where
+    first : Thread
+    first = opening (blocks_of d c) b T.process None
+
+    place : get_or b.places T.process ended ≡ first.place
+    place = sym (seq_found d c b T.process (inr (inl kind)))
+
+    has : P b.time first.place b.store ⊎ SetAt d T b.time first.place b.store → Has d T b.time by.view
+    has at =
+        subst (λ (t : Thread). Has d T b.time t.view) timed.is
+        (thread_has d T P before b.time T.process timed.count first refl at (subst (λ (t : Thread). writes t T.root ≡ true) (sym timed.is) wrote))
+
+    by_state : Clocked d T P U b.time (get_or b.places T.process ended) b.store → Has d T b.time by.view ⊎ Stays U T.process b by
+    by_state (inl at) = inl (has (inl (subst (λ p. P b.time p b.store) place at)))
+    by_state (inr (inl at)) = inl (has (inr (subst (λ p. SetAt d T b.time p b.store) place at)))
+    by_state (inr (inr at)) =
+        inr (
+          at,
+          subst (λ (t : Thread). U b.time t.place t.view) timed.is
+              (thread_watched T.root E U other b.time T.process timed.count first (subst (λ p. U b.time p b.store) place at)),
+        )
+
+-- where there is no other property
+phase_always : (grain : Grain) (d : Parts) (c : Claims) (b : State) → BeginsSlot grain d b → (T : Turner d) (P : ℕ → Place → Store → Type 0) → IsBefore d T P → IsDelay d c T.process →
+    ((moves : List Move) → Legal grain d moves → Seen (Clocked d T P Nowhere) T.process (reached d moves)) → (by : Thread) → IsTimed (blocks_of d c) b T.process by → writes by T.root ≡ true → Has d T b.time by.view
+phase_always grain d c b h T P before kind seen by timed wrote =
+    elim (phase_at grain d c b h T (λ time store. Unit {0}) P Nowhere before (nowhere_watched T.root (λ time store. Unit {0})) kind seen by timed wrote) [
+      | inl has ↦ has
+      | inr none ↦ absurd none.0
+    ]
 
 -- all that is given
 record Given (grain : Grain) (d : Parts) (c : Claims) (root : ℕ) (b : State) : Type 0 where
@@ -296,7 +331,7 @@ writer_kind d c root i known writer =
 one_phase : (grain : Grain) (d : Parts) (c : Claims) (b : State) (T : Turner d) → Given grain d c T.root b → IsWriter d c T.root T.process → (S : Setter d T) → ((time : ℕ) → time ≡ T.offset → Guard d T time) →
     Ahead d T S 0 (get_or (start d).places T.process ended) → (by : Thread) → IsTimed (blocks_of d c) b T.process by → writes by T.root ≡ true → Has d T b.time by.view
 one_phase grain d c b T g writer S guard ahead by timed wrote =
-    phase_at grain d c b g.begin T (Before d T S) (before_is d T S guard) (writer_kind d c T.root T.process g.known writer)
+    phase_always grain d c b g.begin T (Before d T S) (before_is d T S guard) (writer_kind d c T.root T.process g.known writer)
     (one_seen grain d c T g.known g.up writer S guard (ahead, (X, g.bit))) by timed wrote
 
 -- of one that another process sets
@@ -304,19 +339,28 @@ two_phase : (grain : Grain) (d : Parts) (c : Claims) (b : State) (T : Turner d) 
     First d T S 0 (get_or (start d).places j ended) (start d).store → Early d T 0 (get_or (start d).places T.process ended) (start d).store →
     (by : Thread) → IsTimed (blocks_of d c) b T.process by → writes by T.root ≡ true → Has d T b.time by.view
 two_phase grain d c b T g writer S j second none first early by timed wrote =
-    phase_at grain d c b g.begin T (Early d T) (early_is d T) (writer_kind d c T.root T.process g.known writer)
+    phase_always grain d c b g.begin T (Early d T) (early_is d T) (writer_kind d c T.root T.process g.known writer)
     (two_seen grain d c T g.known g.up writer S j second none first early) by timed wrote
+
+-- of one that another process sets beside other statements
+beside_phase : (grain : Grain) (d : Parts) (c : Claims) (b : State) (T : Turner d) → Given grain d c T.root b → IsWriter d c T.root T.process → (j : ℕ) → SetsAlike d T.root T.digit j →
+    ((k : ℕ) → Writes d k T.root → (k ≡ T.process) ⊎ (k ≡ j)) → T.offset ≡ 0 → Early d T 0 (get_or (start d).places T.process ended) (start d).store →
+    (by : Thread) → IsTimed (blocks_of d c) b T.process by → writes by T.root ≡ true → Has d T b.time by.view ⊎ Stays (Unset d T) T.process b by
+beside_phase grain d c b T g writer j alike only none early by timed wrote =
+    phase_at grain d c b g.begin T (λ time store. Unit {0}) (Beside d T) (Unset d T) (beside_is d T) (unset_watched d T) (writer_kind d c T.root T.process g.known writer)
+    (beside_seen grain d c T g.known g.up writer j alike only none (early, inl g.bit)) by timed wrote
 
 -- ---- by their texts
 
-abbrev Turning : (d : Parts) (root : ℕ) (digit : Digit) (offset half time : ℕ) → Store → Type 0
-Turning d root digit offset half time store = (z : Digit) × (slice_get store root ≡ Some (one_bit z)) × IsKnown digit × Phase digit offset half time z
+abbrev Turning : (c : Claims) (b : State) (root : ℕ) (digit : Digit) (offset half : ℕ) → Store → Type 0
+Turning c b root digit offset half store =
+    (z : Digit) × (slice_get store root ≡ Some (one_bit z)) × IsKnown digit × (StaysUnset c b root z ⊎ Phase digit offset half b.time z)
 
 -- `begin u = c; forever #h u = ~u; end`
 set_now : (grain : Grain) (d : Parts) (c : Claims) (b : State) (root i : ℕ) (digit : Digit) (offset half : ℕ) → Given grain d c root b → IsWriter d c root i → (body : HasBody d i Initial (SetsAndTurns d (is_wide c) root offset half digit)) →
     (loop : Loop d (is_wide c) root half body.body.second) → offset ≡ 0 → Sets d root digit body.body.first → (by : Thread) → IsTimed (blocks_of d c) b i by → writes by root ≡ true →
-    Turning d root digit offset half b.time by.view
-set_now grain d c b root i digit offset half g writer body loop none sets by timed wrote = (has.z, has.is, f.sets.known, has.phase)
+    Turning c b root digit offset half by.view
+set_now grain d c b root i digit offset half g writer body loop none sets by timed wrote = (has.z, has.is, f.sets.known, inr has.phase)
   where
     f : Sets_Flat d root digit body.body.first
     f = sets_flat d root digit body.body.first sets
@@ -343,8 +387,8 @@ set_now grain d c b root i digit offset half g writer body loop none sets by tim
 -- `begin #o u = c; forever #h u = ~u; end`
 set_after : (grain : Grain) (d : Parts) (c : Claims) (b : State) (root i : ℕ) (digit : Digit) (offset half : ℕ) → Given grain d c root b → IsWriter d c root i → (body : HasBody d i Initial (SetsAndTurns d (is_wide c) root offset half digit)) →
     (loop : Loop d (is_wide c) root half body.body.second) → SetsAfter d root offset digit body.body.first → (by : Thread) → IsTimed (blocks_of d c) b i by → writes by root ≡ true →
-    Turning d root digit offset half b.time by.view
-set_after grain d c b root i digit offset half g writer body loop later by timed wrote = (has.z, has.is, f.sets.known, has.phase)
+    Turning c b root digit offset half by.view
+set_after grain d c b root i digit offset half g writer body loop later by timed wrote = (has.z, has.is, f.sets.known, inr has.phase)
   where
     f : Sets_Flat d root digit later.inner.value
     f = sets_flat d root digit later.inner.value later.sets
@@ -392,8 +436,8 @@ set_after grain d c b root i digit offset half g writer body loop later by timed
 -- `initial u = c; always #h u = ~u;`, or `initial forever #h u = ~u;` for the `always`
 set_beside : (grain : Grain) (d : Parts) (c : Claims) (b : State) (root i j : ℕ) (kind : ProcessKind) (digit : Digit) (offset half : ℕ) → Given grain d c root b → IsWriter d c root i →
     (body : HasBody d i kind (TurnsForever d (is_wide c) root half)) → Loop d (is_wide c) root half body.process.body → HasBody d j Initial (Sets d root digit) → offset ≡ 0 → (by : Thread) → IsTimed (blocks_of d c) b i by → writes by root ≡ true →
-    Turning d root digit offset half b.time by.view
-set_beside grain d c b root i j kind digit offset half g writer body loop other none by timed wrote = (has.z, has.is, f.sets.known, has.phase)
+    Turning c b root digit offset half by.view
+set_beside grain d c b root i j kind digit offset half g writer body loop other none by timed wrote = (has.z, has.is, f.sets.known, inr has.phase)
   where
     f : Sets_Flat d root digit other.process.body
     f = sets_flat d root digit other.process.body other.body
@@ -430,7 +474,24 @@ set_beside grain d c b root i j kind digit offset half g writer body loop other 
         (subst (λ p. Early d (turner d (is_wide c) root i digit offset half f.sets.known body.process.body loop g.one) 0 p (start d).store) (sym turns_at) (refl, inl refl))
         by timed wrote
 
--- ---- both forms
+-- `begin .. u = c; .. end` or `if (e) u = c;` for the `initial`
+set_among : (grain : Grain) (d : Parts) (c : Claims) (b : State) (root i j : ℕ) (kind : ProcessKind) (digit : Digit) (offset half : ℕ) → Given grain d c root b → IsWriter d c root i → IsWide c →
+    (body : HasBody d i kind (TurnsForever d (is_wide c) root half)) → Loop d (is_wide c) root half body.process.body → SetsAlike d root digit j → ((k : ℕ) → Writes d k root → (k ≡ i) ⊎ (k ≡ j)) → offset ≡ 0 →
+    (by : Thread) → IsTimed (blocks_of d c) b i by → writes by root ≡ true → Turning c b root digit offset half by.view
+set_among grain d c b root i j kind digit offset half g writer wide body loop alike only none by timed wrote = by_end
+    (beside_phase grain d c b T g writer j alike only none (subst (λ p. Early d T 0 p (start d).store) (sym turns_at) (refl, inl refl)) by timed wrote)
+  where
+    T : Turner d
+    T = turner d (is_wide c) root i digit offset half alike.known body.process.body loop g.one
+
+    turns_at : get_or (start d).places i ended ≡ active_at Fresh (perform loop.forever ∷ [])
+    turns_at = starts_at d i body.process (perform loop.forever ∷ []) body.is loop.first
+
+    by_end : Has d T b.time by.view ⊎ Stays (Unset d T) i b by → Turning c b root digit offset half by.view
+    by_end (inl has) = (has.z, has.is, alike.known, inr has.phase)
+    by_end (inr unset) = (X, unset.1.2, alike.known, inl (wide, refl, bit_digit b.store root X unset.0.2))
+
+-- ---- all forms
 
 root_one_bit : (d : Parts) (wide : Bool) (root n : ℕ) → CopiesRoot d wide root n → IsOneBit d root
 root_one_bit d wide root _ (r.itself one) = one
@@ -450,7 +511,7 @@ given_of grain d c formed rules up b h root is =
     }
 
 clock_turning : (grain : Grain) (d : Parts) (c : Claims) (b : State) (root w : ℕ) (digit : Digit) (offset half : ℕ) → Given grain d c root b → IsClock d c root digit offset half → IsWriter d c root w → (by : Thread) →
-    IsTimed (blocks_of d c) b w by → writes by root ≡ true → Turning d root digit offset half b.time by.view
+    IsTimed (blocks_of d c) b w by → writes by root ≡ true → Turning c b root digit offset half by.view
 clock_turning grain d c b root w digit offset half g (alone i is body) writer by timed wrote = by_sets body.body.sets
   where
     same : w ≡ i
@@ -469,19 +530,25 @@ clock_turning grain d c b root w digit offset half g (alone i is body) writer by
     loop : Loop d (is_wide c) root half body.body.second
     loop = loop_of d (is_wide c) root half body.body.second body.body.turns (turn_sized d (is_wide c) root half body.body.second body.body.turns sound)
 
-    by_sets : ((offset ≡ 0) × Sets d root digit body.body.first) ⊎ SetsAfter d root offset digit body.body.first → Turning d root digit offset half b.time by.view
+    by_sets : ((offset ≡ 0) × Sets d root digit body.body.first) ⊎ SetsAfter d root offset digit body.body.first → Turning c b root digit offset half by.view
     by_sets (inl (none, sets)) = set_now grain d c b root i digit offset half g is body loop none sets by here wrote
     by_sets (inr later) = set_after grain d c b root i digit offset half g is body loop later by here wrote
 clock_turning grain d c b root w digit offset half g (two i j kind is may body other none only) writer by timed wrote =
-    let same : w ≡ i = one_writer d c g.known.formed root w i writer is in
-    let sound = process_sound d g.known.formed i body.process body.is in
-    set_beside grain d c b root i j kind digit offset half g is body
-    (loop_of d (is_wide c) root half body.process.body body.body (turn_sized d (is_wide c) root half body.process.body body.body sound)) other none by
-    (subst (λ n. IsTimed (blocks_of d c) b n by) same timed) wrote
+    by_wide (is_wide c) refl other
+  where
+    here : IsTimed (blocks_of d c) b i by
+    here = subst (λ n. IsTimed (blocks_of d c) b n by) (one_writer d c g.known.formed root w i writer is) timed
+
+    loop : Loop d (is_wide c) root half body.process.body
+    loop = loop_of d (is_wide c) root half body.process.body body.body (turn_sized d (is_wide c) root half body.process.body body.body (process_sound d g.known.formed i body.process body.is))
+
+    by_wide : (wide : Bool) → is_wide c ≡ wide → SetsFirst d wide root digit j → Turning c b root digit offset half by.view
+    by_wide false narrow first = set_beside grain d c b root i j kind digit offset half g is body loop first none by here wrote
+    by_wide true wide first = set_among grain d c b root i j kind digit offset half g is (eqb-true c.version 3 wide) body loop first only none by here wrote
 
 -- where a clock's process has written it, it is in phase
 pub clock_turns : (grain : Grain) (d : Parts) (c : Claims) → WellFormed d → Keeping d c → TimeRises grain d → (b : State) → BeginsSlot grain d b → ClockTurns d c b
 clock_turns grain d c formed rules up b h root w by digit z offset half timed writer wrote is_root clock has =
     let t = clock_turning grain d c b root w digit offset half (given_of grain d c formed rules up b h root is_root) clock writer by timed wrote in
     let same : z ≡ t.0 = same_Some z t.0 (sym has ∙ bit_digit by.view root t.0 t.1) in
-    (t.2, subst (λ x. Phase digit offset half b.time x) (sym same) t.3)
+    (t.2, subst (λ x. StaysUnset c b root x ⊎ Phase digit offset half b.time x) (sym same) t.3)

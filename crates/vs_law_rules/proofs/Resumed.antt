@@ -10,10 +10,10 @@ use Rattle.vs_process.specs.Steps.{Next, on, after, wait}
 use Rattle.vs_independence.specs.vs_process.specs.States.{State, start}
 use Rattle.vs_rules.specs.vs_threads.specs.Threads.{Thread, opening, turn, iterate}
 use Rattle.vs_rules.specs.vs_threads.proofs.Threads.{is_stopped}
-use Rattle.vs_rules.specs.Points.{Goes}
-use Rattle.vs_rules.proofs.Points.{mod_sum}
-use Rattle.vs_rules.specs.Claims.{Claims, Kind, blocks_of, HasMixedLists, IsMixed, WaitsForEdges, IsSequential}
-use Rattle.vs_rules.specs.Paths.{Path, begins, goes, is_zero_time}
+use Rattle.vs_rules.specs.Points.{Among, Goes, nexts_by}
+use Rattle.vs_rules.proofs.Points.{by_goes, by_path, mod_sum}
+use Rattle.vs_rules.specs.Claims.{Claims, Kind, blocks_of, HasMixedLists, IsMixed, WaitsForEdges, IsSequential, is_wide}
+use Rattle.vs_rules.specs.Paths.{PathBy, begins, goes, is_zero_time}
 use Rattle.vs_rules.specs.Rules.{K8}
 use Rattle.vs_rules.specs.Slots.{Ends, DelayEnds, EdgeEnds, RunsByDelays}
 use Rattle.vs_rules.specs.Verdict.{Keeping}
@@ -26,7 +26,7 @@ use Rattle.vs_law_rules.proofs.Walks.{Delayed}
 pub record Resumed (d : Parts) (c : Claims) (i time : ℕ) (p : Place) : Type 0 where
   pub behind : Todo
   pub delayed : Delayed d c i time behind
-  pub led : LedFrom behind p
+  pub led : LedFrom (is_wide c) behind p
 
 -- a thread that no event fires is there, or where the slot found it, stopped
 pub resumed : (d : Parts) (c : Claims) (b : State) → Begun d c b → (i n : ℕ) → IsSequential d c i → (b ≡ start d → ⊥) → (th : Thread) → iterate n (turn b.time i) (opening (blocks_of d c) b i None) ≡ th →
@@ -46,7 +46,7 @@ resumed d c b g i n seq late th is = by_place (get_or b.places i ended) refl (g.
     by_place (going gait k) at h = inl (record {
       behind = erased k;
       delayed = h;
-      led = subst (λ (t : Thread). LedFrom (erased k) t.place) is (led_iterate (erased k) i b.time n first (subst (LedFrom (erased k)) (sym (seq_found d c b i seq ∙ at)) begins));
+      led = subst (λ (t : Thread). LedFrom (is_wide c) (erased k) t.place) is (led_iterate (is_wide c) (erased k) i b.time n first (subst (LedFrom (is_wide c) (erased k)) (sym (seq_found d c b i seq ∙ at)) begins));
     })
     by_place (inactive k) at h = absurd h
     by_place (sleeping due k) at h = inr (stays (sleeping due k) at refl)
@@ -66,27 +66,28 @@ listed d c i time lists k e h = elim (subst (λ (kind : Option Kind). Ends d c i
 ]
 
 -- a zero-time path leads from a run slot of delay controls to points with that run slot
-led_runs : (d : Parts) (c : Claims) (i time : ℕ) (lists : List (List ℕ)) → HasMixedLists d c i lists → K8 d c i → (from k : Todo) → RunsByDelays d i lists from (time % c.modulus) → Path is_zero_time from k → RunsByDelays d i lists k (time % c.modulus)
+led_runs : (d : Parts) (c : Claims) (i time : ℕ) (lists : List (List ℕ)) → HasMixedLists d c i lists → K8 d c i → (from k : Todo) → RunsByDelays d (is_wide c) i lists from (time % c.modulus) → PathBy (nexts_by (is_wide c)) is_zero_time from k → RunsByDelays d (is_wide c) i lists k (time % c.modulus)
 led_runs d c i time lists e r from k h begins = h
-led_runs d c i time lists e r from k h (goes j l next path g may behind) = subst (λ (t : Todo). RunsByDelays d i lists t (time % c.modulus)) behind (by_next (led_runs d c i time lists e r from j h path) next g may)
+led_runs d c i time lists e r from k h (goes j l next path g may behind) = subst (λ (t : Todo). RunsByDelays d (is_wide c) i lists t (time % c.modulus)) behind (by_next (led_runs d c i time lists e r from j h path) next g may)
   where
-    by_next : RunsByDelays d i lists j (time % c.modulus) → (next : Next) → Goes j next → is_zero_time next ≡ true → RunsByDelays d i lists (todo_behind next) (time % c.modulus)
+    by_next : RunsByDelays d (is_wide c) i lists j (time % c.modulus) → (next : Next) → Among next (nexts_by (is_wide c) j) → is_zero_time next ≡ true → RunsByDelays d (is_wide c) i lists (todo_behind next) (time % c.modulus)
     by_next before (on l) g may = record { at = before.at; next = before.next; point = before.point; goes = before.goes; starts = before.starts; path = goes j l (on l) before.path g refl refl }
     by_next before (after number ticks l) g may =
         let none : ticks ≡ 0 = eqb-true ticks 0 may in
         let same : time + ticks ≡ time = omega (arith, none) in
+        let way : Goes j (after number ticks l) = by_goes (is_wide c) j (after number ticks l) g in
         record {
           at = j;
           next = after number ticks l;
-          point = runs_point d i (DelayEnds d i lists) j (time % c.modulus) before;
-          goes = g;
-          starts = subst (DelayEnds d i lists (after number ticks l)) (mod_sum time ticks c.modulus ∙ ap (λ n. n % c.modulus) same) (r.from_residue lists j l number ticks (time % c.modulus) (inr e) before g);
+          point = runs_point d (is_wide c) i (DelayEnds d i lists) j (time % c.modulus) before;
+          goes = way;
+          starts = subst (DelayEnds d i lists (after number ticks l)) (mod_sum time ticks c.modulus ∙ ap (λ n. n % c.modulus) same) (r.from_residue lists j l number ticks (time % c.modulus) (inr e) before way);
           path = begins;
         }
     by_next before (wait number terms l) g may = absurd (false≢true may)
 
 -- so where such a process is, it runs by delay controls
-pub resumed_runs : (d : Parts) (c : Claims) → Keeping d c → (i time : ℕ) (lists : List (List ℕ)) (p : Place) (k : Todo) → HasMixedLists d c i lists → (h : Resumed d c i time p) → Path is_zero_time h.behind k → RunsByDelays d i lists k (time % c.modulus)
+pub resumed_runs : (d : Parts) (c : Claims) → Keeping d c → (i time : ℕ) (lists : List (List ℕ)) (p : Place) (k : Todo) → HasMixedLists d c i lists → (h : Resumed d c i time p) → PathBy (nexts_by (is_wide c)) is_zero_time h.behind k → RunsByDelays d (is_wide c) i lists k (time % c.modulus)
 resumed_runs d c r i time lists p k e h path =
     let x = h.delayed in
     led_runs d c i time lists e (r.residues i) h.behind k
@@ -108,7 +109,7 @@ resumed_waits d c r i time terms k mix h ends =
       goes = x.way;
       above = x.above;
       to = h.led.control;
-      path = h.led.path;
+      path = by_path (is_wide c) is_zero_time h.behind h.led.control h.led.path;
       waits = h.led.way;
     })
     (listed d c i time mix.0 h.behind mix.1 x) ends

@@ -16,9 +16,10 @@ use Rattle.vs_rules.specs.vs_threads.specs.Threads.{Thread, turn, iterate, write
 use Rattle.vs_rules.specs.vs_threads.proofs.Lists.{place_of}
 use Rattle.vs_rules.specs.vs_threads.proofs.Threads.{is_stopped}
 use Rattle.vs_rules.proofs.Points.{erased_reads}
-use Rattle.vs_rules.specs.Claims.{Claims, blocks_of, WaitsForEdges, IsSequential}
+use Rattle.vs_rules.specs.Claims.{Claims, blocks_of, WaitsForEdges, IsSequential, is_wide}
 use Rattle.vs_rules.specs.Verdict.{Keeping}
-use Rattle.vs_rules.specs.Paths.{Path, is_zero_time, IsHot, HasTerm, IsHeardAtStart}
+use Rattle.vs_rules.specs.Paths.{PathBy, is_zero_time, IsHot, HasTerm, IsHeardAtStart}
+use Rattle.vs_rules.specs.Points.{nexts_by}
 use Rattle.vs_rules.specs.Rules.{Reads}
 use Rattle.vs_rules.specs.Slots.{Fires}
 use Rattle.vs_rules.specs.vs_threads.specs.Threads.{Fired, found, opening, is_timed, Fires as Wakes, MayOpen, IsThread}
@@ -165,7 +166,7 @@ pub record Reading (d : Parts) (c : Claims) (i time : ℕ) (r : BitRange) (p : P
   pub here : Here d c i time k
   pub reads : Reads d c k r
   pub hot : (u : ℕ) → HotAt d i u p → IsHot d i u k
-  pub led : (from : Todo) → LedFrom from p → Path is_zero_time from k
+  pub led : (from : Todo) → LedFrom (is_wide c) from p → PathBy (nexts_by (is_wide c)) is_zero_time from k
 
 pub reading : (d : Parts) (c : Claims) (i time : ℕ) (r : BitRange) (p : Place) → Stands d c i time p → Looks c p r → Reading d c i time r p
 reading d c i time r (going gait k) h (inl reads) = record {

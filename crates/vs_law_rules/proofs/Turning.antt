@@ -181,13 +181,14 @@ pub record IsBefore (d : Parts) (T : Turner d) (P : ℕ → Place → Store → 
   pub wakes : (time : ℕ) (old new : Store) (p : Place) (store : Store) → P time p store → P time (wakened old new p) store
   pub kept : (time : ℕ) (p : Place) (a b : Store) → slice_get b T.root ≡ slice_get a T.root → P time p a → P time p b
 
-abbrev pub Clocked : (d : Parts) → Turner d → (ℕ → Place → Store → Type 0) → ℕ → Place → Store → Type 0
-Clocked d T P time p store = P time p store ⊎ SetAt d T time p store
+-- it is before that, or set, or the process goes on by another property, once the first slot is over
+abbrev pub Clocked : (d : Parts) → Turner d → (P U : ℕ → Place → Store → Type 0) → ℕ → Place → Store → Type 0
+Clocked d T P U time p store = P time p store ⊎ (SetAt d T time p store ⊎ U time p store)
 
-pub clocked_watched : (d : Parts) (T : Turner d) (E : ℕ → Store → Type 0) (P : ℕ → Place → Store → Type 0) → IsBefore d T P →
-    ((time t : ℕ) (p : Place) (store : Store) → is_stopped p ≡ true → is_after t p ≡ true → time < t → E time store → P time p store → Clocked d T P t (woken_at t p) store) →
-    IsWatched T.root E (Clocked d T P)
-clocked_watched d T E P before goes_on = record {
+pub clocked_watched : (d : Parts) (T : Turner d) (E : ℕ → Store → Type 0) (P U : ℕ → Place → Store → Type 0) → IsBefore d T P → IsWatched T.root E U →
+    ((time t : ℕ) (p : Place) (store : Store) → is_stopped p ≡ true → is_after t p ≡ true → time < t → E time store → P time p store → Clocked d T P U t (woken_at t p) store) →
+    IsWatched T.root E (Clocked d T P U)
+clocked_watched d T E P U before other goes_on = record {
   steps = steps;
   kept = kept;
   rouses = rouses;
@@ -195,29 +196,34 @@ clocked_watched d T E P before goes_on = record {
   goes_on = later;
 }
   where
-    steps : (time : ℕ) (gait : Gait) (k : Todo) (store : Store) → Clocked d T P time (going gait k) store →
-        Clocked d T P time (place_behind (going gait k) time (step k store time).next) (store_behind store (step k store time).write)
-    steps time gait k store (inr h) = inr (set_steps d T time gait k store h).at
+    steps : (time : ℕ) (gait : Gait) (k : Todo) (store : Store) → Clocked d T P U time (going gait k) store →
+        Clocked d T P U time (place_behind (going gait k) time (step k store time).next) (store_behind store (step k store time).write)
+    steps time gait k store (inr (inl h)) = inr (inl (set_steps d T time gait k store h).at)
+    steps time gait k store (inr (inr h)) = inr (inr (other.steps time gait k store h))
     steps time gait k store (inl h) = elim (before.steps time gait k store h) [
       | inl quiet ↦ inl (subst (λ (o : Option Write). P time (place_behind (going gait k) time (step k store time).next) (store_behind store o)) (sym quiet.1) quiet.0)
-      | inr set ↦ inr set.at
+      | inr set ↦ inr (inl set.at)
     ]
 
-    kept : (time : ℕ) (p : Place) (a b : Store) → slice_get b T.root ≡ slice_get a T.root → Clocked d T P time p a → Clocked d T P time p b
+    kept : (time : ℕ) (p : Place) (a b : Store) → slice_get b T.root ≡ slice_get a T.root → Clocked d T P U time p a → Clocked d T P U time p b
     kept time p a b e (inl h) = inl (before.kept time p a b e h)
-    kept time p a b e (inr h) = inr (set_kept d T time p a b e h)
+    kept time p a b e (inr (inl h)) = inr (inl (set_kept d T time p a b e h))
+    kept time p a b e (inr (inr h)) = inr (inr (other.kept time p a b e h))
 
-    rouses : (time : ℕ) (p : Place) (store : Store) → Clocked d T P time p store → Clocked d T P time (roused p) store
+    rouses : (time : ℕ) (p : Place) (store : Store) → Clocked d T P U time p store → Clocked d T P U time (roused p) store
     rouses time p store (inl h) = inl (before.rouses time p store h)
-    rouses time p store (inr h) = inr (set_rouses d T time p store h)
+    rouses time p store (inr (inl h)) = inr (inl (set_rouses d T time p store h))
+    rouses time p store (inr (inr h)) = inr (inr (other.rouses time p store h))
 
-    wakes : (time : ℕ) (old new : Store) (p : Place) (store : Store) → Clocked d T P time p store → Clocked d T P time (wakened old new p) store
+    wakes : (time : ℕ) (old new : Store) (p : Place) (store : Store) → Clocked d T P U time p store → Clocked d T P U time (wakened old new p) store
     wakes time old new p store (inl h) = inl (before.wakes time old new p store h)
-    wakes time old new p store (inr h) = inr (set_wakes d T time old new p store h)
+    wakes time old new p store (inr (inl h)) = inr (inl (set_wakes d T time old new p store h))
+    wakes time old new p store (inr (inr h)) = inr (inr (other.wakes time old new p store h))
 
-    later : (time t : ℕ) (p : Place) (store : Store) → is_stopped p ≡ true → is_after t p ≡ true → time < t → E time store → Clocked d T P time p store → Clocked d T P t (woken_at t p) store
+    later : (time t : ℕ) (p : Place) (store : Store) → is_stopped p ≡ true → is_after t p ≡ true → time < t → E time store → Clocked d T P U time p store → Clocked d T P U t (woken_at t p) store
     later time t p store still up less known (inl h) = goes_on time t p store still up less known h
-    later time t p store still up less known (inr h) = inr (set_goes_on d T time t p store still less h)
+    later time t p store still up less known (inr (inl h)) = inr (inl (set_goes_on d T time t p store still less h))
+    later time t p store still up less known (inr (inr h)) = inr (inr (other.goes_on time t p store still up less known h))
 
 -- ---- a thread of the process
 
@@ -244,7 +250,7 @@ threaded_turn d T P before time i (sleeping due k) th e h = h
 threaded_turn d T P before time i (waiting terms k) th e h = h
 threaded_turn d T P before time i ended th e h = h
 
-pub threaded : (d : Parts) (T : Turner d) (P : ℕ → Place → Store → Type 0) → IsBefore d T P → (time i n : ℕ) (th : Thread) → th.log ≡ [] → Clocked d T P time th.place th.view →
+pub threaded : (d : Parts) (T : Turner d) (P : ℕ → Place → Store → Type 0) → IsBefore d T P → (time i n : ℕ) (th : Thread) → th.log ≡ [] → P time th.place th.view ⊎ SetAt d T time th.place th.view →
     Threaded d T P time (iterate n (turn time i) th)
 threaded d T P before time i zero th no_log (inl h) = inl (h, no_log)
 threaded d T P before time i zero th no_log (inr h) = inr (h, λ any. absurd (false≢true (subst (λ (log : List Write). list_any (λ w. names w T.root) log ≡ true) no_log any)))
@@ -253,7 +259,7 @@ threaded d T P before time i (suc n) th no_log h =
     threaded_turn d T P before time i one.place one refl (threaded d T P before time i n th no_log h)
 
 -- a thread that has written the signal leaves it in phase
-pub thread_has : (d : Parts) (T : Turner d) (P : ℕ → Place → Store → Type 0) → IsBefore d T P → (time i n : ℕ) (th : Thread) → th.log ≡ [] → Clocked d T P time th.place th.view →
+pub thread_has : (d : Parts) (T : Turner d) (P : ℕ → Place → Store → Type 0) → IsBefore d T P → (time i n : ℕ) (th : Thread) → th.log ≡ [] → P time th.place th.view ⊎ SetAt d T time th.place th.view →
     writes (iterate n (turn time i) th) T.root ≡ true → Has d T time (iterate n (turn time i) th).view
 thread_has d T P before time i n th no_log h wrote = by_case (threaded d T P before time i n th no_log h)
   where
@@ -282,14 +288,19 @@ pub record Setter (d : Parts) (T : Turner d) : Type 0 where
 pub bit_put : (d : Parts) (T : Turner d) (store : Store) (w : Write) → BitIn d T store → BitIn d T (put store w)
 bit_put d T store w h = bit_shape (put store w) store T.root h.0 (shape-put store w) h.1
 
+-- it is what the lowest digit behind the write is
+pub bit_known : (d : Parts) (T : Turner d) (store : Store) (w : Write) (z : Digit) → BitIn d T store → digit_of (put store w) T.root 0 0 ≡ Some z → slice_get (put store w) T.root ≡ Some (one_bit z)
+bit_known d T store w z h there =
+    let new = bit_put d T store w h in
+    let same : new.0 ≡ z = same_Some new.0 z (sym (bit_digit (put store w) T.root new.0 new.1) ∙ there) in
+    new.1 ∙ ap (λ x. Some (one_bit x)) same
+
 -- where it is set, it has the digit
 pub set_gives : (d : Parts) (T : Turner d) (S : Setter d T) (store : Store) (time : ℕ) → BitIn d T store → slice_get (put store (assignment S.target S.value store time)) T.root ≡ Some (one_bit T.digit)
 set_gives d T S store time h =
     let w : Write = assignment S.target S.value store time in
-    let new = bit_put d T store w h in
     let there : digit_of (put store w) T.root 0 0 ≡ Some (laid w T.root 0 0 h.0) = digit-put store w T.root 0 0 ∙ ap (option_map (laid w T.root 0 0)) (bit_digit store T.root h.0 h.1) in
-    let same : new.0 ≡ T.digit = same_Some new.0 T.digit (sym (bit_digit (put store w) T.root new.0 new.1) ∙ there ∙ ap (λ x. Some x) (assignment_gives S.target S.value store time (bit_of T.root) T.digit h.0 S.gives)) in
-    new.1 ∙ ap (λ x. Some (one_bit x)) same
+    bit_known d T store w T.digit h (there ∙ ap (λ x. Some x) (assignment_gives S.target S.value store time (bit_of T.root) T.digit h.0 S.gives))
 
 -- what the process has to do where it sets it
 abbrev pub sets_todo : (d : Parts) (T : Turner d) → Setter d T → Todo
@@ -424,16 +435,16 @@ early_is d T = record { steps = steps; rouses = rouses; wakes = wakes; kept = λ
 abbrev pub HasAtEnd : (d : Parts) (T : Turner d) → ℕ → Store → Type 0
 HasAtEnd d T time store = time ≡ 0 → slice_get store T.root ≡ Some (one_bit T.digit)
 
-pub early_goes_on : (d : Parts) (T : Turner d) → T.offset ≡ 0 → (time t : ℕ) (p : Place) (store : Store) → is_stopped p ≡ true → is_after t p ≡ true → time < t → HasAtEnd d T time store →
-    Early d T time p store → Clocked d T (Early d T) t (woken_at t p) store
-early_goes_on d T none time t (going gait k) store still up less known h = absurd (false≢true still)
-early_goes_on d T none time t (inactive k) store still up less known h = absurd h
-early_goes_on d T none time t (waiting terms k) store still up less known h = absurd h
-early_goes_on d T none time t ended store still up less known h = absurd h
-early_goes_on d T none time t (sleeping due k) store still up less known (z, e, at) =
-    inr (set_later d T t due k store e (omega (arith, less)) (record {
+pub early_goes_on : (d : Parts) (T : Turner d) → T.offset ≡ 0 → (time t : ℕ) (p : Place) (store : Store) → is_stopped p ≡ true → time < t → HasAtEnd d T time store →
+    Early d T time p store → SetAt d T t (woken_at t p) store
+early_goes_on d T none time t (going gait k) store still less known h = absurd (false≢true still)
+early_goes_on d T none time t (inactive k) store still less known h = absurd h
+early_goes_on d T none time t (waiting terms k) store still less known h = absurd h
+early_goes_on d T none time t ended store still less known h = absurd h
+early_goes_on d T none time t (sleeping due k) store still less known (z, e, at) =
+    set_later d T t due k store e (omega (arith, less)) (record {
       up = let some : 0 < T.half = T.loop.above in omega (arith, at, some);
       z = T.digit;
       is = known z;
       phase = inr (refl, ap (λ n. n % (2 * T.half)) (at ∙ sym (plus_none T.offset T.half none)));
-    }))
+    })

@@ -4,7 +4,7 @@ use Rattle.std.specs.Prelude.{sum}
 use Rattle.std.specs.List.{Contains, list_all}
 use Rattle.std.specs.declared.vec.Vec.{Vec}
 use Rattle.std.specs.declared.alloc.Global.{Global}
-use Rattle.std.proofs.lemmas.Bool.{and_parts, false≢true}
+use Rattle.std.proofs.lemmas.Bool.{and_parts}
 use Rattle.std.proofs.lemmas.List.Elements.{Contains-append_cases}
 use Rattle.vs_design.specs.declared.design.Process.{Process}
 use Rattle.vs_design.specs.declared.expression.Typed.{Typed}
@@ -17,7 +17,6 @@ use Rattle.vs_design.specs.declared.statement.Statement.TheOpen.{Statement-F}
 use Rattle.vs_design.specs.declared.statement.Statement.TheFolds.{fold-roll-Statement, ind-Statement, map-Statement}
 use Rattle.vs_design.specs.declared.statement.Statement.TheViews.{roll-Statement}
 use Rattle.vs_design.specs.declared.statement.Target.{Target}
-use Rattle.vs_design.specs.Kinds.{is_variable}
 use Rattle.vs_design.specs.Parts.{Parts}
 use Rattle.vs_design.specs.Uses.{aim_range, joined, writes}
 use Rattle.vs_design.specs.WellFormed.{WellFormed, aim_width, is_of_variable, is_variable_aim, is_source, is_within, is_sound_target, is_sound_assignment, is_sound_operand, is_sound_process, is_sound_statement, sound_step, are_sound_terms, are_sound_labels, numbers, counts_from, is_body_of}

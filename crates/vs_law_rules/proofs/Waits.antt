@@ -1,5 +1,5 @@
 -- Event controls name signals of the design.
-use Rattle.std.proofs.Common.{◌≡◌, ℕ, zero, suc, ◌<◌, ◌&&◌, ◌++◌, Bool, true, Some, List, [], ◌∷◌, map, length, slice_get, refl, sym, ◌∙◌, subst, inl, inr, nat_lt, arith}
+use Rattle.std.proofs.Common.{◌≡◌, ℕ, ◌<◌, ◌&&◌, ◌++◌, Bool, true, Some, List, [], ◌∷◌, map, length, slice_get, sym, ◌∙◌, subst, inl, inr, nat_lt}
 use Rattle.std.specs.List.{Contains, list_all}
 use Rattle.std.specs.declared.vec.Vec.{Vec}
 use Rattle.std.specs.declared.alloc.Global.{Global}

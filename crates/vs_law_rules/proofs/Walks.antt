@@ -15,9 +15,9 @@ use Rattle.vs_process.specs.Places.{Todo, Place, going, sleeping, inactive, wait
 use Rattle.vs_process.specs.Steps.{Next, on, after, wait, Out, step}
 use Rattle.vs_independence.specs.vs_process.specs.States.{Update, place_behind, paused, updates_behind, roused}
 use Rattle.vs_rules.specs.vs_threads.specs.Threads.{Thread, log_behind, turn_at, turn, iterate, writes, any_names}
-use Rattle.vs_rules.specs.Points.{Goes, Point}
-use Rattle.vs_rules.proofs.Points.{step_follows, mod_sum}
-use Rattle.vs_rules.specs.Claims.{Claims, kind_of}
+use Rattle.vs_rules.specs.Points.{Among, Goes, nexts_by, Point}
+use Rattle.vs_rules.proofs.Points.{by_goes, step_follows, step_goes, mod_sum}
+use Rattle.vs_rules.specs.Claims.{Claims, kind_of, is_wide}
 use Rattle.vs_rules.specs.Paths.{begins, goes, is_plain, is_zero_time, IsPoint, IsSlot0, IsLate, IsHot, WritesNow, WritesLater}
 use Rattle.vs_rules.specs.Slots.{Ends, HasSlot}
 use Rattle.vs_law_rules.proofs.Words.{step_now, step_later}
@@ -82,7 +82,11 @@ late_on d i k next h g = record { at = h.at; next = h.next; point = h.point; goe
 pub late_behind : (d : Parts) (i : ℕ) (k : Todo) (next : Next) → IsPoint d i k → Goes k next → is_plain next ≡ false → IsLate d i (todo_behind next)
 late_behind d i k next p g pauses = record { at = k; next = next; point = p; goes = g; starts = pauses; path = begins }
 
-slot_on : (d : Parts) (c : Claims) (i : ℕ) (k l : Todo) (r : ℕ) → HasSlot d c i k r → Goes k (on l) → HasSlot d c i l r
+-- it is a way in the version of a certificate
+abbrev Leads : Claims → Todo → Next → Type 0
+Leads c k next = Among next (nexts_by (is_wide c) k)
+
+slot_on : (d : Parts) (c : Claims) (i : ℕ) (k l : Todo) (r : ℕ) → HasSlot d c i k r → Leads c k (on l) → HasSlot d c i l r
 slot_on d c i k l r h g = record { at = h.at; next = h.next; point = h.point; goes = h.goes; starts = h.starts; path = goes k l (on l) h.path g refl refl }
 
 pub slot_behind : (d : Parts) (c : Claims) (i : ℕ) (k : Todo) (next : Next) (r : ℕ) → IsPoint d i k → Goes k next → Ends d c i (kind_of d c i) next r → HasSlot d c i (todo_behind next) r
@@ -92,12 +96,15 @@ pub stands_active : (d : Parts) (c : Claims) (i time : ℕ) (gait : Gait) (k : T
 stands_active d c i time gait [] h = tt
 stands_active d c i time gait (x ∷ rest) h = h
 
-here_on : (d : Parts) (c : Claims) (i time : ℕ) (k l : Todo) → Here d c i time k → Goes k (on l) → Here d c i time l
-here_on d c i time k l h g = record { point = point_on d i k (on l) h.point g; at = on_at h.at }
+here_on : (d : Parts) (c : Claims) (i time : ℕ) (k l : Todo) → Here d c i time k → Leads c k (on l) → Here d c i time l
+here_on d c i time k l h g = record { point = point_on d i k (on l) h.point way; at = on_at h.at }
   where
+    way : Goes k (on l)
+    way = by_goes (is_wide c) k (on l) g
+
     on_at : At d c i time k → At d c i time l
-    on_at (at_zero z s) = at_zero z (goes k l (on l) s g refl refl)
-    on_at (at_later up late slot) = at_later up (late_on d i k (on l) late g) (slot_on d c i k l (time % c.modulus) slot g)
+    on_at (at_zero z s) = at_zero z (goes k l (on l) s way refl refl)
+    on_at (at_later up late slot) = at_later up (late_on d i k (on l) late way) (slot_on d c i k l (time % c.modulus) slot g)
 
 here_zero : (d : Parts) (c : Claims) (i : ℕ) → Closed d c i → (time number : ℕ) (k l : Todo) → Here d c i time k → Goes k (after number 0 l) → Here d c i time l
 here_zero d c i closed time number k l h g = record { point = point_on d i k (after number 0 l) h.point g; at = zero_at h.at }
@@ -137,16 +144,17 @@ stands_paused d c i closed time number ticks k l h g =
     (λ e. here_zero d c i closed time number k (erased l) h (subst (λ n. Goes k (after number n (erased l))) (eqb-true ticks 0 e) g))
     (λ e. let ne : ticks ≡ 0 → ⊥ = eqb-false ticks 0 e in asleep_after d c i closed time number ticks k (erased l) (omega (arith, ne)) h g)
 
-stands_behind : (d : Parts) (c : Claims) (i : ℕ) → Closed d c i → (time : ℕ) (gait : Gait) (k : Todo) (next : Next) → Here d c i time (erased k) → Goes (erased k) (erased_next next) →
+stands_behind : (d : Parts) (c : Claims) (i : ℕ) → Closed d c i → (time : ℕ) (gait : Gait) (k : Todo) (next : Next) → Here d c i time (erased k) → Leads c (erased k) (erased_next next) →
     Stands d c i time (place_behind (going gait k) time next)
 stands_behind d c i closed time gait k (on l) h g = stands_active d c i time (stepped_gait gait) l (here_on d c i time (erased k) (erased l) h g)
-stands_behind d c i closed time gait k (after number ticks l) h g = stands_paused d c i closed time number ticks (erased k) l h g
-stands_behind d c i closed time gait k (wait number terms l) h g = record { control = erased k; number = number; point = h.point; way = g }
+stands_behind d c i closed time gait k (after number ticks l) h g = stands_paused d c i closed time number ticks (erased k) l h (by_goes (is_wide c) (erased k) (after number ticks (erased l)) g)
+stands_behind d c i closed time gait k (wait number terms l) h g =
+    record { control = erased k; number = number; point = h.point; way = by_goes (is_wide c) (erased k) (wait number terms (erased l)) g }
 
 -- a process that takes a step stands where it can be
 pub stands_step : (d : Parts) (c : Claims) (i : ℕ) → Closed d c i → (time : ℕ) (gait : Gait) (k : Todo) (store : Store) → Here d c i time (erased k) →
     Stands d c i time (place_behind (going gait k) time (step k store time).next)
-stands_step d c i closed time gait k store h = stands_behind d c i closed time gait k (step k store time).next h (step_follows k store time)
+stands_step d c i closed time gait k store h = stands_behind d c i closed time gait k (step k store time).next h (step_goes (is_wide c) k store time)
 
 pub stands_roused : (d : Parts) (c : Claims) (i time : ℕ) (p : Place) → Stands d c i time p → Stands d c i time (roused p)
 stands_roused d c i time (going gait k) h = h

@@ -23,7 +23,7 @@ use Rattle.vs_independence.specs.vs_process.proofs.Assigns.{assign_driven, assig
 use Rattle.vs_independence.specs.vs_process.proofs.Idle.{after_sound}
 use Rattle.vs_independence.specs.vs_process.proofs.Stores.{put_other}
 use Rattle.vs_independence.specs.vs_process.proofs.Times.{enabled_of}
-use Rattle.vs_rules.specs.vs_threads.specs.Threads.{store_behind}
+use Rattle.vs_rules.specs.vs_threads.specs.Threads.{Thread, store_behind, turn_at, turn, iterate}
 use Rattle.vs_law_rules.specs.Laws.{TimeRises}
 use Rattle.vs_rules.specs.vs_threads.proofs.Threads.{is_stopped, stopped_from}
 use Rattle.vs_independence.proofs.Making.{none_get}
@@ -41,6 +41,33 @@ pub record IsWatched (v : ℕ) (E : ℕ → Store → Type 0) (Q : ℕ → Place
   pub rouses : (time : ℕ) (p : Place) (store : Store) → Q time p store → Q time (roused p) store
   pub wakes : (time : ℕ) (old new : Store) (p : Place) (store : Store) → Q time p store → Q time (wakened old new p) store
   pub goes_on : (time t : ℕ) (p : Place) (store : Store) → is_stopped p ≡ true → is_after t p ≡ true → time < t → E time store → Q time p store → Q t (woken_at t p) store
+
+-- where it can't be
+abbrev pub Nowhere : ℕ → Place → Store → Type 0
+Nowhere time p store = ⊥
+
+pub nowhere_watched : (v : ℕ) (E : ℕ → Store → Type 0) → IsWatched v E Nowhere
+nowhere_watched v E = record {
+  steps = λ time gait k store h. absurd h;
+  kept = λ time p a b e h. absurd h;
+  rouses = λ time p store h. absurd h;
+  wakes = λ time old new p store h. absurd h;
+  goes_on = λ time t p store still up less known h. absurd h;
+}
+
+turn_watched : (v : ℕ) (E : ℕ → Store → Type 0) (Q : ℕ → Place → Store → Type 0) → IsWatched v E Q → (time i : ℕ) (p : Place) (th : Thread) → th.place ≡ p → Q time p th.view → Q time (turn_at time i p th).place (turn_at time i p th).view
+turn_watched v E Q watched time i (going gait k) th e h = watched.steps time gait k th.view h
+turn_watched v E Q watched time i (inactive k) th e h = watched.rouses time (inactive k) th.view h
+turn_watched v E Q watched time i (sleeping due k) th e h = subst (λ p. Q time p th.view) (sym e) h
+turn_watched v E Q watched time i (waiting terms k) th e h = subst (λ p. Q time p th.view) (sym e) h
+turn_watched v E Q watched time i ended th e h = subst (λ p. Q time p th.view) (sym e) h
+
+-- a thread of the process keeps it
+pub thread_watched : (v : ℕ) (E : ℕ → Store → Type 0) (Q : ℕ → Place → Store → Type 0) → IsWatched v E Q → (time i n : ℕ) (th : Thread) → Q time th.place th.view →
+    Q time (iterate n (turn time i) th).place (iterate n (turn time i) th).view
+thread_watched v E Q watched time i zero th h = h
+thread_watched v E Q watched time i (suc n) th h =
+    let one = iterate n (turn time i) th in turn_watched v E Q watched time i one.place one refl (thread_watched v E Q watched time i n th h)
 
 -- the place of the process and the store
 abbrev pub Seen : (ℕ → Place → Store → Type 0) → ℕ → State → Type 0

@@ -2,6 +2,7 @@
 use Rattle.std.specs.Prelude.{◌+◌, ◌*◌, ◌%◌, ◌<◌, ◌≡◌, ◌⊎◌, ℕ, not, true, Option, Some, List, ◌∷◌}
 use Rattle.std.specs.List.{Contains}
 use Rattle.vs_design.specs.vs_logic4.specs.declared.digit.Digit.{Digit}
+use Rattle.vs_design.specs.vs_logic4.specs.declared.digit.Digit.TheVariants.{X}
 use Rattle.vs_design.specs.vs_logic4.specs.Tables.{not_digit}
 use Rattle.vs_design.specs.declared.range.BitRange.{BitRange}
 use Rattle.vs_design.specs.Parts.{Parts}
@@ -15,7 +16,7 @@ use Rattle.vs_independence.specs.vs_process.specs.Executions.{after, Legal, next
 use Rattle.vs_independence.specs.vs_process.specs.States.{State, start}
 use Rattle.vs_independence.specs.Discipline.{BeginsSlot}
 use Rattle.vs_rules.specs.vs_threads.specs.Threads.{Thread, writes}
-use Rattle.vs_rules.specs.Claims.{Claims, Kind, block, cold, sources, starter, HasStart, IsWriter, IsRoot, kind_of, blocks_of}
+use Rattle.vs_rules.specs.Claims.{Claims, Kind, block, cold, sources, starter, HasStart, IsWide, IsWriter, IsRoot, kind_of, blocks_of}
 use Rattle.vs_rules.specs.vs_threads.specs.Blocks as r
 use Rattle.vs_rules.specs.vs_threads.specs.Blocks.{Roles, StartsCold}
 use Rattle.vs_independence.specs.Discipline.{Independent}
@@ -41,12 +42,18 @@ TimeRises grain d = (moves : List Move) (t : ℕ) → Legal grain d (EndSlot ∷
 
 -- ---- clocks
 
--- where the writer of a clock that is a root writes it, it gives it the clock's digit in phase, and the other known one half a period later
+-- a clock of version 3 that was never set: where a slot begins it is x, and what turns it leaves it x
+abbrev pub StaysUnset : Claims → State → ℕ → Digit → Type 0
+StaysUnset c b root z = IsWide c × (z ≡ X) × (digit_of b.store root 0 0 ≡ Some X)
+
+-- where the writer of a clock that is a root writes it, it gives it the clock's digit in phase, and the other known one half a period later; in
+-- version 3 it may have never been set
 abbrev pub ClockTurns : Parts → Claims → State → Type 0
 ClockTurns d c b =
     (root w : ℕ) (by : Thread) (digit z : Digit) (offset half : ℕ) → IsTimed (blocks_of d c) b w by → IsWriter d c root w → writes by root ≡ true →
     IsRoot d c root → IsClock d c root digit offset half → digit_of by.view root 0 0 ≡ Some z →
-    IsKnown digit × (((z ≡ digit) × (b.time % (2 * half) ≡ offset % (2 * half))) ⊎ ((z ≡ not_digit digit) × (b.time % (2 * half) ≡ (offset + half) % (2 * half))))
+    IsKnown digit × (StaysUnset c b root z
+    ⊎ (((z ≡ digit) × (b.time % (2 * half) ≡ offset % (2 * half))) ⊎ ((z ≡ not_digit digit) × (b.time % (2 * half) ≡ (offset + half) % (2 * half)))))
 
 -- ---- the static half
 

@@ -17,7 +17,7 @@ pub fn rules_make_displays_alike()
     ensures { RulesMakeDisplaysAlike }
 {}
 
-/// The clocks of such a design turn in phase.
+/// The clocks of such a design turn in phase; one of version 3 that no process sets in the first slot stays x.
 pub fn clocks_turn()
     ensures { ClocksTurn }
 {}

@@ -1,5 +1,5 @@
 -- Copies and clocks of designs that say the same.
-use Rattle.std.proofs.Common.{◌≡◌, ℕ, ◌⊎◌, Bool, List, [], ◌∷◌, refl, ap, sym, subst, ◌∙◌, inl, inr}
+use Rattle.std.proofs.Common.{◌≡◌, ℕ, ◌⊎◌, Bool, true, false, List, [], ◌∷◌, refl, ap, sym, subst, ◌∙◌, inl, inr}
 use Rattle.std.specs.declared.vec.Vec.{Vec}
 use Rattle.std.specs.declared.boxed.Box.{Box}
 use Rattle.std.specs.declared.alloc.Global.{Global}
@@ -17,12 +17,15 @@ use Rattle.vs_design.specs.Parts.{Parts}
 use Rattle.vs_elab_statements.specs.vs_elab_listed.specs.Outlines.{Declared}
 use Rattle.vs_elab_laws.specs.Same.{SameSides}
 use Rattle.vs_rules.specs.Claims.{Claims, is_wide}
-use Rattle.vs_rules.specs.Constants.{bit_of, IsBare, itself, inside, Sets, Turns, SetsAfter, TurnsForever, SetsAndTurns, HasBody, IsClock}
+use Rattle.vs_rules.specs.Constants.{bit_of, IsBare, itself, inside, Sets, Turns, SetsAfter, TurnsForever, SetsAndTurns, HasBody, SetsAlike, SetsFirst, IsClock}
 use Rattle.vs_law_source.proofs.Alike.{Alike, alike, AlikeLayer, of_assign, of_delay, of_block, of_forever, AlikeAll, all_end, all_more}
 use Rattle.vs_law_source.proofs.Cones.{writes_as}
 use Rattle.vs_law_source.proofs.Designs.{Twins, back, signal_there, process_there}
+use Rattle.vs_law_source.proofs.Done.{gives_digit_as, writes_later_as, writes_now_as}
 use Rattle.vs_law_source.proofs.Named.{writer_as}
+use Rattle.vs_law_source.proofs.Todos.{todo_turned}
 use Rattle.vs_law_source.proofs.Trees.{SameSizes, turn_as, whole_target_as, given_as}
+use Rattle.vs_law_source.proofs.Walks.{point_as}
 
 -- twins have signals of one size
 pub sizes : {d d' : Parts} → Twins d d' → SameSizes d d'
@@ -179,6 +182,25 @@ module _ (d d' : Parts) (t : Twins d d') where
       let o = process_there t i h.process h.is in
       record { process = o.other; is = o.is; kind_is = sym o.same.kind ∙ h.kind_is; body = passes h.process.body o.other.body o.same.body h.body }
 
+  sets_alike_as : (v : ℕ) (digit : Digit) (j : ℕ) → SetsAlike d v digit j → SetsAlike d' v digit j
+  sets_alike_as v digit j h =
+      let u = back t in
+      let p = point_as t j h.at h.point in
+      record {
+        known = h.known;
+        at = p.to;
+        point = p.is;
+        writes = writes_now_as d d' h.at p.to v p.same h.writes;
+        now = λ k is w. let q = point_as u j k is in h.now q.to q.is (writes_later_as d' d k q.to v q.same w);
+        gives = λ k is w.
+            let q = point_as u j k is in
+            gives_digit_as (bit_of v) digit q.to k (todo_turned k q.to q.same) (h.gives q.to q.is (writes_now_as d' d k q.to v q.same w));
+      }
+
+  sets_first_as : (wide : Bool) (v : ℕ) (digit : Digit) (j : ℕ) → SetsFirst d wide v digit j → SetsFirst d' wide v digit j
+  sets_first_as false v digit j h = has_body_as j Initial (Sets d v digit) (Sets d' v digit) (sets_as v digit) h
+  sets_first_as true v digit j h = sets_alike_as v digit j h
+
 pub clock_as : {d d' : Parts} → Twins d d' → (c : Claims) (v : ℕ) (digit : Digit) (offset half : ℕ) → IsClock d c v digit offset half → IsClock d' c v digit offset half
 clock_as {d} {d'} t c v digit offset half (IsClock.alone i w b) =
     let wide = is_wide c in
@@ -187,4 +209,4 @@ clock_as {d} {d'} t c v digit offset half (IsClock.alone i w b) =
 clock_as {d} {d'} t c v digit offset half (IsClock.two i j kind w may b a e others) =
     let wide = is_wide c in
     IsClock.two i j kind (writer_as t c v i w) may (has_body_as d d' t i kind (TurnsForever d wide v half) (TurnsForever d' wide v half) (turns_forever_as d d' t wide v half) b)
-    (has_body_as d d' t j Initial (Sets d v digit) (Sets d' v digit) (sets_as d d' t v digit) a) e (λ k w. others k (writes_as (back t) k v w))
+    (sets_first_as d d' t wide v digit j a) e (λ k w. others k (writes_as (back t) k v w))

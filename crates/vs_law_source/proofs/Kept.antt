@@ -20,7 +20,7 @@ use Rattle.vs_law_source.proofs.Done.{listed_as, number_same, writes_now_as, wri
 use Rattle.vs_law_source.proofs.Named.{signal_named_as, process_named_as, assign_named_as, claims_same, writer_as, second_as, mode_as, kind_as, block_as, edge_as, delay_as, mixed_lists_as, mixed_as, waits_for_edges_as, waits_for_times_as, sequential_as, root_of_as, root_as}
 use Rattle.vs_law_source.proofs.Slots.{delay_ends_as, edge_ends_as, runs_by_delays_as, runs_by_edges_as, has_slot_as, slot_point, write_slot_as, fires_of_as}
 use Rattle.vs_law_source.proofs.Todos.{AlikeTodo, AlikeNext, both_after, goes_as, todo_turned}
-use Rattle.vs_law_source.proofs.Walks.{TwinOf, path_as, zero_same, goes_after_as, goes_wait_as, point_as, slot0_as, prologue_as, slot0_point, late_as, hot_as, from_point, heard_at_start_as, term_as, one_here}
+use Rattle.vs_law_source.proofs.Walks.{TwinOf, path_as, zero_same, goes_after_as, goes_wait_as, point_as, slot0_as, prologue_as, slot0_point, late_as, hot_as, from_point, runs_point, heard_at_start_as, term_as, one_here}
 
 -- one of two, as one of two others
 pub either_as : {A B C D : Type 0} → (A → C) → (B → D) → A ⊎ B → C ⊎ D
@@ -231,7 +231,7 @@ k8_as t c i h =
           delay_ends_as t i lists (after number ticks m.to) (after number ticks l) (ticks % c.modulus) (both_after number ticks m.to l (todo_turned l m.to m.same))
           (h.from_start lists q.to m.to number ticks (waits_for_times_as u c i lists e) q.is m.is above);
       from_residue = λ lists k l number ticks r e o g.
-          let q = runs_by_delays_as u i lists k r o in
+          let q = runs_by_delays_as u (is_wide c) i lists k r o in
           let m = goes_after_as k q.to l number ticks q.same g in
           delay_ends_as t i lists (after number ticks m.to) (after number ticks l) ((r + ticks) % c.modulus) (both_after number ticks m.to l (todo_turned l m.to m.same))
           (h.from_residue lists q.to m.to number ticks r (waits_for_times_as u c i lists e) q.is m.is);
@@ -273,9 +273,9 @@ module _ (d d' : Parts) (t : Twins d d') (i : ℕ) (k : Todo) (n : HasNumber k) 
         of = h.of;
         apart = λ root other r e w f. h.apart root other r (root_of_as u c root v e) (write_slot_as u c root r w) (fires_of_as u c i other r f);
         undelayed = λ lists root r e o w s.
-            let z = runs_by_delays_as u i lists k r s in
+            let z = runs_by_delays_as u (is_wide c) i lists k r s in
             h.undelayed lists root r (mixed_lists_as u c i lists e) (root_of_as u c root v o) (write_slot_as u c root r w)
-            (subst (λ (m : Todo). RunsByDelays d i lists m r) (same_point z.to (from_point d i (λ at next. DelayEnds d i lists next r) is_plain z.to z.is) z.same) z.is);
+            (subst (λ (m : Todo). RunsByDelays d (is_wide c) i lists m r) (same_point z.to (runs_point d (is_wide c) i (DelayEnds d i lists) z.to r z.is) z.same) z.is);
       }
 
 pub k9_as : {d d' : Parts} → Twins d d' → (c : Claims) (i : ℕ) → K9 d c i → K9 d' c i

@@ -1,5 +1,5 @@
 -- Run slots, write slots and firing slots of designs that say the same.
-use Rattle.std.proofs.Common.{ℕ, Option, Some, None, List, subst, inl, inr}
+use Rattle.std.proofs.Common.{ℕ, Bool, Option, Some, None, List, subst, inl, inr}
 use Rattle.std.specs.List.{Contains}
 use Rattle.vs_design.specs.vs_logic4.specs.declared.edge.Edge.{Edge}
 use Rattle.vs_design.specs.declared.statement.EventTerm.{EventTerm}
@@ -9,7 +9,7 @@ use Rattle.vs_threads.specs.vs_process.specs.Steps.{Next}
 use Rattle.vs_rules.specs.Claims.{Claims, Kind, block, edges, delays, mixed, kind_of, is_wide}
 use Rattle.vs_rules.specs.Constants.{bit_of}
 use Rattle.vs_rules.specs.Controls.{list_of}
-use Rattle.vs_rules.specs.Paths.{is_plain, IsPoint}
+use Rattle.vs_rules.specs.Paths.{IsPoint}
 use Rattle.vs_rules.specs.Slots.{DelayEnds, RunsByDelays, InPhase, Fires, EdgeEnds, RunsByEdges, Ends, HasSlot, HasWriteSlot, FiresOf}
 use Rattle.vs_law_source.proofs.Clocks.{clock_as}
 use Rattle.vs_law_source.proofs.Cones.{texts_control}
@@ -18,7 +18,7 @@ use Rattle.vs_law_source.proofs.Designs.{Twins, back}
 use Rattle.vs_law_source.proofs.Done.{writes_now_as, writes_any_as, gives_digit_as}
 use Rattle.vs_law_source.proofs.Named.{writer_as, kinds_same, lists_as, root_of_as}
 use Rattle.vs_law_source.proofs.Todos.{AlikeNext, both_on, both_after, both_wait, todo_turned}
-use Rattle.vs_law_source.proofs.Walks.{TwinOf, plain_same, path_from_as, from_point, term_as}
+use Rattle.vs_law_source.proofs.Walks.{TwinOf, runs_as, runs_point, term_as}
 
 -- ---- of a process of kind delay
 
@@ -27,9 +27,9 @@ delay_ends_as t i lists _ _ r (both_on l l' k) h = absurd h
 delay_ends_as t i lists _ _ r (both_after number ticks l l' k) h = subst (λ (ns : List ℕ). Contains (list_of ns lists number) r) (texts_control t i) h
 delay_ends_as t i lists _ _ r (both_wait number terms l l' k) h = absurd h
 
-pub runs_by_delays_as : {d d' : Parts} → Twins d d' → (i : ℕ) (lists : List (List ℕ)) (k : Todo) (r : ℕ) → RunsByDelays d i lists k r → TwinOf k (λ (m : Todo). RunsByDelays d' i lists m r)
-runs_by_delays_as {d} {d'} t i lists k r h =
-    path_from_as t i (λ at next. DelayEnds d i lists next r) (λ at next. DelayEnds d' i lists next r) (λ a a' next next' p n e. delay_ends_as t i lists next next' r n e) is_plain plain_same k h
+pub runs_by_delays_as : {d d' : Parts} → Twins d d' → (wide : Bool) (i : ℕ) (lists : List (List ℕ)) (k : Todo) (r : ℕ) → RunsByDelays d wide i lists k r → TwinOf k (λ (m : Todo). RunsByDelays d' wide i lists m r)
+runs_by_delays_as {d} {d'} t wide i lists k r h =
+    runs_as t wide i (DelayEnds d i lists) (DelayEnds d' i lists) (λ next next' s n e. delay_ends_as t i lists next next' s n e) k r h
 
 -- ---- firing slots
 
@@ -38,7 +38,7 @@ in_phase_as t c root edge r h = λ digit offset half clock e. h digit offset hal
 
 pub fires_as : {d d' : Parts} → Twins d d' → (c : Claims) (term : EventTerm) (r : ℕ) → Fires d c term r → Fires d' c term r
 fires_as {d} {d'} t c term r h =
-    let q = runs_by_delays_as t h.writer h.lists h.at r h.runs in
+    let q = runs_by_delays_as t (is_wide c) h.writer h.lists h.at r h.runs in
     record {
       root = h.root;
       writer = h.writer;
@@ -47,7 +47,7 @@ fires_as {d} {d'} t c term r h =
       is_root = root_of_as t c h.root term.range.signal h.is_root;
       is_writer = writer_as t c h.root h.writer h.is_writer;
       kind = lists_as t c h.writer h.lists h.kind;
-      point = from_point d' h.writer (λ at next. DelayEnds d' h.writer h.lists next r) is_plain q.to q.is;
+      point = runs_point d' (is_wide c) h.writer (DelayEnds d' h.writer h.lists) q.to r q.is;
       writes = writes_any_as d d' h.at q.to h.root q.same h.writes;
       runs = q.is;
       counted = λ digit g. h.counted digit (gives_digit_as (bit_of h.root) digit q.to h.at (todo_turned h.at q.to q.same) g);
@@ -65,7 +65,7 @@ edge_ends_as t c _ _ r (both_wait number terms l l' k) h = (h.0, h.1, fires_as t
 
 pub runs_by_edges_as : {d d' : Parts} → Twins d d' → (c : Claims) (i : ℕ) (k : Todo) (r : ℕ) → RunsByEdges d c i k r → TwinOf k (λ (m : Todo). RunsByEdges d' c i m r)
 runs_by_edges_as {d} {d'} t c i k r h =
-    path_from_as t i (λ at next. EdgeEnds d c next r) (λ at next. EdgeEnds d' c next r) (λ a a' next next' p n e. edge_ends_as t c next next' r n e) is_plain plain_same k h
+    runs_as t (is_wide c) i (EdgeEnds d c) (EdgeEnds d' c) (λ next next' s n e. edge_ends_as t c next next' s n e) k r h
 
 ends_as : {d d' : Parts} → Twins d d' → (c : Claims) (i : ℕ) (kind : Option Kind) (next next' : Next) (r : ℕ) → AlikeNext next next' → Ends d c i kind next r → Ends d' c i kind next' r
 ends_as t c i None next next' r n h = absurd h
@@ -77,11 +77,11 @@ ends_as t c i (Some (mixed lists)) next next' r n (inr h) = inr (edge_ends_as t 
 
 pub has_slot_as : {d d' : Parts} → Twins d d' → (c : Claims) (i : ℕ) (k : Todo) (r : ℕ) → HasSlot d c i k r → TwinOf k (λ (m : Todo). HasSlot d' c i m r)
 has_slot_as {d} {d'} t c i k r h =
-    path_from_as t i (λ at next. Ends d c i (kind_of d c i) next r) (λ at next. Ends d' c i (kind_of d' c i) next r)
-    (λ a a' next next' p n e. ends_as t c i (kind_of d' c i) next next' r n (subst (λ (kind : Option Kind). Ends d c i kind next r) (kinds_same t c i) e)) is_plain plain_same k h
+    runs_as t (is_wide c) i (Ends d c i (kind_of d c i)) (Ends d' c i (kind_of d' c i))
+    (λ next next' s n e. ends_as t c i (kind_of d' c i) next next' s n (subst (λ (kind : Option Kind). Ends d c i kind next s) (kinds_same t c i) e)) k r h
 
 pub slot_point : (d : Parts) (c : Claims) (i : ℕ) (k : Todo) (r : ℕ) → HasSlot d c i k r → IsPoint d i k
-slot_point d c i k r h = from_point d i (λ at next. Ends d c i (kind_of d c i) next r) is_plain k h
+slot_point d c i k r h = runs_point d (is_wide c) i (Ends d c i (kind_of d c i)) k r h
 
 pub write_slot_as : {d d' : Parts} → Twins d d' → (c : Claims) (u r : ℕ) → HasWriteSlot d c u r → HasWriteSlot d' c u r
 write_slot_as {d} {d'} t c u r h =

@@ -1,5 +1,5 @@
 -- What is to be done, where it says the same, and where its paths go.
-use Rattle.std.proofs.Common.{◌≡◌, ℕ, Bool, true, false, ◌||◌, List, [], ◌∷◌, ◌++◌, map, refl, ap, ap₂, sym, subst, ◌∙◌}
+use Rattle.std.proofs.Common.{◌≡◌, ℕ, Bool, true, false, ◌||◌, ◌&&◌, if◌then◌else◌, List, [], ◌∷◌, ◌++◌, map, refl, ap, ap₂, sym, subst, ◌∙◌}
 use Rattle.std.specs.List.{AllZip, list_any}
 use Rattle.std.specs.declared.vec.Vec.{Vec}
 use Rattle.std.specs.declared.alloc.Global.{Global}
@@ -18,7 +18,10 @@ use Rattle.vs_threads.specs.vs_process.specs.Steps.{Next, on, after, wait, has_n
 use Rattle.vs_threads.specs.vs_process.proofs.Shapes.{flat-Block, flat-single}
 use Rattle.vs_elab_laws.specs.Same.{SameTyped}
 use Rattle.vs_elab_laws.proofs.PairLemmas.{pair_append}
-use Rattle.vs_rules.specs.Points.{Among, Goes}
+use Rattle.vs_design.specs.Uses.{reads}
+use Rattle.vs_threads.specs.vs_process.specs.Steps.{turns_for}
+use Rattle.vs_threads.specs.vs_eval.specs.Values.{value_of}
+use Rattle.vs_rules.specs.Points.{Among, Goes, first_alone, has_turn, nexts_by, surely_turns, todo_turns}
 use Rattle.vs_law_source.proofs.Alike.{Choice, Alike, alike, AlikeLayer, of_null, of_assign, of_later, of_call, of_finish, of_block, of_delay, of_event, of_if, of_case, of_while, of_repeat, of_forever, AlikeAll, all_end, all_more, AlikeChoices, choices_end, choices_more}
 use Rattle.vs_law_source.proofs.Turned.{turned}
 
@@ -155,6 +158,47 @@ among_as next _ _ (pair_more x x' xs xs' h r) (Among.first _) = (x', Among.first
 among_as next _ _ (pair_more x x' xs xs' h r) (Among.further _ _ k) =
     let m = among_as next xs xs' r k in
     (m.0, Among.further x' xs' m.1, m.2)
+
+-- ---- turns that are sure
+
+sure_layer : (x x' : Statement-F Statement) → AlikeLayer x x' → surely_turns x ≡ surely_turns x'
+sure_layer _ _ (of_repeat n signed e e' x x' i h) =
+    ap₂ (λ rs ds. has_nothing rs && has_turn (turns_for signed ds)) i.ranges (i.value [] 0)
+sure_layer _ _ _ = refl
+
+sure_statement : (s s' : Statement) → Alike s s' → surely_turns (out-Statement s) ≡ surely_turns (out-Statement s')
+sure_statement _ _ (alike s s' l) = sure_layer (out-Statement s) (out-Statement s') l
+
+sure_same : (k k' : Todo) → AlikeTodo k k' → todo_turns k ≡ todo_turns k'
+sure_same _ _ no_pair = refl
+sure_same _ _ (pair_more _ _ rest rest' (performs s s' m) r) = sure_statement s s' m
+sure_same _ _ (pair_more _ _ rest rest' (turning n s s' m) r) = refl
+
+first_alike : (xs xs' : List Next) → Pairwise AlikeNext xs xs' → Pairwise AlikeNext (first_alone xs) (first_alone xs')
+first_alike _ _ no_pair = no_pair
+first_alike _ _ (pair_more x x' xs xs' h r) = one x x' h
+
+pub nexts_by_alike : (wide : Bool) (k k' : Todo) → AlikeTodo k k' → Pairwise AlikeNext (nexts_by wide k) (nexts_by wide k')
+nexts_by_alike false k k' h = nexts_alike k k' h
+nexts_by_alike true k k' h =
+    let same = sure_same k k' h in
+    subst (λ b. Pairwise AlikeNext (if todo_turns k then first_alone (nexts k) else nexts k) (if b then first_alone (nexts k') else nexts k')) same
+    (by_turns (todo_turns k))
+  where
+    by_turns : (b : Bool) → Pairwise AlikeNext (if b then first_alone (nexts k) else nexts k) (if b then first_alone (nexts k') else nexts k')
+    by_turns true = first_alike (nexts k) (nexts k') (nexts_alike k k' h)
+    by_turns false = nexts_alike k k' h
+
+-- a path goes somewhere from there too, by the ways of one version
+pub record LeadsAs (wide : Bool) (k' : Todo) (next : Next) : Type 0 where
+  pub to : Next
+  pub leads : Among to (nexts_by wide k')
+  pub same : AlikeNext next to
+
+pub leads_as : (wide : Bool) (k k' : Todo) (next : Next) → AlikeTodo k k' → Among next (nexts_by wide k) → LeadsAs wide k' next
+leads_as wide k k' next h g =
+    let m = among_as next (nexts_by wide k) (nexts_by wide k') (nexts_by_alike wide k k' h) g in
+    record { to = m.0; leads = m.1; same = m.2 }
 
 pub goes_as : (k k' : Todo) (next : Next) → AlikeTodo k k' → Goes k next → GoesAs k' next
 goes_as k k' next h g = let m = among_as next (nexts k) (nexts k') (nexts_alike k k' h) g in record { to = m.0; goes = m.1; same = m.2 }

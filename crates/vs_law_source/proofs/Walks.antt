@@ -14,12 +14,13 @@ use Rattle.vs_threads.specs.vs_process.specs.Numbers.{number_next}
 use Rattle.vs_threads.specs.vs_process.specs.Places.{Item, Todo, ended, active_at, flat, start_place, todo_of}
 use Rattle.vs_threads.specs.vs_process.specs.Steps.{Next, on, after, wait}
 use Rattle.vs_rules.proofs.Past.{past_points}
-use Rattle.vs_rules.specs.Points.{Goes, Point, first_todo}
-use Rattle.vs_rules.specs.Paths.{Path, begins, goes, any_way, is_plain, is_zero_time, IsPoint, IsSlot0, IsPrologue, PathFrom, IsLate, IsHot, HasTerm, IsHeardAtStart, WritesNow}
+use Rattle.vs_rules.specs.Points.{Goes, Point, first_todo, nexts_by}
+use Rattle.vs_rules.proofs.Points.{by_path}
+use Rattle.vs_rules.specs.Paths.{Path, begins, goes, any_way, is_plain, is_zero_time, IsPoint, IsSlot0, IsPrologue, PathBy, PathFrom, RunsBehind, IsLate, IsHot, HasTerm, IsHeardAtStart, WritesNow}
 use Rattle.vs_law_source.proofs.Designs.{AlikeProcess, AreNumbered, Twins}
 use Rattle.vs_law_source.proofs.Done.{writes_now_as}
 use Rattle.vs_law_source.proofs.Spots.{one_point, counted_once}
-use Rattle.vs_law_source.proofs.Todos.{AlikeTodo, AlikeNext, both_on, both_after, both_wait, flat_alike, goes_as}
+use Rattle.vs_law_source.proofs.Todos.{AlikeTodo, AlikeNext, both_on, both_after, both_wait, flat_alike, goes_as, leads_as}
 
 -- something to be done that says the same as this, of which this holds
 pub record TwinOf (k : Todo) (P : Todo → Type 0) : Type 0 where
@@ -157,6 +158,19 @@ path_as ok respects from from' _ h (goes k l next p g passes e) =
       same = subst (λ (m : Todo). AlikeTodo m (todo_behind n.to)) e (behind_as next n.to n.same);
     }
 
+-- by the ways of one version
+pub path_by_as : (wide : Bool) (ok : Next → Bool) → ((next next' : Next) → AlikeNext next next' → ok next ≡ ok next') → (from from' k : Todo) → AlikeTodo from from' → PathBy (nexts_by wide) ok from k →
+    TwinOf k (PathBy (nexts_by wide) ok from')
+path_by_as wide ok respects from from' _ h begins = record { to = from'; is = begins; same = h }
+path_by_as wide ok respects from from' _ h (goes k l next p g passes e) =
+    let q = path_by_as wide ok respects from from' k h p in
+    let n = leads_as wide k q.to next q.same g in
+    record {
+      to = todo_behind n.to;
+      is = goes q.to (todo_behind n.to) n.to q.is n.leads (sym (respects next n.to n.same) ∙ passes) refl;
+      same = subst (λ (m : Todo). AlikeTodo m (todo_behind n.to)) e (behind_as next n.to n.same);
+    }
+
 pub slot0_as : {d d' : Parts} → Twins d d' → (i : ℕ) (k : Todo) → IsSlot0 d i k → TwinOf k (IsSlot0 d' i)
 slot0_as {d} {d'} t i k h = path_as is_zero_time zero_same (first_todo d i) (first_todo d' i) k (first_alike t i) h
 
@@ -184,6 +198,22 @@ path_from_as t i sort sort' starts ok respects k h =
 
 pub from_point : (d : Parts) (i : ℕ) (sort : Todo → Next → Type 0) (ok : Next → Bool) (k : Todo) → PathFrom d i sort ok k → IsPoint d i k
 from_point d i sort ok k h = path_point d i ok (todo_behind h.next) k (point_on d i h.at h.next h.point h.goes) h.path
+
+-- run slots go without a further control
+pub runs_as : {d d' : Parts} → Twins d d' → (wide : Bool) (i : ℕ) (can_end can_end' : Next → ℕ → Type 0) → ((next next' : Next) (r : ℕ) → AlikeNext next next' → can_end next r → can_end' next' r) →
+    (k : Todo) (r : ℕ) → RunsBehind d wide i can_end k r → TwinOf k (λ (m : Todo). RunsBehind d' wide i can_end' m r)
+runs_as t wide i can_end can_end' ends k r h =
+    let p = point_as t i h.at h.point in
+    let n = goes_as h.at p.to h.next p.same h.goes in
+    let q = path_by_as wide is_plain plain_same (todo_behind h.next) (todo_behind n.to) k (behind_as h.next n.to n.same) h.path in
+    record {
+      to = q.to;
+      is = record { at = p.to; next = n.to; point = p.is; goes = n.goes; starts = ends h.next n.to r n.same h.starts; path = q.is };
+      same = q.same;
+    }
+
+pub runs_point : (d : Parts) (wide : Bool) (i : ℕ) (can_end : Next → ℕ → Type 0) (k : Todo) (r : ℕ) → RunsBehind d wide i can_end k r → IsPoint d i k
+runs_point d wide i can_end k r h = path_point d i is_plain (todo_behind h.next) k (point_on d i h.at h.next h.point h.goes) (by_path wide is_plain (todo_behind h.next) k h.path)
 
 pub late_as : {d d' : Parts} → Twins d d' → (i : ℕ) (k : Todo) → IsLate d i k → TwinOf k (IsLate d' i)
 late_as t i k h =

@@ -28,25 +28,36 @@ kind_in P (q ∷ ps) all (suc n) p is = kind_in P ps all.1 n p is
 pub no_lists : (modulus : ℕ) → AreLists 64 modulus []
 no_lists modulus = record { few = lit≤ tt; each = λ residues has. absurd (none_in residues has) }
 
-pub one_list : (modulus : ℕ) (residues : List ℕ) → AreResidues 64 modulus residues → AreLists 64 modulus (residues ∷ [])
-one_list modulus residues are = record { few = lit≤ tt; each = λ other has. subst (AreResidues 64 modulus) (one_in residues other has) are }
+pub one_list_of : (most modulus : ℕ) (residues : List ℕ) → AreResidues most modulus residues → AreLists most modulus (residues ∷ [])
+one_list_of most modulus residues are = record { few = lit≤ tt; each = λ other has. subst (AreResidues most modulus) (one_in residues other has) are }
 
--- the lists of a process of this kind are sound, in version 1 or 2
+pub one_list : (modulus : ℕ) (residues : List ℕ) → AreResidues 64 modulus residues → AreLists 64 modulus (residues ∷ [])
+one_list modulus residues are = one_list_of 64 modulus residues are
+
+-- the lists of a process of this kind are sound, with at most so many residues each
+abbrev pub HasListsOf : ℕ → ℕ → Kind → Type 0
+HasListsOf most modulus (Kind.block start) = Unit {0}
+HasListsOf most modulus Kind.edges = Unit {0}
+HasListsOf most modulus (Kind.delays lists) = AreLists most modulus lists
+HasListsOf most modulus (Kind.mixed lists) = AreLists most modulus lists
+
+pub sound_lists_of : (most modulus : ℕ) (ps : List ProcessClaim) → AllKinds (HasListsOf most modulus) ps → (p : ProcessClaim) (lists : List (List ℕ)) → Contains ps p →
+    (p.kind ≡ Kind.delays lists) ⊎ (p.kind ≡ Kind.mixed lists) → AreLists most modulus lists
+sound_lists_of most modulus ps all p lists has is =
+    let there = place_of ps p has in
+    let sound = kind_in (HasListsOf most modulus) ps all there.0 p there.1 in
+    elim is [
+      | inl delay ↦ subst (HasListsOf most modulus) delay sound
+      | inr mix ↦ subst (HasListsOf most modulus) mix sound
+    ]
+
+-- in version 1 or 2
 abbrev pub HasSoundLists : ℕ → Kind → Type 0
-HasSoundLists modulus (Kind.block start) = Unit {0}
-HasSoundLists modulus Kind.edges = Unit {0}
-HasSoundLists modulus (Kind.delays lists) = AreLists 64 modulus lists
-HasSoundLists modulus (Kind.mixed lists) = AreLists 64 modulus lists
+HasSoundLists modulus kind = HasListsOf 64 modulus kind
 
 pub sound_lists : (modulus : ℕ) (ps : List ProcessClaim) → AllKinds (HasSoundLists modulus) ps → (p : ProcessClaim) (lists : List (List ℕ)) → Contains ps p →
     (p.kind ≡ Kind.delays lists) ⊎ (p.kind ≡ Kind.mixed lists) → AreLists 64 modulus lists
-sound_lists modulus ps all p lists has is =
-    let there = place_of ps p has in
-    let sound = kind_in (HasSoundLists modulus) ps all there.0 p there.1 in
-    elim is [
-      | inl delay ↦ subst (HasSoundLists modulus) delay sound
-      | inr mix ↦ subst (HasSoundLists modulus) mix sound
-    ]
+sound_lists modulus ps all p lists has is = sound_lists_of 64 modulus ps all p lists has is
 
 -- ---- starts
 

@@ -1,17 +1,17 @@
 -- A design that keeps the rules at all numbers keeps them at each subject.
-use Rattle.std.proofs.Common.{◌≡◌, ℕ, zero, suc, ◌⊎◌, Some, List, [], ◌∷◌, ◌++◌, length, map, slice_get, refl, subst, inl, inr}
+use Rattle.std.proofs.Common.{◌≡◌, ℕ, zero, suc, ◌<◌, ◌⊎◌, Some, List, [], ◌∷◌, ◌++◌, length, map, slice_get, refl, subst, inl, inr, arith}
 use Rattle.std.proofs.lemmas.Option.{none-some, same_Some}
 use Rattle.vs_design.specs.Parts.{Parts}
 use Rattle.vs_design.specs.WellFormed.{WellFormed}
-use Rattle.vs_rules.specs.Limits.{IsCertificate}
+use Rattle.vs_rules.specs.Limits.{IsCertificate, IsWideCertificate}
 use Rattle.vs_law_rules.proofs.Ruled.{rules_make_independent}
-use Rattle.vs_law_witnesses.specs.Kept.{KeepsRules}
+use Rattle.vs_law_witnesses.specs.Kept.{KeepsRules, KeepsWideRules}
 use Rattle.vs_rules.specs.Claims.{Name, Claims, all_names}
 use Rattle.vs_rules.specs.Drivers.{Driver}
 use Rattle.vs_rules.specs.Drivers as x
-use Rattle.vs_rules.specs.Rules.{K1_Signal, K1_Assign, K1_Process, K1_Name, K2, K3, K4, K6, K7, K8, K9}
+use Rattle.vs_rules.specs.Rules.{K1_Signal, K1_Assign, K1_Process, K1_Name, K2, K3, K4, K6, K7, K8, K9, K10_Signal, K10_Process}
 use Rattle.vs_rules.specs.Blocks.{K5, K11}
-use Rattle.vs_rules.specs.Verdict.{KeepsAll, k1, k2, k3, k4, k5, k6, k7, k8, k9, k10, k11, Subject, signal, assign, process, listed, OfSignal, OfProcess, OfDriver, OfFirstSlot, numbers, subjects, Disciplined, Keeping}
+use Rattle.vs_rules.specs.Verdict.{KeepsAll, Rule, number, k1, k2, k3, k4, k5, k6, k7, k8, k9, k10, k11, Subject, signal, assign, process, listed, OfSignal, OfProcess, OfDriver, OfFirstSlot, numbers, subjects, Disciplined, Keeping}
 
 -- ---- a name among the subjects is one of a list of the certificate
 
@@ -127,3 +127,54 @@ disciplined d c h k11 n s is = of_process (K11 d c) h.starts s
 pub keeps_rules : (d : Parts) (c : Claims) → WellFormed d → IsCertificate c → Keeping d c → KeepsRules d c
 keeps_rules d c formed certificate h =
     (formed, record { certificate = certificate; rules = disciplined d c h }, rules_make_independent d c formed (disciplined d c h))
+
+-- the rules before that of the first slot, of all numbers
+pub record Before (d : Parts) (c : Claims) : Type 0 where
+  pub names_signals : (v : ℕ) → K1_Signal d c v
+  pub names_assigns : (j : ℕ) → K1_Assign d c j
+  pub names_processes : (i : ℕ) → K1_Process d c i
+  pub names_known : (n : ℕ) (name : Name) → slice_get (all_names c) n ≡ Some name → K1_Name d c name
+  pub writers : (v : ℕ) → K2 d c v
+  pub modes : (v : ℕ) → K3 d c v
+  pub order : (y : Driver) → K4 d c y
+  pub blocks : (i : ℕ) → K5 d c i
+  pub roots : (v : ℕ) → K6 d c v
+  pub edges : (i : ℕ) → K7 d c i
+  pub residues : (i : ℕ) → K8 d c i
+  pub readings : (i : ℕ) → K9 d c i
+
+pub before_kept : (d : Parts) (c : Claims) → Before d c → (k : Rule) → number k < 10 → KeepsAll d c k
+before_kept d c h k1 less = names_kept d c h.names_signals h.names_assigns h.names_processes h.names_known
+before_kept d c h k2 less = writers_kept d c h.writers
+before_kept d c h k3 less = λ n s is. of_signal (K3 d c) h.modes s
+before_kept d c h k4 less = λ n s is. of_driver (K4 d c) h.order s
+before_kept d c h k5 less = λ n s is. of_process (K5 d c) h.blocks s
+before_kept d c h k6 less = λ n s is. of_signal (K6 d c) h.roots s
+before_kept d c h k7 less = λ n s is. of_process (K7 d c) h.edges s
+before_kept d c h k8 less = λ n s is. of_process (K8 d c) h.residues s
+before_kept d c h k9 less = λ n s is. of_process (K9 d c) h.readings s
+before_kept d c h k10 less = absurd (omega (arith, less))
+before_kept d c h k11 less = absurd (omega (arith, less))
+
+pub with_first_slot : (d : Parts) (c : Claims) → Before d c → ((v : ℕ) → K10_Signal d c v) → ((i : ℕ) → K10_Process d c i) → ((i : ℕ) → K11 d c i) → Keeping d c
+with_first_slot d c h signals processes starts = record {
+  names_signals = h.names_signals;
+  names_assigns = h.names_assigns;
+  names_processes = h.names_processes;
+  names_known = h.names_known;
+  writers = h.writers;
+  modes = h.modes;
+  order = h.order;
+  blocks = h.blocks;
+  roots = h.roots;
+  edges = h.edges;
+  residues = h.residues;
+  readings = h.readings;
+  first_roots = signals;
+  first_slot = processes;
+  starts = starts;
+}
+
+-- alike where the certificate may be one of version 3
+pub keeps_wide_rules : (d : Parts) (c : Claims) → WellFormed d → IsWideCertificate c → Keeping d c → KeepsWideRules d c
+keeps_wide_rules d c formed certificate h = (formed, certificate, disciplined d c h, rules_make_independent d c formed (disciplined d c h))

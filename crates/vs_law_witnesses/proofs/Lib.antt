@@ -23,3 +23,6 @@ pub mod RootsPoints
 pub mod Roots
 pub mod LatePoints
 pub mod Late
+pub mod ResetsPoints
+pub mod ResetsTimes
+pub mod Resets

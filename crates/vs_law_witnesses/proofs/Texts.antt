@@ -1,14 +1,17 @@
 -- What texts write and read, and their delay controls: one equation for each kind of statement in the designs here.
-use Rattle.std.proofs.Common.{◌≡◌, ◌==◌, ◌&&◌, ℕ, zero, suc, Bool, true, false, Option, Some, None, option_map, List, [], ◌∷◌, ◌++◌, map, refl, sym, ◌∙◌, ap, subst, append-nil, lit<, lit≤, arith}
+use Rattle.std.proofs.Common.{◌≡◌, ◌==◌, ◌&&◌, ℕ, zero, suc, Bool, true, false, Option, Some, None, option_map, List, [], ◌∷◌, ◌++◌, map, slice_get, if◌then◌else◌, refl, sym, ◌∙◌, ap, subst, append-nil, lit<, lit≤, arith}
 use Rattle.std.proofs.lemmas.Bool.{eq-eqb, false≢true, true≢false}
+use Rattle.std.proofs.lemmas.Option.{none-some, same_Some}
 use Rattle.std.specs.List.{Contains, list_all}
 use Rattle.std.specs.Str.{bytes_eq}
 use Rattle.std.specs.declared.alloc.Global.{Global}
 use Rattle.std.specs.declared.vec.Vec.{Vec}
 use Rattle.vs_design.specs.vs_logic4.specs.declared.digit.Digit.{Digit}
 use Rattle.vs_design.specs.vs_logic4.specs.declared.operators.Binary.{Binary}
+use Rattle.vs_design.specs.vs_logic4.specs.declared.operators.Unary.{Unary}
 use Rattle.vs_design.specs.vs_logic4.specs.declared.operators.Unary.TheVariants as u
-use Rattle.vs_design.specs.vs_logic4.specs.Operators.{sizing_of, unary}
+use Rattle.vs_design.specs.vs_logic4.specs.Operators.{gives_bit, sizing_of, unary}
+use Rattle.vs_design.specs.declared.expression.Extension.{Extension}
 use Rattle.vs_design.specs.declared.expression.Typed.{Typed, fold-roll-Typed}
 use Rattle.vs_design.specs.declared.expression.Typed.TheVariants as e
 use Rattle.vs_design.specs.declared.expression.Typed.TheOpen as t
@@ -63,13 +66,18 @@ each_in P [] all z has = absurd (none_in z has)
 each_in P (x ∷ xs) all z (zero, within, is) = subst P is all.0
 each_in P (x ∷ xs) all z (suc k, within, is) = each_in P xs all.1 z (k, omega (arith, within), is)
 
+pub each_at : {A : Type 0} (P : A → Type 0) (xs : List A) → Each P xs → (n : ℕ) (z : A) → slice_get xs n ≡ Some z → P z
+each_at P [] all n z is = absurd (none-some z is)
+each_at P (x ∷ xs) all zero z is = subst P (same_Some x z is) all.0
+each_at P (x ∷ xs) all (suc n) z is = each_at P xs all.1 n z is
+
 -- ---- the one way on
 
 among_none : (n : Next) (xs : List Next) → xs ≡ [] → Among n xs → ⊥
 among_none n _ e (Among.first xs) = cc
 among_none n _ e (Among.further y xs h) = cc
 
-among_one : (n m : Next) → Among n (m ∷ []) → m ≡ n
+pub among_one : (n m : Next) → Among n (m ∷ []) → m ≡ n
 among_one n _ (Among.first _) = refl
 among_one n m (Among.further _ _ h) = absurd (among_none n [] refl h)
 
@@ -166,6 +174,9 @@ controls_forever g n s = ap controls_in (sym (y.rolls-Forever n (boxed g s))) �
 pub controls_delay : (g : Global) (n : ℕ) (ticks : Ticks) (s : Statement) → controls_in (y.Delay n ticks (boxed g s)) ≡ n ∷ controls_in s
 controls_delay g n ticks s = ap controls_in (sym (y.rolls-Delay n ticks (boxed g s))) ∙ fold-roll-Statement (List ℕ) controls_step (f.Delay n ticks (boxed g s))
 
+pub controls_event : (g : Global) (n : ℕ) (terms : Vec EventTerm Global) (s : Statement) → controls_in (y.Event n terms (boxed g s)) ≡ controls_in s
+controls_event g n terms s = ap controls_in (sym (y.rolls-Event n terms (boxed g s))) ∙ fold-roll-Statement (List ℕ) controls_step (f.Event n terms (boxed g s))
+
 -- ---- values
 
 pub value_operand : (s : ℕ) (store : Store) (time : ℕ) → value_of (operand s) store time ≡ operand_value false 1 (word_of store s 0)
@@ -197,6 +208,19 @@ reads_between g operator left right =
 pub size_between : (g : Global) (operator : Binary) (left right : ℕ) → size_of (between g operator left right) ≡ sized_by (sizing_of operator) 1 1 1
 size_between g operator left right =
     ap size_of (sym (e.rolls-Chain _ _)) ∙ fold-roll-Typed (Option ℕ) size_step (t.Chain _ _) ∙ rw (size_operand left, size_operand right) refl
+
+-- an operator, and a size to which an operand is brought
+pub reads_unary : (g : Global) (op : Unary) (x : Typed) → reads (e.Unary op (boxed g x)) ≡ reads x
+reads_unary g op x = ap reads (sym (e.rolls-Unary op (boxed g x))) ∙ fold-roll-Typed (List BitRange) reads_step (t.Unary op (boxed g x))
+
+pub reads_resized : (g : Global) (size : Extension) (x : Typed) → reads (e.Resized size (boxed g x)) ≡ reads x
+reads_resized g size x = ap reads (sym (e.rolls-Resized size (boxed g x))) ∙ fold-roll-Typed (List BitRange) reads_step (t.Resized size (boxed g x))
+
+pub size_unary : (g : Global) (op : Unary) (x : Typed) → size_of (e.Unary op (boxed g x)) ≡ option_map (λ n. if gives_bit op then 1 else n) (size_of x)
+size_unary g op x = ap size_of (sym (e.rolls-Unary op (boxed g x))) ∙ fold-roll-Typed (Option ℕ) size_step (t.Unary op (boxed g x))
+
+pub size_resized : (g : Global) (size : Extension) (x : Typed) → size_of (e.Resized size (boxed g x)) ≡ option_map (λ n. size.width) (size_of x)
+size_resized g size x = ap size_of (sym (e.rolls-Resized size (boxed g x))) ∙ fold-roll-Typed (Option ℕ) size_step (t.Resized size (boxed g x))
 
 -- ---- sound texts
 

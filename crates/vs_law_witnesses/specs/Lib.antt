@@ -16,3 +16,4 @@ pub use Rattle.vs_law_rules
 pub use Rattle.vs_threads
 pub mod Roots
 pub mod Late
+pub mod Resets

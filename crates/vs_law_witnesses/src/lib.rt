@@ -1,11 +1,13 @@
 //! Designs that show that the discipline and the rules of certificates say something: designs that keep them, also since their processes run at
-//! different residues, races that keep those of no certificate, one whose lines are not alike, and designs whose executions differ in one thing alone.
+//! different residues, and one by a certificate of version 3; races that keep those of no certificate, one whose lines are not alike, and designs
+//! whose executions differ in one thing alone.
 #![tactic(auto)]
 
 mod differences;
 mod disciplined;
 mod ruled;
 mod staggered;
+mod wide;
 
 pub use differences::{finish_alone_differs, strobe_lines_alone_differ};
 pub use disciplined::{
@@ -18,3 +20,4 @@ pub use ruled::{
     a_rise_keeps_the_rules, a_wrong_mode_is_told,
 };
 pub use staggered::{a_late_read_keeps_the_rules, two_roots_keep_the_rules};
+pub use wide::{a_reset_keeps_the_rules, an_early_reset_is_told};

@@ -11,18 +11,18 @@ use Rattle.vs_process.specs.Steps.{Next, wait}
 use Rattle.vs_process.specs.Numbers.{number_next}
 use Rattle.vs_process.specs.Ways.{Pause, none, delay, event, next_by}
 use Rattle.vs_process.specs.Stops.{Stop, stop_at, stop_statement, stops_tos, stops_behind, IsText}
-use Rattle.vs_rules.specs.Points.{Goes, first_todo}
-use Rattle.vs_rules.specs.Paths.{ListsSignal, Path, PathFrom, IsPoint, IsLate, IsHot, WritesNow, WritesLater, HasTerm, is_plain}
+use Rattle.vs_rules.specs.Points.{Goes, first_todo, nexts_by}
+use Rattle.vs_rules.specs.Paths.{ListsSignal, PathFromBy, IsPoint, IsLate, IsHot, WritesNow, WritesLater, HasTerm, is_plain}
 use Rattle.vs_graph.specs.Reached.{Reached}
 use Rattle.vs_maps.specs.declared.along.Along.{Along}
 use Rattle.vs_maps.specs.declared.along.Along.TheVariants.{Any, ZeroTime}
 use Rattle.vs_maps.specs.Ranges.{HasSignal, HasTermAt, now_at, later_at, pause_terms}
-use Rattle.vs_maps.specs.Reaches.{pause_of, stops_along}
+use Rattle.vs_maps.specs.Reaches.{is_turned, pause_of, stops_along}
 use Rattle.vs_maps.specs.Walks.{WalkFrom, HasControl, InLate, InHot, is_control}
 use Rattle.vs_maps.proofs.EachPoint.{now_here, later_here}
 use Rattle.vs_maps.proofs.Join.{same_place}
 use Rattle.vs_maps.proofs.RangeLemmas.{lists_signal}
-use Rattle.vs_maps.proofs.Texts.{ok_of, place_of, place_back, walk_on, walk_back, from_on, from_back, step_on, step_back, control_on, behind_step}
+use Rattle.vs_maps.proofs.Texts.{PathAlong, ok_of, place_of, place_back, walk_on, walk_back, from_on, from_back, step_on, step_back, control_on, behind_step}
 
 -- ---- once a way of some sort has been gone
 
@@ -31,24 +31,28 @@ abbrev pub AreSorts : List Stop → (ℕ → Todo) → (ℕ → Type 0) → (Tod
 AreSorts stops at starts sort =
     (p to : ℕ) → Contains (stops_tos stops p) to → (starts p ↔ sort (at p) (next_by (pause_of (stop_statement (stop_at stops p))) (at to)))
 
+-- a path along the ways that count leads to the point once a way of some sort has been gone
+abbrev pub PathFromAlong : Along → Parts → ℕ → (Todo → Next → Type 0) → Todo → Type 0
+PathFromAlong along d i sort k = PathFromBy (nexts_by (is_turned along)) d i sort (ok_of along) k
+
 -- a walk is a path
 pub walk_path : (d : Parts) (i : ℕ) (q : Process) (stops : List Stop) (start : ℕ) (t : IsText q.body stops start) → slice_get d.processes i ≡ Some q → (along : Along)
     (starts : ℕ → Type 0) (sort : Todo → Next → Type 0) → AreSorts stops t.at starts sort → (p : ℕ) → WalkFrom (record { stops = stops; start = start }) along starts p →
-    PathFrom d i sort (ok_of along) (t.at p)
+    PathFromAlong along d i sort (t.at p)
 walk_path d i q stops start t is along starts sort sorts p w = record {
   at = t.at w.from;
   next = next_by (pause_of (stop_statement (stop_at stops w.from))) (t.at w.to);
   point = place_back d i q stops start t is w.from w.is_place;
   goes = step_back q.body stops start t w.from w.to w.leads;
   starts = (sorts w.from w.to w.leads).0 w.starts;
-  path = subst (λ (l : Todo). Path (ok_of along) l (t.at p))
+  path = subst (λ (l : Todo). PathAlong along l (t.at p))
       (sym (behind_step (pause_of (stop_statement (stop_at stops w.from))) (t.at w.to) (next_by (pause_of (stop_statement (stop_at stops w.from))) (t.at w.to)) refl))
       (walk_back q.body stops start t along w.to p w.reached);
 }
 
 -- a path is a walk
 pub path_walk : (d : Parts) (i : ℕ) (q : Process) (stops : List Stop) (start : ℕ) (t : IsText q.body stops start) → slice_get d.processes i ≡ Some q → (along : Along)
-    (starts : ℕ → Type 0) (sort : Todo → Next → Type 0) → AreSorts stops t.at starts sort → (k : Todo) → PathFrom d i sort (ok_of along) k →
+    (starts : ℕ → Type 0) (sort : Todo → Next → Type 0) → AreSorts stops t.at starts sort → (k : Todo) → PathFromAlong along d i sort k →
     (p : ℕ) × WalkFrom (record { stops = stops; start = start }) along starts p × (t.at p ≡ k)
 path_walk d i q stops start t is along starts sort sorts k b =
     let y = place_of d i q stops start t is b.at b.point in
@@ -56,13 +60,13 @@ path_walk d i q stops start t is along starts sort sorts k b =
     let s : sort (t.at y.0) (next_by (pause_of (stop_statement (stop_at stops y.0))) (t.at g.0)) =
     subst (λ (z : Todo). sort z (next_by (pause_of (stop_statement (stop_at stops y.0))) (t.at g.0))) (sym y.2) (subst (sort b.at) (sym g.2) b.starts) in
     let r = walk_on q.body stops start t along g.0 k
-    (subst (λ (l : Todo). Path (ok_of along) l k) (behind_step (pause_of (stop_statement (stop_at stops y.0))) (t.at g.0) b.next g.2) b.path) in
+    (subst (λ (l : Todo). PathAlong along l k) (behind_step (pause_of (stop_statement (stop_at stops y.0))) (t.at g.0) b.next g.2) b.path) in
     (r.0, record { from = y.0; to = g.0; is_place = y.1; starts = (sorts y.0 g.0 g.1).1 s; leads = g.1; reached = r.1 }, r.2)
 
 -- what holds of all of the one holds of all of the other
 pub each_walk : (d : Parts) (i : ℕ) (q : Process) (stops : List Stop) (start : ℕ) (t : IsText q.body stops start) → slice_get d.processes i ≡ Some q → (along : Along)
     (starts : ℕ → Type 0) (sort : Todo → Next → Type 0) → AreSorts stops t.at starts sort → (P : Todo → Type 0) →
-    (((p : ℕ) → WalkFrom (record { stops = stops; start = start }) along starts p → P (t.at p)) ↔ ((k : Todo) → PathFrom d i sort (ok_of along) k → P k))
+    (((p : ℕ) → WalkFrom (record { stops = stops; start = start }) along starts p → P (t.at p)) ↔ ((k : Todo) → PathFromAlong along d i sort k → P k))
 each_walk d i q stops start t is along starts sort sorts P = (
   λ all k b. let y = path_walk d i q stops start t is along starts sort sorts k b in subst P y.2 (all y.0 y.1),
   λ all p w. all (t.at p) (walk_path d i q stops start t is along starts sort sorts p w),
@@ -71,7 +75,7 @@ each_walk d i q stops start t is along starts sort sorts P = (
 -- at a place where something is done they are the same
 pub walk_exact : (d : Parts) (i : ℕ) (q : Process) (stops : List Stop) (start : ℕ) (t : IsText q.body stops start) → slice_get d.processes i ≡ Some q → (along : Along)
     (starts : ℕ → Type 0) (sort : Todo → Next → Type 0) → AreSorts stops t.at starts sort → (p n : ℕ) → number_next (t.at p) ≡ Some n →
-    (WalkFrom (record { stops = stops; start = start }) along starts p ↔ PathFrom d i sort (ok_of along) (t.at p))
+    (WalkFrom (record { stops = stops; start = start }) along starts p ↔ PathFromAlong along d i sort (t.at p))
 walk_exact d i q stops start t is along starts sort sorts p n numbered = (
   walk_path d i q stops start t is along starts sort sorts p,
   λ b. same_place (flat q.body) t.at start (stops_behind stops) (stops_tos stops) t.is_map (WalkFrom (record { stops = stops; start = start }) along starts) p n numbered
@@ -82,7 +86,7 @@ walk_exact d i q stops start t is along starts sort sorts p n numbered = (
 
 -- what holds of all points to which such paths lead from the start
 pub each_from : (d : Parts) (i : ℕ) (q : Process) (stops : List Stop) (start : ℕ) (t : IsText q.body stops start) → slice_get d.processes i ≡ Some q → (along : Along)
-    (P : Todo → Type 0) → (((p : ℕ) → Reached (stops_along along stops) (start ∷ []) p → P (t.at p)) ↔ ((k : Todo) → Path (ok_of along) (first_todo d i) k → P k))
+    (P : Todo → Type 0) → (((p : ℕ) → Reached (stops_along along stops) (start ∷ []) p → P (t.at p)) ↔ ((k : Todo) → PathAlong along (first_todo d i) k → P k))
 each_from d i q stops start t is along P = (
   λ all k h. let y = from_on d i q stops start t is along k h in subst P y.2 (all y.0 y.1),
   λ all p h. all (t.at p) (from_back d i q stops start t is along p h),

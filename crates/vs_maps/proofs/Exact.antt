@@ -1,5 +1,5 @@
 -- The tables of a process are exact.
-use Rattle.std.proofs.Common.{◌≡◌, ℕ, ◌↔◌, false, Some, List, [], ◌∷◌, slice_get, sym, subst}
+use Rattle.std.proofs.Common.{◌≡◌, ℕ, ◌↔◌, Bool, true, false, Some, List, [], ◌∷◌, slice_get, sym, subst}
 use Rattle.std.specs.List.{Contains}
 use Rattle.vs_design.specs.declared.design.Process.{Process}
 use Rattle.vs_design.specs.Parts.{Parts}
@@ -7,25 +7,26 @@ use Rattle.vs_process.specs.Places.{Todo, flat}
 use Rattle.vs_process.specs.Steps.{Next}
 use Rattle.vs_process.specs.Numbers.{number_next}
 use Rattle.vs_process.specs.Ways.{Pause, next_by}
-use Rattle.vs_process.specs.Maps.{IsMap, tos_by}
+use Rattle.vs_process.specs.Maps.{IsMap}
 use Rattle.vs_process.specs.Stops.{Stop, stops_tos, stops_behind, IsText}
-use Rattle.vs_rules.specs.Points.{first_todo}
+use Rattle.vs_rules.specs.Points.{first_todo, nexts_by}
 use Rattle.vs_graph.specs.Reached.{Reached}
-use Rattle.vs_rules.specs.Claims.{kind_of}
-use Rattle.vs_rules.specs.Paths.{Path, PathFrom, WritesNow, is_plain}
+use Rattle.vs_rules.specs.Claims.{is_wide, kind_of}
+use Rattle.vs_rules.specs.Paths.{PathFromBy, WritesNow, is_plain}
 use Rattle.vs_rules.specs.Slots.{Ends}
 use Rattle.vs_maps.specs.declared.along.Along.{Along}
-use Rattle.vs_maps.specs.declared.along.Along.TheVariants.{Any, Plain, ZeroTime}
+use Rattle.vs_maps.specs.declared.along.Along.TheVariants.{Any, Plain, Turned, ZeroTime}
 use Rattle.vs_maps.specs.Laws.{IsBegun}
-use Rattle.vs_maps.specs.Reaches.{IsPlace, passes, stops_along}
+use Rattle.vs_maps.specs.Reaches.{IsPlace, is_turned, passes, plain_by, stops_along}
 use Rattle.vs_maps.specs.Exact.{AreBegun, TextsAreExact}
-use Rattle.vs_maps.proofs.Join.{same_place, path_from_exact}
-use Rattle.vs_maps.proofs.Texts.{reached_same, pause_here, along_is, alike, ok_of, begins_with, place_of, place_back, from_on, from_back}
+use Rattle.vs_maps.proofs.Join.{same_place, path_from_exact, tos_along}
+use Rattle.vs_maps.proofs.Texts.{PathAlong, reached_same, pause_here, along_is, alike, ok_of, begins_with, place_of, place_back, from_on, from_back}
+use Rattle.vs_maps.proofs.EachWalk.{PathFromAlong}
 
 -- once a way of some sort has been gone
 from_sort : (d : Parts) (i : ℕ) (q : Process) (stops : List Stop) (start : ℕ) (is : slice_get d.processes i ≡ Some q) (t : IsText q.body stops start) (along : Along)
     (sort : Todo → Next → Type 0) (seeds : List ℕ) → AreBegun (record { stops = stops; start = start }) t.at sort seeds → (p n : ℕ) →
-    number_next (t.at p) ≡ Some n → (Reached (stops_along along stops) seeds p ↔ PathFrom d i sort (ok_of along) (t.at p))
+    number_next (t.at p) ≡ Some n → (Reached (stops_along along stops) seeds p ↔ PathFromAlong along d i sort (t.at p))
 from_sort d i q stops start is t along sort seeds all p n numbered = (there, back) where
   begun : (s : ℕ) → (Contains seeds s ↔ IsBegun t.at start (stops_behind stops) (stops_tos stops) sort s)
   begun s = (
@@ -46,18 +47,25 @@ from_sort d i q stops start is t along sort seeds all p n numbered = (there, bac
   map_is : IsMap (first_todo d i) t.at start (stops_behind stops) (stops_tos stops)
   map_is = subst (λ (f : Todo). IsMap f t.at start (stops_behind stops) (stops_tos stops)) (sym (begins_with d i q is)) t.is_map
 
-  both : Reached (tos_by (passes along) t.at (stops_tos stops)) seeds p ↔ PathFrom d i sort (ok_of along) (t.at p)
-  both = path_from_exact d i t.at start (stops_behind stops) (stops_tos stops) (ok_of along) (passes along) sort seeds map_is (alike along) begun p n numbered
+  both : Reached (tos_along (is_turned along) (passes along) t.at (stops_tos stops)) seeds p ↔ PathFromAlong along d i sort (t.at p)
+  both = path_from_exact d i t.at start (stops_behind stops) (stops_tos stops) (is_turned along) (ok_of along) (passes along) sort seeds map_is (alike along) begun p n numbered
 
-  there : Reached (stops_along along stops) seeds p → PathFrom d i sort (ok_of along) (t.at p)
-  there h = both.0 (reached_same (stops_along along stops) (tos_by (passes along) t.at (stops_tos stops)) seeds (along_is q.body stops start t along) p h)
+  there : Reached (stops_along along stops) seeds p → PathFromAlong along d i sort (t.at p)
+  there h = both.0 (reached_same (stops_along along stops) (tos_along (is_turned along) (passes along) t.at (stops_tos stops)) seeds (along_is q.body stops start t along) p h)
 
-  back : PathFrom d i sort (ok_of along) (t.at p) → Reached (stops_along along stops) seeds p
-  back h = reached_same (tos_by (passes along) t.at (stops_tos stops)) (stops_along along stops) seeds (λ a. sym (along_is q.body stops start t along a)) p (both.1 h)
+  back : PathFromAlong along d i sort (t.at p) → Reached (stops_along along stops) seeds p
+  back h = reached_same (tos_along (is_turned along) (passes along) t.at (stops_tos stops)) (stops_along along stops) seeds (λ a. sym (along_is q.body stops start t along a)) p (both.1 h)
+
+-- from control to control
+from_plain : (d : Parts) (i : ℕ) (q : Process) (stops : List Stop) (start : ℕ) (is : slice_get d.processes i ≡ Some q) (t : IsText q.body stops start) (wide : Bool)
+    (sort : Todo → Next → Type 0) (seeds : List ℕ) → AreBegun (record { stops = stops; start = start }) t.at sort seeds → (p n : ℕ) →
+    number_next (t.at p) ≡ Some n → (Reached (stops_along (plain_by wide) stops) seeds p ↔ PathFromBy (nexts_by wide) d i sort is_plain (t.at p))
+from_plain d i q stops start is t false = from_sort d i q stops start is t Plain
+from_plain d i q stops start is t true = from_sort d i q stops start is t Turned
 
 -- from the start
 from_is : (d : Parts) (i : ℕ) (q : Process) (stops : List Stop) (start : ℕ) (is : slice_get d.processes i ≡ Some q) (t : IsText q.body stops start) (along : Along) (p n : ℕ) →
-    number_next (t.at p) ≡ Some n → (Reached (stops_along along stops) (start ∷ []) p ↔ Path (ok_of along) (first_todo d i) (t.at p))
+    number_next (t.at p) ≡ Some n → (Reached (stops_along along stops) (start ∷ []) p ↔ PathAlong along (first_todo d i) (t.at p))
 from_is d i q stops start is t along p n numbered = (
   from_back d i q stops start t is along p,
   λ h. same_place (flat q.body) t.at start (stops_behind stops) (stops_tos stops) t.is_map (Reached (stops_along along stops) (start ∷ [])) p n numbered (from_on d i q stops start t is along (t.at p) h),
@@ -73,5 +81,5 @@ texts_are_exact d i q stops start is t = record {
   prologue = from_is d i q stops start is t Plain;
   late = from_sort d i q stops start is t Any (λ k next. is_plain next ≡ false);
   hot = λ v. from_sort d i q stops start is t ZeroTime (λ k next. WritesNow d k v);
-  slots = λ c r. from_sort d i q stops start is t Plain (λ k next. Ends d c i (kind_of d c i) next r);
+  slots = λ c r. from_plain d i q stops start is t (is_wide c) (λ k next. Ends d c i (kind_of d c i) next r);
 }

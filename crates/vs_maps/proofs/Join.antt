@@ -1,5 +1,5 @@
 -- What is reached on a map is what paths of the text lead to.
-use Rattle.std.proofs.Common.{◌≡◌, ℕ, zero, suc, ◌⊎◌, ◌↔◌, inl, inr, Bool, true, false, Some, List, [], ◌∷◌, map, refl, sym, ◌∙◌, ap, subst, arith, if◌then◌else◌}
+use Rattle.std.proofs.Common.{◌≡◌, ℕ, zero, suc, ◌⊎◌, ◌↔◌, ◌&&◌, inl, inr, Bool, true, false, Some, List, [], ◌∷◌, map, refl, sym, ◌∙◌, ap, subst, arith, if◌then◌else◌}
 use Rattle.std.specs.List.{Contains}
 use Rattle.std.proofs.lemmas.Bool.{false≢true}
 use Rattle.vs_process.specs.Landings.{todo_behind}
@@ -8,13 +8,14 @@ use Rattle.vs_process.specs.Steps.{Next, on, after, wait}
 use Rattle.vs_process.specs.Numbers.{number_next}
 use Rattle.vs_process.specs.Ways.{Pause, none, delay, event, next_by}
 use Rattle.vs_design.specs.Parts.{Parts}
-use Rattle.vs_rules.specs.Points.{Among, Goes, Point, first_todo}
+use Rattle.vs_rules.specs.Points.{Among, Goes, Point, first_alone, first_todo, nexts_by, todo_turns}
 use Rattle.vs_rules.specs.Points as r
-use Rattle.vs_rules.specs.Paths.{Path, PathFrom}
+use Rattle.vs_rules.specs.Paths.{Path, PathBy, PathFromBy}
 use Rattle.vs_rules.specs.Paths as x
 use Rattle.vs_graph.specs.Reached.{Reached, begins, goes_on}
 use Rattle.vs_process.specs.Maps.{todo_pause, IsMap, tos_by, steps}
 use Rattle.vs_maps.specs.Laws.{Alike, IsBegun, MapsAreExact}
+use Rattle.vs_maps.specs.Reaches.{tos_by_turn}
 
 -- ---- lists
 
@@ -67,31 +68,64 @@ pub true_if : (b : Bool) (xs : List ℕ) (t : ℕ) → Contains (if b then xs el
 true_if true xs t h = (refl, h)
 true_if false xs t h = absurd (none_in t h)
 
+-- ---- one step of a path, which may pass a turn that is sure by it alone
+
+by_turn_map : (first : Bool) (f : ℕ → Next) (xs : List ℕ) → (if first then first_alone (map f xs) else map f xs) ≡ map f (tos_by_turn first xs)
+by_turn_map false f xs = refl
+by_turn_map true f [] = refl
+by_turn_map true f (x ∷ xs) = refl
+
+pub by_turn_in : (first : Bool) (xs : List ℕ) (t : ℕ) → Contains (tos_by_turn first xs) t → Contains xs t
+by_turn_in false xs t h = h
+by_turn_in true [] t h = h
+by_turn_in true (x ∷ xs) t h = elim (split x t [] h) [ inl e ↦ subst (Contains (x ∷ xs)) e (head_in x xs) | inr i ↦ absurd (none_in t i) ]
+
+nexts_are : (first : Todo) (at : ℕ → Todo) (start : ℕ) (behind : ℕ → ℕ) (tos : ℕ → List ℕ) (wide : Bool) → IsMap first at start behind tos → (p : ℕ) →
+    nexts_by wide (at p) ≡ map (λ t. next_by (todo_pause (at p)) (at t)) (tos_by_turn (wide && todo_turns (at p)) (tos p))
+nexts_are first at start behind tos wide m p =
+    ap (λ (l : List Next). if wide && todo_turns (at p) then first_alone l else l) (m.ways p)
+    ∙ by_turn_map (wide && todo_turns (at p)) (λ t. next_by (todo_pause (at p)) (at t)) (tos p)
+
+go_by : (first : Todo) (at : ℕ → Todo) (start : ℕ) (behind : ℕ → ℕ) (tos : ℕ → List ℕ) (wide : Bool) → IsMap first at start behind tos → (p : ℕ) (next : Next) →
+    Among next (nexts_by wide (at p)) → (t : ℕ) × Contains (tos_by_turn (wide && todo_turns (at p)) (tos p)) t × (next_by (todo_pause (at p)) (at t) ≡ next)
+go_by first at start behind tos wide m p next h =
+    among_map (λ t. next_by (todo_pause (at p)) (at t)) (tos_by_turn (wide && todo_turns (at p)) (tos p)) next (subst (Among next) (nexts_are first at start behind tos wide m p) h)
+
+gone_by : (first : Todo) (at : ℕ → Todo) (start : ℕ) (behind : ℕ → ℕ) (tos : ℕ → List ℕ) (wide : Bool) → IsMap first at start behind tos → (p t : ℕ) →
+    Contains (tos_by_turn (wide && todo_turns (at p)) (tos p)) t → Among (next_by (todo_pause (at p)) (at t)) (nexts_by wide (at p))
+gone_by first at start behind tos wide m p t h =
+    subst (Among (next_by (todo_pause (at p)) (at t))) (sym (nexts_are first at start behind tos wide m p))
+    (map_among (λ t. next_by (todo_pause (at p)) (at t)) (tos_by_turn (wide && todo_turns (at p)) (tos p)) t h)
+
+-- where a place leads, where the ways from it go on so
+abbrev pub tos_along : Bool → (Pause → Bool) → (ℕ → Todo) → (ℕ → List ℕ) → ℕ → List ℕ
+tos_along wide passes at tos p = if passes (todo_pause (at p)) then tos_by_turn (wide && todo_turns (at p)) (tos p) else []
+
 -- ---- paths
 
 -- a path leads to a place that is reached
-pub path_on : (first : Todo) (at : ℕ → Todo) (start : ℕ) (behind : ℕ → ℕ) (tos : ℕ → List ℕ) (ok : Next → Bool) (passes : Pause → Bool) → IsMap first at start behind tos →
-    Alike ok passes → (seeds : List ℕ) (p : ℕ) → Contains seeds p → (l : Todo) → Path ok (at p) l → (q : ℕ) × Reached (tos_by passes at tos) seeds q × (at q ≡ l)
-path_on first at start behind tos ok passes m alike seeds p in_seeds _ x.begins = (p, begins p in_seeds, refl)
-path_on first at start behind tos ok passes m alike seeds p in_seeds _ (x.goes k l next path goes passes_it is) =
-    let a = path_on first at start behind tos ok passes m alike seeds p in_seeds k path in
-    let b = go first at start behind tos m a.0 next (subst (λ (y : Todo). Goes y next) (sym a.2) goes) in
+pub path_on : (first : Todo) (at : ℕ → Todo) (start : ℕ) (behind : ℕ → ℕ) (tos : ℕ → List ℕ) (wide : Bool) (ok : Next → Bool) (passes : Pause → Bool) → IsMap first at start behind tos →
+    Alike ok passes → (seeds : List ℕ) (p : ℕ) → Contains seeds p → (l : Todo) → PathBy (nexts_by wide) ok (at p) l → (q : ℕ) × Reached (tos_along wide passes at tos) seeds q × (at q ≡ l)
+path_on first at start behind tos wide ok passes m alike seeds p in_seeds _ x.begins = (p, begins p in_seeds, refl)
+path_on first at start behind tos wide ok passes m alike seeds p in_seeds _ (x.goes k l next path goes passes_it is) =
+    let a = path_on first at start behind tos wide ok passes m alike seeds p in_seeds k path in
+    let b = go_by first at start behind tos wide m a.0 next (subst (λ (y : Todo). Among next (nexts_by wide y)) (sym a.2) goes) in
     let c : passes (todo_pause (at a.0)) ≡ true = sym (alike (todo_pause (at a.0)) (at b.0)) ∙ ap ok b.2 ∙ passes_it in (
       b.0,
-      goes_on a.0 b.0 a.1 (if_true (passes (todo_pause (at a.0))) (tos a.0) b.0 c b.1),
+      goes_on a.0 b.0 a.1 (if_true (passes (todo_pause (at a.0))) (tos_by_turn (wide && todo_turns (at a.0)) (tos a.0)) b.0 c b.1),
       sym (behind_next (todo_pause (at a.0)) (at b.0)) ∙ ap todo_behind b.2 ∙ is,
     )
 
 -- a place that is reached is one that a path leads to
-pub path_back : (first : Todo) (at : ℕ → Todo) (start : ℕ) (behind : ℕ → ℕ) (tos : ℕ → List ℕ) (ok : Next → Bool) (passes : Pause → Bool) → IsMap first at start behind tos →
-    Alike ok passes → (seeds : List ℕ) (q : ℕ) → Reached (tos_by passes at tos) seeds q → (p : ℕ) × Contains seeds p × Path ok (at p) (at q)
-path_back first at start behind tos ok passes m alike seeds _ (begins a h) = (a, h, x.begins)
-path_back first at start behind tos ok passes m alike seeds _ (goes_on a b h e) =
-    let c = path_back first at start behind tos ok passes m alike seeds a h in
-    let d = true_if (passes (todo_pause (at a))) (tos a) b e in (
+pub path_back : (first : Todo) (at : ℕ → Todo) (start : ℕ) (behind : ℕ → ℕ) (tos : ℕ → List ℕ) (wide : Bool) (ok : Next → Bool) (passes : Pause → Bool) → IsMap first at start behind tos →
+    Alike ok passes → (seeds : List ℕ) (q : ℕ) → Reached (tos_along wide passes at tos) seeds q → (p : ℕ) × Contains seeds p × PathBy (nexts_by wide) ok (at p) (at q)
+path_back first at start behind tos wide ok passes m alike seeds _ (begins a h) = (a, h, x.begins)
+path_back first at start behind tos wide ok passes m alike seeds _ (goes_on a b h e) =
+    let c = path_back first at start behind tos wide ok passes m alike seeds a h in
+    let d = true_if (passes (todo_pause (at a))) (tos_by_turn (wide && todo_turns (at a)) (tos a)) b e in (
       c.0,
       c.1,
-      x.goes (at a) (at b) (next_by (todo_pause (at a)) (at b)) c.2 (gone first at start behind tos m a b d.1) (alike (todo_pause (at a)) (at b) ∙ d.0)
+      x.goes (at a) (at b) (next_by (todo_pause (at a)) (at b)) c.2 (gone_by first at start behind tos wide m a b d.1) (alike (todo_pause (at a)) (at b) ∙ d.0)
           (behind_next (todo_pause (at a)) (at b)),
     )
 
@@ -107,10 +141,10 @@ pub path_exact : (first : Todo) (at : ℕ → Todo) (start : ℕ) (behind : ℕ 
     Alike ok passes → (p q n : ℕ) → number_next (at q) ≡ Some n → (Reached (tos_by passes at tos) (p ∷ []) q ↔ Path ok (at p) (at q))
 path_exact first at start behind tos ok passes m alike p q n is = (there, back) where
   there : Reached (tos_by passes at tos) (p ∷ []) q → Path ok (at p) (at q)
-  there h = let y = path_back first at start behind tos ok passes m alike (p ∷ []) q h in subst (λ (a : ℕ). Path ok (at a) (at q)) (sym (only p y.0 y.1)) y.2
+  there h = let y = path_back first at start behind tos false ok passes m alike (p ∷ []) q h in subst (λ (a : ℕ). Path ok (at a) (at q)) (sym (only p y.0 y.1)) y.2
 
   back : Path ok (at p) (at q) → Reached (tos_by passes at tos) (p ∷ []) q
-  back h = same_place first at start behind tos m (Reached (tos_by passes at tos) (p ∷ [])) q n is (path_on first at start behind tos ok passes m alike (p ∷ []) p (head_in p []) (at q) h)
+  back h = same_place first at start behind tos m (Reached (tos_by passes at tos) (p ∷ [])) q n is (path_on first at start behind tos false ok passes m alike (p ∷ []) p (head_in p []) (at q) h)
 
 -- ---- points
 
@@ -160,14 +194,14 @@ point_exact first at start behind tos m p n is = (
 
 -- ---- paths once a way of some sort has been gone
 
-pub path_from_exact : (d : Parts) (i : ℕ) (at : ℕ → Todo) (start : ℕ) (behind : ℕ → ℕ) (tos : ℕ → List ℕ) (ok : Next → Bool) (passes : Pause → Bool)
+pub path_from_exact : (d : Parts) (i : ℕ) (at : ℕ → Todo) (start : ℕ) (behind : ℕ → ℕ) (tos : ℕ → List ℕ) (wide : Bool) (ok : Next → Bool) (passes : Pause → Bool)
     (sort : Todo → Next → Type 0) (seeds : List ℕ) → IsMap (first_todo d i) at start behind tos → Alike ok passes →
     ((s : ℕ) → (Contains seeds s ↔ IsBegun at start behind tos sort s)) → (q n : ℕ) → number_next (at q) ≡ Some n →
-    (Reached (tos_by passes at tos) seeds q ↔ PathFrom d i sort ok (at q))
-path_from_exact d i at start behind tos ok passes sort seeds m alike all q n is = (there, back) where
-  there : Reached (tos_by passes at tos) seeds q → PathFrom d i sort ok (at q)
+    (Reached (tos_along wide passes at tos) seeds q ↔ PathFromBy (nexts_by wide) d i sort ok (at q))
+path_from_exact d i at start behind tos wide ok passes sort seeds m alike all q n is = (there, back) where
+  there : Reached (tos_along wide passes at tos) seeds q → PathFromBy (nexts_by wide) d i sort ok (at q)
   there h =
-      let y = path_back (first_todo d i) at start behind tos ok passes m alike seeds q h in
+      let y = path_back (first_todo d i) at start behind tos wide ok passes m alike seeds q h in
       let b = (all y.0).0 y.1 in
       record {
         at = at b.point;
@@ -175,24 +209,24 @@ path_from_exact d i at start behind tos ok passes sort seeds m alike all q n is 
         point = point_back (first_todo d i) at start behind tos m b.point b.reached;
         goes = gone (first_todo d i) at start behind tos m b.point y.0 b.leads;
         starts = b.starts;
-        path = subst (λ (t : Todo). Path ok t (at q)) (sym (behind_next (todo_pause (at b.point)) (at y.0))) y.2;
+        path = subst (λ (t : Todo). PathBy (nexts_by wide) ok t (at q)) (sym (behind_next (todo_pause (at b.point)) (at y.0))) y.2;
       }
 
-  back : PathFrom d i sort ok (at q) → Reached (tos_by passes at tos) seeds q
+  back : PathFromBy (nexts_by wide) d i sort ok (at q) → Reached (tos_along wide passes at tos) seeds q
   back b =
       let y = point_on (first_todo d i) at start behind tos m b.at b.point in
       let g = go (first_todo d i) at start behind tos m y.0 b.next (subst (λ (z : Todo). Goes z b.next) (sym y.2) b.goes) in
       let f : sort (at y.0) (next_by (todo_pause (at y.0)) (at g.0)) =
       subst (λ (z : Todo). sort z (next_by (todo_pause (at y.0)) (at g.0))) (sym y.2) (subst (sort b.at) (sym g.2) b.starts) in
       let e : todo_behind b.next ≡ at g.0 = sym (ap todo_behind g.2) ∙ behind_next (todo_pause (at y.0)) (at g.0) in
-      same_place (first_todo d i) at start behind tos m (Reached (tos_by passes at tos) seeds) q n is
-      (path_on (first_todo d i) at start behind tos ok passes m alike seeds g.0
-      ((all g.0).1 (record { point = y.0; reached = y.1; leads = g.1; starts = f })) (at q) (subst (λ (t : Todo). Path ok t (at q)) e b.path))
+      same_place (first_todo d i) at start behind tos m (Reached (tos_along wide passes at tos) seeds) q n is
+      (path_on (first_todo d i) at start behind tos wide ok passes m alike seeds g.0
+      ((all g.0).1 (record { point = y.0; reached = y.1; leads = g.1; starts = f })) (at q) (subst (λ (t : Todo). PathBy (nexts_by wide) ok t (at q)) e b.path))
 
 pub exact : MapsAreExact
 exact first at start behind tos m = record {
   points = point_on first at start behind tos m;
   point = point_exact first at start behind tos m;
-  paths = λ ok passes alike p l h. path_on first at start behind tos ok passes m alike (p ∷ []) p (head_in p []) l h;
+  paths = λ ok passes alike p l h. path_on first at start behind tos false ok passes m alike (p ∷ []) p (head_in p []) l h;
   path = λ ok passes alike. path_exact first at start behind tos ok passes m alike;
 }

@@ -1,5 +1,5 @@
 -- What walks on the map of a process lead to, as paths of its text.
-use Rattle.std.proofs.Common.{◌≡◌, ℕ, zero, suc, ◌++◌, Bool, true, false, Some, List, [], ◌∷◌, map, get_or, slice_get, refl, sym, ◌∙◌, ap, subst, if◌then◌else◌}
+use Rattle.std.proofs.Common.{◌≡◌, ℕ, zero, suc, ◌++◌, ◌&&◌, Bool, true, false, Some, List, [], ◌∷◌, map, get_or, slice_get, refl, sym, ◌∙◌, ap, subst, if◌then◌else◌}
 use Rattle.std.specs.List.{Contains}
 use Rattle.vs_design.specs.declared.design.Process.{Process}
 use Rattle.vs_design.specs.declared.statement.Statement.{Statement}
@@ -14,16 +14,16 @@ use Rattle.vs_process.specs.Landings.{todo_behind}
 use Rattle.vs_process.specs.Places.{perform, turns, Todo, active_at, ended, flat, start_place, todo_of}
 use Rattle.vs_process.specs.Steps.{Next, after, wait}
 use Rattle.vs_process.specs.Ways.{Pause, none, delay, event, next_by}
-use Rattle.vs_process.specs.Maps.{statement_pause, todo_pause, tos_by}
+use Rattle.vs_process.specs.Maps.{statement_pause, todo_pause}
 use Rattle.vs_process.specs.Stops.{Stop, stop_at, stop_statement, stops_tos, stops_behind, next_statement, IsText}
-use Rattle.vs_rules.specs.Points.{Among, Goes, Point, first_todo}
-use Rattle.vs_rules.specs.Paths.{Path, IsPoint, any_way, is_plain, is_zero_time}
+use Rattle.vs_rules.specs.Points.{Among, Goes, Point, first_todo, nexts_by, todo_turns}
+use Rattle.vs_rules.specs.Paths.{PathBy, IsPoint, any_way, is_plain, is_zero_time}
 use Rattle.vs_graph.specs.Reached.{Reached, begins, goes_on}
 use Rattle.vs_maps.specs.declared.along.Along.{Along}
-use Rattle.vs_maps.specs.declared.along.Along.TheVariants.{Any, Plain, ZeroTime}
+use Rattle.vs_maps.specs.declared.along.Along.TheVariants.{Any, Plain, Turned, ZeroTime}
 use Rattle.vs_maps.specs.Laws.{Alike}
-use Rattle.vs_maps.specs.Reaches.{passes, pause_of, stops_along, IsPlace}
-use Rattle.vs_maps.proofs.Join.{go, gone, only, head_in, behind_next, point_on, point_back, path_on, path_back}
+use Rattle.vs_maps.specs.Reaches.{is_turned, passes, pause_of, plain_by, statement_turns, stops_along, tos_by_turn, IsPlace}
+use Rattle.vs_maps.proofs.Join.{go, gone, only, head_in, behind_next, point_on, point_back, path_on, path_back, tos_along}
 
 -- the same edges lead to the same
 pub reached_same : (f g : ℕ → List ℕ) (seeds : List ℕ) → ((p : ℕ) → f p ≡ g p) → (k : ℕ) → Reached f seeds k → Reached g seeds k
@@ -39,13 +39,26 @@ pause_is (turns n s ∷ rest) = refl
 pub pause_here : (body : Statement) (stops : List Stop) (start : ℕ) (t : IsText body stops start) (p : ℕ) → todo_pause (t.at p) ≡ pause_of (stop_statement (stop_at stops p))
 pause_here body stops start t p = pause_is (t.at p) ∙ ap pause_of (t.says p)
 
-pub along_is : (body : Statement) (stops : List Stop) (start : ℕ) (t : IsText body stops start) (along : Along) (p : ℕ) → stops_along along stops p ≡ tos_by (passes along) t.at (stops_tos stops) p
-along_is body stops start t along p = ap (λ (x : Pause). if passes along x then stops_tos stops p else []) (sym (pause_here body stops start t p))
+turns_is : (k : Todo) → todo_turns k ≡ statement_turns (next_statement k)
+turns_is [] = refl
+turns_is (perform s ∷ rest) = refl
+turns_is (turns n s ∷ rest) = refl
+
+-- whether there surely is a turn
+pub turns_here : (body : Statement) (stops : List Stop) (start : ℕ) (t : IsText body stops start) (p : ℕ) → todo_turns (t.at p) ≡ statement_turns (stop_statement (stop_at stops p))
+turns_here body stops start t p = turns_is (t.at p) ∙ ap statement_turns (t.says p)
+
+pub along_is : (body : Statement) (stops : List Stop) (start : ℕ) (t : IsText body stops start) (along : Along) (p : ℕ) →
+    stops_along along stops p ≡ tos_along (is_turned along) (passes along) t.at (stops_tos stops) p
+along_is body stops start t along p =
+    ap (λ (x : Pause). if passes along x then tos_by_turn (is_turned along && statement_turns (stop_statement (stop_at stops p))) (stops_tos stops p) else []) (sym (pause_here body stops start t p))
+    ∙ ap (λ (x : Bool). if passes along (todo_pause (t.at p)) then tos_by_turn (is_turned along && x) (stops_tos stops p) else []) (sym (turns_here body stops start t p))
 
 -- which ways of a text count
 abbrev pub ok_of : Along → Next → Bool
 ok_of Any = any_way
 ok_of Plain = is_plain
+ok_of Turned = is_plain
 ok_of ZeroTime = is_zero_time
 
 pub alike : (along : Along) → Alike (ok_of along) (passes along)
@@ -55,24 +68,40 @@ alike Any (event number terms) l = refl
 alike Plain none l = refl
 alike Plain (delay number ticks) l = refl
 alike Plain (event number terms) l = refl
+alike Turned none l = refl
+alike Turned (delay number ticks) l = refl
+alike Turned (event number terms) l = refl
 alike ZeroTime none l = refl
 alike ZeroTime (delay number ticks) l = refl
 alike ZeroTime (event number terms) l = refl
 
 -- ---- walks and paths
 
-pub walk_back : (body : Statement) (stops : List Stop) (start : ℕ) (t : IsText body stops start) (along : Along) (p q : ℕ) → Reached (stops_along along stops) (p ∷ []) q →
-    Path (ok_of along) (t.at p) (t.at q)
-walk_back body stops start t along p q h =
-    let y = path_back (flat body) t.at start (stops_behind stops) (stops_tos stops) (ok_of along) (passes along) t.is_map (alike along) (p ∷ []) q
-    (reached_same (stops_along along stops) (tos_by (passes along) t.at (stops_tos stops)) (p ∷ []) (along_is body stops start t along) q h) in
-    subst (λ (a : ℕ). Path (ok_of along) (t.at a) (t.at q)) (sym (only p y.0 y.1)) y.2
+-- a path along the ways that count
+abbrev pub PathAlong : Along → Todo → Todo → Type 0
+PathAlong along k l = PathBy (nexts_by (is_turned along)) (ok_of along) k l
 
-pub walk_on : (body : Statement) (stops : List Stop) (start : ℕ) (t : IsText body stops start) (along : Along) (p : ℕ) (l : Todo) → Path (ok_of along) (t.at p) l →
+pub walk_back : (body : Statement) (stops : List Stop) (start : ℕ) (t : IsText body stops start) (along : Along) (p q : ℕ) → Reached (stops_along along stops) (p ∷ []) q →
+    PathAlong along (t.at p) (t.at q)
+walk_back body stops start t along p q h =
+    let y = path_back (flat body) t.at start (stops_behind stops) (stops_tos stops) (is_turned along) (ok_of along) (passes along) t.is_map (alike along) (p ∷ []) q
+    (reached_same (stops_along along stops) (tos_along (is_turned along) (passes along) t.at (stops_tos stops)) (p ∷ []) (along_is body stops start t along) q h) in
+    subst (λ (a : ℕ). PathAlong along (t.at a) (t.at q)) (sym (only p y.0 y.1)) y.2
+
+pub walk_on : (body : Statement) (stops : List Stop) (start : ℕ) (t : IsText body stops start) (along : Along) (p : ℕ) (l : Todo) → PathAlong along (t.at p) l →
     (q : ℕ) × Reached (stops_along along stops) (p ∷ []) q × (t.at q ≡ l)
 walk_on body stops start t along p l h =
-    let y = path_on (flat body) t.at start (stops_behind stops) (stops_tos stops) (ok_of along) (passes along) t.is_map (alike along) (p ∷ []) p (head_in p []) l h in
-    (y.0, reached_same (tos_by (passes along) t.at (stops_tos stops)) (stops_along along stops) (p ∷ []) (λ p. sym (along_is body stops start t along p)) y.0 y.1, y.2)
+    let y = path_on (flat body) t.at start (stops_behind stops) (stops_tos stops) (is_turned along) (ok_of along) (passes along) t.is_map (alike along) (p ∷ []) p (head_in p []) l h in
+    (y.0, reached_same (tos_along (is_turned along) (passes along) t.at (stops_tos stops)) (stops_along along stops) (p ∷ []) (λ p. sym (along_is body stops start t along p)) y.0 y.1, y.2)
+
+-- a path from control to control
+pub plain_on : (wide : Bool) (k l : Todo) → PathBy (nexts_by wide) is_plain k l → PathAlong (plain_by wide) k l
+plain_on false k l h = h
+plain_on true k l h = h
+
+pub plain_back : (wide : Bool) (k l : Todo) → PathAlong (plain_by wide) k l → PathBy (nexts_by wide) is_plain k l
+plain_back false k l h = h
+plain_back true k l h = h
 
 -- ---- of a process
 
@@ -102,14 +131,14 @@ place_back d i q stops start t is p h =
 
 -- from the start, along some ways
 pub from_on : (d : Parts) (i : ℕ) (q : Process) (stops : List Stop) (start : ℕ) (t : IsText q.body stops start) → slice_get d.processes i ≡ Some q → (along : Along) (k : Todo) →
-    Path (ok_of along) (first_todo d i) k → (p : ℕ) × Reached (stops_along along stops) (start ∷ []) p × (t.at p ≡ k)
+    PathAlong along (first_todo d i) k → (p : ℕ) × Reached (stops_along along stops) (start ∷ []) p × (t.at p ≡ k)
 from_on d i q stops start t is along k h =
-    walk_on q.body stops start t along start k (subst (λ (f : Todo). Path (ok_of along) f k) (begins_with d i q is ∙ sym t.is_map.start_is) h)
+    walk_on q.body stops start t along start k (subst (λ (f : Todo). PathAlong along f k) (begins_with d i q is ∙ sym t.is_map.start_is) h)
 
 pub from_back : (d : Parts) (i : ℕ) (q : Process) (stops : List Stop) (start : ℕ) (t : IsText q.body stops start) → slice_get d.processes i ≡ Some q → (along : Along) (p : ℕ) →
-    Reached (stops_along along stops) (start ∷ []) p → Path (ok_of along) (first_todo d i) (t.at p)
+    Reached (stops_along along stops) (start ∷ []) p → PathAlong along (first_todo d i) (t.at p)
 from_back d i q stops start t is along p h =
-    subst (λ (f : Todo). Path (ok_of along) f (t.at p)) (t.is_map.start_is ∙ sym (begins_with d i q is)) (walk_back q.body stops start t along start p h)
+    subst (λ (f : Todo). PathAlong along f (t.at p)) (t.is_map.start_is ∙ sym (begins_with d i q is)) (walk_back q.body stops start t along start p h)
 
 -- ---- one step
 

@@ -1,15 +1,15 @@
 -- Walks once a way of some sort has been gone.
-use Rattle.std.proofs.Common.{◌≡◌, ℕ, suc, ◌<◌, ◌↔◌, Bool, false, IsTrue, List, [], ◌∷◌, length, slice_index_or, refl, sym, subst}
+use Rattle.std.proofs.Common.{◌≡◌, ℕ, suc, ◌<◌, ◌↔◌, ◌&&◌, Bool, false, IsTrue, List, [], ◌∷◌, length, slice_index_or, refl, sym, subst}
 use Rattle.std.specs.List.{Contains}
 use Rattle.std.proofs.lemmas.List.{length-map}
 use Rattle.vs_process.specs.declared.stops.TextMap as h
 use Rattle.vs_process.specs.Stops.{LeadsIn, stop_at, stop_statement, stops_tos, stops_behind, stop_view}
 use Rattle.vs_graph.specs.Reached.{Reached, AreReached, begins, goes_on}
 use Rattle.vs_maps.specs.declared.along.Along.{Along}
-use Rattle.vs_maps.specs.Reaches.{Chart, IsPlace, chart_of, places, statement_passes, stops_along, stops_steps}
+use Rattle.vs_maps.specs.Reaches.{Chart, IsPlace, chart_of, is_turned, places, statement_passes, statement_turns, stops_along, stops_steps, tos_by_turn}
 use Rattle.vs_maps.specs.Inside.{steps_in}
 use Rattle.vs_maps.specs.Walks.{WalkFrom, AreMarked, AreSeeds, IsBefore}
-use Rattle.vs_maps.proofs.Join.{only, head_in, tail_in, true_if}
+use Rattle.vs_maps.proofs.Join.{by_turn_in, only, head_in, tail_in, true_if}
 
 -- ---- places
 
@@ -35,8 +35,9 @@ places_in x t is starts leads =
 walked : (t : Chart) (along : Along) (to : ℕ) → IsPlace t to → (p : ℕ) → Reached (stops_along along t.stops) (to ∷ []) p → IsPlace t p
 walked t along to h _ (begins a c) = subst (IsPlace t) (only to a c) h
 walked t along to h _ (goes_on a b r c) =
+    let first = is_turned along && statement_turns (stop_statement (stop_at t.stops a)) in
     goes_on a b (walked t along to h a r) (tail_in (stops_behind t.stops a) b (stops_tos t.stops a)
-    (true_if (statement_passes along (stop_statement (stop_at t.stops a))) (stops_tos t.stops a) b c).1)
+    (by_turn_in first (stops_tos t.stops a) b (true_if (statement_passes along (stop_statement (stop_at t.stops a))) (tos_by_turn first (stops_tos t.stops a)) b c).1))
 
 -- from the start they do
 pub start_walked : (t : Chart) (along : Along) (p : ℕ) → Reached (stops_along along t.stops) (t.start ∷ []) p → IsPlace t p

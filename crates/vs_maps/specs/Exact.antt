@@ -9,11 +9,11 @@ use Rattle.vs_process.specs.Numbers.{number_next}
 use Rattle.vs_process.specs.Ways.{next_by}
 use Rattle.vs_process.specs.Stops.{Stop, stop_at, stop_statement, stops_tos, IsText}
 use Rattle.vs_graph.specs.Reached.{Reached}
-use Rattle.vs_rules.specs.Claims.{Claims, kind_of}
+use Rattle.vs_rules.specs.Claims.{Claims, is_wide, kind_of}
 use Rattle.vs_rules.specs.Paths.{IsPoint, IsSlot0, IsPrologue, IsLate, IsHot, WritesNow, is_plain}
 use Rattle.vs_rules.specs.Slots.{Ends, HasSlot}
-use Rattle.vs_maps.specs.declared.along.Along.TheVariants.{Any, Plain, ZeroTime}
-use Rattle.vs_maps.specs.Reaches.{Chart, IsPlace, InSlot0, InPrologue, pause_of, stops_along}
+use Rattle.vs_maps.specs.declared.along.Along.TheVariants.{Any, ZeroTime}
+use Rattle.vs_maps.specs.Reaches.{Chart, IsPlace, InSlot0, InPrologue, pause_of, plain_by, stops_along}
 
 -- a way of this sort leads to the place, from a place of a chart that is a point
 pub record Begins (t : Chart) (at : ℕ → Todo) (sort : Todo → Next → Type 0) (seed : ℕ) : Type 0 where
@@ -36,7 +36,7 @@ pub record IsExact (d : Parts) (i : ℕ) (t : Chart) (at : ℕ → Todo) : Type 
   pub hot : (v : ℕ) (seeds : List ℕ) → AreBegun t at (λ k next. WritesNow d k v) seeds → (p n : ℕ) → number_next (at p) ≡ Some n →
       (Reached (stops_along ZeroTime t.stops) seeds p ↔ IsHot d i v (at p))
   pub slots : (c : Claims) (r : ℕ) (seeds : List ℕ) → AreBegun t at (λ k next. Ends d c i (kind_of d c i) next r) seeds →
-      (p n : ℕ) → number_next (at p) ≡ Some n → (Reached (stops_along Plain t.stops) seeds p ↔ HasSlot d c i (at p) r)
+      (p n : ℕ) → number_next (at p) ≡ Some n → (Reached (stops_along (plain_by (is_wide c)) t.stops) seeds p ↔ HasSlot d c i (at p) r)
 
 abbrev pub TextsAreExact : Type 0
 TextsAreExact = (d : Parts) (i : ℕ) (q : Process) (stops : List Stop) (start : ℕ) → slice_get d.processes i ≡ Some q →

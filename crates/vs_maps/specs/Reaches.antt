@@ -1,5 +1,5 @@
 -- What walks on a map lead to.
-use Rattle.std.specs.Prelude.{ℕ, suc, ◌≡◌, ◌<◌, ◌==◌, Bool, true, false, Option, Some, None, List, [], ◌∷◌, length, map, if◌then◌else◌}
+use Rattle.std.specs.Prelude.{ℕ, suc, ◌≡◌, ◌<◌, ◌==◌, ◌&&◌, Bool, true, false, Option, Some, None, List, [], ◌∷◌, length, map, if◌then◌else◌}
 use Rattle.vs_design.specs.declared.statement.Statement.{Statement}
 use Rattle.vs_design.specs.declared.statement.Statement.TheViews.{out-Statement}
 use Rattle.vs_process.specs.Ways.{Pause, none, delay, event}
@@ -9,8 +9,9 @@ use Rattle.vs_process.specs.declared.stops.Stop as k
 use Rattle.vs_process.specs.declared.stops.TextMap as h
 use Rattle.vs_process.specs.Stops.{LeadsIn, Stop, stop_view, stop_at, stop_statement, stops_tos, stops_behind}
 use Rattle.vs_graph.specs.Reached.{Reached, AreReached}
+use Rattle.vs_rules.specs.Points.{first_alone, surely_turns}
 use Rattle.vs_maps.specs.declared.along.Along.{Along}
-use Rattle.vs_maps.specs.declared.along.Along.TheVariants.{Any, Plain, ZeroTime}
+use Rattle.vs_maps.specs.declared.along.Along.TheVariants.{Any, Plain, Turned, ZeroTime}
 use Rattle.vs_maps.specs.declared.pauses.Pause as p
 use Rattle.vs_maps.specs.declared.pauses.Pause.TheVariants as pauses
 
@@ -19,9 +20,11 @@ abbrev pub passes : Along → Pause → Bool
 passes along none = true
 passes Any (delay number ticks) = true
 passes Plain (delay number ticks) = false
+passes Turned (delay number ticks) = false
 passes ZeroTime (delay number ticks) = ticks == 0
 passes Any (event number terms) = true
 passes Plain (event number terms) = false
+passes Turned (event number terms) = false
 passes ZeroTime (event number terms) = false
 
 -- how all ways from a statement go on; where there is none, through no control
@@ -32,9 +35,35 @@ pause_of (Some s) = statement_pause (out-Statement s)
 abbrev pub statement_passes : Along → Option Statement → Bool
 statement_passes along s = passes along (pause_of s)
 
+-- whether of the ways from a turn that is sure the first alone counts
+abbrev pub is_turned : Along → Bool
+is_turned Turned = true
+is_turned _ = false
+
+-- whether a statement surely has a turn
+abbrev pub statement_turns : Option Statement → Bool
+statement_turns None = false
+statement_turns (Some s) = surely_turns (out-Statement s)
+
+-- all ways, or the first alone
+abbrev pub tos_by_turn : Bool → List ℕ → List ℕ
+tos_by_turn first tos = if first then first_alone tos else tos
+
 -- where a map leads by the ways that count
 abbrev pub stops_along : Along → List Stop → ℕ → List ℕ
-stops_along along stops p = if statement_passes along (stop_statement (stop_at stops p)) then stops_tos stops p else []
+stops_along along stops p =
+    if statement_passes along (stop_statement (stop_at stops p))
+    then tos_by_turn (is_turned along && statement_turns (stop_statement (stop_at stops p))) (stops_tos stops p)
+    else []
+
+-- which ways count from control to control: in version 3 of certificates past a turn that is sure by it alone
+abbrev pub plain_by : Bool → Along
+plain_by false = Plain
+plain_by true = Turned
+
+-- whether the statement of a stop surely has a turn
+abbrev pub stop_turns : Stop → Bool
+stop_turns s = statement_turns s.statement
 
 -- where it leads by all its ways, and by leaving out what is done at a place
 abbrev pub stops_steps : List Stop → ℕ → List ℕ
@@ -87,10 +116,11 @@ pub record Mark (nexts : ℕ → List ℕ) (seeds : List ℕ) (n : ℕ) (marks :
   pub long : length marks ≡ n
   pub exact : AreReached nexts seeds n marks
 
--- the places are as many, lead to each other alone, and are marked so
-pub record AreTables (n : ℕ) (t : Chart) (points slot0 prologue : List Bool) : Type 0 where
+-- the places are as many, lead to each other alone, and are marked so; and so are the stops that surely have a turn
+pub record AreTables (n : ℕ) (t : Chart) (turns points slot0 prologue : List Bool) : Type 0 where
   pub starts_in : t.start < n
   pub leads_in : LeadsIn n t.stops
+  pub turns_are : turns ≡ map stop_turns t.stops
   pub points_are : Mark (stops_steps t.stops) (t.start ∷ []) n points
   pub slot0_are : Mark (stops_along ZeroTime t.stops) (t.start ∷ []) n slot0
   pub prologue_are : Mark (stops_along Plain t.stops) (t.start ∷ []) n prologue

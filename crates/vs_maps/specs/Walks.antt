@@ -5,7 +5,7 @@ use Rattle.vs_process.specs.Stops.{stops_tos}
 use Rattle.vs_process.specs.Ways.{Pause, none, delay}
 use Rattle.vs_graph.specs.Reached.{Reached}
 use Rattle.vs_maps.specs.declared.along.Along.{Along}
-use Rattle.vs_maps.specs.declared.along.Along.TheVariants.{Any, Plain, ZeroTime}
+use Rattle.vs_maps.specs.declared.along.Along.TheVariants.{Any, ZeroTime}
 use Rattle.vs_maps.specs.Reaches.{Chart, IsPlace, pause_at, stops_along}
 use Rattle.vs_maps.specs.Ranges.{HasSignal, now_at}
 
@@ -39,9 +39,9 @@ InHot t v p = WalkFrom t ZeroTime (λ q. HasSignal (now_at t q) v) p
 abbrev pub IsBefore : Chart → Along → (ℕ → Type 0) → ℕ → ℕ → Type 0
 IsBefore t along sort q p = WalkFrom t along (λ x. (x ≡ q) × sort x) p
 
--- one without a further control does from the control at this place
-abbrev pub IsControlBefore : Chart → ℕ → ℕ → Type 0
-IsControlBefore t q p = IsBefore t Plain (HasControl t) q p
+-- one along ways that count does from the control at this place
+abbrev pub IsControlBefore : Chart → Along → ℕ → ℕ → Type 0
+IsControlBefore t along q p = IsBefore t along (HasControl t) q p
 
 -- whether a pause is a delay of more than zero ticks
 abbrev pub takes_time : Pause → Bool

@@ -12,10 +12,11 @@ mod ranges;
 mod readings;
 mod sites;
 mod tables;
+mod turns;
 mod uses;
 mod walks;
 
-pub use along::Along;
+pub use along::{Along, plain_by};
 pub use delays::controls;
 pub use families::push_signals;
 pub use laws::{maps_are_exact, texts_are_exact};

@@ -1,10 +1,10 @@
 //! What walks on a map lead to.
-ghost use Rattle.std.specs.Prelude.{ℕ, ◌≡◌, ◌<◌, ◌↔◌, ◌++◌, ◌∷◌, [], suc, map, length, IfOk, OnOk, List};
+ghost use Rattle.std.specs.Prelude.{ℕ, ◌≡◌, ◌<◌, ◌↔◌, ◌++◌, ◌&&◌, ◌∷◌, [], suc, map, length, IfOk, OnOk, List};
 ghost use Rattle.std.specs.List.{Contains};
-ghost use Rattle.vs_process.specs.Stops.{LeadsIn, stop_view, stop_at};
+ghost use Rattle.vs_process.specs.Stops.{LeadsIn, stop_view, stop_at, stop_statement};
 ghost use Rattle.vs_graph.specs.Reached.{Reached, AreReached};
 ghost use Rattle.vs_graph.specs.Clear.{AreClear};
-ghost use Rattle.vs_maps.specs.Reaches.{stops_along, stops_steps, stop_seen};
+ghost use Rattle.vs_maps.specs.Reaches.{is_turned, statement_turns, stop_turns, stops_along, stops_steps, stop_seen, tos_by_turn};
 ghost use Rattle.vs_maps.specs.Inside.{along_in, steps_in};
 
 use crate::along::Along;
@@ -13,12 +13,14 @@ use std::alloc::{AllocError, Global};
 use vs_graph::{Graph, reach, walk};
 use vs_process::Stop;
 
-/// The places of a map, and those to which it leads from each by the ways that count.
+/// The places of a map, which of its stops surely have a turn, and the ways that count.
 #[derive(Drop)]
 struct Ways<'a> {
     stops: &'a [Stop<'a>],
+    turns: &'a [bool],
     along: Along,
     ghost within: { LeadsIn (suc (length stops.now)) (map stop_view stops.now) },
+    ghost turns_are: { turns.now ≡ map stop_turns (map stop_view stops.now) },
 }
 
 /// The stop at a place, where there is one: place 0 is the end, and the others are numbered from 1 on.
@@ -32,6 +34,46 @@ pub(crate) fn stop_at<'a>(stops: &'a [Stop<'a>], place: usize) -> Option<&'a Sto
         return None;
     }
     Some(&stops[place - 1])
+}
+
+// Whether of the ways from a turn that is sure the first alone counts.
+fn is_turned(along: Along) -> bool
+    ensures { result ≡ is_turned along }
+{
+    match along {
+        Along::Turned => true,
+        Along::Any | Along::Plain | Along::ZeroTime => false,
+    }
+}
+
+// All ways, or the first alone.
+fn tos_by_turn<'a>(first: bool, tos: &'a [usize]) -> &'a [usize]
+    ensures { result.now ≡ tos_by_turn first tos.entry.now }
+{
+    if first && tos.len() > 1 {
+        &tos[..1]
+    } else {
+        tos
+    }
+}
+
+impl<'a> Ways<'a> {
+    // Whether of the ways from a place the first alone counts.
+    fn is_by_turn(&self, place: usize) -> bool
+        ensures { result ≡
+            (is_turned self.now.along && statement_turns (stop_statement (stop_at (map stop_view self.now.stops.now) place))) }
+    {
+        if !is_turned(self.along) {
+            return false;
+        }
+        if place == 0 {
+            return false;
+        }
+        if place > self.turns.len() {
+            return false;
+        }
+        self.turns[place - 1]
+    }
 }
 
 impl<'a> Graph for Ways<'a> {
@@ -48,7 +90,7 @@ impl<'a> Graph for Ways<'a> {
             None => todo.push(0)?,
             Some(stop) => {
                 if passes(self.along, pause_of(stop.statement)) {
-                    todo.extend_from_slice(&stop.tos)?;
+                    todo.extend_from_slice(tos_by_turn(self.is_by_turn(node), &stop.tos))?;
                 }
             }
         }
@@ -63,16 +105,22 @@ impl<'a> Graph for Ways<'a> {
 pub(crate) fn places_along<'a>(
     alloc: Global,
     stops: &'a [Stop<'a>],
+    turns: &'a [bool],
     along: Along,
     seeds: &[usize],
 ) -> Result<Vec<bool>, AllocError>
     requires within { LeadsIn (suc (length stops.now)) (map stop_view stops.now) }
+    requires turns { turns.now ≡ map stop_turns (map stop_view stops.now) }
     requires seeds { (s : ℕ) → Contains seeds.now s → s < suc (length stops.now) }
     ensures len { IfOk result (λ marks. length marks.items ≡ suc (length stops.entry.now)) }
     ensures exact { IfOk result (λ marks.
         AreReached (stops_along along (map stop_view stops.entry.now)) seeds.now (suc (length stops.entry.now)) marks.items) }
 {
-    let ways = Ways { stops, along };
+    let ways = Ways {
+        stops,
+        turns,
+        along,
+    };
     let marks = reach(alloc, &ways, seeds)?;
     Ok(marks)
 }
@@ -82,18 +130,24 @@ pub(crate) fn places_along<'a>(
 pub(crate) fn places_from<'a>(
     alloc: Global,
     stops: &'a [Stop<'a>],
+    turns: &'a [bool],
     along: Along,
     seeds: &[usize],
     marks: &mut Vec<bool>,
 ) -> Result<Vec<usize>, AllocError>
     requires within { LeadsIn (suc (length stops.now)) (map stop_view stops.now) }
+    requires turns { turns.now ≡ map stop_turns (map stop_view stops.now) }
     requires seeds { (s : ℕ) → Contains seeds.now s → s < suc (length stops.now) }
     requires marks { AreClear (suc (length stops.now)) marks.old.items }
     ensures clear { OnOk result (AreClear (suc (length stops.entry.now)) marks.new.items) }
     ensures exact { IfOk result (λ places. (p : ℕ) →
         (Contains places.items p ↔ Reached (stops_along along (map stop_view stops.entry.now)) seeds.now p)) }
 {
-    let ways = Ways { stops, along };
+    let ways = Ways {
+        stops,
+        turns,
+        along,
+    };
     let places = walk(alloc, &ways, seeds, marks)?;
     Ok(places)
 }

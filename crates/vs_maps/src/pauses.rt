@@ -48,7 +48,7 @@ pub(crate) fn passes(along: Along, pause: Pause) -> bool
         Pause::Nothing => true,
         Pause::Delay(_, ticks) => match along {
             Along::Any => true,
-            Along::Plain => false,
+            Along::Plain | Along::Turned => false,
             Along::ZeroTime => ticks == 0,
         },
         Pause::Event(_, _) => along == Along::Any,

@@ -5,6 +5,7 @@ ghost use Rattle.std.specs.List.{Contains};
 use crate::along::Along;
 use crate::paths::{places_along, places_from, points, stop_at};
 use crate::pauses::{Pause, pause_of};
+use crate::turns::turns_of;
 use std::alloc::{AllocError, Global};
 use std::marker::Model;
 use vs_process::{Stop, TextMap};
@@ -13,6 +14,7 @@ use vs_process::{Stop, TextMap};
 #[derive(Drop)]
 pub struct Tables<'a> {
     text: &'a TextMap<'a>,
+    turns: Vec<bool>,
     points: Vec<bool>,
     slot0: Vec<bool>,
     prologue: Vec<bool>,
@@ -31,7 +33,7 @@ impl<'a> Model for Tables<'a> {
     ghost view = { λ t. chart_of t.text.now };
 
     ghost invariant = { λ t.
-        AreTables (suc (length t.text.now.stops.items)) (chart_of t.text.now) t.points.items t.slot0.items t.prologue.items };
+        AreTables (suc (length t.text.now.stops.items)) (chart_of t.text.now) t.turns.items t.points.items t.slot0.items t.prologue.items };
 }
 
 impl<'a> Tables<'a> {
@@ -47,11 +49,13 @@ impl<'a> Tables<'a> {
         requires start { text.now.start < places (chart_of text.now) }
         ensures { IfOk result (λ t. t ≡ chart_of text.entry.now) }
     {
+        let turns = turns_of(alloc, &text.stops)?;
         let points = points(alloc, &text.stops, text.start)?;
-        let slot0 = places_along(alloc, &text.stops, Along::ZeroTime, &[text.start])?;
-        let prologue = places_along(alloc, &text.stops, Along::Plain, &[text.start])?;
+        let slot0 = places_along(alloc, &text.stops, &turns, Along::ZeroTime, &[text.start])?;
+        let prologue = places_along(alloc, &text.stops, &turns, Along::Plain, &[text.start])?;
         Ok(Tables {
             text,
+            turns,
             points,
             slot0,
             prologue,
@@ -138,7 +142,7 @@ impl<'a> Tables<'a> {
         ensures len { IfOk result (λ marks. length marks.items ≡ places self.now) }
         ensures exact { IfOk result (λ marks. AreReached (stops_along along self.now.stops) seeds.now (places self.now) marks.items) }
     {
-        places_along(alloc, &self.text.stops, along, seeds)
+        places_along(alloc, &self.text.stops, &self.turns, along, seeds)
     }
 
     /// The same places as a list. It takes as long as they are and their ways: the marks, of which none is set, are as they were at the end.
@@ -154,6 +158,6 @@ impl<'a> Tables<'a> {
         ensures clear { OnOk result (AreClear (places self.now) marks.new.items) }
         ensures exact { IfOk result (λ all. (p : ℕ) → (Contains all.items p ↔ Reached (stops_along along self.now.stops) seeds.now p)) }
     {
-        places_from(alloc, &self.text.stops, along, seeds, marks)
+        places_from(alloc, &self.text.stops, &self.turns, along, seeds, marks)
     }
 }

@@ -218,14 +218,18 @@ fn rows_before<'a, R: Rule>(
     Ok(table)
 }
 
-/// For each place the controls from which a walk without a further control leads to it. It takes as long as these rows are, and the ways of their
+/// For each place the controls from which a walk along the ways that count leads to it. It takes as long as these rows are, and the ways of their
 /// places.
-pub fn controls_before<'a>(alloc: Global, tables: &'a Tables<'a>) -> Result<Rows<usize>, AllocError>
+pub fn controls_before<'a>(
+    alloc: Global,
+    tables: &'a Tables<'a>,
+    along: Along,
+) -> Result<Rows<usize>, AllocError>
     ensures len { IfOk result (λ table. length table ≡ places tables.entry.now) }
     ensures exact { IfOk result (λ table.
-        AreRows (IsControlBefore tables.entry.now) (places tables.entry.now) (places tables.entry.now) table) }
+        AreRows (IsControlBefore tables.entry.now along) (places tables.entry.now) (places tables.entry.now) table) }
 {
-    rows_before(alloc, tables, Along::Plain, &Controls { tables })
+    rows_before(alloc, tables, along, &Controls { tables })
 }
 
 /// For each place the delay controls of more than zero ticks from which a walk that takes no time leads to it. It takes as long as these rows are,

@@ -6,7 +6,7 @@ use crate::plans::{EdgePlan, KindPlan, Plan, SignalPlan};
 use crate::vs_certificate::{
     Certificate, ClaimedGrain, ClaimedKind, EdgeSignal, ProcessEntry, Rules, SignalEntry, Version,
 };
-use crate::{Firings, text_lists, text_of};
+use crate::{Firings, Second, text_lists, text_of};
 use std::alloc::{AllocError, Global};
 use vs_design::{Design, Process, Signal};
 
@@ -72,6 +72,14 @@ fn ordered(alloc: Global, design: &Design, order: &[usize]) -> Result<Vec<String
     Ok(names)
 }
 
+// The number of a second that may be there.
+fn process_of(second: Option<Second>) -> Option<usize> {
+    match second {
+        None => None,
+        Some(second) => Some(second.process),
+    }
+}
+
 // The entry of a signal.
 fn signal_entry(
     alloc: Global,
@@ -82,7 +90,7 @@ fn signal_entry(
     Ok(SignalEntry {
         mode: plan.mode,
         name: text_of(alloc, &signal.path)?,
-        second: process_name(alloc, design, plan.second)?,
+        second: process_name(alloc, design, process_of(plan.second))?,
         writer: process_name(alloc, design, plan.writer)?,
     })
 }

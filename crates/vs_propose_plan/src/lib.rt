@@ -25,5 +25,6 @@ pub use vs_certificate;
 pub use vs_drivers;
 pub use vs_graph;
 pub use vs_propose_texts::{
-    Firings, SignalWrite, TextFacts, TextKind, Timing, common_divisor, text_facts, text_lists,
+    Firings, Second, SignalWrite, TextFacts, TextKind, Timing, common_divisor, text_facts,
+    text_lists,
 };

@@ -4,7 +4,7 @@ use crate::plans::SignalPlan;
 use crate::readers::{Readers, is_private, readers_of};
 use crate::vs_certificate::{Rules, SignalMode};
 use crate::writers::Writer;
-use crate::{TextFacts, TextKind};
+use crate::{Second, TextFacts, TextKind};
 use std::alloc::{AllocError, Global};
 use vs_design::{Design, SignalKind};
 
@@ -74,11 +74,14 @@ fn unwritten(kind: SignalKind) -> SignalPlan {
     }
 }
 
-// The process of a writer that may be there.
-fn process_of(writer: Option<Writer>) -> Option<usize> {
+// What the process that writes a signal at the start alone does, where there is one.
+fn second_of(writer: Option<Writer>) -> Option<Second> {
     match writer {
         None => None,
-        Some(w) => Some(w.process),
+        Some(w) => Some(Second {
+            process: w.process,
+            digit: w.digit,
+        }),
     }
 }
 
@@ -101,7 +104,7 @@ fn signal_plan(
             SignalPlan {
                 mode,
                 writer: Some(writer.process),
-                second: process_of(second),
+                second: second_of(second),
                 is_new: mode == SignalMode::Blocking && kind == TextKind::Edge,
             }
         }

@@ -6,7 +6,7 @@ use crate::modes::signal_plans;
 use crate::starts::kind_plans;
 use crate::vs_certificate::{Rules, SignalMode, Start};
 use crate::writers::writers_of;
-use crate::{TextFacts, text_facts};
+use crate::{Second, TextFacts, text_facts};
 use std::alloc::{AllocError, Global};
 use vs_design::Design;
 
@@ -18,7 +18,7 @@ pub struct SignalPlan {
     /// The process that writes it.
     pub writer: Option<usize>,
     /// The process that writes it at the start alone.
-    pub second: Option<usize>,
+    pub second: Option<Second>,
     /// Whether version 1 has no such claim.
     pub is_new: bool,
 }

@@ -2,6 +2,7 @@
 
 use crate::{SignalWrite, TextFacts};
 use std::alloc::{AllocError, Global};
+use vs_design::vs_logic4::Digit;
 
 /// What a process does to a signal.
 #[derive(Clone, Copy)]
@@ -18,6 +19,8 @@ pub(crate) struct Writer {
     pub(crate) is_first_later: bool,
     /// Whether it writes it once a control has been passed.
     pub(crate) is_late: bool,
+    /// The 0 or 1 that each of its writes gives the signal's lowest bit, where each is a `=` of this constant.
+    pub(crate) digit: Option<Digit>,
 }
 
 // What one write of a process does.
@@ -29,6 +32,16 @@ fn writer_of(process: usize, write: SignalWrite) -> Writer {
         is_first_now: write.is_first && !write.is_later,
         is_first_later: write.is_first && write.is_later,
         is_late: write.is_late,
+        digit: write.digit,
+    }
+}
+
+// A digit, where both of two are it.
+fn alike(a: Option<Digit>, b: Option<Digit>) -> Option<Digit> {
+    match (a, b) {
+        (Some(Digit::Zero), Some(Digit::Zero)) => Some(Digit::Zero),
+        (Some(Digit::One), Some(Digit::One)) => Some(Digit::One),
+        _ => None,
     }
 }
 
@@ -41,6 +54,7 @@ fn both(a: Writer, b: Writer) -> Writer {
         is_first_now: a.is_first_now || b.is_first_now,
         is_first_later: a.is_first_later || b.is_first_later,
         is_late: a.is_late || b.is_late,
+        digit: alike(a.digit, b.digit),
     }
 }
 

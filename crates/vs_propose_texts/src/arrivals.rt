@@ -1,6 +1,7 @@
 //! How a text comes to each place of its map.
 
 use crate::firing::Firings;
+use crate::turns::sure_turns;
 use crate::vs_certificate::Rules;
 use std::alloc::{AllocError, Global};
 use vs_design::{EventTerm, Statement};
@@ -70,6 +71,23 @@ pub(crate) fn delayed(arrival: Arrival, ticks: u64, modulus: u64) -> Arrival {
     }
 }
 
+// Whether a text comes so from a control.
+fn is_later(arrival: Arrival) -> bool {
+    match arrival {
+        Arrival::Start | Arrival::FirstSlot => false,
+        Arrival::Residue(_) | Arrival::Woken => true,
+    }
+}
+
+// All ways, or the first alone.
+fn ways_of(tos: &[usize], first: bool) -> &[usize] {
+    if first && tos.len() > 1 {
+        &tos[..1]
+    } else {
+        tos
+    }
+}
+
 // How a text that comes to a statement goes on from there.
 fn behind(statement: Option<&Statement>, arrival: Arrival, modulus: u64) -> Arrival {
     match statement {
@@ -95,9 +113,19 @@ pub(crate) fn stop_at<'a>(stops: &'a [Stop<'a>], place: usize) -> Option<&'a Sto
 struct Walk {
     rows: Vec<Vec<Arrival>>,
     todo: Vec<(usize, Arrival)>,
+    // For each stop, whether a text that comes from a control passes it by a turn alone.
+    turns: Vec<bool>,
     // How many ways to come to one place are told apart.
     most: usize,
     is_full: bool,
+}
+
+// For each stop of a map, whether a text that comes from a control passes it by a turn alone: by wide rules where it surely has one.
+fn turns_by(alloc: Global, map: &TextMap, rules: Rules) -> Result<Vec<bool>, AllocError> {
+    match rules {
+        Rules::Narrow => Ok(Vec::new(alloc)),
+        Rules::Wide => sure_turns(alloc, &map.stops),
+    }
 }
 
 // Puts a way to come into a row that ascends, where it isn't there. The answer is whether it is new; none where there are too many.
@@ -114,7 +142,12 @@ fn put(row: &mut Vec<Arrival>, arrival: Arrival, most: usize) -> Result<Option<b
 
 impl Walk {
     // A walk that has come nowhere.
-    fn new(alloc: Global, places: usize, most: usize) -> Result<Walk, AllocError> {
+    fn new(
+        alloc: Global,
+        places: usize,
+        turns: Vec<bool>,
+        most: usize,
+    ) -> Result<Walk, AllocError> {
         let mut rows = Vec::new(alloc);
         for _ in 0..places {
             rows.push(Vec::new(alloc))?;
@@ -122,6 +155,7 @@ impl Walk {
         Ok(Walk {
             rows,
             todo: Vec::new(alloc),
+            turns,
             most,
             is_full: false,
         })
@@ -181,6 +215,17 @@ impl Walk {
         Ok(())
     }
 
+    // Whether a text that comes so passes a place by a turn alone.
+    fn is_by_turn(&self, place: usize, arrival: Arrival) -> bool {
+        if place == 0 || !is_later(arrival) {
+            return false;
+        }
+        match self.turns.get(place - 1) {
+            None => false,
+            Some(sure) => *sure,
+        }
+    }
+
     // Goes on from a place.
     fn go(
         &mut self,
@@ -193,7 +238,7 @@ impl Walk {
             return Ok(());
         };
         let next = behind(stop.statement, arrival, modulus);
-        for to in &stop.tos {
+        for to in ways_of(&stop.tos, self.is_by_turn(place, arrival)) {
             self.come(*to, next)?;
         }
         Ok(())
@@ -221,7 +266,8 @@ pub(crate) fn all_arrivals(
     firings: &Firings,
 ) -> Result<Option<Arrivals>, AllocError> {
     let places = map.stops.len().saturating_add(1);
-    let mut walk = Walk::new(alloc, places, most_arrivals(rules))?;
+    let turns = turns_by(alloc, map, rules)?;
+    let mut walk = Walk::new(alloc, places, turns, most_arrivals(rules))?;
     walk.come(map.start, Arrival::Start)?;
     walk.wake_all(map, firings)?;
     for _ in 0..u64::MAX {

@@ -83,22 +83,42 @@ fn of_pair(
     }
 }
 
-// The 0 or 1 to which the second of a signal, an `initial`, sets it.
-fn set_by(
+/// The second of a signal.
+#[derive(Clone, Copy)]
+pub struct Second {
+    /// The process's number.
+    pub process: usize,
+    /// The 0 or 1 that each of its writes of the signal gives it, where each is a `=` of this constant.
+    pub digit: Option<Digit>,
+}
+
+// The 0 or 1 to which an `initial` sets a signal.
+fn set_alone(
     alloc: Global,
     design: &Design,
     v: usize,
-    second: Option<usize>,
+    process: usize,
 ) -> Result<Option<Digit>, AllocError> {
-    let Some(j) = second else {
-        return Ok(None);
-    };
-    match design.processes().get(j) {
+    match design.processes().get(process) {
         None => Ok(None),
         Some(process) => match process.kind {
             ProcessKind::Initial => sets(alloc, design, v, &process.body),
             ProcessKind::Always => Ok(None),
         },
+    }
+}
+
+// The 0 or 1 to which the second of a signal sets it; but by wide rules it does nothing else.
+fn set_by(
+    alloc: Global,
+    design: &Design,
+    rules: Rules,
+    v: usize,
+    second: Second,
+) -> Result<Option<Digit>, AllocError> {
+    match rules {
+        Rules::Narrow => set_alone(alloc, design, v, second.process),
+        Rules::Wide => Ok(second.digit),
     }
 }
 
@@ -109,12 +129,15 @@ fn of_turned(
     rules: Rules,
     v: usize,
     body: &Statement,
-    second: Option<usize>,
+    second: Option<Second>,
 ) -> Result<Option<Clock>, AllocError> {
     let Some(half) = turns_forever(design, rules, v, body) else {
         return Ok(None);
     };
-    match set_by(alloc, design, v, second)? {
+    let Some(second) = second else {
+        return Ok(None);
+    };
+    match set_by(alloc, design, rules, v, second)? {
         None => Ok(None),
         Some(digit) => Ok(Some(Clock {
             digit,
@@ -131,7 +154,7 @@ fn of_initial(
     rules: Rules,
     v: usize,
     body: &Statement,
-    second: Option<usize>,
+    second: Option<Second>,
 ) -> Result<Option<Clock>, AllocError> {
     match core_of(body) {
         Statement::Block(all) => of_pair(alloc, design, rules, v, all),
@@ -150,7 +173,7 @@ pub fn clock_by(
     rules: Rules,
     v: usize,
     writer: usize,
-    second: Option<usize>,
+    second: Option<Second>,
 ) -> Result<Option<Clock>, AllocError> {
     let Some(process) = design.processes().get(writer) else {
         return Ok(None);

@@ -9,9 +9,10 @@ mod firing;
 mod kinds;
 mod lists;
 mod periods;
+mod turns;
 mod writing;
 
-pub use clocks::clock_by;
+pub use clocks::{Second, clock_by};
 pub use facts::{TextFacts, text_facts, text_firing, text_lists};
 pub use firing::{Firing, Firings, Root, Shown, is_written};
 pub use kinds::TextKind;

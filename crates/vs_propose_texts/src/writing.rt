@@ -2,7 +2,9 @@
 
 use crate::arrivals::{Arrival, Arrivals, stop_at};
 use std::alloc::{AllocError, Global};
+use vs_design::vs_logic4::Digit;
 use vs_design::{Statement, Target, writes};
+use vs_drivers::vs_slots_constants::{Bit, given_by, known};
 use vs_process::TextMap;
 
 /// What an assignment of a text does to a signal.
@@ -16,6 +18,8 @@ pub struct SignalWrite {
     pub is_first: bool,
     /// Whether it can be made once a control has been passed.
     pub is_late: bool,
+    /// The 0 or 1 that it gives its lowest bit, where it is a `=` of a constant.
+    pub digit: Option<Digit>,
 }
 
 // Whether a text comes somewhere in the first slot.
@@ -31,31 +35,45 @@ fn is_late(arrivals: &[Arrival]) -> bool {
 }
 
 // The target of an assignment, and whether it is by `<=`.
-fn target_of<'a>(statement: Option<&'a Statement>) -> Option<(&'a Target, bool)> {
-    match statement {
-        None => None,
-        Some(s) => match s {
-            Statement::Assign(_, target, _) => Some((target, false)),
-            Statement::Later(_, _, target, _) => Some((target, true)),
-            _ => None,
-        },
+fn target_of<'a>(s: &'a Statement) -> Option<(&'a Target, bool)> {
+    match s {
+        Statement::Assign(_, target, _) => Some((target, false)),
+        Statement::Later(_, _, target, _) => Some((target, true)),
+        _ => None,
     }
 }
 
-// Puts what an assignment at a place to which a text comes so does to each signal.
+// The 0 or 1 that an assignment gives the lowest bit of a signal, where it is a `=` of a constant.
+fn digit_of(
+    alloc: Global,
+    s: &Statement,
+    is_later: bool,
+    signal: usize,
+) -> Result<Option<Digit>, AllocError> {
+    if is_later {
+        return Ok(None);
+    }
+    let given = given_by(alloc, s, Bit::lowest(signal))?;
+    Ok(known(given))
+}
+
+// Puts what a statement to which a text comes so does to each signal, where it is an assignment.
 fn put_writes(
     alloc: Global,
     out: &mut Vec<SignalWrite>,
-    target: &Target,
-    is_later: bool,
+    s: &Statement,
     arrivals: &[Arrival],
 ) -> Result<(), AllocError> {
+    let Some((target, is_later)) = target_of(s) else {
+        return Ok(());
+    };
     for range in writes(alloc, target)? {
         out.push(SignalWrite {
             signal: range.signal,
             is_later,
             is_first: is_first(arrivals),
             is_late: is_late(arrivals),
+            digit: digit_of(alloc, s, is_later, range.signal)?,
         })?;
     }
     Ok(())
@@ -70,8 +88,8 @@ pub(crate) fn signal_writes(
     let mut out = Vec::new(alloc);
     for place in 0..map.stops.len().saturating_add(1) {
         if let Some(stop) = stop_at(&map.stops, place) {
-            if let Some((target, is_later)) = target_of(stop.statement) {
-                put_writes(alloc, &mut out, target, is_later, arrivals.at(place))?;
+            if let Some(statement) = stop.statement {
+                put_writes(alloc, &mut out, statement, arrivals.at(place))?;
             }
         }
     }

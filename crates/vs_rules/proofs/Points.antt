@@ -1,5 +1,6 @@
 -- Each step of a process goes along a path of its text, and writes and updates what the statement at its point names.
-use Rattle.std.proofs.Common.{◌≡◌, ℕ, zero, suc, ◌+◌, ◌%◌, true, ◌++◌, Some, List, [], ◌∷◌, map, slice_get, refl, sym, ◌∙◌, ap, ap₂, subst, add_comm}
+use Rattle.std.proofs.Common.{◌≡◌, ℕ, zero, suc, ◌+◌, ◌%◌, ◌⊎◌, Bool, true, false, ◌++◌, Some, List, [], ◌∷◌, map, slice_get, refl, sym, ◌∙◌, ap, ap₂, subst, add_comm, inl, inr}
+use Rattle.std.proofs.lemmas.Bool.{and_parts, cond_both, false≢true}
 use Rattle.std.specs.declared.vec.Vec.{Vec}
 use Rattle.std.specs.declared.alloc.Global.{Global}
 use Rattle.std.proofs.lemmas.List.{map-append}
@@ -22,11 +23,16 @@ use Rattle.vs_design.specs.declared.statement.Statement.{Statement}
 use Rattle.vs_design.specs.declared.statement.Statement.TheOpen.{Statement-F}
 use Rattle.vs_design.specs.declared.statement.Statement.TheViews.{out-Statement}
 use Rattle.vs_threads.specs.vs_process.specs.Places.{perform, turns}
-use Rattle.vs_threads.specs.vs_process.specs.Steps.{assignment, statement_step, is_default, flat_item, taken, turns_for, repeated}
+use Rattle.vs_threads.specs.vs_process.specs.Steps.{assignment, statement_step, has_nothing, is_default, flat_item, taken, turns_for, repeated}
 use Rattle.vs_threads.specs.vs_process.proofs.Ranges.{assigned_names}
+use Rattle.vs_threads.specs.vs_process.proofs.Values.{value_unchanged}
 use Rattle.vs_threads.specs.vs_eval.specs.Values.{target_value, value_of}
-use Rattle.vs_threads.specs.vs_process.specs.Nexts.{erased_item, erased, erased_next, past, case_nexts, statement_nexts}
-use Rattle.vs_rules.specs.Points.{Among, statement_writes, statement_updates, Goes, WritesNow, WritesLater}
+use Rattle.vs_threads.specs.vs_process.specs.Nexts.{erased_item, erased, erased_next, past, case_nexts, nexts, statement_nexts}
+use Rattle.vs_design.specs.declared.range.BitRange.{BitRange}
+use Rattle.vs_design.specs.Stores.{is_changed}
+use Rattle.vs_design.specs.Uses.{reads}
+use Rattle.vs_rules.specs.Points.{Among, first_alone, has_turn, nexts_by, statement_writes, statement_updates, surely_turns, todo_turns, Goes, WritesNow, WritesLater}
+use Rattle.vs_rules.specs.Paths.{Path, PathBy, begins, goes}
 
 -- ---- what is to be done, but for the turns that are left
 
@@ -115,6 +121,71 @@ pub step_follows : (k : Todo) (store : Store) (time : ℕ) → Goes (erased k) (
 step_follows [] store time = Among.first []
 step_follows (perform s ∷ rest) store time = statement_follows s (out-Statement s) rest store time
 step_follows (turns n s ∷ rest) store time = repeated_follows n s rest
+
+-- ---- turns that are sure
+
+head_next : (x y : Next) (xs ys : List Next) → x ∷ xs ≡ y ∷ ys → x ≡ y
+head_next x y xs ys e = cc e
+
+tail_next : (x y : Next) (xs ys : List Next) → x ∷ xs ≡ y ∷ ys → xs ≡ ys
+tail_next x y xs ys e = cc e
+
+among_cases : (n : Next) (xs : List Next) → Among n xs → (y : Next) (ys : List Next) → xs ≡ y ∷ ys → (n ≡ y) ⊎ Among n ys
+among_cases n _ (Among.first xs) y ys e = inl (head_next n y xs ys e)
+among_cases n _ (Among.further x xs h) y ys e = inr (subst (Among n) (tail_next x y xs ys e) h)
+
+among_none : (n : Next) (xs : List Next) → Among n xs → xs ≡ [] → ⊥
+among_none n _ (Among.first xs) e = cc e
+among_none n _ (Among.further x xs h) e = cc e
+
+first_among : (n : Next) (xs : List Next) → Among n (first_alone xs) → Among n xs
+first_among n [] h = h
+first_among n (x ∷ xs) h = elim (among_cases n (x ∷ []) h x [] refl) [
+  | inl same ↦ subst (λ (m : Next). Among m (x ∷ xs)) (sym same) (Among.first xs)
+  | inr none ↦ absurd (among_none n [] none refl)
+]
+
+-- what is a way in one version is a way of the text
+pub by_goes : (wide : Bool) (k : Todo) (next : Next) → Among next (nexts_by wide k) → Goes k next
+by_goes false k next h = h
+by_goes true k next h =
+    cond_both (todo_turns k) (first_alone (nexts k)) (nexts k) (λ (ns : List Next). Among next ns → Goes k next) (λ sure. first_among next (nexts k)) (λ any g. g) h
+
+-- so is a path
+pub by_path : (wide : Bool) (ok : Next → Bool) (from k : Todo) → PathBy (nexts_by wide) ok from k → Path ok from k
+by_path wide ok from k begins = begins
+by_path wide ok from k (goes j l next path g may is) = goes j l next (by_path wide ok from j path) (by_goes wide j next g) may is
+
+unread : (rs : List BitRange) (store : Store) → has_nothing rs ≡ true → list_any (is_changed store []) rs ≡ false
+unread [] store h = refl
+unread (r ∷ rs) store h = absurd (false≢true h)
+
+-- there is a turn, whatever the store
+sure_turns : (signed : Bool) (e : Typed) (store : Store) (time : ℕ) → has_nothing (reads e) ≡ true → has_turn (turns_for signed (value_of e [] 0)) ≡ true → has_turn (turns_for signed (value_of e store time)) ≡ true
+sure_turns signed e store time none h = ap (λ ds. has_turn (turns_for signed ds)) (value_unchanged store [] time 0 e (unread (reads e) store none)) ∙ h
+
+sure_repeated : (n : ℕ) (s : Statement) (rest : Todo) → has_turn n ≡ true → Among (on (erased (repeated n s rest))) (on (flat s ++ turns 0 s ∷ erased rest) ∷ [])
+sure_repeated zero s rest h = absurd (false≢true h)
+sure_repeated (suc n) s rest h = among_on (erased (flat s ++ turns n s ∷ rest)) (flat s ++ turns 0 s ∷ erased rest) _ (erased_first s (turns n s ∷ rest)) (Among.first [])
+
+statement_turns : (s : Statement) (f : Statement-F Statement) (rest : Todo) (store : Store) (time : ℕ) → surely_turns f ≡ true →
+    Among (erased_next (statement_step s f rest store time).next) (first_alone (statement_nexts s f (erased rest)))
+statement_turns s (Statement-F.Repeat m signed e body) rest store time sure =
+    let parts = and_parts (has_nothing (reads e)) (has_turn (turns_for signed (value_of e [] 0))) sure in
+    sure_repeated (turns_for signed (value_of e store time)) body.value rest (sure_turns signed e store time parts.0 parts.1)
+statement_turns s _ rest store time sure = absurd (false≢true sure)
+
+todo_step_turns : (k : Todo) (store : Store) (time : ℕ) → todo_turns (erased k) ≡ true → Among (erased_next (step k store time).next) (first_alone (nexts (erased k)))
+todo_step_turns [] store time sure = absurd (false≢true sure)
+todo_step_turns (perform s ∷ rest) store time sure = statement_turns s (out-Statement s) rest store time sure
+todo_step_turns (turns n s ∷ rest) store time sure = absurd (false≢true sure)
+
+-- where a step leads, a path of each version goes
+pub step_goes : (wide : Bool) (k : Todo) (store : Store) (time : ℕ) → Among (erased_next (step k store time).next) (nexts_by wide (erased k))
+step_goes false k store time = step_follows k store time
+step_goes true k store time =
+    cond_both (todo_turns (erased k)) (first_alone (nexts (erased k))) (nexts (erased k)) (Among (erased_next (step k store time).next))
+    (λ sure. todo_step_turns k store time sure) (λ any. step_follows k store time)
 
 -- and what it writes, the text names
 statement_write_follows : (s : Statement) (f : Statement-F Statement) (rest : Todo) (store : Store) (time : ℕ) (w : Write) (v : ℕ) →

@@ -31,7 +31,7 @@ use Rattle.vs_design.specs.WellFormed.{aim_width}
 use Rattle.vs_threads.specs.vs_eval.specs.Values.{target_value}
 use Rattle.vs_threads.specs.vs_process.specs.Places.{perform, Todo}
 use Rattle.vs_rules.specs.Claims.{Claims, IsWriter, is_wide}
-use Rattle.vs_rules.specs.Paths.{Bit, Writes}
+use Rattle.vs_rules.specs.Paths.{Bit, IsPoint, Writes, WritesLater, WritesNow}
 
 -- ---- constants
 
@@ -239,9 +239,24 @@ pub record HasBody (d : Parts) (i : ℕ) (kind : ProcessKind) (passes : Statemen
 abbrev pub MayTurn : Bool → ProcessKind → Type 0
 MayTurn wide kind = (kind ≡ Always) ⊎ (wide ≡ true)
 
+-- a process, by its number, writes a signal, and each of its writes is `u = c`, with one c, which is 0 or 1
+pub record SetsAlike (d : Parts) (v : ℕ) (digit : Digit) (j : ℕ) : Type 0 where
+  pub known : IsKnown digit
+  pub at : Todo
+  pub point : IsPoint d j at
+  pub writes : WritesNow d at v
+  pub now : (k : Todo) → IsPoint d j k → WritesLater d k v → ⊥
+  pub gives : (k : Todo) → IsPoint d j k → WritesNow d k v → Gives k (bit_of v) digit
+
+-- what sets a clock that another process turns: an `initial` that is `u = c`; in version 3 what writes no other constant to it. Other statements may
+-- stand beside, a test in front: a clock that isn't set stays x
+abbrev pub SetsFirst : Parts → Bool → ℕ → Digit → ℕ → Type 0
+SetsFirst d false v digit j = HasBody d j Initial (Sets d v digit)
+SetsFirst d true v digit j = SetsAlike d v digit j
+
 -- a clock: its writer sets it once and then turns it for ever; or it is an `always` that turns it, and the one other process that writes it sets it
 -- at the start. It is set to a digit after so many ticks, and turned after so many others, again and again
 pub data IsClock (d : Parts) (c : Claims) (v : ℕ) (digit : Digit) (offset half : ℕ) : Type 0 where
   alone : (i : ℕ) → IsWriter d c v i → HasBody d i Initial (SetsAndTurns d (is_wide c) v offset half digit) → IsClock d c v digit offset half
   two : (i j : ℕ) (kind : ProcessKind) → IsWriter d c v i → MayTurn (is_wide c) kind → HasBody d i kind (TurnsForever d (is_wide c) v half) →
-      HasBody d j Initial (Sets d v digit) → (offset ≡ 0) → ((k : ℕ) → Writes d k v → (k ≡ i) ⊎ (k ≡ j)) → IsClock d c v digit offset half
+      SetsFirst d (is_wide c) v digit j → (offset ≡ 0) → ((k : ℕ) → Writes d k v → (k ≡ i) ⊎ (k ≡ j)) → IsClock d c v digit offset half

@@ -21,7 +21,8 @@ use Rattle.vs_threads.specs.vs_process.specs.Steps.{Next, on, after, wait}
 use Rattle.vs_threads.specs.Bits.{HasBit, meet_in}
 use Rattle.vs_threads.specs.Blocks.{outputs}
 use Rattle.vs_threads.specs.Threads.{todo_reads, todo_shows}
-use Rattle.vs_rules.specs.Points.{Goes, first_todo, Point}
+use Rattle.vs_threads.specs.vs_process.specs.Nexts.{nexts}
+use Rattle.vs_rules.specs.Points.{Among, Goes, first_todo, nexts_by, Point}
 
 -- ---- bits
 
@@ -98,10 +99,14 @@ ShowsNow d k r = Lists d (todo_shows k) r
 
 -- ---- paths
 
--- a path of the text leads from one point to another, by such ways alone
-pub data Path (ok : Next → Bool) (from : Todo) : Todo → Type 0 where
-  begins : Path ok from from
-  goes : (k l : Todo) (next : Next) → Path ok from k → Goes k next → ok next ≡ true → todo_behind next ≡ l → Path ok from l
+-- a path leads from one point to another, where from each point these are the ways, by such ways alone
+pub data PathBy (ways : Todo → List Next) (ok : Next → Bool) (from : Todo) : Todo → Type 0 where
+  begins : PathBy ways ok from from
+  goes : (k l : Todo) (next : Next) → PathBy ways ok from k → Among next (ways k) → ok next ≡ true → todo_behind next ≡ l → PathBy ways ok from l
+
+-- a path of the text
+abbrev pub Path : (Next → Bool) → Todo → Todo → Type 0
+Path ok from k = PathBy nexts ok from k
 
 -- any way
 abbrev pub any_way : Next → Bool
@@ -132,13 +137,16 @@ abbrev pub IsPrologue : Parts → ℕ → Todo → Type 0
 IsPrologue d i k = Path is_plain (first_todo d i) k
 
 -- a path of such ways leads there once a way of this sort has been gone, from a point of a process
-pub record PathFrom (d : Parts) (i : ℕ) (sort : Todo → Next → Type 0) (ok : Next → Bool) (k : Todo) : Type 0 where
+pub record PathFromBy (ways : Todo → List Next) (d : Parts) (i : ℕ) (sort : Todo → Next → Type 0) (ok : Next → Bool) (k : Todo) : Type 0 where
   pub at : Todo
   pub next : Next
   pub point : IsPoint d i at
   pub goes : Goes at next
   pub starts : sort at next
-  pub path : Path ok (todo_behind next) k
+  pub path : PathBy ways ok (todo_behind next) k
+
+abbrev pub PathFrom : Parts → ℕ → (Todo → Next → Type 0) → (Next → Bool) → Todo → Type 0
+PathFrom d i sort ok k = PathFromBy nexts d i sort ok k
 
 -- from a control, one of zero ticks too
 abbrev pub IsLate : Parts → ℕ → Todo → Type 0
@@ -148,9 +156,9 @@ IsLate d i k = PathFrom d i (λ at next. is_plain next ≡ false) any_way k
 abbrev pub IsHot : Parts → ℕ → ℕ → Todo → Type 0
 IsHot d i v k = PathFrom d i (λ at next. WritesNow d at v) is_zero_time k
 
--- without a further control from a control that can end at a residue
-abbrev pub RunsBehind : Parts → ℕ → (Next → ℕ → Type 0) → Todo → ℕ → Type 0
-RunsBehind d i can_end k r = PathFrom d i (λ at next. can_end next r) is_plain k
+-- without a further control from a control that can end at a residue; in version 3 past a `repeat` with a constant count above 0 by a turn alone
+abbrev pub RunsBehind : Parts → Bool → ℕ → (Next → ℕ → Type 0) → Todo → ℕ → Type 0
+RunsBehind d wide i can_end k r = PathFromBy (nexts_by wide) d i (λ at next. can_end next r) is_plain k
 
 -- ---- whole texts
 

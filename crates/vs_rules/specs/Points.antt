@@ -1,13 +1,14 @@
 -- The points of processes and the paths of their texts.
-use Rattle.std.specs.Prelude.{ℕ, ◌≡◌, Bool, true, false, List, ◌∷◌, get_or}
+use Rattle.std.specs.Prelude.{ℕ, zero, suc, ◌≡◌, ◌&&◌, Bool, true, false, if◌then◌else◌, List, [], ◌∷◌, get_or}
 use Rattle.vs_design.specs.declared.statement.EventTerm.{EventTerm}
 use Rattle.vs_design.specs.declared.statement.Statement.{Statement}
 use Rattle.vs_design.specs.declared.statement.Statement.TheOpen.{Statement-F}
 use Rattle.vs_design.specs.declared.statement.Statement.TheViews.{out-Statement}
 use Rattle.vs_design.specs.Parts.{Parts}
-use Rattle.vs_design.specs.Uses.{writes_signal}
+use Rattle.vs_design.specs.Uses.{reads, writes_signal}
 use Rattle.vs_threads.specs.vs_process.specs.Places.{Item, perform, Todo, ended}
-use Rattle.vs_threads.specs.vs_process.specs.Steps.{Next, on, after, wait}
+use Rattle.vs_threads.specs.vs_process.specs.Steps.{Next, on, after, wait, has_nothing, turns_for}
+use Rattle.vs_threads.specs.vs_eval.specs.Values.{value_of}
 use Rattle.vs_threads.specs.vs_process.specs.Nexts.{nexts}
 use Rattle.vs_threads.specs.vs_process.specs.States.{start}
 use Rattle.vs_threads.specs.vs_process.specs.Places.{todo_of}
@@ -22,6 +23,33 @@ pub data Among {A : Type 0} (x : A) : List A → Type 0 where
 -- a path of the text goes from a point there in one step
 abbrev pub Goes : Todo → Next → Type 0
 Goes k next = Among next (nexts k)
+
+-- ---- turns that are sure
+
+-- whether there is a turn
+abbrev pub has_turn : ℕ → Bool
+has_turn zero = false
+has_turn (suc n) = true
+
+-- whether a statement is a `repeat` whose count is a constant above 0 (clause 9.6): it has a turn, whatever the store
+abbrev pub surely_turns : Statement-F Statement → Bool
+surely_turns (Statement-F.Repeat n signed e body) = has_nothing (reads e) && has_turn (turns_for signed (value_of e [] 0))
+surely_turns _ = false
+
+-- whether such a statement stands next
+abbrev pub todo_turns : Todo → Bool
+todo_turns (perform s ∷ rest) = surely_turns (out-Statement s)
+todo_turns _ = false
+
+abbrev pub first_alone : {A : Type 0} → List A → List A
+first_alone [] = []
+first_alone (x ∷ xs) = x ∷ []
+
+-- where a path can go from a point in one step; in version 3 it passes such a `repeat` by a turn alone
+abbrev pub nexts_by : Bool → Todo → List Next
+nexts_by wide k = if wide && todo_turns k then first_alone (nexts k) else nexts k
+
+-- ---- starts
 
 -- what a process does first
 abbrev pub first_todo : Parts → ℕ → Todo

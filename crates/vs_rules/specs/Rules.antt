@@ -202,7 +202,7 @@ pub record K8 (d : Parts) (c : Claims) (i : ℕ) : Type 0 where
   pub from_start : (lists : List (List ℕ)) (k l : Todo) (number ticks : ℕ) → WaitsForTimes d c i lists → IsSlot0 d i k →
       Goes k (after number ticks l) → 0 < ticks → DelayEnds d i lists (after number ticks l) (ticks % c.modulus)
   -- from a residue r of a control it can end at r + d modulo the modulus
-  pub from_residue : (lists : List (List ℕ)) (k l : Todo) (number ticks r : ℕ) → WaitsForTimes d c i lists → RunsByDelays d i lists k r →
+  pub from_residue : (lists : List (List ℕ)) (k l : Todo) (number ticks r : ℕ) → WaitsForTimes d c i lists → RunsByDelays d (is_wide c) i lists k r →
       Goes k (after number ticks l) → DelayEnds d i lists (after number ticks l) ((r + ticks) % c.modulus)
   -- and in a mixed one from a residue r at which an event control can end
   pub from_edge : (lists : List (List ℕ)) (k l : Todo) (number ticks r : ℕ) → HasMixedLists d c i lists → RunsByEdges d c i k r →
@@ -227,7 +227,7 @@ pub record IsOwnEdge (d : Parts) (c : Claims) (i v : ℕ) (k : Todo) : Type 0 wh
   pub of : term.range.signal ≡ v
   pub apart : (root other r : ℕ) → IsRootOf d c root v → HasWriteSlot d c root r → FiresOf d c i other r → other ≡ root
   pub undelayed : (lists : List (List ℕ)) (root r : ℕ) → HasMixedLists d c i lists → IsRootOf d c root v → HasWriteSlot d c root r →
-      RunsByDelays d i lists k r → ⊥
+      RunsByDelays d (is_wide c) i lists k r → ⊥
 
 -- the write slots of a variable and the run slots of a point have nothing in common
 abbrev pub AreApart : Parts → Claims → ℕ → ℕ → Todo → Type 0

@@ -24,8 +24,8 @@ DelayEnds d i lists (after number ticks l) r = Contains (list_of (controls_of d 
 DelayEnds d i lists (wait number terms l) r = ⊥
 
 -- a point has the run slot, of lists of the delay controls
-abbrev pub RunsByDelays : Parts → ℕ → List (List ℕ) → Todo → ℕ → Type 0
-RunsByDelays d i lists k r = RunsBehind d i (DelayEnds d i lists) k r
+abbrev pub RunsByDelays : Parts → Bool → ℕ → List (List ℕ) → Todo → ℕ → Type 0
+RunsByDelays d wide i lists k r = RunsBehind d wide i (DelayEnds d i lists) k r
 
 -- ---- firing slots
 
@@ -59,7 +59,7 @@ pub record Fires (d : Parts) (c : Claims) (t : EventTerm) (r : ℕ) : Type 0 whe
   pub kind : HasLists d c writer lists
   pub point : IsPoint d writer at
   pub writes : WritesAny d at root
-  pub runs : RunsByDelays d writer lists at r
+  pub runs : RunsByDelays d (is_wide c) writer lists at r
   pub edge : Edge
   pub seen : SeenAs d (is_wide c) t edge
   pub counted : (digit : Digit) → Gives at (bit_of root) digit → counts edge digit ≡ true
@@ -75,7 +75,7 @@ EdgeEnds d c (wait number terms l) r = (t : EventTerm) × Contains terms t × Fi
 
 -- a point has the run slot, of event controls
 abbrev pub RunsByEdges : Parts → Claims → ℕ → Todo → ℕ → Type 0
-RunsByEdges d c i k r = RunsBehind d i (EdgeEnds d c) k r
+RunsByEdges d c i k r = RunsBehind d (is_wide c) i (EdgeEnds d c) k r
 
 -- a control of a process of this kind can end at a residue
 abbrev pub Ends : Parts → Claims → ℕ → Option Kind → Next → ℕ → Type 0
@@ -88,7 +88,7 @@ Ends d c i None next r = ⊥
 -- a point of a process has the run slot: of the delay controls, or in one of kind edge of the event controls, in a mixed one of both, from which a
 -- path without further control leads there
 abbrev pub HasSlot : Parts → Claims → ℕ → Todo → ℕ → Type 0
-HasSlot d c i k r = RunsBehind d i (Ends d c i (kind_of d c i)) k r
+HasSlot d c i k r = RunsBehind d (is_wide c) i (Ends d c i (kind_of d c i)) k r
 
 -- a variable has the write slot: its writer writes it by `=` at a point with that run slot
 pub record HasWriteSlot (d : Parts) (c : Claims) (u r : ℕ) : Type 0 where

@@ -6,3 +6,4 @@ pub mod ListLemmas
 pub mod TableLemmas
 pub mod KeptLemmas
 pub mod SiteLemmas
+pub mod SettingLemmas

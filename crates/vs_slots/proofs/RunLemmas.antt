@@ -1,5 +1,5 @@
 -- Run slots of a place and of its point.
-use Rattle.std.proofs.Common.{◌≡◌, ℕ, ◌<◌, ◌⊎◌, ◌↔◌, inl, inr, true, Option, Some, None, List, [], slice_get, refl, sym, ◌∙◌, ap, subst}
+use Rattle.std.proofs.Common.{◌≡◌, ℕ, ◌<◌, ◌⊎◌, ◌↔◌, inl, inr, Bool, true, Option, Some, None, List, [], slice_get, refl, sym, ◌∙◌, ap, subst}
 use Rattle.vs_design.specs.declared.design.Process.{Process}
 use Rattle.vs_design.specs.Parts.{Parts}
 use Rattle.vs_process.specs.Numbers.{number_next}
@@ -7,15 +7,15 @@ use Rattle.vs_process.specs.Places.{Todo, flat}
 use Rattle.vs_process.specs.Steps.{Next}
 use Rattle.vs_process.specs.Stops.{Stop, stop_at, stop_statement, stops_tos, stops_behind, IsText}
 use Rattle.vs_process.specs.Ways.{Pause, none, delay, event, next_by}
-use Rattle.vs_maps.specs.vs_rules.specs.Points.{Goes}
-use Rattle.vs_maps.specs.vs_rules.specs.Claims.{Claims, Kind, block, edges, delays, mixed, kind_of, HasMixedLists, IsDelay, WaitsForEdges, WaitsForTimes}
+use Rattle.vs_maps.specs.vs_rules.specs.Points.{Goes, nexts_by}
+use Rattle.vs_maps.specs.vs_rules.specs.Claims.{Claims, Kind, block, edges, delays, mixed, is_wide, kind_of, HasMixedLists, IsDelay, WaitsForEdges, WaitsForTimes}
 use Rattle.vs_maps.specs.vs_rules.specs.Controls.{controls_of, list_of}
-use Rattle.vs_maps.specs.vs_rules.specs.Paths.{Path, RunsBehind, is_plain}
+use Rattle.vs_maps.specs.vs_rules.specs.Paths.{PathBy, RunsBehind, is_plain}
 use Rattle.vs_maps.specs.vs_rules.specs.Slots.{DelayEnds, EdgeEnds, Ends, HasSlot, RunsByDelays, RunsByEdges}
-use Rattle.vs_claims.specs.vs_maps.specs.declared.along.Along.TheVariants.{Plain}
-use Rattle.vs_claims.specs.vs_maps.specs.Reaches.{Chart, IsPlace, pause_at, pause_of, places}
+use Rattle.vs_claims.specs.vs_maps.specs.declared.along.Along.{Along}
+use Rattle.vs_claims.specs.vs_maps.specs.Reaches.{Chart, IsPlace, pause_at, pause_of, places, plain_by}
 use Rattle.vs_claims.specs.vs_maps.proofs.Join.{same_place}
-use Rattle.vs_claims.specs.vs_maps.proofs.Texts.{place_of, place_back, walk_on, walk_back, step_on, step_back, behind_step}
+use Rattle.vs_claims.specs.vs_maps.proofs.Texts.{place_of, place_back, plain_on, plain_back, walk_on, walk_back, step_on, step_back, behind_step}
 use Rattle.vs_claims.specs.vs_maps.specs.Walks.{WalkFrom, IsControlBefore, is_control}
 use Rattle.vs_slots.specs.Runs.{PauseEnds, DelayPauseEnds, EdgePauseEnds, HasRunBy, HasRun, HasDelayRun, RunsAreExact, DelayRunsAreExact, AreRuns, AreRunsBy, DelayEndsBy}
 
@@ -90,21 +90,23 @@ events_end d c i next r (inr (lists, e), h) = subst (λ (k : Option Kind). Ends 
 
 -- ---- run slots, behind controls that can end so
 
-walk_as : (t : Chart) (sort other : ℕ → Type 0) (p : ℕ) → ((q : ℕ) → sort q → other q) → WalkFrom t Plain sort p → WalkFrom t Plain other p
-walk_as t sort other p f w = record { from = w.from; to = w.to; is_place = w.is_place; starts = f w.from w.starts; leads = w.leads; reached = w.reached }
+walk_as : (t : Chart) (along : Along) (sort other : ℕ → Type 0) (p : ℕ) → ((q : ℕ) → sort q → other q) → WalkFrom t along sort p → WalkFrom t along other p
+walk_as t along sort other p f w = record { from = w.from; to = w.to; is_place = w.is_place; starts = f w.from w.starts; leads = w.leads; reached = w.reached }
 
-runs_as : (d : Parts) (i : ℕ) (one other : Next → ℕ → Type 0) (k : Todo) (r : ℕ) → ((next : Next) → one next r → other next r) → RunsBehind d i one k r → RunsBehind d i other k r
-runs_as d i one other k r f h = record { at = h.at; next = h.next; point = h.point; goes = h.goes; starts = f h.next h.starts; path = h.path }
+runs_as : (d : Parts) (wide : Bool) (i : ℕ) (one other : Next → ℕ → Type 0) (k : Todo) (r : ℕ) → ((next : Next) → one next r → other next r) → RunsBehind d wide i one k r →
+    RunsBehind d wide i other k r
+runs_as d wide i one other k r f h = record { at = h.at; next = h.next; point = h.point; goes = h.goes; starts = f h.next h.starts; path = h.path }
 
-module _ (d : Parts) (i : ℕ) (can_end : Next → ℕ → Type 0) (alike : (pause : Pause) (l m : Todo) (r : ℕ) → can_end (next_by pause l) r → can_end (next_by pause m) r)
+module _ (d : Parts) (wide : Bool) (i : ℕ) (can_end : Next → ℕ → Type 0) (alike : (pause : Pause) (l m : Todo) (r : ℕ) → can_end (next_by pause l) r → can_end (next_by pause m) r)
     (q : Process) (stops : List Stop) (start : ℕ) (t : IsText q.body stops start) (is : slice_get d.processes i ≡ Some q) where
   -- a run slot of a point is one of a place of it
-  on_by : (k : Todo) (r : ℕ) → RunsBehind d i can_end k r → (p : ℕ) × HasRunBy (λ pause s. can_end (next_by pause []) s) (record { stops = stops; start = start }) p r × (t.at p ≡ k)
+  on_by : (k : Todo) (r : ℕ) → RunsBehind d wide i can_end k r → (p : ℕ) × HasRunBy (plain_by wide) (λ pause s. can_end (next_by pause []) s) (record { stops = stops; start = start }) p r × (t.at p ≡ k)
   on_by k r h =
       let a = place_of d i q stops start t is h.at h.point in
       let s = step_on q.body stops start t a.0 h.next (subst (λ (z : Todo). Goes z h.next) (sym a.2) h.goes) in
       let pause = pause_of (stop_statement (stop_at stops a.0)) in
-      let w = walk_on q.body stops start t Plain s.0 k (subst (λ (z : Todo). Path is_plain z k) (behind_step pause (t.at s.0) h.next s.2) h.path) in (
+      let w = walk_on q.body stops start t (plain_by wide) s.0 k
+      (plain_on wide (t.at s.0) k (subst (λ (z : Todo). PathBy (nexts_by wide) is_plain z k) (behind_step pause (t.at s.0) h.next s.2) h.path)) in (
         w.0,
         record {
           from = a.0;
@@ -117,7 +119,7 @@ module _ (d : Parts) (i : ℕ) (can_end : Next → ℕ → Type 0) (alike : (pau
         w.2,
       )
 
-  back_by : (p r : ℕ) → HasRunBy (λ pause s. can_end (next_by pause []) s) (record { stops = stops; start = start }) p r → RunsBehind d i can_end (t.at p) r
+  back_by : (p r : ℕ) → HasRunBy (plain_by wide) (λ pause s. can_end (next_by pause []) s) (record { stops = stops; start = start }) p r → RunsBehind d wide i can_end (t.at p) r
   back_by p r h =
       let pause = pause_of (stop_statement (stop_at stops h.from)) in record {
         at = t.at h.from;
@@ -125,27 +127,28 @@ module _ (d : Parts) (i : ℕ) (can_end : Next → ℕ → Type 0) (alike : (pau
         point = place_back d i q stops start t is h.from h.is_place;
         goes = step_back q.body stops start t h.from h.to h.leads;
         starts = alike pause [] (t.at h.to) r h.starts;
-        path = subst (λ (z : Todo). Path is_plain z (t.at p)) (sym (behind_step pause (t.at h.to) (next_by pause (t.at h.to)) refl)) (walk_back q.body stops start t Plain h.to p h.reached);
+        path = subst (λ (z : Todo). PathBy (nexts_by wide) is_plain z (t.at p)) (sym (behind_step pause (t.at h.to) (next_by pause (t.at h.to)) refl))
+            (plain_back wide (t.at h.to) (t.at p) (walk_back q.body stops start t (plain_by wide) h.to p h.reached));
       }
 
   exact_by : (p n r : ℕ) → number_next (t.at p) ≡ Some n →
-      (HasRunBy (λ pause s. can_end (next_by pause []) s) (record { stops = stops; start = start }) p r ↔ RunsBehind d i can_end (t.at p) r)
+      (HasRunBy (plain_by wide) (λ pause s. can_end (next_by pause []) s) (record { stops = stops; start = start }) p r ↔ RunsBehind d wide i can_end (t.at p) r)
   exact_by p n r numbered = (
     back_by p r,
     λ h. same_place (flat q.body) t.at start (stops_behind stops) (stops_tos stops) t.is_map
-        (λ p. HasRunBy (λ pause s. can_end (next_by pause []) s) (record { stops = stops; start = start }) p r) p n numbered (on_by (t.at p) r h),
+        (λ p. HasRunBy (plain_by wide) (λ pause s. can_end (next_by pause []) s) (record { stops = stops; start = start }) p r) p n numbered (on_by (t.at p) r h),
   )
 
 pub run_on : (d : Parts) (c : Claims) (i : ℕ) (q : Process) (stops : List Stop) (start : ℕ) (t : IsText q.body stops start) → slice_get d.processes i ≡ Some q → (k : Todo) (r : ℕ) →
     HasSlot d c i k r → (p : ℕ) × HasRun d c i (record { stops = stops; start = start }) p r × (t.at p ≡ k)
-run_on d c i q stops start t is = on_by d i (Ends d c i (kind_of d c i)) (ends_alike d c i (kind_of d c i)) q stops start t is
+run_on d c i q stops start t is = on_by d (is_wide c) i (Ends d c i (kind_of d c i)) (ends_alike d c i (kind_of d c i)) q stops start t is
 
 pub run_back : (d : Parts) (c : Claims) (i : ℕ) (q : Process) (stops : List Stop) (start : ℕ) (t : IsText q.body stops start) → slice_get d.processes i ≡ Some q → (p r : ℕ) →
     HasRun d c i (record { stops = stops; start = start }) p r → HasSlot d c i (t.at p) r
-run_back d c i q stops start t is = back_by d i (Ends d c i (kind_of d c i)) (ends_alike d c i (kind_of d c i)) q stops start t is
+run_back d c i q stops start t is = back_by d (is_wide c) i (Ends d c i (kind_of d c i)) (ends_alike d c i (kind_of d c i)) q stops start t is
 
 pub runs_are_exact : RunsAreExact
-runs_are_exact d c i q stops start is t = exact_by d i (Ends d c i (kind_of d c i)) (ends_alike d c i (kind_of d c i)) q stops start t is
+runs_are_exact d c i q stops start is t = exact_by d (is_wide c) i (Ends d c i (kind_of d c i)) (ends_alike d c i (kind_of d c i)) q stops start t is
 
 -- ---- by delay controls, and by event controls
 
@@ -153,28 +156,28 @@ delays_alike : (d : Parts) (c : Claims) (i : ℕ) (pause : Pause) (l m : Todo) (
 delays_alike d c i pause l m r y = (y.0, y.1, delay_alike d i y.0 pause l m r y.2)
 
 -- the run slots of a point behind delay controls, by its lists
-by_one : (d : Parts) (c : Claims) (i : ℕ) (lists : List (List ℕ)) (k : Todo) (r : ℕ) → WaitsForTimes d c i lists → (RunsBehind d i (DelaysEnd d c i) k r ↔ RunsByDelays d i lists k r)
+by_one : (d : Parts) (c : Claims) (i : ℕ) (lists : List (List ℕ)) (k : Todo) (r : ℕ) → WaitsForTimes d c i lists → (RunsBehind d (is_wide c) i (DelaysEnd d c i) k r ↔ RunsByDelays d (is_wide c) i lists k r)
 by_one d c i lists k r has = (
-  runs_as d i (DelaysEnd d c i) (DelayEnds d i lists) k r (λ next y. subst (λ (l : List (List ℕ)). DelayEnds d i l next r) (one_lists d c i y.0 lists y.1 has) y.2),
-  runs_as d i (DelayEnds d i lists) (DelaysEnd d c i) k r (λ next h. (lists, has, h)),
+  runs_as d (is_wide c) i (DelaysEnd d c i) (DelayEnds d i lists) k r (λ next y. subst (λ (l : List (List ℕ)). DelayEnds d i l next r) (one_lists d c i y.0 lists y.1 has) y.2),
+  runs_as d (is_wide c) i (DelayEnds d i lists) (DelaysEnd d c i) k r (λ next h. (lists, has, h)),
 )
 
 pub delay_runs_are_exact : DelayRunsAreExact
 delay_runs_are_exact d c i q stops start is t p n r lists numbered has =
-    let both = exact_by d i (DelaysEnd d c i) (delays_alike d c i) q stops start t is p n r numbered in
+    let both = exact_by d (is_wide c) i (DelaysEnd d c i) (delays_alike d c i) q stops start t is p n r numbered in
     let one = by_one d c i lists (t.at p) r has in
     (λ h. one.0 (both.0 h), λ h. both.1 (one.1 h))
 
 -- the run slots of a point of one that waits for times, or for edges
-pub slot_by_delays : (d : Parts) (c : Claims) (i : ℕ) (lists : List (List ℕ)) (k : Todo) (r : ℕ) → WaitsForTimes d c i lists → RunsByDelays d i lists k r → HasSlot d c i k r
-slot_by_delays d c i lists k r has h = runs_as d i (DelayEnds d i lists) (Ends d c i (kind_of d c i)) k r (λ next e. delays_end d c i next r (lists, has, e)) h
+pub slot_by_delays : (d : Parts) (c : Claims) (i : ℕ) (lists : List (List ℕ)) (k : Todo) (r : ℕ) → WaitsForTimes d c i lists → RunsByDelays d (is_wide c) i lists k r → HasSlot d c i k r
+slot_by_delays d c i lists k r has h = runs_as d (is_wide c) i (DelayEnds d i lists) (Ends d c i (kind_of d c i)) k r (λ next e. delays_end d c i next r (lists, has, e)) h
 
 pub slot_by_edges : (d : Parts) (c : Claims) (i : ℕ) (k : Todo) (r : ℕ) → WaitsForEdges d c i → RunsByEdges d c i k r → HasSlot d c i k r
-slot_by_edges d c i k r waits h = runs_as d i (EdgeEnds d c) (Ends d c i (kind_of d c i)) k r (λ next e. events_end d c i next r (waits, e)) h
+slot_by_edges d c i k r waits h = runs_as d (is_wide c) i (EdgeEnds d c) (Ends d c i (kind_of d c i)) k r (λ next e. events_end d c i next r (waits, e)) h
 
 -- they are behind controls of the one sort or of the other
 pub slot_parts : (d : Parts) (c : Claims) (i : ℕ) (lists : List (List ℕ)) (k : Todo) (r : ℕ) → WaitsForTimes d c i lists → HasSlot d c i k r →
-    RunsByDelays d i lists k r ⊎ (HasMixedLists d c i lists × RunsByEdges d c i k r)
+    RunsByDelays d (is_wide c) i lists k r ⊎ (HasMixedLists d c i lists × RunsByEdges d c i k r)
 slot_parts d c i lists k r has h = elim (ends_of d c i (kind_of d c i) refl h.next r h.starts) [
   | inl y ↦ inl (record {
     at = h.at;
@@ -192,17 +195,17 @@ slot_parts d c i lists k r has h = elim (ends_of d c i (kind_of d c i) refl h.ne
   both (inr e) f = e
 
 -- a place has its run slots behind the one or the other
-pub runs_parts : (d : Parts) (c : Claims) (i : ℕ) (t : Chart) (p r : ℕ) → (HasRun d c i t p r ↔ (HasDelayRun d c i t p r ⊎ HasRunBy (EdgePauseEnds d c i) t p r))
+pub runs_parts : (d : Parts) (c : Claims) (i : ℕ) (t : Chart) (p r : ℕ) → (HasRun d c i t p r ↔ (HasDelayRun d c i t p r ⊎ HasRunBy (plain_by (is_wide c)) (EdgePauseEnds d c i) t p r))
 runs_parts d c i t p r = (there, back) where
-  there : HasRun d c i t p r → HasDelayRun d c i t p r ⊎ HasRunBy (EdgePauseEnds d c i) t p r
+  there : HasRun d c i t p r → HasDelayRun d c i t p r ⊎ HasRunBy (plain_by (is_wide c)) (EdgePauseEnds d c i) t p r
   there w = elim (ends_of d c i (kind_of d c i) refl (next_by (pause_at t w.from) []) r w.starts) [
     | inl y ↦ inl (record { from = w.from; to = w.to; is_place = w.is_place; starts = y; leads = w.leads; reached = w.reached })
     | inr y ↦ inr (record { from = w.from; to = w.to; is_place = w.is_place; starts = y; leads = w.leads; reached = w.reached })
   ]
 
-  back : HasDelayRun d c i t p r ⊎ HasRunBy (EdgePauseEnds d c i) t p r → HasRun d c i t p r
-  back (inl w) = walk_as t (λ q. DelayPauseEnds d c i (pause_at t q) r) (λ q. PauseEnds d c i (pause_at t q) r) p (λ q y. delays_end d c i (next_by (pause_at t q) []) r y) w
-  back (inr w) = walk_as t (λ q. EdgePauseEnds d c i (pause_at t q) r) (λ q. PauseEnds d c i (pause_at t q) r) p (λ q y. events_end d c i (next_by (pause_at t q) []) r y) w
+  back : HasDelayRun d c i t p r ⊎ HasRunBy (plain_by (is_wide c)) (EdgePauseEnds d c i) t p r → HasRun d c i t p r
+  back (inl w) = walk_as t (plain_by (is_wide c)) (λ q. DelayPauseEnds d c i (pause_at t q) r) (λ q. PauseEnds d c i (pause_at t q) r) p (λ q y. delays_end d c i (next_by (pause_at t q) []) r y) w
+  back (inr w) = walk_as t (plain_by (is_wide c)) (λ q. EdgePauseEnds d c i (pause_at t q) r) (λ q. PauseEnds d c i (pause_at t q) r) p (λ q y. events_end d c i (next_by (pause_at t q) []) r y) w
 
 not_both : (d : Parts) (c : Claims) (i : ℕ) → IsDelay d c i → WaitsForEdges d c i → ⊥
 not_both d c i l (inl e) = let same : Some (delays l.0) ≡ Some edges = sym l.1 ∙ e in absurd cc
@@ -217,9 +220,9 @@ runs_alone d c i t p r kind =
 -- ---- as they are kept
 
 -- a control before a place that can end at a residue
-by_controls : (can_end : Pause → ℕ → Type 0) → ((pause : Pause) (r : ℕ) → can_end pause r → is_control pause ≡ true) → (t : Chart) (p r : ℕ) →
-    (HasRunBy can_end t p r ↔ ((q : ℕ) × IsControlBefore t q p × can_end (pause_at t q) r))
-by_controls can_end controls t p r = (
+by_controls : (along : Along) (can_end : Pause → ℕ → Type 0) → ((pause : Pause) (r : ℕ) → can_end pause r → is_control pause ≡ true) → (t : Chart) (p r : ℕ) →
+    (HasRunBy along can_end t p r ↔ ((q : ℕ) × IsControlBefore t along q p × can_end (pause_at t q) r))
+by_controls along can_end controls t p r = (
   λ h. (h.from, record { from = h.from; to = h.to; is_place = h.is_place; starts = (refl, controls (pause_at t h.from) r h.starts); leads = h.leads; reached = h.reached }, h.starts),
   λ y. let w = y.1 in record {
     from = w.from;
@@ -232,19 +235,19 @@ by_controls can_end controls t p r = (
 )
 
 -- the residues of the controls before a place are its run slots
-runs_by : (can_end : Pause → ℕ → Type 0) → ((pause : Pause) (r : ℕ) → can_end pause r → is_control pause ≡ true) → (t : Chart) (before ends : List (List ℕ)) →
-    AreRunsBy can_end t before ends → ((p : ℕ) → IsPlace t p → p < places t) → AreRuns can_end t before ends
-runs_by can_end controls t before ends h inside p r within = (
+runs_by : (along : Along) (can_end : Pause → ℕ → Type 0) → ((pause : Pause) (r : ℕ) → can_end pause r → is_control pause ≡ true) → (t : Chart) (before ends : List (List ℕ)) →
+    AreRunsBy along can_end t before ends → ((p : ℕ) → IsPlace t p → p < places t) → AreRuns along can_end t before ends
+runs_by along can_end controls t before ends h inside p r within = (
   λ y. let w = (h.before_are p y.0 within).0 y.1 in
-      (by_controls can_end controls t p r).1 (y.0, w.1, ((h.ends_are y.0 r w.0).0 y.2).1),
-  λ x. let y = (by_controls can_end controls t p r).0 x in
+      (by_controls along can_end controls t p r).1 (y.0, w.1, ((h.ends_are y.0 r w.0).0 y.2).1),
+  λ x. let y = (by_controls along can_end controls t p r).0 x in
       let w = y.1 in
       let place : IsPlace t y.0 = subst (IsPlace t) w.starts.0 w.is_place in
       (y.0, (h.before_are p y.0 within).1 (inside y.0 place, w), (h.ends_are y.0 r (inside y.0 place)).1 (place, y.2)),
 )
 
-pub ends_as : (one other : Pause → ℕ → Type 0) (t : Chart) (before ends : List (List ℕ)) → ((pause : Pause) (r : ℕ) → (one pause r ↔ other pause r)) → AreRunsBy one t before ends → AreRunsBy other t before ends
-ends_as one other t before ends same h = record {
+pub ends_as : (along : Along) (one other : Pause → ℕ → Type 0) (t : Chart) (before ends : List (List ℕ)) → ((pause : Pause) (r : ℕ) → (one pause r ↔ other pause r)) → AreRunsBy along one t before ends → AreRunsBy along other t before ends
+ends_as along one other t before ends same h = record {
   before_are = h.before_are;
   ends_are = λ q r within. let both = h.ends_are q r within in
       (λ x. let y = both.0 x in (y.0, (same (pause_at t q) r).0 y.1), λ y. both.1 (y.0, (same (pause_at t q) r).1 y.1));
@@ -268,14 +271,15 @@ delay_ends d c i lists has pause r = (
   back (event number terms) h = h
 
 pub listed_runs : (d : Parts) (c : Claims) (i : ℕ) (lists : List (List ℕ)) (t : Chart) (before ends : List (List ℕ)) → WaitsForTimes d c i lists →
-    ((p : ℕ) → IsPlace t p → p < places t) → AreRunsBy (DelayEndsBy (list_of (controls_of d i) lists)) t before ends → AreRuns (DelayPauseEnds d c i) t before ends
+    ((p : ℕ) → IsPlace t p → p < places t) → AreRunsBy (plain_by (is_wide c)) (DelayEndsBy (list_of (controls_of d i) lists)) t before ends →
+    AreRuns (plain_by (is_wide c)) (DelayPauseEnds d c i) t before ends
 listed_runs d c i lists t before ends has inside h =
-    runs_by (DelayPauseEnds d c i) (λ pause r y. delay_control d i y.0 pause r y.2) t before ends
-    (ends_as (DelayEndsBy (list_of (controls_of d i) lists)) (DelayPauseEnds d c i) t before ends (delay_ends d c i lists has) h) inside
+    runs_by (plain_by (is_wide c)) (DelayPauseEnds d c i) (λ pause r y. delay_control d i y.0 pause r y.2) t before ends
+    (ends_as (plain_by (is_wide c)) (DelayEndsBy (list_of (controls_of d i) lists)) (DelayPauseEnds d c i) t before ends (delay_ends d c i lists has) h) inside
 
 -- and by the terms of event controls
 pub fired_runs : (d : Parts) (c : Claims) (i : ℕ) (t : Chart) (before ends : List (List ℕ)) → WaitsForEdges d c i → ((p : ℕ) → IsPlace t p → p < places t) →
-    AreRunsBy (λ pause r. EdgeEnds d c (next_by pause []) r) t before ends → AreRuns (EdgePauseEnds d c i) t before ends
+    AreRunsBy (plain_by (is_wide c)) (λ pause r. EdgeEnds d c (next_by pause []) r) t before ends → AreRuns (plain_by (is_wide c)) (EdgePauseEnds d c i) t before ends
 fired_runs d c i t before ends waits inside h =
-    runs_by (EdgePauseEnds d c i) (λ pause r y. edge_control d c pause r y.1) t before ends
-    (ends_as (λ pause r. EdgeEnds d c (next_by pause []) r) (EdgePauseEnds d c i) t before ends (λ pause r. (λ h. (waits, h), λ y. y.1)) h) inside
+    runs_by (plain_by (is_wide c)) (EdgePauseEnds d c i) (λ pause r y. edge_control d c pause r y.1) t before ends
+    (ends_as (plain_by (is_wide c)) (λ pause r. EdgeEnds d c (next_by pause []) r) (EdgePauseEnds d c i) t before ends (λ pause r. (λ h. (waits, h), λ y. y.1)) h) inside

@@ -15,7 +15,7 @@ use Rattle.vs_slots.specs.Firing.{CountsAt, WritesAt}
 use Rattle.vs_slots.specs.Kept.{IsPlaceFiring, IsPlaceWrite, IsRunIn, IsSiteFiring, IsSiteWrite}
 
 -- the map of a site's process is that map
-uses_here : (charts : List Chart) (i : ℕ) (t : Chart) → slice_get charts i ≡ Some t → (s : Site) → IsSite charts s → s.process ≡ i → IsPlace t s.place × UsesAt t s.place s.usage s.range
+pub uses_here : (charts : List Chart) (i : ℕ) (t : Chart) → slice_get charts i ≡ Some t → (s : Site) → IsSite charts s → s.process ≡ i → IsPlace t s.place × UsesAt t s.place s.usage s.range
 uses_here charts i t at s is by =
     let same : is.chart ≡ t = same_Some is.chart t (sym is.is ∙ ap (slice_get charts) by ∙ at) in
     (subst (λ (c : Chart). IsPlace c s.place) same is.point, subst (λ (c : Chart). UsesAt c s.place s.usage s.range) same is.uses)

@@ -4,6 +4,7 @@ pub mod Runs
 pub mod Controls
 pub mod Firing
 pub mod Seen
+pub mod Settings
 pub mod Kept
 pub mod Places
 pub use Rattle.vs_claims

@@ -6,10 +6,10 @@ use Rattle.vs_design.specs.Parts.{Parts}
 use Rattle.vs_process.specs.Numbers.{number_next}
 use Rattle.vs_process.specs.Stops.{Stop, IsText}
 use Rattle.vs_process.specs.Ways.{Pause, none, delay, event, next_by}
-use Rattle.vs_maps.specs.vs_rules.specs.Claims.{Claims, kind_of, WaitsForEdges, WaitsForTimes}
+use Rattle.vs_maps.specs.vs_rules.specs.Claims.{Claims, is_wide, kind_of, WaitsForEdges, WaitsForTimes}
 use Rattle.vs_maps.specs.vs_rules.specs.Slots.{DelayEnds, EdgeEnds, Ends, HasSlot, RunsByDelays}
-use Rattle.vs_claims.specs.vs_maps.specs.declared.along.Along.TheVariants.{Plain}
-use Rattle.vs_claims.specs.vs_maps.specs.Reaches.{Chart, IsPlace, pause_at, places}
+use Rattle.vs_claims.specs.vs_maps.specs.declared.along.Along.{Along}
+use Rattle.vs_claims.specs.vs_maps.specs.Reaches.{Chart, IsPlace, pause_at, places, plain_by}
 use Rattle.vs_claims.specs.vs_maps.specs.Ranges.{pause_terms}
 use Rattle.vs_claims.specs.vs_maps.specs.Walks.{WalkFrom, IsControlBefore}
 use Rattle.vs_slots.specs.Terms.{TermsFire}
@@ -27,17 +27,17 @@ DelayPauseEnds d c i pause r = (lists : List (List ℕ)) × WaitsForTimes d c i 
 abbrev pub EdgePauseEnds : Parts → Claims → ℕ → Pause → ℕ → Type 0
 EdgePauseEnds d c i pause r = WaitsForEdges d c i × EdgeEnds d c (next_by pause []) r
 
--- a walk without further control leads to a place from a control that can end so
-abbrev pub HasRunBy : (Pause → ℕ → Type 0) → Chart → ℕ → ℕ → Type 0
-HasRunBy ends t p r = WalkFrom t Plain (λ q. ends (pause_at t q) r) p
+-- a walk along ways that count leads to a place from a control that can end so
+abbrev pub HasRunBy : Along → (Pause → ℕ → Type 0) → Chart → ℕ → ℕ → Type 0
+HasRunBy along ends t p r = WalkFrom t along (λ q. ends (pause_at t q) r) p
 
 -- a place of a process has a run slot
 abbrev pub HasRun : Parts → Claims → ℕ → Chart → ℕ → ℕ → Type 0
-HasRun d c i t p r = HasRunBy (PauseEnds d c i) t p r
+HasRun d c i t p r = HasRunBy (plain_by (is_wide c)) (PauseEnds d c i) t p r
 
 -- it has one by a delay control
 abbrev pub HasDelayRun : Parts → Claims → ℕ → Chart → ℕ → ℕ → Type 0
-HasDelayRun d c i t p r = HasRunBy (DelayPauseEnds d c i) t p r
+HasDelayRun d c i t p r = HasRunBy (plain_by (is_wide c)) (DelayPauseEnds d c i) t p r
 
 -- a place where something is done has the run slots of its point
 abbrev pub RunsAreExact : Type 0
@@ -49,15 +49,19 @@ RunsAreExact = (d : Parts) (c : Claims) (i : ℕ) (q : Process) (stops : List St
 abbrev pub DelayRunsAreExact : Type 0
 DelayRunsAreExact = (d : Parts) (c : Claims) (i : ℕ) (q : Process) (stops : List Stop) (start : ℕ) → slice_get d.processes i ≡ Some q →
     (x : IsText q.body stops start) → (p n r : ℕ) (lists : List (List ℕ)) → number_next (x.at p) ≡ Some n → WaitsForTimes d c i lists →
-    (HasDelayRun d c i (record { stops = stops; start = start }) p r ↔ RunsByDelays d i lists (x.at p) r)
+    (HasDelayRun d c i (record { stops = stops; start = start }) p r ↔ RunsByDelays d (is_wide c) i lists (x.at p) r)
 
 -- for each place of a process, the controls before it, and the residues at which its own control can end: by these it has its run slots
-abbrev pub AreRuns : (Pause → ℕ → Type 0) → Chart → List (List ℕ) → List (List ℕ) → Type 0
-AreRuns can_end t before ends = (p r : ℕ) → p < places t → (IsOneOf ends (row before p) r ↔ HasRunBy can_end t p r)
+abbrev pub AreRuns : Along → (Pause → ℕ → Type 0) → Chart → List (List ℕ) → List (List ℕ) → Type 0
+AreRuns along can_end t before ends = (p r : ℕ) → p < places t → (IsOneOf ends (row before p) r ↔ HasRunBy along can_end t p r)
+
+-- for each place, these are the controls before it, along ways that count
+abbrev pub AreBefore : Along → Chart → List (List ℕ) → Type 0
+AreBefore along t before = (p q : ℕ) → p < places t → (Contains (row before p) q ↔ ((q < places t) × IsControlBefore t along q p))
 
 -- for private clauses: what both lists are
-pub record AreRunsBy (can_end : Pause → ℕ → Type 0) (t : Chart) (before ends : List (List ℕ)) : Type 0 where
-  pub before_are : (p q : ℕ) → p < places t → (Contains (row before p) q ↔ ((q < places t) × IsControlBefore t q p))
+pub record AreRunsBy (along : Along) (can_end : Pause → ℕ → Type 0) (t : Chart) (before ends : List (List ℕ)) : Type 0 where
+  pub before_are : AreBefore along t before
   pub ends_are : (q r : ℕ) → q < places t → (Contains (row ends q) r ↔ (IsPlace t q × can_end (pause_at t q) r))
 
 -- a delay control can end at a residue, by the lists of the controls

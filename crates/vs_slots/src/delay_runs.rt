@@ -3,6 +3,7 @@ ghost use Rattle.std.specs.Prelude.{IfOk, map};
 ghost use Rattle.vs_design.specs.Tables.{rows};
 ghost use Rattle.vs_maps.specs.vs_rules.specs.Certificates.{residues_from};
 ghost use Rattle.vs_maps.specs.vs_rules.specs.Controls.{controls_in, list_of};
+ghost use Rattle.vs_claims.specs.vs_maps.specs.Reaches.{plain_by};
 ghost use Rattle.vs_slots.specs.Runs.{AreRunsBy, DelayEndsBy, DelayPauseEnds};
 ghost use Rattle.vs_slots.specs.Kept.{RunsWhere, AreAllRuns};
 
@@ -10,23 +11,24 @@ use crate::controls::{ControlLists, delay_ends};
 use crate::runs::Runs;
 use std::alloc::{AllocError, Global};
 use vs_claims::Facts;
-use vs_claims::vs_maps::{Tables, controls, controls_before};
+use vs_claims::vs_maps::{Tables, controls, controls_before, plain_by};
 use vs_design::Statement;
 
-// The runs of a process that waits for times, by its text, its tables and its lists.
+// The runs of a process that waits for times, by the version of the certificate, its text, its tables and its lists.
 fn listed_runs<'a>(
     alloc: Global,
+    wide: bool,
     body: &Statement,
     tables: &'a Tables<'a>,
     lists: &[Vec<u64>],
 ) -> Result<Runs, AllocError>
-    ensures { IfOk result (λ x. AreRunsBy (DelayEndsBy (list_of (controls_in body.now) (map residues_from lists.now)))
+    ensures { IfOk result (λ x. AreRunsBy (plain_by wide) (DelayEndsBy (list_of (controls_in body.now) (map residues_from lists.now)))
         tables.entry.now x.before (rows x.ends.items)) }
 {
     let controls = controls(alloc, body)?;
     let lists = ControlLists::new(&controls, lists);
     let ends = delay_ends(alloc, &*tables, &lists)?;
-    let before = controls_before(alloc, tables)?;
+    let before = controls_before(alloc, tables, plain_by(wide))?;
     Ok(Runs { before, ends })
 }
 
@@ -45,7 +47,7 @@ fn runs_of_delays<'a>(alloc: Global, facts: &'a Facts<'a>, i: usize) -> Result<R
         return Ok(Runs::none(alloc));
     };
     tables.leads_in();
-    listed_runs(alloc, &processes[i].body, tables, lists)
+    listed_runs(alloc, facts.is_wide(), &processes[i].body, tables, lists)
 }
 
 /// The runs of all processes behind their delay controls, in their order; of those that wait for no times there are none.

@@ -35,8 +35,8 @@ fn given_of(
     }
 }
 
-// The constant that the statement at a place gives the lowest bit of a signal.
-fn given_at<'a>(
+/// The constant that the statement at a place gives the lowest bit of a signal.
+pub(crate) fn given_at<'a>(
     alloc: Global,
     tables: &'a Tables<'a>,
     place: usize,

@@ -13,6 +13,7 @@ mod residues;
 mod roots;
 mod runs;
 mod seen;
+mod settings;
 mod slots;
 
 pub use controls::{ControlLists, pause_ends};

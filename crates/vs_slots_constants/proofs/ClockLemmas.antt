@@ -32,11 +32,11 @@ it_back : (o : Option ℕ) (v : ℕ) → is_it o v ≡ true → o ≡ Some v
 it_back None v h = cc
 it_back (Some u) v h = ap Some (eqb-true u v h)
 
-known_is : (o : Option Digit) (digit : Digit) → o ≡ Some digit → IsKnown digit → known o ≡ Some digit
+pub known_is : (o : Option Digit) (digit : Digit) → o ≡ Some digit → IsKnown digit → known o ≡ Some digit
 known_is o _ e k.zero = ap known e
 known_is o _ e k.one = ap known e
 
-known_back : (o : Option Digit) (digit : Digit) → known o ≡ Some digit → (o ≡ Some digit) × IsKnown digit
+pub known_back : (o : Option Digit) (digit : Digit) → known o ≡ Some digit → (o ≡ Some digit) × IsKnown digit
 known_back None digit h = cc
 known_back (Some Zero) digit h = (h, subst IsKnown (same_Some Zero digit h) k.zero)
 known_back (Some One) digit h = (h, subst IsKnown (same_Some One digit h) k.one)

@@ -3,3 +3,5 @@ pub mod OtherLemmas
 pub mod WholeLemmas
 pub mod Cores
 pub mod ClockLemmas
+pub mod PointLemmas
+pub mod TurnLemmas

@@ -18,12 +18,13 @@ use Rattle.vs_design.specs.Uses.{aim_range, joined, slice_range}
 use Rattle.vs_design.specs.Parts.{Parts}
 use Rattle.vs_rules.specs.vs_threads.specs.Blocks.{outputs_for}
 use Rattle.vs_threads.specs.Writes.{statement_writes, statement_writes_step}
-use Rattle.vs_rules.specs.Constants.{HasBody, IsBare, itself, inside, MayTurn, Sets, SetsAndTurns, TurnsForever}
+use Rattle.vs_rules.specs.Constants.{HasBody, IsBare, itself, inside, MayTurn, Sets, SetsFirst, SetsAndTurns, TurnsForever}
 use Rattle.vs_rules.specs.Constants as k
 use Rattle.vs_rules.specs.Claims.{is_wide}
 use Rattle.vs_rules.specs.Paths.{Writes}
 use Rattle.vs_slots_constants.specs.Clocks.{IsOther, IsBodyOf, IsTurnedBy, IsBegunBy, IsClockBy, alone, two, ClocksByWriters}
 use Rattle.vs_slots_constants.proofs.ClockLemmas.{sets_or_turns, set_or_turns}
+use Rattle.vs_slots_constants.proofs.TurnLemmas.{alike_writes, alike_apart}
 
 -- ---- the one other number
 
@@ -114,18 +115,27 @@ apart : (d : Parts) (wide : Bool) (v i half : ℕ) (digit : Digit) (body : State
 apart d wide v i half digit body its turns sets =
     set_or_turns d wide v half digit body (subst (Sets d v digit) (its sets.process sets.is) sets.body) turns
 
+-- what sets a signal first writes it
+first_writes : (d : Parts) (wide : Bool) (v j : ℕ) (digit : Digit) → SetsFirst d wide v digit j → Writes d j v
+first_writes d false v j digit h = sets_writes d v j digit h
+first_writes d true v j digit h = alike_writes d v j digit h
+
+first_apart : (d : Parts) (wide : Bool) (v i half : ℕ) (digit : Digit) (body : Statement) → IsBodyOf d i body → TurnsForever d wide v half body → SetsFirst d wide v digit i → ⊥
+first_apart d false v i half digit body its turns sets = apart d false v i half digit body its turns sets
+first_apart d true v i half digit body its turns sets = alike_apart d true v i half digit body its turns sets
+
 -- the process that sets the signal is the one other writer of it
 pub other_writer : (d : Parts) (wide : Bool) (v i j half : ℕ) (digit : Digit) (body : Statement) (writers : List ℕ) → ((k : ℕ) → (Contains writers k ↔ Writes d k v)) → IsBodyOf d i body →
-    TurnsForever d wide v half body → HasBody d j Initial (Sets d v digit) → ((k : ℕ) → Writes d k v → (k ≡ i) ⊎ (k ≡ j)) → IsOther writers i j
+    TurnsForever d wide v half body → SetsFirst d wide v digit j → ((k : ℕ) → Writes d k v → (k ≡ i) ⊎ (k ≡ j)) → IsOther writers i j
 other_writer d wide v i j half digit body writers are its turns sets all = (
-  (are j).1 (sets_writes d v j digit sets),
-  λ e. apart d wide v i half digit body its turns (subst (λ (n : ℕ). HasBody d n Initial (Sets d v digit)) e sets),
+  (are j).1 (first_writes d wide v j digit sets),
+  λ e. first_apart d wide v i half digit body its turns (subst (SetsFirst d wide v digit) e sets),
   λ k h. all k ((are k).0 h),
 )
 
 -- what a process of this kind turns, by the number of the writer
 turned_there : (d : Parts) (wide : Bool) (v i j k half offset : ℕ) (writer : Option ℕ) (p : Process) (kind : ProcessKind) (digit : Digit) → writer ≡ Some i → slice_get d.processes i ≡ Some p →
-    writer ≡ Some k → HasBody d k kind (TurnsForever d wide v half) → HasBody d j Initial (Sets d v digit) → (offset ≡ 0) → ((n : ℕ) → Writes d n v → (n ≡ k) ⊎ (n ≡ j)) →
+    writer ≡ Some k → HasBody d k kind (TurnsForever d wide v half) → SetsFirst d wide v digit j → (offset ≡ 0) → ((n : ℕ) → Writes d n v → (n ≡ k) ⊎ (n ≡ j)) →
     (p.kind ≡ kind) × IsTurnedBy d wide v i p.body offset half digit
 turned_there d wide v i j k half offset writer p kind digit is at w turns sets none all =
     let e = same_Some k i (sym w ∙ is) in

@@ -14,7 +14,7 @@ use Rattle.vs_design.specs.declared.statement.Statement.TheViews.{out-Statement}
 use Rattle.vs_design.specs.declared.statement.Target.{Target}
 use Rattle.vs_design.specs.Parts.{Parts}
 use Rattle.vs_rules.specs.Claims.{Claims, IsWriter, is_wide}
-use Rattle.vs_rules.specs.Constants.{bit_of, given, IsWholeTarget, IsTurn, MayTurn, IsBare, Sets, Turns, SetsAfter, TurnsForever, SetsAndTurns, HasBody, IsClock}
+use Rattle.vs_rules.specs.Constants.{bit_of, given, IsWholeTarget, IsTurn, MayTurn, IsBare, Sets, Turns, SetsAfter, TurnsForever, SetsAndTurns, SetsAlike, SetsFirst, HasBody, IsClock}
 use Rattle.vs_rules.specs.Paths.{Writes}
 use Rattle.vs_slots_constants.specs.Wholes.{whole_parts, turn_layer}
 
@@ -100,6 +100,10 @@ PairLayer d wide v offset half digit _ = ⊥
 abbrev pub IsOther : List ℕ → ℕ → ℕ → Type 0
 IsOther xs i j = Contains xs j × (j ≡ i → ⊥) × ((k : ℕ) → Contains xs k → (k ≡ i) ⊎ (k ≡ j))
 
+-- where clocks are wide, the digit that each write of the one other process gives a signal, where they all give it the same by `=`
+abbrev pub IsSetBy : Parts → Bool → ℕ → ℕ → List ℕ → Option Digit → Type 0
+IsSetBy d wide v i writers set = wide ≡ true → (j : ℕ) → IsOther writers i j → (digit : Digit) → (SetsAlike d v digit j ↔ set ≡ Some digit)
+
 -- it is the body of a process, by its number, where there is this process
 abbrev pub IsBodyOf : Parts → ℕ → Statement → Type 0
 IsBodyOf d i body = (p : Process) → slice_get d.processes i ≡ Some p → p.body ≡ body
@@ -108,7 +112,7 @@ IsBodyOf d i body = (p : Process) → slice_get d.processes i ≡ Some p → p.b
 abbrev pub IsTurnedBy : Parts → Bool → ℕ → ℕ → Statement → ℕ → ℕ → Digit → Type 0
 IsTurnedBy d wide v i body offset half digit =
     (offset ≡ 0) × TurnsForever d wide v half body
-    × ((j : ℕ) × HasBody d j Initial (Sets d v digit) × ((k : ℕ) → Writes d k v → (k ≡ i) ⊎ (k ≡ j)))
+    × ((j : ℕ) × SetsFirst d wide v digit j × ((k : ℕ) → Writes d k v → (k ≡ i) ⊎ (k ≡ j)))
 
 -- an `initial` process with such a body sets a signal and turns it, or where clocks are wide turns it alone
 abbrev pub IsBegunBy : Parts → Bool → ℕ → ℕ → Statement → ℕ → ℕ → Digit → Type 0
@@ -119,7 +123,7 @@ IsBegunBy d wide v i body offset half digit =
 pub data IsClockBy (d : Parts) (wide : Bool) (v : ℕ) (writer : Option ℕ) (digit : Digit) (offset half : ℕ) : Type 0 where
   alone : (i : ℕ) → writer ≡ Some i → HasBody d i Initial (SetsAndTurns d wide v offset half digit) → IsClockBy d wide v writer digit offset half
   two : (i j : ℕ) (kind : ProcessKind) → writer ≡ Some i → MayTurn wide kind → HasBody d i kind (TurnsForever d wide v half) →
-      HasBody d j Initial (Sets d v digit) → (offset ≡ 0) → ((k : ℕ) → Writes d k v → (k ≡ i) ⊎ (k ≡ j)) → IsClockBy d wide v writer digit offset half
+      SetsFirst d wide v digit j → (offset ≡ 0) → ((k : ℕ) → Writes d k v → (k ≡ i) ⊎ (k ≡ j)) → IsClockBy d wide v writer digit offset half
 
 -- a clock is one by the number of the process that is claimed to be its writer
 abbrev pub ClocksByWriters : Type 0

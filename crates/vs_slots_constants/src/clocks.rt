@@ -1,13 +1,13 @@
 //! Clocks: signals that are set once and then turned for ever.
-ghost use Rattle.std.specs.Prelude.{ℕ, ◌≡◌, ◌<◌, ◌↔◌, Some, IfOk, IsTrue};
+ghost use Rattle.std.specs.Prelude.{ℕ, ◌≡◌, ◌<◌, ◌↔◌, true, Some, IfOk, IsTrue};
 ghost use Rattle.std.specs.List.{Contains};
 ghost use Rattle.vs_design.specs.vs_logic4.specs.declared.digit.Digit.{Digit};
 ghost use Rattle.vs_design.specs.declared.design.ProcessKind.TheVariants.{Initial};
 ghost use Rattle.vs_design.specs.declared.statement.Statement.TheViews.{out-Statement};
-ghost use Rattle.vs_rules.specs.Constants.{Sets, Turns, TurnsForever, SetsAndTurns, HasBody};
+ghost use Rattle.vs_rules.specs.Constants.{Sets, SetsAlike, SetsFirst, Turns, TurnsForever, SetsAndTurns, HasBody};
 ghost use Rattle.vs_rules.specs.Paths.{Writes};
 ghost use Rattle.vs_slots_constants.specs.Clocks.{IsCore, is_it, known, setting, setting_layer, turning, turning_layer, IsTurning};
-ghost use Rattle.vs_slots_constants.specs.Clocks.{TurnsLayer, ForeverLayer, BeginsLayer, Begins, ArePair, PairLayer, IsOther, IsBodyOf, IsTurnedBy, IsBegunBy, IsClockBy};
+ghost use Rattle.vs_slots_constants.specs.Clocks.{TurnsLayer, ForeverLayer, BeginsLayer, Begins, ArePair, PairLayer, IsOther, IsBodyOf, IsSetBy, IsTurnedBy, IsBegunBy, IsClockBy};
 
 use crate::constants::{Bit, given};
 use crate::wholes::{turn_layer, whole_parts};
@@ -46,8 +46,8 @@ fn is_it(found: Option<usize>, v: usize) -> bool
     }
 }
 
-// A digit, where it is known.
-fn known(digit: Option<Digit>) -> Option<Digit>
+/// A digit, where it is 0 or 1.
+pub fn known(digit: Option<Digit>) -> Option<Digit>
     ensures { result ≡ known digit }
 {
     match digit {
@@ -274,8 +274,8 @@ fn sets_and_turns(
     pair_layer(alloc, design, wide, v, core_of(s))
 }
 
-// The one other number of a list.
-fn other(xs: &[usize], i: usize) -> Option<usize>
+/// The one other number of a list, where it has one.
+pub fn other(xs: &[usize], i: usize) -> Option<usize>
     ensures { (j : ℕ) → (IsOther xs.now i j ↔ result ≡ Some j) }
 {
     let mut found = None;
@@ -307,6 +307,26 @@ fn set_by(alloc: Global, design: &Design, v: usize, j: usize) -> Result<Option<D
     }
 }
 
+// The 0 or 1 to which a process, by its number, sets a signal that another one turns, by what each of its writes gives the signal where clocks are
+// wide.
+fn first_set(
+    alloc: Global,
+    design: &Design,
+    wide: bool,
+    v: usize,
+    j: usize,
+    set: Option<Digit>,
+) -> Result<Option<Digit>, AllocError>
+    requires { wide ≡ true → (digit : Digit) → (SetsAlike design.now v digit j ↔ set ≡ Some digit) }
+    ensures { IfOk result (λ o. (digit : Digit) → (SetsFirst design.now wide v digit j ↔ o ≡ Some digit)) }
+{
+    if wide {
+        Ok(set)
+    } else {
+        set_by(alloc, design, v, j)
+    }
+}
+
 // A clock that is set at the start, and turned after so many ticks.
 fn at_once(digit: Option<Digit>, half: u64) -> Option<Clock>
     ensures { (offset ticks : ℕ) (d : Digit) → (((offset ≡ 0) × (digit ≡ Some d) × (half ≡ ticks))
@@ -331,9 +351,11 @@ fn turned(
     i: usize,
     body: &Statement,
     writers: &[usize],
+    set: Option<Digit>,
 ) -> Result<Option<Clock>, AllocError>
     requires its { IsBodyOf design.now i body.now }
     requires writers { (k : ℕ) → (Contains writers.now k ↔ Writes design.now k v) }
+    requires set { IsSetBy design.now wide v i writers.now set }
     ensures { IfOk result (λ o. (offset half : ℕ) (digit : Digit) → (IsTurnedBy design.now wide v i body.now offset half digit
         ↔ o ≡ Some (record { digit = digit; offset = offset; half = half }))) }
 {
@@ -343,7 +365,7 @@ fn turned(
     let Some(j) = other(writers, i) else {
         return Ok(None);
     };
-    let digit = set_by(alloc, design, v, j)?;
+    let digit = first_set(alloc, design, wide, v, j, set)?;
     Ok(at_once(digit, half))
 }
 
@@ -356,9 +378,11 @@ fn begun(
     i: usize,
     body: &Statement,
     writers: &[usize],
+    set: Option<Digit>,
 ) -> Result<Option<Clock>, AllocError>
     requires its { IsBodyOf design.now i body.now }
     requires writers { (k : ℕ) → (Contains writers.now k ↔ Writes design.now k v) }
+    requires set { IsSetBy design.now wide v i writers.now set }
     ensures { IfOk result (λ o. (offset half : ℕ) (digit : Digit) → (IsBegunBy design.now wide v i body.now offset half digit
         ↔ o ≡ Some (record { digit = digit; offset = offset; half = half }))) }
 {
@@ -366,7 +390,7 @@ fn begun(
     match alone {
         Some(clock) => Ok(Some(clock)),
         None => if wide {
-            turned(alloc, design, wide, v, i, body, writers)
+            turned(alloc, design, wide, v, i, body, writers, set)
         } else {
             Ok(None)
         },
@@ -374,7 +398,8 @@ fn begun(
 }
 
 /// The clock that a signal is, by its writer and all processes that write it: its writer sets it once and then turns it for ever; or it is an
-/// `always` that turns it, where clocks are wide an `initial` too, and the one other process that writes it sets it at the start. It takes as long
+/// `always` that turns it, where clocks are wide an `initial` too, and the one other process that writes it sets it at the start. Where clocks are
+/// wide, the last argument is the 0 or 1 that each write of that other process gives the signal by `=`, if they all give the same. It takes as long
 /// as the texts of these two processes.
 pub fn clock_of(
     alloc: Global,
@@ -383,8 +408,10 @@ pub fn clock_of(
     v: usize,
     writer: Option<usize>,
     writers: &[usize],
+    set: Option<Digit>,
 ) -> Result<Option<Clock>, AllocError>
-    requires { (k : ℕ) → (Contains writers.now k ↔ Writes design.now k v) }
+    requires writers { (k : ℕ) → (Contains writers.now k ↔ Writes design.now k v) }
+    requires set { (i : ℕ) → writer ≡ Some i → IsSetBy design.now wide v i writers.now set }
     ensures { IfOk result (λ o. (digit : Digit) (offset half : ℕ) → (IsClockBy design.now wide v writer digit offset half
         ↔ o ≡ Some (record { digit = digit; offset = offset; half = half }))) }
 {
@@ -395,7 +422,7 @@ pub fn clock_of(
         return Ok(None);
     };
     match process.kind {
-        ProcessKind::Initial => begun(alloc, design, wide, v, i, &process.body, writers),
-        ProcessKind::Always => turned(alloc, design, wide, v, i, &process.body, writers),
+        ProcessKind::Initial => begun(alloc, design, wide, v, i, &process.body, writers, set),
+        ProcessKind::Always => turned(alloc, design, wide, v, i, &process.body, writers, set),
     }
 }

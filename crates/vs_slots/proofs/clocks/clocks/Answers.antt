@@ -14,8 +14,13 @@ writers-requires c =
     let told : length c.signals-v-end.result.now ≡ length c.args.facts.now.design.signals = ap length (c.signals-v-end.ensures ∙ ap (λ (d : Parts). d.signals) c.design.ensures) in
     subst (λ (x : Texts). c.loop-v.v < length x.design.signals) (sym c.uses-uses.ensures) (omega (arith, c.loop-v-test.true, told))
 
-pub clock_by-requires : goal.clock_by-requires
-clock_by-requires c k = subst (λ (x : Texts). (Contains c.writers.result.now k ↔ Writes x.design k c.loop-v.v)) c.uses-uses.ensures (c.writers.ensures k)
+pub clock_by-requires-clause-signal : goal.clock_by-requires-clause-signal
+clock_by-requires-clause-signal c =
+    let told : length c.signals-v-end.result.now ≡ length c.args.facts.now.design.signals = ap length (c.signals-v-end.ensures ∙ ap (λ (d : Parts). d.signals) c.design.ensures) in
+    omega (arith, c.loop-v-test.true, told)
+
+pub clock_by-requires-clause-writers : goal.clock_by-requires-clause-writers
+clock_by-requires-clause-writers c k = subst (λ (x : Texts). (Contains c.writers.result.now k ↔ Writes x.design k c.loop-v.v)) c.uses-uses.ensures (c.writers.ensures k)
 
 pub loop-v-preserved : goal.loop-v-preserved
 loop-v-preserved c =

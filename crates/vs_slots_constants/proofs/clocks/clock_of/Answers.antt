@@ -43,3 +43,9 @@ turned-requires-clause-its c q is =
     let at : slice_get c.args.design.now.processes c.in-Some.i ≡ Some p =
     ap (λ (ps : List Process). slice_get ps c.in-Some.i) (sym c.processes.ensures) ∙ found_there c.processes.result.now c.in-Some.i p c.in-Some-get.ensures.lookup.0 c.in-Some-get.ensures.lookup.1 in
     ap (λ (r : Process). r.body) (same_Some q p (sym is ∙ at))
+
+pub begun-requires-clause-set : goal.begun-requires-clause-set
+begun-requires-clause-set c = c.requires.set c.in-Some.i c.in-Some.is
+
+pub turned-requires-clause-set : goal.turned-requires-clause-set
+turned-requires-clause-set c = c.requires.set c.in-Some.i c.in-Some.is
