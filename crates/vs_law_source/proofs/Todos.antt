@@ -201,4 +201,4 @@ leads_as wide k k' next h g =
     record { to = m.0; leads = m.1; same = m.2 }
 
 pub goes_as : (k k' : Todo) (next : Next) → AlikeTodo k k' → Goes k next → GoesAs k' next
-goes_as k k' next h g = let m = among_as next (nexts k) (nexts k') (nexts_alike k k' h) g in record { to = m.0; goes = m.1; same = m.2 }
+goes_as k k' next h g = let m = leads_as false k k' next h g in record { to = m.to; goes = m.leads; same = m.same }

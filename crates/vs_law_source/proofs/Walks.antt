@@ -16,7 +16,7 @@ use Rattle.vs_threads.specs.vs_process.specs.Steps.{Next, on, after, wait}
 use Rattle.vs_rules.proofs.Past.{past_points}
 use Rattle.vs_rules.specs.Points.{Goes, Point, first_todo, nexts_by}
 use Rattle.vs_rules.proofs.Points.{by_path}
-use Rattle.vs_rules.specs.Paths.{Path, begins, goes, any_way, is_plain, is_zero_time, IsPoint, IsSlot0, IsPrologue, PathBy, PathFrom, RunsBehind, IsLate, IsHot, HasTerm, IsHeardAtStart, WritesNow}
+use Rattle.vs_rules.specs.Paths.{Path, begins, goes, any_way, is_plain, is_zero_time, IsPoint, IsSlot0, IsPrologue, PathBy, PathFrom, PathFromBy, RunsBehind, IsLate, IsHot, HasTerm, IsHeardAtStart, WritesNow}
 use Rattle.vs_law_source.proofs.Designs.{AlikeProcess, AreNumbered, Twins}
 use Rattle.vs_law_source.proofs.Done.{writes_now_as}
 use Rattle.vs_law_source.proofs.Spots.{one_point, counted_once}
@@ -147,19 +147,8 @@ path_point d i ok from _ p (goes j l next path g may is) = subst (IsPoint d i) i
 
 -- ---- paths
 
-pub path_as : (ok : Next → Bool) → ((next next' : Next) → AlikeNext next next' → ok next ≡ ok next') → (from from' k : Todo) → AlikeTodo from from' → Path ok from k → TwinOf k (Path ok from')
-path_as ok respects from from' _ h begins = record { to = from'; is = begins; same = h }
-path_as ok respects from from' _ h (goes k l next p g passes e) =
-    let q = path_as ok respects from from' k h p in
-    let n = goes_as k q.to next q.same g in
-    record {
-      to = todo_behind n.to;
-      is = goes q.to (todo_behind n.to) n.to q.is n.goes (sym (respects next n.to n.same) ∙ passes) refl;
-      same = subst (λ (m : Todo). AlikeTodo m (todo_behind n.to)) e (behind_as next n.to n.same);
-    }
-
 -- by the ways of one version
-pub path_by_as : (wide : Bool) (ok : Next → Bool) → ((next next' : Next) → AlikeNext next next' → ok next ≡ ok next') → (from from' k : Todo) → AlikeTodo from from' → PathBy (nexts_by wide) ok from k →
+path_by_as : (wide : Bool) (ok : Next → Bool) → ((next next' : Next) → AlikeNext next next' → ok next ≡ ok next') → (from from' k : Todo) → AlikeTodo from from' → PathBy (nexts_by wide) ok from k →
     TwinOf k (PathBy (nexts_by wide) ok from')
 path_by_as wide ok respects from from' _ h begins = record { to = from'; is = begins; same = h }
 path_by_as wide ok respects from from' _ h (goes k l next p g passes e) =
@@ -170,6 +159,10 @@ path_by_as wide ok respects from from' _ h (goes k l next p g passes e) =
       is = goes q.to (todo_behind n.to) n.to q.is n.leads (sym (respects next n.to n.same) ∙ passes) refl;
       same = subst (λ (m : Todo). AlikeTodo m (todo_behind n.to)) e (behind_as next n.to n.same);
     }
+
+-- by all ways of the text
+pub path_as : (ok : Next → Bool) → ((next next' : Next) → AlikeNext next next' → ok next ≡ ok next') → (from from' k : Todo) → AlikeTodo from from' → Path ok from k → TwinOf k (Path ok from')
+path_as ok respects from from' k h path = path_by_as false ok respects from from' k h path
 
 pub slot0_as : {d d' : Parts} → Twins d d' → (i : ℕ) (k : Todo) → IsSlot0 d i k → TwinOf k (IsSlot0 d' i)
 slot0_as {d} {d'} t i k h = path_as is_zero_time zero_same (first_todo d i) (first_todo d' i) k (first_alike t i) h
@@ -184,17 +177,21 @@ slot0_point d i k h = path_point d i is_zero_time (first_todo d i) k Point.begin
 abbrev pub SortAs : (sort sort' : Todo → Next → Type 0) → Type 0
 SortAs sort sort' = (k k' : Todo) (next next' : Next) → AlikeTodo k k' → AlikeNext next next' → sort k next → sort' k' next'
 
-pub path_from_as : {d d' : Parts} → Twins d d' → (i : ℕ) (sort sort' : Todo → Next → Type 0) → SortAs sort sort' → (ok : Next → Bool) →
-    ((next next' : Next) → AlikeNext next next' → ok next ≡ ok next') → (k : Todo) → PathFrom d i sort ok k → TwinOf k (PathFrom d' i sort' ok)
-path_from_as t i sort sort' starts ok respects k h =
+path_from_by_as : {d d' : Parts} → Twins d d' → (wide : Bool) (i : ℕ) (sort sort' : Todo → Next → Type 0) → SortAs sort sort' → (ok : Next → Bool) →
+    ((next next' : Next) → AlikeNext next next' → ok next ≡ ok next') → (k : Todo) → PathFromBy (nexts_by wide) d i sort ok k → TwinOf k (PathFromBy (nexts_by wide) d' i sort' ok)
+path_from_by_as t wide i sort sort' starts ok respects k h =
     let p = point_as t i h.at h.point in
     let n = goes_as h.at p.to h.next p.same h.goes in
-    let q = path_as ok respects (todo_behind h.next) (todo_behind n.to) k (behind_as h.next n.to n.same) h.path in
+    let q = path_by_as wide ok respects (todo_behind h.next) (todo_behind n.to) k (behind_as h.next n.to n.same) h.path in
     record {
       to = q.to;
       is = record { at = p.to; next = n.to; point = p.is; goes = n.goes; starts = starts h.at p.to h.next n.to p.same n.same h.starts; path = q.is };
       same = q.same;
     }
+
+path_from_as : {d d' : Parts} → Twins d d' → (i : ℕ) (sort sort' : Todo → Next → Type 0) → SortAs sort sort' → (ok : Next → Bool) →
+    ((next next' : Next) → AlikeNext next next' → ok next ≡ ok next') → (k : Todo) → PathFrom d i sort ok k → TwinOf k (PathFrom d' i sort' ok)
+path_from_as t i sort sort' starts ok respects k h = path_from_by_as t false i sort sort' starts ok respects k h
 
 pub from_point : (d : Parts) (i : ℕ) (sort : Todo → Next → Type 0) (ok : Next → Bool) (k : Todo) → PathFrom d i sort ok k → IsPoint d i k
 from_point d i sort ok k h = path_point d i ok (todo_behind h.next) k (point_on d i h.at h.next h.point h.goes) h.path
@@ -203,14 +200,7 @@ from_point d i sort ok k h = path_point d i ok (todo_behind h.next) k (point_on 
 pub runs_as : {d d' : Parts} → Twins d d' → (wide : Bool) (i : ℕ) (can_end can_end' : Next → ℕ → Type 0) → ((next next' : Next) (r : ℕ) → AlikeNext next next' → can_end next r → can_end' next' r) →
     (k : Todo) (r : ℕ) → RunsBehind d wide i can_end k r → TwinOf k (λ (m : Todo). RunsBehind d' wide i can_end' m r)
 runs_as t wide i can_end can_end' ends k r h =
-    let p = point_as t i h.at h.point in
-    let n = goes_as h.at p.to h.next p.same h.goes in
-    let q = path_by_as wide is_plain plain_same (todo_behind h.next) (todo_behind n.to) k (behind_as h.next n.to n.same) h.path in
-    record {
-      to = q.to;
-      is = record { at = p.to; next = n.to; point = p.is; goes = n.goes; starts = ends h.next n.to r n.same h.starts; path = q.is };
-      same = q.same;
-    }
+    path_from_by_as t wide i (λ at next. can_end next r) (λ at next. can_end' next r) (λ a a' next next' p n e. ends next next' r n e) is_plain plain_same k h
 
 pub runs_point : (d : Parts) (wide : Bool) (i : ℕ) (can_end : Next → ℕ → Type 0) (k : Todo) (r : ℕ) → RunsBehind d wide i can_end k r → IsPoint d i k
 runs_point d wide i can_end k r h = path_point d i is_plain (todo_behind h.next) k (point_on d i h.at h.next h.point h.goes) (by_path wide is_plain (todo_behind h.next) k h.path)

@@ -46,8 +46,8 @@ fn is_turned(along: Along) -> bool
     }
 }
 
-// All ways, or the first alone.
-fn tos_by_turn<'a>(first: bool, tos: &'a [usize]) -> &'a [usize]
+/// All ways, or the first alone.
+pub fn tos_by_turn<'a>(first: bool, tos: &'a [usize]) -> &'a [usize]
     ensures { result.now ≡ tos_by_turn first tos.entry.now }
 {
     if first && tos.len() > 1 {

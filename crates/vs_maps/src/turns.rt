@@ -79,7 +79,7 @@ fn statement_turns<'a>(alloc: Global, s: Option<&'a Statement>) -> Result<bool, 
 }
 
 /// Which stops of a map surely have a turn: a mark for each. It takes as long as the counts of the text.
-pub(crate) fn turns_of<'a>(alloc: Global, stops: &'a [Stop<'a>]) -> Result<Vec<bool>, AllocError>
+pub fn turns_of<'a>(alloc: Global, stops: &'a [Stop<'a>]) -> Result<Vec<bool>, AllocError>
     ensures { IfOk result (λ turns. turns.items ≡ map stop_turns (map stop_view stops.entry.now)) }
 {
     let mut turns = Vec::new(alloc);

@@ -1,10 +1,10 @@
 //! How a text comes to each place of its map.
 
 use crate::firing::Firings;
-use crate::turns::sure_turns;
 use crate::vs_certificate::Rules;
 use std::alloc::{AllocError, Global};
 use vs_design::{EventTerm, Statement};
+use vs_drivers::vs_maps::{tos_by_turn, turns_of};
 use vs_process::{Stop, TextMap};
 
 // How many ways to come to one place are told apart: by wide rules as many as a list may have residues, and those without one.
@@ -79,15 +79,6 @@ fn is_later(arrival: Arrival) -> bool {
     }
 }
 
-// All ways, or the first alone.
-fn ways_of(tos: &[usize], first: bool) -> &[usize] {
-    if first && tos.len() > 1 {
-        &tos[..1]
-    } else {
-        tos
-    }
-}
-
 // How a text that comes to a statement goes on from there.
 fn behind(statement: Option<&Statement>, arrival: Arrival, modulus: u64) -> Arrival {
     match statement {
@@ -124,7 +115,7 @@ struct Walk {
 fn turns_by(alloc: Global, map: &TextMap, rules: Rules) -> Result<Vec<bool>, AllocError> {
     match rules {
         Rules::Narrow => Ok(Vec::new(alloc)),
-        Rules::Wide => sure_turns(alloc, &map.stops),
+        Rules::Wide => turns_of(alloc, &map.stops),
     }
 }
 
@@ -238,7 +229,7 @@ impl Walk {
             return Ok(());
         };
         let next = behind(stop.statement, arrival, modulus);
-        for to in ways_of(&stop.tos, self.is_by_turn(place, arrival)) {
+        for to in tos_by_turn(self.is_by_turn(place, arrival), &stop.tos) {
             self.come(*to, next)?;
         }
         Ok(())

@@ -9,7 +9,6 @@ mod firing;
 mod kinds;
 mod lists;
 mod periods;
-mod turns;
 mod writing;
 
 pub use clocks::{Second, clock_by};

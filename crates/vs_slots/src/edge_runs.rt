@@ -59,8 +59,8 @@ fn fired_runs<'a>(
     tables: &'a Tables<'a>,
 ) -> Result<Runs, AllocError>
     requires { AreFirings facts.now firing.now }
-    ensures { IfOk result (λ x. AreRunsBy (plain_by (is_wide facts.entry.now.claims)) (TermsEnd facts.entry.now.design facts.entry.now.claims)
-        tables.entry.now x.before (rows x.ends.items)) }
+    ensures { IfOk result (λ x. AreRunsBy (plain_by (is_wide facts.entry.now.claims))
+        (TermsEnd facts.entry.now.design facts.entry.now.claims) tables.entry.now x.before (rows x.ends.items)) }
 {
     let edges = EdgeEnds {
         facts,
