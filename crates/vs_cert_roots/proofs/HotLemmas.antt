@@ -12,7 +12,7 @@ use Rattle.vs_design.specs.Parts.{Parts}
 use Rattle.vs_process.specs.Places.{perform, turns, Todo}
 use Rattle.vs_process.specs.Numbers.{number_next, number_of}
 use Rattle.vs_rules.specs.Certificates.{mode_from}
-use Rattle.vs_rules.specs.Claims.{Claims, blocking, HasKind, HasMode, IsDelay, IsWriter, IsRootOf}
+use Rattle.vs_rules.specs.Claims.{Claims, blocking, HasKind, HasMode, IsDelay, IsWriter, IsRootOf, is_wide}
 use Rattle.vs_rules.specs.Paths.{IsHot, ListsSignal, WritesNow, WritesLater, WritesAny, statement_now, statement_later}
 use Rattle.vs_rules.specs.Rules.{IsSoundRoot, K6}
 use Rattle.vs_drivers.specs.vs_maps.specs.Ranges.{HasSignal, now_at, later_at}
@@ -50,8 +50,8 @@ end_writes d v k e h = by (subst (λ (x : Todo). WritesAny d x v) e h) where
   by (inl w) = none_now v [] refl d w
   by (inr w) = none_now v [] refl d w
 
-pub past_never_hot : (d : Parts) (i v : ℕ) → length d.processes ≤ i → NeverHot d i v
-past_never_hot d i v past k point writes heat = end_writes d v k (past_points d i k past point) writes
+pub past_never_hot : (d : Parts) (wide : Bool) (i v : ℕ) → length d.processes ≤ i → NeverHot d wide i v
+past_never_hot d wide i v past k point writes heat = end_writes d v k (past_points d i k past point) writes
 
 -- ---- by places
 
@@ -60,7 +60,7 @@ either A B C D f g (inl a) = inl (f a)
 either A B C D f g (inr b) = inr (g b)
 
 pub roots_by_places : RootsByPlaces
-roots_by_places d i q stops start v is t = (
+roots_by_places d wide i q stops start v is t = (
   λ h k point writes heat.
       let y = place_of d i q stops start t is k point in
       let w = subst (λ (x : Todo). WritesAny d x v) (sym y.2) writes in
@@ -68,18 +68,18 @@ roots_by_places d i q stops start v is t = (
       h y.0 y.1
       (either (WritesNow d (t.at y.0) v) (WritesLater d (t.at y.0) v) (HasSignal (now_at (record { stops = stops; start = start }) y.0) v) (HasSignal (later_at (record { stops = stops; start = start }) y.0) v)
       (writes_now_at d q stops start t v y.0).1 (writes_later_at d q stops start t v y.0).1 w)
-      ((hot_exact d i q stops start t is v y.0 n.0 n.1).1 (subst (IsHot d i v) (sym y.2) heat)),
+      ((hot_exact d i q stops start t is wide v y.0 n.0 n.1).1 (subst (IsHot d wide i v) (sym y.2) heat)),
   λ h p place writes heat.
       let w = either (HasSignal (now_at (record { stops = stops; start = start }) p) v) (HasSignal (later_at (record { stops = stops; start = start }) p) v) (WritesNow d (t.at p) v) (WritesLater d (t.at p) v)
       (writes_now_at d q stops start t v p).0 (writes_later_at d q stops start t v p).0 writes in
       let n = writes_numbered d v (t.at p) w in
-      h (t.at p) (place_back d i q stops start t is p place) w ((hot_exact d i q stops start t is v p n.0 n.1).0 heat),
+      h (t.at p) (place_back d i q stops start t is p place) w ((hot_exact d i q stops start t is wide v p n.0 n.1).0 heat),
 )
 
 -- places that keep the rule by their marks
-pub marks_keep : (t : Chart) (v : ℕ) (marks : List Bool) → length marks ≡ places t → AreMarked (InHot t v) (places t) marks → ((p : ℕ) → IsPlace t p → p < places t) →
-    (((p : ℕ) → p < places t → p < length marks → p < places t → IsPlace t p → WritesAt t p v → IsTrue (slice_index_or marks p false) → ⊥) ↔ NeverHotIn t v)
-marks_keep t v marks long exact within = (
+pub marks_keep : (wide : Bool) (t : Chart) (v : ℕ) (marks : List Bool) → length marks ≡ places t → AreMarked (InHot wide t v) (places t) marks → ((p : ℕ) → IsPlace t p → p < places t) →
+    (((p : ℕ) → p < places t → p < length marks → p < places t → IsPlace t p → WritesAt t p v → IsTrue (slice_index_or marks p false) → ⊥) ↔ NeverHotIn wide t v)
+marks_keep wide t v marks long exact within = (
   λ h p place writes heat. let l = within p place in h p l (subst (λ (n : ℕ). p < n) (sym long) l) l place writes ((exact p l).1 heat),
   λ h p l m n place writes mark. h p place writes ((exact p l).0 mark),
 )
@@ -96,9 +96,9 @@ mode_is (Some modes.Blocking) = (λ h. refl, λ h. refl)
 mode_is (Some modes.Private) = (λ h. cc, λ h. let e = same_Some (mode_from modes.Private) blocking h in cc)
 mode_is (Some modes.Both) = (λ h. cc, λ h. let e = same_Some (mode_from modes.Both) blocking h in cc)
 
-pub written_is : (d : Parts) (c : Claims) (root i : ℕ) → ((k : ℕ) → (IsWriter d c root k ↔ Some i ≡ Some k)) → IsDelay d c i → (NeverHot d i root ↔ IsSoundlyWritten d c root)
+pub written_is : (d : Parts) (c : Claims) (root i : ℕ) → ((k : ℕ) → (IsWriter d c root k ↔ Some i ≡ Some k)) → IsDelay d c i → (NeverHot d (is_wide c) i root ↔ IsSoundlyWritten d c root)
 written_is d c root i writer delay = (
-  λ h. record { writer = (i, (writer i).1 refl, delay); once = λ k w. subst (λ (n : ℕ). NeverHot d n root) (same_Some i k ((writer k).0 w)) h },
+  λ h. record { writer = (i, (writer i).1 refl, delay); once = λ k w. subst (λ (n : ℕ). NeverHot d (is_wide c) n root) (same_Some i k ((writer k).0 w)) h },
   λ h. h.once i ((writer i).1 refl),
 )
 

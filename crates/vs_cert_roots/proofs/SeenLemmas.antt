@@ -1,5 +1,5 @@
 -- Edge terms that are woken where the root of their signal changes.
-use Rattle.std.proofs.Common.{◌≡◌, ℕ, ◌↔◌, Bool, true, false, List, get_or, if◌then◌else◌, refl, sym, ◌∙◌, ap, subst}
+use Rattle.std.proofs.Common.{◌≡◌, ℕ, ◌↔◌, Bool, true, false, Option, List, get_or, if◌then◌else◌, refl, sym, ◌∙◌, ap, subst}
 use Rattle.std.proofs.lemmas.Bool.{false≢true}
 use Rattle.vs_design.specs.vs_logic4.specs.declared.digit.Digit.{Digit}
 use Rattle.vs_design.specs.vs_logic4.specs.declared.digit.Digit.TheVariants.{Zero, One, X, Z}
@@ -33,9 +33,9 @@ plain_seen d wide t not = record { plain = λ h. refl; inverse = λ h. absurd (n
 inverse_seen : (d : Parts) (wide : Bool) (t : EventTerm) → IsInverted d wide t.range.signal → SeenAs d wide t (opposite t.edge)
 inverse_seen d wide t is = record { plain = λ not. absurd (not is); inverse = λ h. refl }
 
-woken_where : (d : Parts) (c : Claims) (v : ℕ) (digit : Digit) (mark : Bool) → (mark ≡ true ↔ IsInverted d (is_wide c) v) →
-    (WakesSignal d c v (if mark then not_digit digit else digit) ↔ WakesBehind d c v digit)
-woken_where d c v digit true is = (
+woken_where : (d : Parts) (c : Claims) (except : Option ℕ) (v : ℕ) (digit : Digit) (mark : Bool) → (mark ≡ true ↔ IsInverted d (is_wide c) v) →
+    (WakesSignal d c except v (if mark then not_digit digit else digit) ↔ WakesBehind d c except v digit)
+woken_where d c except v digit true is = (
   λ w.
       let here = subst (IsInverted d (is_wide c)) (sym w.of) (is.0 refl) in
       record {
@@ -59,7 +59,7 @@ woken_where d c v digit true is = (
         wakes = turned w.term.edge digit w.edge ∙ ap (λ (e : Edge). is_edge e X digit) (sym (w.wakes.1.inverse here)) ∙ w.wakes.2;
       },
 )
-woken_where d c v digit false is = (
+woken_where d c except v digit false is = (
   λ w.
       let not = λ (h : IsInverted d (is_wide c) w.term.range.signal). false≢true (is.1 (subst (IsInverted d (is_wide c)) w.of h)) in
       record {
@@ -85,6 +85,6 @@ woken_where d c v digit false is = (
 )
 
 -- a change of the root wakes what one of the signal to the digit that it then shows does
-pub woken_is : (d : Parts) (c : Claims) (inverted : List Bool) → AreInverted d (is_wide c) inverted → (v : ℕ) (digit : Digit) →
-    (WakesSignal d c v (shown_by inverted v digit) ↔ WakesBehind d c v digit)
-woken_is d c inverted are v digit = woken_where d c v digit (get_or inverted v false) (are v)
+pub woken_is : (d : Parts) (c : Claims) (except : Option ℕ) (inverted : List Bool) → AreInverted d (is_wide c) inverted → (v : ℕ) (digit : Digit) →
+    (WakesSignal d c except v (shown_by inverted v digit) ↔ WakesBehind d c except v digit)
+woken_is d c except inverted are v digit = woken_where d c except v digit (get_or inverted v false) (are v)

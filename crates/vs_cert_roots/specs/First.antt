@@ -1,5 +1,5 @@
 -- What a root is given in the first slot, by the places of maps.
-use Rattle.std.specs.Prelude.{ℕ, ◌≡◌, ◌↔◌, Bool, true, false, Some, List, length, get_or, slice_get, if◌then◌else◌}
+use Rattle.std.specs.Prelude.{ℕ, ◌≡◌, ◌==◌, ◌↔◌, Bool, true, false, Option, Some, None, List, length, get_or, slice_get, if◌then◌else◌}
 use Rattle.vs_design.specs.vs_logic4.specs.declared.digit.Digit.{Digit}
 use Rattle.vs_design.specs.vs_logic4.specs.declared.digit.Digit.TheVariants.{X}
 use Rattle.vs_design.specs.vs_logic4.specs.declared.edge.Edge.{Edge}
@@ -25,44 +25,51 @@ use Rattle.vs_cert_roots.specs.Entries.{is_from_x, waits_by}
 use Rattle.vs_drivers.specs.vs_maps.specs.Sites.{IsWrite}
 use Rattle.vs_drivers.specs.vs_maps.specs.declared.sites.Site.{Site}
 
--- a place is done in the first slot, and writes the signal
-abbrev pub SiteAt : Chart → ℕ → ℕ → Type 0
-SiteAt t v p = InSlot0 t p × WritesAt t p v
+-- a place is done in the first slot, by wide rules past a turn that is sure by it alone, and writes the signal
+abbrev pub SiteAt : Bool → Chart → ℕ → ℕ → Type 0
+SiteAt wide t v p = InSlot0 wide t p × WritesAt t p v
 
 -- the map of a process has such a place
-abbrev pub HasSite : List Chart → ℕ → ℕ → Type 0
-HasSite charts i v = (t : Chart) × (slice_get charts i ≡ Some t) × ((p : ℕ) × SiteAt t v p)
+abbrev pub HasSite : Bool → List Chart → ℕ → ℕ → Type 0
+HasSite wide charts i v = (t : Chart) × (slice_get charts i ≡ Some t) × ((p : ℕ) × SiteAt wide t v p)
 
--- no edge term of a root is woken by a change of the root from x to the digit, in version 3 none of an event control of the first slot
-abbrev pub IsSilent : Parts → Claims → ℕ → Digit → Type 0
-IsSilent d c root digit =
-    (j : ℕ) (t : EventTerm) (edge : Edge) → HasTerm d j t → (IsWide c → IsHeardAtStart d j t) → is_level t ≡ false →
+-- no edge term of a root is woken by a change of the root from x to the digit that a process makes; in version 3 none of an event control of the first
+-- slot, but for terms of that process that name the root itself
+abbrev pub IsSilent : Parts → Claims → ℕ → ℕ → Digit → Type 0
+IsSilent d c writer root digit =
+    (j : ℕ) (t : EventTerm) (edge : Edge) → HasTerm d j t →
+    (IsWide c → IsHeardAtStart d j t × ((j ≡ writer) × (t.range.signal ≡ root) → ⊥)) → is_level t ≡ false →
     IsRootOf d c root t.range.signal → SeenAs d (is_wide c) t edge → is_edge edge X digit ≡ false
 
--- a place doesn't write a root by `<=`, and gives it a constant 0 or 1 that wakes no edge term of it
-abbrev pub StartsSilently : Parts → Claims → Chart → ℕ → ℕ → Type 0
-StartsSilently d c t v p =
+-- a place of a process doesn't write a root by `<=`, and gives it a constant 0 or 1 that wakes no edge term of it
+abbrev pub StartsSilently : Parts → Claims → ℕ → Chart → ℕ → ℕ → Type 0
+StartsSilently d c writer t v p =
     (HasSignal (later_at t p) v → ⊥)
-    × ((digit : Digit) × IsKnown digit × (given_here (statement_at t p) (bit_of v) ≡ Some digit) × IsSilent d c v digit)
+    × ((digit : Digit) × IsKnown digit × (given_here (statement_at t p) (bit_of v) ≡ Some digit) × IsSilent d c writer v digit)
 
--- one place alone of a map writes a root in the first slot, and does so
-abbrev pub StartsWellIn : Parts → Claims → Chart → ℕ → Type 0
-StartsWellIn d c t v = (p : ℕ) × IsOnly (SiteAt t v) p × StartsSilently d c t v p
+-- one place alone of the map of a process writes a root in the first slot, and does so
+abbrev pub StartsWellIn : Parts → Claims → ℕ → Chart → ℕ → Type 0
+StartsWellIn d c writer t v = (p : ℕ) × IsOnly (SiteAt (is_wide c) t v) p × StartsSilently d c writer t v p
 
 abbrev pub StartsWell : Parts → Claims → List Chart → ℕ → ℕ → Type 0
-StartsWell d c charts j v = (t : Chart) × (slice_get charts j ≡ Some t) × StartsWellIn d c t v
+StartsWell d c charts j v = (t : Chart) × (slice_get charts j ≡ Some t) × StartsWellIn d c j t v
 
 -- a site is at a place that is done in the first slot
-abbrev pub IsAtStart : List Chart → Site → Type 0
-IsAtStart charts s = (t : Chart) × (slice_get charts s.process ≡ Some t) × InSlot0 t s.place
+abbrev pub IsAtStart : Bool → List Chart → Site → Type 0
+IsAtStart wide charts s = (t : Chart) × (slice_get charts s.process ≡ Some t) × InSlot0 wide t s.place
 
 -- such a site is a write
-abbrev pub IsFirst : List Chart → Site → Type 0
-IsFirst charts s = IsWrite s.usage × IsAtStart charts s
+abbrev pub IsFirst : Bool → List Chart → Site → Type 0
+IsFirst wide charts s = IsWrite s.usage × IsAtStart wide charts s
 
--- a site waits for an edge that a change from x to the digit is, in version 3 in the first slot
-abbrev pub WakesSite : Case → Digit → Site → Type 0
-WakesSite k digit s = (waits_by (is_from_x digit) s.usage ≡ true) × (IsWide k.claims → IsAtStart k.charts s)
+-- a site waits for an edge that a change from x to the digit is, in version 3 in the first slot, and in no process that is left out
+abbrev pub WakesSite : Case → Digit → Option ℕ → Site → Type 0
+WakesSite k digit except s =
+    (waits_by (is_from_x digit) s.usage ≡ true) × (IsWide k.claims → IsAtStart true k.charts s × (except ≡ Some s.process → ⊥))
+
+-- of the root itself the process that writes it is left out
+abbrev pub left_out : ℕ → ℕ → ℕ → Option ℕ
+left_out writer root v = if v == root then Some writer else None
 
 -- the entry of a place has the root
 abbrev pub NamesRoot : Parts → List EdgeClaim → ℕ → ℕ → Type 0
@@ -83,36 +90,36 @@ pub record KeepsFirst (k : Case) (inverted : List Bool) (claimed : List (List �
 abbrev pub shown_by : List Bool → ℕ → Digit → Digit
 shown_by inverted v digit = if get_or inverted v false then not_digit digit else digit
 
--- a signal has an edge term that is so woken; in version 3 one of an event control of the first slot
-pub record HasWoken (d : Parts) (c : Claims) (v : ℕ) (is_woken : EventTerm → Type 0) : Type 0 where
+-- a signal has an edge term that is so woken; in version 3 one of an event control of the first slot, and of no process that is left out
+pub record HasWoken (d : Parts) (c : Claims) (except : Option ℕ) (v : ℕ) (is_woken : EventTerm → Type 0) : Type 0 where
   pub process : ℕ
   pub term : EventTerm
   pub has : HasTerm d process term
-  pub heard : IsWide c → IsHeardAtStart d process term
+  pub heard : IsWide c → IsHeardAtStart d process term × (except ≡ Some process → ⊥)
   pub edge : is_level term ≡ false
   pub of : term.range.signal ≡ v
   pub wakes : is_woken term
 
 -- one that a change of the signal from x to the digit wakes
-abbrev pub WakesSignal : Parts → Claims → ℕ → Digit → Type 0
-WakesSignal d c v digit = HasWoken d c v (λ t. is_edge t.edge X digit ≡ true)
+abbrev pub WakesSignal : Parts → Claims → Option ℕ → ℕ → Digit → Type 0
+WakesSignal d c except v digit = HasWoken d c except v (λ t. is_edge t.edge X digit ≡ true)
 
 -- one that a change of the signal's root from x to the digit wakes
-abbrev pub WakesBehind : Parts → Claims → ℕ → Digit → Type 0
-WakesBehind d c v digit = HasWoken d c v (λ t. (edge : Edge) × SeenAs d (is_wide c) t edge × (is_edge edge X digit ≡ true))
+abbrev pub WakesBehind : Parts → Claims → Option ℕ → ℕ → Digit → Type 0
+WakesBehind d c except v digit = HasWoken d c except v (λ t. (edge : Edge) × SeenAs d (is_wide c) t edge × (is_edge edge X digit ≡ true))
 
 -- the entry of a place has the root, and an edge term of its signal is woken by a change of the root from x to the digit
-abbrev pub WakesEntry : Parts → Claims → ℕ → ℕ → Digit → Type 0
-WakesEntry d c place root digit = (v : ℕ) × IsRootAt d c.edges place root v × WakesBehind d c v digit
+abbrev pub WakesEntry : Parts → Claims → ℕ → ℕ → ℕ → Digit → Type 0
+WakesEntry d c writer place root digit = (v : ℕ) × IsRootAt d c.edges place root v × WakesBehind d c (left_out writer root v) v digit
 
 -- the rule on what a root is given in the first slot is one of the places of maps
 pub record FirstByPlaces : Type 0 where
   -- what no process writes then keeps it
-  pub none : (d : Parts) (c : Claims) (charts : List Chart) → AreCharts d charts → (v : ℕ) → ((i : ℕ) → HasSite charts i v → ⊥) →
+  pub none : (d : Parts) (c : Claims) (charts : List Chart) → AreCharts d charts → (v : ℕ) → ((i : ℕ) → HasSite (is_wide c) charts i v → ⊥) →
       K10_Signal d c v
   -- what one process writes then keeps it where that does well
-  pub one : (d : Parts) (c : Claims) (charts : List Chart) → AreCharts d charts → (v j : ℕ) → IsOnly (λ i. HasSite charts i v) j → IsRoot d c v →
+  pub one : (d : Parts) (c : Claims) (charts : List Chart) → AreCharts d charts → (v j : ℕ) → IsOnly (λ i. HasSite (is_wide c) charts i v) j → IsRoot d c v →
       (StartsWell d c charts j v ↔ K10_Signal d c v)
   -- what several write then breaks it
-  pub several : (d : Parts) (c : Claims) (charts : List Chart) → AreCharts d charts → (v j : ℕ) → IsRoot d c v → HasSite charts j v →
-      K10_Signal d c v → IsOnly (λ i. HasSite charts i v) j
+  pub several : (d : Parts) (c : Claims) (charts : List Chart) → AreCharts d charts → (v j : ℕ) → IsRoot d c v → HasSite (is_wide c) charts j v →
+      K10_Signal d c v → IsOnly (λ i. HasSite (is_wide c) charts i v) j

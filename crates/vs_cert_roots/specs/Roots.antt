@@ -13,17 +13,17 @@ use Rattle.vs_rules.specs.Copies.{CopiesRoot}
 use Rattle.vs_rules_of_signals.specs.Places.{NeverHotIn}
 
 -- a process has no such point
-abbrev pub NeverHot : Parts → ℕ → ℕ → Type 0
-NeverHot d i v = (k : Todo) → IsPoint d i k → WritesAny d k v → IsHot d i v k → ⊥
+abbrev pub NeverHot : Parts → Bool → ℕ → ℕ → Type 0
+NeverHot d wide i v = (k : Todo) → IsPoint d i k → WritesAny d k v → IsHot d wide i v k → ⊥
 
 abbrev pub RootsByPlaces : Type 0
-RootsByPlaces = (d : Parts) (i : ℕ) (q : Process) (stops : List Stop) (start v : ℕ) → slice_get d.processes i ≡ Some q →
-    IsText q.body stops start → (NeverHotIn (record { stops = stops; start = start }) v ↔ NeverHot d i v)
+RootsByPlaces = (d : Parts) (wide : Bool) (i : ℕ) (q : Process) (stops : List Stop) (start v : ℕ) → slice_get d.processes i ≡ Some q →
+    IsText q.body stops start → (NeverHotIn wide (record { stops = stops; start = start }) v ↔ NeverHot d wide i v)
 
 -- a signal has a writer of kind delay, and its writer writes it nowhere where it is hot
 pub record IsSoundlyWritten (d : Parts) (c : Claims) (root : ℕ) : Type 0 where
   pub writer : HasWriter d c root (IsDelay d c)
-  pub once : (i : ℕ) → IsWriter d c root i → NeverHot d i root
+  pub once : (i : ℕ) → IsWriter d c root i → NeverHot d (is_wide c) i root
 
 -- a signal copies a root (in version 3 the root's inverse too), and the root is sound
 abbrev pub IsRight : Parts → Claims → ℕ → ℕ → Type 0

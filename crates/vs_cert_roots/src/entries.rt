@@ -74,9 +74,9 @@ fn any_waits(sites: &[Site]) -> bool
     sites.iter().any(|site| is_edge_use(site.usage))
 }
 
-// Whether a site waits for an edge that a change from x to a digit is, in version 3 in the first slot.
-fn wakes(facts: &Facts, site: Site, digit: Digit) -> bool
-    ensures { IsTrue result ↔ WakesSite facts.now digit site }
+// Whether a site waits for an edge that a change from x to a digit is, in version 3 in the first slot, and in no process that is left out.
+fn wakes(facts: &Facts, site: Site, digit: Digit, except: Option<usize>) -> bool
+    ensures { IsTrue result ↔ WakesSite facts.now digit except site }
 {
     if !is_woken(site.usage, digit) {
         return false;
@@ -84,15 +84,18 @@ fn wakes(facts: &Facts, site: Site, digit: Digit) -> bool
     if facts.version() != 3 {
         return true;
     }
-    is_at_start(facts, site)
+    if except == Some(site.process) {
+        return false;
+    }
+    is_at_start(facts, true, site)
 }
 
 // Whether none of some sites does.
-fn none_wakes(facts: &Facts, sites: &[Site], digit: Digit) -> bool
-    ensures { IsTrue result ↔ ((s : Site) → Contains sites.now s → WakesSite facts.now digit s → ⊥) }
+fn none_wakes(facts: &Facts, sites: &[Site], digit: Digit, except: Option<usize>) -> bool
+    ensures { IsTrue result ↔ ((s : Site) → Contains sites.now s → WakesSite facts.now digit except s → ⊥) }
 {
     for site in sites {
-        if wakes(facts, *site, digit) {
+        if wakes(facts, *site, digit, except) {
             return false;
         }
     }
@@ -197,15 +200,15 @@ impl<'a> Entries<'a> {
         any_waits(facts.sites().of_signal(v))
     }
 
-    /// Whether a change of a signal from x to a digit wakes no edge term of it, in version 3 none of an event control of the first slot. It takes as
-    /// long as there are sites of the signal.
-    pub(crate) fn is_calm(&self, v: usize, digit: Digit) -> bool
+    /// Whether a change of a signal from x to a digit wakes no edge term of it, in version 3 none of an event control of the first slot, and of no
+    /// process that is left out. It takes as long as there are sites of the signal.
+    pub(crate) fn is_calm(&self, v: usize, digit: Digit, except: Option<usize>) -> bool
         requires { v < length self.now.design.signals }
-        ensures { IsTrue result ↔ (WakesSignal self.now.design self.now.claims v digit → ⊥) }
+        ensures { IsTrue result ↔ (WakesSignal self.now.design self.now.claims except v digit → ⊥) }
     {
         let facts = self.facts();
         facts.maps();
-        none_wakes(facts, facts.sites().of_signal(v), digit)
+        none_wakes(facts, facts.sites().of_signal(v), digit, except)
     }
 
     // The places of the entries of a signal.

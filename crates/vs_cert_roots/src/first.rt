@@ -10,7 +10,7 @@ ghost use Rattle.vs_drivers.specs.vs_slots_constants.specs.Inverted.{AreInverted
 ghost use Rattle.vs_drivers.specs.vs_maps.specs.Ranges.{statement_at};
 ghost use Rattle.vs_drivers.specs.vs_maps.specs.Reaches.{Chart};
 ghost use Rattle.vs_drivers.specs.vs_maps.specs.declared.sites.Site.{Site};
-ghost use Rattle.vs_cert_roots.specs.First.{IsFirst, SiteAt, HasSite, IsSilent, StartsSilently, StartsWellIn, StartsWell, NamesRoot, WakesEntry, shown_by};
+ghost use Rattle.vs_cert_roots.specs.First.{IsFirst, SiteAt, HasSite, IsSilent, StartsSilently, StartsWellIn, StartsWell, NamesRoot, WakesEntry, left_out, shown_by};
 
 use crate::early::is_at_start;
 use crate::entries::Entries;
@@ -25,17 +25,17 @@ use vs_rules_of_signals::vs_graph::{Family, Rows, index_of};
 
 // Whether a site is a write at a place that is done in the first slot.
 fn is_first(facts: &Facts, site: Site) -> bool
-    ensures { IsTrue result ↔ IsFirst facts.now.charts site }
+    ensures { IsTrue result ↔ IsFirst (is_wide facts.now.claims) facts.now.charts site }
 {
     if !is_write(site.usage) {
         return false;
     }
-    is_at_start(facts, site)
+    is_at_start(facts, facts.is_wide(), site)
 }
 
 // Whether a site of a process is one.
 fn is_first_of(facts: &Facts, site: Site, process: usize) -> bool
-    ensures { IsTrue result ↔ (site.process ≡ process) × IsFirst facts.now.charts site }
+    ensures { IsTrue result ↔ (site.process ≡ process) × IsFirst (is_wide facts.now.claims) facts.now.charts site }
 {
     if site.process == process {
         is_first(facts, site)
@@ -47,7 +47,7 @@ fn is_first_of(facts: &Facts, site: Site, process: usize) -> bool
 // The processes of those of some sites that are such.
 fn first_processes(alloc: Global, facts: &Facts, sites: &[Site]) -> Result<Vec<usize>, AllocError>
     ensures { IfOk result (λ all. (i : ℕ) → (Contains all.items i ↔
-        ((s : Site) × Contains sites.now s × IsFirst facts.now.charts s × (s.process ≡ i)))) }
+        ((s : Site) × Contains sites.now s × IsFirst (is_wide facts.now.claims) facts.now.charts s × (s.process ≡ i)))) }
 {
     let mut all = Vec::new(alloc);
     for site in sites {
@@ -66,7 +66,7 @@ fn first_places(
     process: usize,
 ) -> Result<Vec<usize>, AllocError>
     ensures { IfOk result (λ all. (p : ℕ) → (Contains all.items p ↔
-        ((s : Site) × Contains sites.now s × ((s.process ≡ process) × IsFirst facts.now.charts s) × (s.place ≡ p)))) }
+        ((s : Site) × Contains sites.now s × ((s.process ≡ process) × IsFirst (is_wide facts.now.claims) facts.now.charts s) × (s.place ≡ p)))) }
 {
     let mut all = Vec::new(alloc);
     for site in sites {
@@ -137,6 +137,13 @@ fn shown(inverted: &[bool], v: usize, digit: Digit) -> Digit
     }
 }
 
+// Of the root itself the process that writes it is left out.
+fn left_out(writer: usize, root: usize, v: usize) -> Option<usize>
+    ensures { result ≡ left_out writer root v }
+{
+    if v == root { Some(writer) } else { None }
+}
+
 // The digit that is known.
 fn known_one(digit: Option<Digit>) -> Option<Digit>
     ensures { result ≡ known digit }
@@ -204,9 +211,9 @@ impl<'a> FirstWrites<'a> {
         !self.claims_of(v).is_empty()
     }
 
-    // Whether the entry of a place is not of a root, or a change of the root from x to a digit wakes no edge term of its signal.
-    fn is_calm(&self, place: usize, root: usize, digit: Digit) -> bool
-        ensures { IsTrue result ↔ (WakesEntry self.now.design self.now.claims place root digit → ⊥) }
+    // Whether the entry of a place is not of a root, or a change of the root from x to a digit that a process makes wakes no edge term of its signal.
+    fn is_calm(&self, writer: usize, place: usize, root: usize, digit: Digit) -> bool
+        ensures { IsTrue result ↔ (WakesEntry self.now.design self.now.claims writer place root digit → ⊥) }
     {
         match self.entries.facts().edge(place) {
             None => true,
@@ -214,36 +221,38 @@ impl<'a> FirstWrites<'a> {
                 if of != root {
                     return true;
                 }
-                self.entries.is_calm(v, shown(self.inverted, v, digit))
+                let except = left_out(writer, root, v);
+                self.entries
+                    .is_calm(v, shown(self.inverted, v, digit), except)
             }
         }
     }
 
     // Whether this is so of the entries of some places.
-    fn are_calm(&self, places: &[usize], root: usize, digit: Digit) -> bool
+    fn are_calm(&self, writer: usize, places: &[usize], root: usize, digit: Digit) -> bool
         ensures { IsTrue result ↔ ((place : ℕ) → Contains places.now place →
-            WakesEntry self.now.design self.now.claims place root digit → ⊥) }
+            WakesEntry self.now.design self.now.claims writer place root digit → ⊥) }
     {
         for place in places {
-            if !self.is_calm(*place, root, digit) {
+            if !self.is_calm(writer, *place, root, digit) {
                 return false;
             }
         }
         true
     }
 
-    /// Whether no edge term of a root is woken by a change of the root from x to a digit, in version 3 none of an event control of the first slot. It
-    /// takes as long as the signals that copy the root have edge terms.
-    pub fn is_silent(&self, root: usize, digit: Digit) -> bool
-        ensures { IsTrue result ↔ IsSilent self.now.design self.now.claims root digit }
+    /// Whether no edge term of a root is woken by a change of the root from x to a digit that a process makes; in version 3 none of an event control of
+    /// the first slot, but for terms of that process that name the root itself. It takes as long as the signals that copy the root have edge terms.
+    pub fn is_silent(&self, writer: usize, root: usize, digit: Digit) -> bool
+        ensures { IsTrue result ↔ IsSilent self.now.design self.now.claims writer root digit }
     {
-        self.are_calm(self.claims_of(root), root, digit)
+        self.are_calm(writer, self.claims_of(root), root, digit)
     }
 
     // The processes that write a signal in the first slot. It takes as long as there are sites of the signal.
     fn writers(&self, alloc: Global, v: usize) -> Result<Vec<usize>, AllocError>
         requires { v < length self.now.design.signals }
-        ensures { IfOk result (λ all. (i : ℕ) → (Contains all.items i ↔ HasSite self.now.charts i v)) }
+        ensures { IfOk result (λ all. (i : ℕ) → (Contains all.items i ↔ HasSite (is_wide self.now.claims) self.now.charts i v)) }
     {
         let facts = self.entries.facts();
         let all = first_processes(alloc, facts, facts.sites().of_signal(v))?;
@@ -254,7 +263,7 @@ impl<'a> FirstWrites<'a> {
     fn places(&self, alloc: Global, process: usize, v: usize) -> Result<Vec<usize>, AllocError>
         requires { v < length self.now.design.signals }
         ensures { IfOk result (λ all. (t : Chart) → slice_get self.now.charts process ≡ Some t →
-            (p : ℕ) → (Contains all.items p ↔ SiteAt t v p)) }
+            (p : ℕ) → (Contains all.items p ↔ SiteAt (is_wide self.now.claims) t v p)) }
     {
         let facts = self.entries.facts();
         let all = first_places(alloc, facts, facts.sites().of_signal(v), process)?;
@@ -267,17 +276,18 @@ fn starts_silently<'a>(
     alloc: Global,
     first: &FirstWrites,
     tables: &'a Tables<'a>,
+    j: usize,
     v: usize,
     p: usize,
 ) -> Result<bool, AllocError>
-    ensures { IfOk result (λ b. (IsTrue b ↔ StartsSilently first.entry.now.design first.entry.now.claims tables.entry.now v p)) }
+    ensures { IfOk result (λ b. (IsTrue b ↔ StartsSilently first.entry.now.design first.entry.now.claims j tables.entry.now v p)) }
 {
     if tables.writes_later(p, v) {
         return Ok(false);
     }
     match digit_at(alloc, tables, v, p)? {
         None => Ok(false),
-        Some(digit) => Ok(first.is_silent(v, digit)),
+        Some(digit) => Ok(first.is_silent(j, v, digit)),
     }
 }
 
@@ -291,12 +301,12 @@ fn starts_well_in<'a>(
 ) -> Result<bool, AllocError>
     requires text { slice_get first.now.charts j ≡ Some tables.now }
     requires within { v < length first.now.design.signals }
-    ensures { IfOk result (λ b. (IsTrue b ↔ StartsWellIn first.entry.now.design first.entry.now.claims tables.entry.now v)) }
+    ensures { IfOk result (λ b. (IsTrue b ↔ StartsWellIn first.entry.now.design first.entry.now.claims j tables.entry.now v)) }
 {
     let places = first.places(alloc, j, v)?;
     match only(&places) {
         None => Ok(false),
-        Some(p) => starts_silently(alloc, first, tables, v, p),
+        Some(p) => starts_silently(alloc, first, tables, j, v, p),
     }
 }
 

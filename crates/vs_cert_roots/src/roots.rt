@@ -1,7 +1,7 @@
 //! The rule K6, on the signals of edge terms and the variables that they copy.
 ghost use Rattle.std.specs.Prelude.{ℕ, ◌≡◌, ◌<◌, ◌↔◌, true, false, Some, length, slice_get, slice_index_or, IfOk, IsTrue};
 ghost use Rattle.std.specs.List.{Contains};
-ghost use Rattle.vs_rules.specs.Claims.{blocking, HasKind, HasMode, IsDelay, IsRootOf, IsWriter};
+ghost use Rattle.vs_rules.specs.Claims.{blocking, HasKind, HasMode, IsDelay, IsRootOf, IsWriter, is_wide};
 ghost use Rattle.vs_rules.specs.Rules.{IsSoundRoot, K6};
 ghost use Rattle.vs_rules.specs.Copies.{CopiesRoot};
 ghost use Rattle.vs_drivers.specs.vs_maps.specs.Reaches.{places, IsPlace};
@@ -51,12 +51,17 @@ impl<'a> Rule for NotHot<'a> {
     }
 }
 
-// Whether a text writes a signal nowhere where it is hot. It takes as long as the text.
-fn never_hot_in<'a>(alloc: Global, tables: &'a Tables<'a>, v: usize) -> Result<bool, AllocError>
-    ensures { IfOk result (λ b. (IsTrue b ↔ NeverHotIn tables.entry.now v)) }
+// Whether a text writes a signal nowhere where it is hot, by wide rules past a turn that is sure by it alone. It takes as long as the text.
+fn never_hot_in<'a>(
+    alloc: Global,
+    tables: &'a Tables<'a>,
+    wide: bool,
+    v: usize,
+) -> Result<bool, AllocError>
+    ensures { IfOk result (λ b. (IsTrue b ↔ NeverHotIn wide tables.entry.now v)) }
 {
     tables.leads_in();
-    let marks = hot(alloc, tables, v)?;
+    let marks = hot(alloc, tables, wide, v)?;
     let rule = NotHot {
         tables,
         marks: &marks,
@@ -77,12 +82,12 @@ fn never_hot_by<'a>(
     requires text { slice_get writes.now.charts i ≡ Some tables.now }
     requires delay { IsDelay writes.now.design writes.now.claims i }
     requires writer { IsWriter writes.now.design writes.now.claims v i }
-    ensures { IfOk result (λ b. (IsTrue b ↔ NeverHotIn tables.entry.now v)) }
+    ensures { IfOk result (λ b. (IsTrue b ↔ NeverHotIn (is_wide writes.entry.now.claims) tables.entry.now v)) }
 {
     if writes.are_apart(tables, i, v) {
         return Ok(true);
     }
-    never_hot_in(alloc, tables, v)
+    never_hot_in(alloc, tables, writes.facts().is_wide(), v)
 }
 
 // Whether a process of kind delay, the writer of a signal, writes it nowhere where it is hot.
@@ -96,7 +101,7 @@ fn never_hot<'a>(
     requires writes { writes.now ≡ facts.now }
     requires delay { IsDelay facts.now.design facts.now.claims i }
     requires writer { IsWriter facts.now.design facts.now.claims v i }
-    ensures { IfOk result (λ b. (IsTrue b ↔ NeverHot facts.entry.now.design i v)) }
+    ensures { IfOk result (λ b. (IsTrue b ↔ NeverHot facts.entry.now.design (is_wide facts.entry.now.claims) i v)) }
 {
     facts.maps();
     match facts.tables(i) {

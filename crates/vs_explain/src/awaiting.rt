@@ -2,7 +2,7 @@
 
 use std::alloc::{AllocError, Global};
 use vs_design::vs_logic4::Edge;
-use vs_explain_facts::{Facts, TextKind, driven_by, set_mark};
+use vs_explain_facts::{Facts, Term, TextKind, driven_by, set_mark};
 use vs_explain_races::vs_explain_writers::Site;
 
 /// The first control of a process.
@@ -25,12 +25,29 @@ pub(crate) struct Waiting {
     pub(crate) is_inverse: bool,
 }
 
-/// The first control of any process that waits for an edge of a root, of the root itself or of a net that shows it.
-pub(crate) fn edge_of(facts: &Facts, root: usize, edge: Edge) -> Option<Waiting> {
+/// Whether a term counts for the first value of a root, which a process writes: in version 3 that of a control of the first slot, and not one of the
+/// root itself for which that process waits.
+fn counts_first(facts: &Facts, process: usize, term: Term, root: usize, writer: usize) -> bool {
+    if !facts.is_third {
+        return true;
+    }
+    if process == writer && term.term.range.signal == root {
+        return false;
+    }
+    match facts.point(process, term.number as usize) {
+        Some(point) => point.moment.is_first,
+        None => true,
+    }
+}
+
+/// The first control of any process that waits for an edge of a root, of the root itself or of a net that shows it, and counts for its first value,
+/// which a process writes.
+pub(crate) fn edge_of(facts: &Facts, root: usize, edge: Edge, writer: usize) -> Option<Waiting> {
     for (process, text) in facts.texts.iter().enumerate() {
         for term in &text.terms {
             let shown = facts.shown(term.term.range.signal);
-            if shown.root == root && facts.edge(term.term) == edge {
+            let is_awaited = shown.root == root && facts.edge(term.term) == edge;
+            if is_awaited && counts_first(facts, process, *term, root, writer) {
                 let number = term.number as usize;
                 return Some(Waiting {
                     site: Site { process, number },

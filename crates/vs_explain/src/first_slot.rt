@@ -142,8 +142,8 @@ fn shapeless_root(facts: &Facts, signal: usize, first: Site) -> Option<Fault> {
 /// The fault of a root.
 fn root_fault(facts: &Facts, signal: usize) -> Option<Fault> {
     if let Some(first) = write_of(facts, signal, Wanted::FirstLater) {
-        let second = edge_of(facts, signal, Edge::Posedge);
-        let second = second.or(edge_of(facts, signal, Edge::Negedge));
+        let second = edge_of(facts, signal, Edge::Posedge, first.process);
+        let second = second.or(edge_of(facts, signal, Edge::Negedge, first.process));
         let second = second.map(|waiting| waiting.site);
         let story = Story {
             cause: "The first value of `%` is written by `<=`; what edges are awaited of gets its value at time 0 by one `=` of a constant.",
@@ -162,7 +162,7 @@ fn root_fault(facts: &Facts, signal: usize) -> Option<Fault> {
         return shapeless;
     }
     let edge = first_edge(facts, first, signal)?;
-    let waiting = edge_of(facts, signal, edge)?;
+    let waiting = edge_of(facts, signal, edge, first.process)?;
     Some(Fault {
         first: Some(first),
         second: Some(waiting.site),
@@ -171,18 +171,29 @@ fn root_fault(facts: &Facts, signal: usize) -> Option<Fault> {
     })
 }
 
-/// Whether a process other than this one writes a signal, or none does.
+/// Whether a process is a block, or writes a signal by `=` in the first slot.
+fn writes_first(facts: &Facts, process: usize, signal: usize) -> bool {
+    let Some(text) = facts.texts.get(process) else {
+        return false;
+    };
+    text.kind == TextKind::Block
+        || text.points.iter().any(|p| p.moment.is_first
+            && p.is_blocking()
+            && p.writes_signal(signal))
+}
+
+/// Whether a process other than this one writes a signal, or none does; in version 3, whether another one writes it by `=` in the first slot.
 fn is_foreign(facts: &Facts, process: usize, signal: usize) -> bool {
     if facts.is_net(signal) {
         return true;
     }
     let writers = facts.writers_of(signal);
     for writer in writers {
-        if *writer != process {
+        if *writer != process && (!facts.is_third || writes_first(facts, *writer, signal)) {
             return true;
         }
     }
-    writers.is_empty()
+    writers.is_empty() && !facts.is_third
 }
 
 /// The first signal that a statement reads in the first slot, and that another process writes.

@@ -56,7 +56,7 @@ impl Walk {
         arrival: Arrival,
         modulus: u64,
     ) -> Result<(), AllocError> {
-        let (Some(point), Some(nexts)) = (text.points.get(place), text.flow.nexts.get(place)) else {
+        let (Some(point), Some(nexts)) = (text.points.get(place), text.ways.nexts.get(place)) else {
             return Ok(());
         };
         let next = match point.statement {

@@ -184,7 +184,7 @@ impl<'d> Facts<'d> {
     pub fn of(alloc: Global, design: &'d Design, is_third: bool) -> Result<Facts<'d>, AllocError> {
         let mut texts = Vec::new(alloc);
         for process in design.processes() {
-            texts.push(text_of(alloc, process)?)?;
+            texts.push(text_of(alloc, process, is_third)?)?;
         }
         let writers = writers_of(alloc, design.signals().len(), &texts)?;
         let drivers = drivers_of(alloc, design)?;

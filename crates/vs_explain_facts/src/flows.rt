@@ -4,6 +4,7 @@ use crate::lists::{empty_lists, set_mark};
 use crate::points::{Moment, Point};
 use std::alloc::{AllocError, Global};
 use vs_design::{Statement, Typed, has_control};
+use vs_drivers::vs_maps::surely_turns;
 
 /// Where each statement of a text leads, by their numbers; the end has the number behind the last one.
 #[derive(Drop)]
@@ -106,6 +107,59 @@ pub(crate) fn flow_of(alloc: Global, body: &Statement, count: usize) -> Result<F
     let mut nexts = empty_lists(alloc, count)?;
     let start = link(&mut nexts, body, count)?;
     Ok(Flow { nexts, start })
+}
+
+/// Lets a `repeat` of this number lead into a turn alone; what comes from its body to it leads out of it too.
+fn turn_first(
+    alloc: Global,
+    nexts: &mut [Vec<usize>],
+    number: usize,
+    behind: usize,
+) -> Result<(), AllocError> {
+    let mut out = Vec::new(alloc);
+    if let Some(own) = nexts.get(number) {
+        if own.first() == Some(&number) {
+            return Ok(());
+        }
+        for (index, to) in own.iter().enumerate() {
+            if index > 0 {
+                out.push(*to)?;
+            }
+        }
+    }
+    for place in number.saturating_add(1)..behind {
+        if let Some(list) = nexts.get_mut(place) {
+            if list.contains(&number) {
+                list.extend_from_slice(&out)?;
+            }
+        }
+    }
+    if let Some(own) = nexts.get_mut(number) {
+        own.truncate(1);
+    }
+    Ok(())
+}
+
+/// The ways through a text as a version of certificates counts them: version 3 past a `repeat` whose count is a constant above 0 by a turn alone.
+pub(crate) fn ways_by(
+    alloc: Global,
+    flow: &Flow,
+    points: &[Point],
+    is_third: bool,
+) -> Result<Flow, AllocError> {
+    let mut nexts = Vec::new(alloc);
+    for list in &flow.nexts {
+        nexts.push(Vec::from_slice(alloc, list)?)?;
+    }
+    for (number, point) in points.iter().enumerate() {
+        if is_third && surely_turns(alloc, point.statement)? {
+            turn_first(alloc, &mut nexts, number, point.behind)?;
+        }
+    }
+    Ok(Flow {
+        nexts,
+        start: flow.start,
+    })
 }
 
 /// How the ways through a text are read.

@@ -1,6 +1,6 @@
 //! What the texts of processes do.
 
-use crate::flows::{AS_CHECKED, Flow, Reading, flow_of, moments_by};
+use crate::flows::{AS_CHECKED, Flow, Reading, flow_of, moments_by, ways_by};
 use crate::points::{Moment, Point, points_of};
 use std::alloc::{AllocError, Global};
 use vs_design::{EventTerm, Process, ProcessKind, Statement};
@@ -43,6 +43,8 @@ pub struct TextFacts<'d> {
     pub terms: Vec<Term>,
     /// Where its statements lead.
     pub(crate) flow: Flow,
+    /// Where they do as certificates of the version count it.
+    pub(crate) ways: Flow,
 }
 
 /// What a process waits for.
@@ -83,15 +85,17 @@ fn terms_of(alloc: Global, points: &[Point]) -> Result<Vec<Term>, AllocError> {
     Ok(found)
 }
 
-/// What the text of a process does.
+/// What the text of a process does, for claims of version 3 or of another one.
 pub(crate) fn text_of<'d>(
     alloc: Global,
     process: &'d Process,
+    is_third: bool,
 ) -> Result<TextFacts<'d>, AllocError> {
     let is_always = process.kind == ProcessKind::Always;
     let mut points = points_of(alloc, &process.body, is_always)?;
     let flow = flow_of(alloc, &process.body, points.len())?;
-    let moments = moments_by(alloc, &points, &flow, AS_CHECKED)?;
+    let ways = ways_by(alloc, &flow, &points, is_third)?;
+    let moments = moments_by(alloc, &points, &ways, AS_CHECKED)?;
     for (point, moment) in points.iter_mut().zip(&moments) {
         point.moment = *moment;
     }
@@ -102,6 +106,7 @@ pub(crate) fn text_of<'d>(
         points,
         terms,
         flow,
+        ways,
     })
 }
 
@@ -144,7 +149,7 @@ impl<'d> TextFacts<'d> {
         };
         for (number, point) in self.points.iter().enumerate() {
             if point.writes_signal(signal) {
-                walk.come(&self.flow, number, number)?;
+                walk.come(&self.ways, number, number)?;
             }
         }
         for _ in 0..u64::MAX {
@@ -154,7 +159,7 @@ impl<'d> TextFacts<'d> {
             match self.points.get(place) {
                 Some(point) if point.writes_signal(signal) => return Ok(Some((write, place))),
                 Some(point) if point.is_delay() || point.is_event() => {}
-                _ => walk.come(&self.flow, place, write)?,
+                _ => walk.come(&self.ways, place, write)?,
             }
         }
         Ok(None)
@@ -162,7 +167,7 @@ impl<'d> TextFacts<'d> {
 
     /// When each of its statements can run, by another reading of its ways.
     pub fn moments(&self, alloc: Global, reading: Reading) -> Result<Vec<Moment>, AllocError> {
-        moments_by(alloc, &self.points, &self.flow, reading)
+        moments_by(alloc, &self.points, &self.ways, reading)
     }
 
     /// Whether it waits for an edge, or any change, of a signal.

@@ -8,7 +8,7 @@ use Rattle.vs_design.specs.vs_logic4.specs.declared.edge.Edge.{Edge}
 use Rattle.vs_design.specs.vs_logic4.specs.declared.edge.Edge.TheVariants.{Any, Posedge, Negedge}
 use Rattle.vs_design.specs.declared.statement.EventTerm.{EventTerm}
 use Rattle.vs_design.specs.Parts.{Parts}
-use Rattle.vs_design.specs.Stores.{Store, content, chosen_bits, chosen_words, words_in, same_words, start_store}
+use Rattle.vs_design.specs.Stores.{Store, content, chosen_bits, chosen_words, is_driven, words_in, same_words, start_store}
 use Rattle.vs_process.specs.declared.gait.Gait.TheVariants.{Woken}
 use Rattle.vs_process.specs.Places.{Todo, Place, going, waiting, sleeping, inactive, ended, active_at}
 use Rattle.vs_process.specs.vs_edges.specs.Waking.{lowest_digit, is_edge_of, wakes_by, wakes, wake_any}
@@ -18,11 +18,12 @@ use Rattle.vs_design.specs.vs_logic4.proofs.Basics.{element_of as any_at}
 use Rattle.vs_process.proofs.Stores.{shape}
 use Rattle.vs_design.proofs.Stores.{slice_get-changed_at as changed_same}
 use Rattle.vs_process.proofs.Values.{not_changed}
-use Rattle.vs_threads.specs.Edges.{one_bit, shown, Copies, inverses, IsHeard, IsRoot}
-use Rattle.vs_threads.specs.Threads.{Thread, Fired, found, given, opening, is_timed, IsTimed, Awaits, MayOpen, IsThread, writes}
+use Rattle.vs_threads.specs.Edges.{one_bit, shown, Copies, itself, through, inverses, IsHeard, IsRoot}
+use Rattle.vs_threads.specs.Blocks.{IsSource}
+use Rattle.vs_threads.specs.Threads.{Thread, Fired, found, given, opening, is_timed, IsTimed, Fires, Awaits, MayOpen, IsThread, writes}
 use Rattle.vs_threads.proofs.Lists.{contains_at, place_of}
 use Rattle.vs_threads.proofs.Threads.{timed_of, unmoved, thread_opens}
-use Rattle.vs_threads.proofs.Links.{copies_bit, bit_in, same_some}
+use Rattle.vs_threads.proofs.Links.{copies_bit, bit_in, link_driven, same_some, shown_none}
 use Rattle.vs_independence.proofs.Running.{Apart, Stands, given_value}
 
 -- ---- waking
@@ -153,18 +154,63 @@ fired_changed d blocks b apart i f may same =
     subst (λ n. slice_get (given f b.store) n ≡ slice_get b.store n) (sym term) (given_value d blocks b apart i f may ∙ sym same) in
     true≢false (sym may.fires.wakes ∙ no_wake b.store (given f b.store) t stays)
 
+-- a signal that nothing drives shows itself
+shows_itself : (d : Parts) (root v : ℕ) (c : Copies d root v) → is_driven d.assigns v ≡ false → (root ≡ v) × ((content : Option (List (List Digit))) → shown (inverses c) content ≡ content)
+shows_itself d root _ (itself bit undriven) un = (refl, shown_none)
+shows_itself d root v (through m n copies link bit) un = absurd (true≢false (sym (link_driven d m v link) ∙ un))
+
+-- what a thread wrote itself is in the store, and doesn't change any more
+own_stays : (d : Parts) (blocks : ℕ → Bool) (b : State) (old new : Store) → Apart d blocks b → (i : ℕ) (th : Thread) (s : Stands d blocks b old i th) (t : EventTerm) → (w : IsWoken d blocks b old new th t) →
+    ((v : ℕ) → writes th v ≡ true → slice_get old v ≡ slice_get th.view v) → is_timed (found blocks b i) ≡ true → wakes old new t ≡ true → writes th w.fired.signal ≡ true → ⊥
+own_stays d blocks b old new apart i th s t w own timed wake wrote =
+    true≢false (sym wake ∙ no_wake old new t (subst (λ n. slice_get new n ≡ slice_get old n) w.signal same))
+  where
+    fires : Fires d blocks b w.awaits.term w.fired
+    fires = w.awaits.fires
+
+    source : IsSource d blocks w.fired.signal
+    source = apart.variables i w.fired.signal th s.is wrote
+
+    itself_is : (fires.root ≡ w.fired.signal) × ((content : Option (List (List Digit))) → shown (inverses fires.copies) content ≡ content)
+    itself_is = shows_itself d fires.root w.fired.signal fires.copies source.undriven
+
+    by_wrote : writes fires.by w.fired.signal ≡ true
+    by_wrote = subst (λ n. writes fires.by n ≡ true) itself_is.0 fires.writes
+
+    writer : fires.writer ≡ i
+    writer = apart.keeps.only i fires.writer w.fired.signal th fires.by s.is (record { count = fires.timed.count; input = None; may = tt; is = fires.timed.is }) wrote by_wrote
+
+    heard : IsHeard d blocks w.awaits.term.range.signal
+    heard = apart.heard i th s.is w.awaits.terms w.awaits.todo w.awaits.at w.awaits.term w.awaits.is
+
+    root : IsRoot d blocks fires.root
+    root = record { signal = w.fired.signal; heard = subst (IsHeard d blocks) fires.term heard; copies = fires.copies }
+
+    views : slice_get th.view w.fired.signal ≡ slice_get fires.by.view w.fired.signal
+    views = subst (λ n. slice_get th.view n ≡ slice_get fires.by.view n) itself_is.0
+        (apart.keeps.root_once i fires.root th fires.by root (timed_of d blocks b i th s.is timed) (subst (λ k. IsTimed blocks b k fires.by) writer fires.timed)
+        (subst (λ n. writes th n ≡ true) (sym itself_is.0) wrote) fires.writes)
+
+    same : slice_get new w.fired.signal ≡ slice_get old w.fired.signal
+    same = w.value ∙ sym fires.value ∙ itself_is.1 (slice_get fires.by.view fires.root) ∙ ap (slice_get fires.by.view) itself_is.0 ∙ sym views ∙ sym (own w.fired.signal wrote)
+
 -- a process that a change of the store wakes stands where the slot found it
-pub woken_opening : (d : Parts) (blocks : ℕ → Bool) (b : State) (old new : Store) → Apart d blocks b → (i : ℕ) (th : Thread) (s : Stands d blocks b old i th) (t : EventTerm) → IsWoken d blocks b old new th t → th ≡ opening blocks b i None
-woken_opening d blocks b old new apart i th s t w = by_input s.is.input refl
+pub woken_opening : (d : Parts) (blocks : ℕ → Bool) (b : State) (old new : Store) → Apart d blocks b → (i : ℕ) (th : Thread) (s : Stands d blocks b old i th) (t : EventTerm) → IsWoken d blocks b old new th t →
+    ((v : ℕ) → writes th v ≡ true → slice_get old v ≡ slice_get th.view v) → wakes old new t ≡ true → th ≡ opening blocks b i None
+woken_opening d blocks b old new apart i th s t w own wake = by_input s.is.input refl
   where
     by_input : (o : Option Fired) → s.is.input ≡ o → th ≡ opening blocks b i None
     by_input None none = elim (cases_Bool (is_timed (found blocks b i))) [
-      | inl timed ↦ absurd (apart.keeps.unfired i th w.fired (timed_of d blocks b i th s.is timed) w.awaits)
+      | inl timed ↦ elim (cases_Bool (writes th w.fired.signal)) [
+        | inl wrote ↦ absurd (own_stays d blocks b old new apart i th s t w own timed wake wrote)
+        | inr other ↦ absurd (apart.keeps.unfired i th w.fired (timed_of d blocks b i th s.is timed) w.awaits other)
+      ]
       | inr waits ↦ unmoved d blocks b i th s.is none waits
     ]
     by_input (Some g) e =
         let may = subst (MayOpen d blocks b i) e s.is.may in
-        let one : w.fired.signal ≡ g.signal = apart.keeps.fired_by_one i th (opening blocks b i None) w.fired g s.is (thread_opens d blocks b i) w.awaits may in
+        let waits : is_timed (found blocks b i) ≡ false = ap is_timed may.at in
+        let one : w.fired.signal ≡ g.signal = apart.keeps.fired_by_one i th (opening blocks b i None) w.fired g waits s.is (thread_opens d blocks b i) w.awaits may in
         let at_t : t.range.signal ≡ g.signal = sym w.signal ∙ one in
         absurd (fired_changed d blocks b apart i g may (ap (slice_get b.store) (sym at_t) ∙ sym w.found ∙ ap (slice_get old) at_t ∙ s.fired g e))
 
@@ -224,8 +270,9 @@ same_terms a b k l e = cc
 abbrev pub fired_is : (d : Parts) (blocks : ℕ → Bool) (b : State) (i : ℕ) (f : Fired) → MayOpen d blocks b i (Some f) → IsThread d blocks b i (opening blocks b i (Some f))
 fired_is d blocks b i f may = record { count = 0; input = Some f; may = may; is = refl }
 
-pub after_at : (d : Parts) (blocks : ℕ → Bool) (b : State) (old new : Store) → Change d blocks b old new → (i : ℕ) (th : Thread) → Stands d blocks b old i th → After d blocks b old new i th
-after_at d blocks b old new h i th s = by_place th.place refl
+pub after_at : (d : Parts) (blocks : ℕ → Bool) (b : State) (old new : Store) → Change d blocks b old new → (i : ℕ) (th : Thread) → Stands d blocks b old i th →
+    ((v : ℕ) → writes th v ≡ true → slice_get old v ≡ slice_get th.view v) → After d blocks b old new i th
+after_at d blocks b old new h i th s own = by_place th.place refl
   where
     kept : wakened old new th.place ≡ th.place → ((terms : List EventTerm) (todo : Todo) → th.place ≡ waiting terms todo → wake_any terms old new ≡ false) → After d blocks b old new i th
     kept same asleep = record {
@@ -245,7 +292,7 @@ after_at d blocks b old new h i th s = by_place th.place refl
     woken terms todo at wake =
         let hit = any_at (wakes old new) terms wake in
         let w = woken_at d blocks b old new h i th s.is terms todo at hit.1 (contains_at terms hit.0 hit.1 hit.2) hit.3 in
-        let there : th ≡ opening blocks b i None = woken_opening d blocks b old new h.apart i th s hit.1 w in
+        let there : th ≡ opening blocks b i None = woken_opening d blocks b old new h.apart i th s hit.1 w own hit.3 in
         let b_at : found blocks b i ≡ waiting terms todo = ap (λ (x : Thread). x.place) (sym there) ∙ at in
         let f = w.fired in
         let may : MayOpen d blocks b i (Some f) = subst (λ x. Awaits d blocks b x f) there w.awaits in

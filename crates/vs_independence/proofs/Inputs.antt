@@ -1,5 +1,5 @@
 -- Where a slot has come to a stop in two ways, the same processes were fired, and by the same: their threads are one.
-use Rattle.std.proofs.Common.{Bool, ◌≡◌, ℕ, true, Option, Some, None, List, slice_get, refl, sym, ◌∙◌, ap, subst}
+use Rattle.std.proofs.Common.{Bool, ◌≡◌, ℕ, true, false, Option, Some, None, List, slice_get, refl, sym, ◌∙◌, ap, subst}
 use Rattle.std.proofs.lemmas.Bool.{true≢false}
 use Rattle.vs_design.specs.declared.statement.EventTerm.{EventTerm}
 use Rattle.vs_design.specs.Parts.{Parts}
@@ -7,7 +7,7 @@ use Rattle.vs_design.specs.Stores.{Store}
 use Rattle.vs_process.specs.Places.{Place}
 use Rattle.vs_process.specs.States.{State}
 use Rattle.vs_threads.specs.Edges.{shown, Copies, inverses, IsHeard, IsRoot}
-use Rattle.vs_threads.specs.Threads.{Thread, iterate, turn, Fired, given, opening, IsTimed, Fires, Awaits, MayOpen, IsThread, writes}
+use Rattle.vs_threads.specs.Threads.{Thread, iterate, turn, Fired, found, given, opening, is_timed, IsTimed, Fires, Awaits, MayOpen, IsThread, writes}
 use Rattle.vs_threads.proofs.Threads.{is_stopped, stopped_unique, timed_of, timed_wrote, thread_opens}
 use Rattle.vs_threads.proofs.Links.{same_some}
 use Rattle.vs_independence.proofs.Running.{Apart, AllStand, given_value}
@@ -64,7 +64,8 @@ same_input d blocks b apart store other th more x y i = by_inputs (x.stands i).i
     by_inputs (Some f) (Some h) e g =
         let cf = subst (MayOpen d blocks b i) e (x.stands i).is.may in
         let ch = subst (MayOpen d blocks b i) g (y.stands i).is.may in
-        let signal : f.signal ≡ h.signal = apart.keeps.fired_by_one i (opening blocks b i None) (opening blocks b i None) f h (thread_opens d blocks b i) (thread_opens d blocks b i) cf ch in
+        let waits : is_timed (found blocks b i) ≡ false = ap is_timed cf.at in
+        let signal : f.signal ≡ h.signal = apart.keeps.fired_by_one i (opening blocks b i None) (opening blocks b i None) f h waits (thread_opens d blocks b i) (thread_opens d blocks b i) cf ch in
         let value : f.value ≡ h.value = same_some f.value h.value (sym (final_value d blocks b store th apart x i f cf) ∙ ap (slice_get store) signal ∙ final_value d blocks b store th apart x i h ch) in
         e ∙ ap (λ z. Some z) (same_fired f h signal value) ∙ sym g
 

@@ -321,7 +321,7 @@ write_runs d blocks texts b s th apart r i other gait todo out w here plain at_i
     change = change_of d blocks b s.store new s.assigns th mid advancing r.edges
 
     af : (k : ℕ) → After d blocks b s.store new k (th k)
-    af k = after_at d blocks b s.store new change k (th k) (r.stands k)
+    af k = after_at d blocks b s.store new change k (th k) (r.stands k) (r.sources.own k)
 
     others : ℕ → Thread
     others k = (af k).thread
@@ -507,7 +507,7 @@ propagate_runs d blocks well texts outputs b s apart th r j x digits is waits = 
     change = change_of d blocks b s.store new s.assigns th th advancing r.edges
 
     af : (k : ℕ) → After d blocks b s.store new k (th k)
-    af k = after_at d blocks b s.store new change k (th k) (r.stands k)
+    af k = after_at d blocks b s.store new change k (th k) (r.stands k) (r.sources.own k)
 
     final : ℕ → Thread
     final k = (af k).thread

@@ -137,7 +137,7 @@ one_telling d blocks b store th apart x i lines more t u = by_inputs t.is.input 
     by_inputs (Some f) (Some h) e g =
         let cf = subst (MayOpen d blocks b i) e t.is.may in
         let ch = subst (MayOpen d blocks b i) g u.is.may in
-        let signal : f.signal ≡ h.signal = apart.keeps.fired_by_one i (opening blocks b i None) (opening blocks b i None) f h (thread_opens d blocks b i) (thread_opens d blocks b i) cf ch in
+        let signal : f.signal ≡ h.signal = apart.keeps.fired_by_one i (opening blocks b i None) (opening blocks b i None) f h (ap is_timed cf.at) (thread_opens d blocks b i) (thread_opens d blocks b i) cf ch in
         let value : f.value ≡ h.value = same_some f.value h.value (sym (final_value d blocks b store th apart x i f cf) ∙ ap (slice_get store) signal ∙ final_value d blocks b store th apart x i h ch) in
         alike (e ∙ ap (λ z. Some z) (same_fired f h signal value) ∙ sym g)
 

@@ -100,10 +100,11 @@ pub record KeepsApart (d : Parts) (blocks : ℕ → Bool) (b : State) : Type 0 w
       writes th root ≡ true → writes later root ≡ true → slice_get th.view root ≡ slice_get later.view root
   -- and by no `<=`
   pub root_now : (i root : ℕ) (th : Thread) → IsRoot d blocks root → IsThread d blocks b i th → any_names th.made root ≡ true → ⊥
-  -- a process that waits for no event where the slot begins waits, later in the slot, for none that the slot wakes
-  pub unfired : (i : ℕ) (th : Thread) (f : Fired) → IsTimed blocks b i th → Awaits d blocks b th f → ⊥
-  -- and of all that a process waits for in the slot, the slot wakes terms of one signal
-  pub fired_by_one : (i : ℕ) (th other : Thread) (f g : Fired) → IsThread d blocks b i th → IsThread d blocks b i other → Awaits d blocks b th f → Awaits d blocks b other g → f.signal ≡ g.signal
+  -- a process that waits for no event where the slot begins waits, later in the slot, for none that the slot wakes, but for a change that it made before
+  pub unfired : (i : ℕ) (th : Thread) (f : Fired) → IsTimed blocks b i th → Awaits d blocks b th f → writes th f.signal ≡ false → ⊥
+  -- and of all for which a process waits in the slot that waits for an event where the slot begins, the slot wakes terms of one signal
+  pub fired_by_one : (i : ℕ) (th other : Thread) (f g : Fired) → is_timed (found blocks b i) ≡ false → IsThread d blocks b i th → IsThread d blocks b i other →
+      Awaits d blocks b th f → Awaits d blocks b other g → f.signal ≡ g.signal
 
 -- a disciplined design: its drivers have an order, its blocks follow what their controls name and start well, and in each slot that an execution
 -- begins its processes keep apart

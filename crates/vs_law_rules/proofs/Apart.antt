@@ -1,5 +1,5 @@
 -- The processes of a slot that begins keep apart.
-use Rattle.std.proofs.Common.{◌≡◌, ℕ, ◌%◌, ◌<◌, ◌⊎◌, Bool, true, false, if◌then◌else◌, Option, Some, None, get_or, slice_get, refl, sym, ◌∙◌, ap, subst, inl, inr}
+use Rattle.std.proofs.Common.{◌≡◌, ℕ, ◌%◌, ◌<◌, ◌⊎◌, Bool, true, false, if◌then◌else◌, Option, Some, None, List, get_or, slice_get, refl, sym, ◌∙◌, ap, subst, inl, inr}
 use Rattle.std.proofs.lemmas.Bool.{cases_Bool, true≢false, false≢true}
 use Rattle.vs_design.specs.vs_logic4.specs.declared.digit.Digit.{Digit}
 use Rattle.vs_design.specs.vs_logic4.specs.declared.digit.Digit.TheVariants.{X}
@@ -24,25 +24,24 @@ use Rattle.vs_law_rules.proofs.Roots.{entry_root}
 use Rattle.vs_law_rules.proofs.Variables.{writes_variable}
 use Rattle.vs_rules.specs.vs_threads.specs.Threads.{Thread, turn, iterate, writes, any_names}
 use Rattle.vs_rules.specs.vs_threads.proofs.Feeds.{into_named}
-use Rattle.vs_rules.specs.vs_threads.proofs.Threads.{is_stopped}
-use Rattle.vs_rules.specs.Claims.{Name, writer_in}
-use Rattle.vs_rules.specs.Claims.{Claims, blocks_of, IsWriter, IsSecond, IsDelay, WaitsForEdges, IsSequential, HasKind, HasMode, signal_name, is_wide, IsRootOf, IsRoot as IsRootClaimed}
+use Rattle.vs_rules.specs.vs_threads.proofs.Threads.{is_stopped, timed_wrote}
+use Rattle.vs_rules.specs.Claims.{Claims, blocks_of, IsBlock, IsWide, IsWriter, IsSecond, IsDelay, WaitsForEdges, IsSequential, HasKind, signal_name, is_wide, IsRootOf, IsRoot as IsRootClaimed}
 use Rattle.vs_rules.specs.Constants.{bit_of, Gives}
 use Rattle.vs_rules.specs.Paths.{IsPoint, IsSlot0, IsLate, IsHot, HasTerm, WritesNow, WritesLater, Writes}
 use Rattle.vs_rules.specs.Drivers.{IsSource}
-use Rattle.vs_rules.specs.Rules.{K2, K10_Process, IsSoundRoot, IsOwnRead, IsOwnEdge, AreApart, FiresNone, Reads}
+use Rattle.vs_rules.specs.Rules.{K2, K10_Process, IsSoundRoot, IsOwnEdge, Reads}
 use Rattle.vs_rules.specs.Slots.{HasSlot, HasWriteSlot}
-use Rattle.vs_rules.specs.vs_threads.specs.Edges.{one_bit, Copies, IsHeard, IsRoot}
+use Rattle.vs_rules.specs.vs_threads.specs.Edges.{one_bit, Copies, IsRoot}
 use Rattle.vs_rules.specs.vs_threads.specs.Threads.{Fired, found, opening, is_timed, IsTimed, Awaits, MayOpen, IsThread, IsFiredBy}
 use Rattle.vs_independence.specs.Discipline.{Reaches, KeepsApart}
 use Rattle.vs_rules.specs.vs_threads.specs.Blocks.{puts_out}
 use Rattle.vs_independence.specs.Discipline as a
 use Rattle.vs_law_rules.proofs.Beginning.{AllStopped, delay_timed}
-use Rattle.vs_law_rules.proofs.Cones.{ControlNames, clash, out_writes, into_writes, source_of, reach_cone, reach_root}
+use Rattle.vs_law_rules.proofs.Cones.{ControlNames, clash, is_block, out_writes, into_writes, source_of, reach_cone, reach_root}
 use Rattle.vs_law_rules.specs.Laws.{ClockTurns}
-use Rattle.vs_law_rules.proofs.Fire.{Begun, Walking, zero_less, timed_walks, timed_writes, seq_found, sequential_of, closed, stands_found, bit_digit}
+use Rattle.vs_law_rules.proofs.Fire.{Begun, Walking, not_block, zero_less, timed_walks, timed_writes, seq_found, sequential_of, closed, stands_found, bit_digit}
 use Rattle.vs_rules.specs.vs_threads.proofs.Links.{root_bit}
-use Rattle.vs_law_rules.proofs.Early.{found_waits, thread_hears, timed_hears}
+use Rattle.vs_law_rules.proofs.Early.{found_waits, timed_hears}
 use Rattle.vs_law_rules.proofs.Firing.{one_writer, one_second, writes_as, Rooted, rooted, none_fires, fires_at, view_bit, same_digits}
 use Rattle.vs_law_rules.proofs.Lasts.{Last, Bitwise, bit_iterate}
 use Rattle.vs_law_rules.proofs.Texts.{writes_now, writes_later}
@@ -55,7 +54,7 @@ use Rattle.vs_law_rules.proofs.Walks.{At, at_zero, at_later, Here, Heard, Stands
 alone : (d : Parts) (c : Claims) → WellFormed d → (W : Todo → ℕ → Type 0) (v : ℕ) →
     ((i : ℕ) (k : Todo) → IsPoint d i k → W k v → IsWriter d c v i ⊎ IsSecond d c v i) →
     ((i : ℕ) (k : Todo) → IsSecond d c v i → IsPoint d i k → W k v → IsLate d i k → ⊥) →
-    ((i j : ℕ) (k l : Todo) → IsSecond d c v i → IsPoint d i k → W k v → IsWriter d c v j → IsSlot0 d j l → W l v → ⊥) →
+    ((i j : ℕ) (k l : Todo) → IsSecond d c v i → IsPoint d i k → W k v → IsWriter d c v j → IsSlot0 d (is_wide c) j l → W l v → ⊥) →
     (time i j : ℕ) (k l : Todo) → Here d c i time k → Here d c j time l → W k v → W l v → j ≡ i
 alone d c formed W v named early first time i j k l x y wx wy = by_cases (named i k x.point wx) (named j l y.point wy)
   where
@@ -83,7 +82,12 @@ alone_later d c formed v r =
 
 -- ---- what reaches a range that a process reads in the first slot is its signal
 
-first_read : (d : Parts) (c : Claims) (b : State) → Begun d c b → (i u : ℕ) (r : BitRange) (k : Todo) → IsSequential d c i → IsSlot0 d i k → Reads d c k r → Reaches d (blocks_of d c) u r → u ≡ r.signal
+-- it is no block that writes what a process reads there
+no_block_there : (d : Parts) (c : Claims) (i m : ℕ) → IsSequential d c i → (m ≡ i) ⊎ (IsWide c × (IsBlock d c m → ⊥)) → blocks_of d c m ≡ true → ⊥
+no_block_there d c i m seq (inl same) blk = true≢false (sym blk ∙ ap (blocks_of d c) same ∙ not_block d c i seq)
+no_block_there d c i m seq (inr other) blk = other.1 (is_block d c m blk)
+
+first_read : (d : Parts) (c : Claims) (b : State) → Begun d c b → (i u : ℕ) (r : BitRange) (k : Todo) → IsSequential d c i → IsSlot0 d (is_wide c) i k → Reads d c k r → Reaches d (blocks_of d c) u r → u ≡ r.signal
 first_read d c b g i u r k seq s reads reach = by_reach r refl reach
   where
     first : K10_Process d c i
@@ -95,13 +99,13 @@ first_read d c b g i u r k seq s reads reach = by_reach r refl reach
         absurd (true≢false (sym (driven d.assigns j x r.signal is (subst (λ n. writes_signal x.target n ≡ true) e (into_named d x.target q into)))
         ∙ variable_undriven d g.formed r.signal (first.variable k r seq s reads)))
     by_reach _ e (a.past p q m reach blk con puts) =
-        absurd (clash d c b g i m r.signal seq (first.written k r seq s reads) blk (subst (Writes d m) e (into_writes d m q puts)))
+        absurd (no_block_there d c i m seq (first.alone k r m seq s reads (subst (Writes d m) e (into_writes d m q puts))) blk)
 
 -- ---- reading
 
 -- what a process reads where another one's write reaches
 data Read (d : Parts) (c : Claims) (b : State) (i j u : ℕ) (r : BitRange) (k : Todo) : Type 0 where
-  its_own : j ≡ i → (u ≡ r.signal) ⊎ (IsHot d i u k → ⊥) → Read d c b i j u r k
+  its_own : j ≡ i → (u ≡ r.signal) ⊎ (IsHot d (is_wide c) i u k → ⊥) → Read d c b i j u r k
   its_edge : 0 < b.time → IsOwnEdge d c i r.signal k → IsWriter d c u j → HasWriteSlot d c u (b.time % c.modulus) → HasSlot d c i k (b.time % c.modulus) → Read d c b i j u r k
 
 read_at : (d : Parts) (c : Claims) (b : State) → Begun d c b → ControlNames d c → (i j u : ℕ) (r : BitRange) (k l : Todo) → IsSequential d c i → IsSequential d c j → Here d c i b.time k → Here d c j b.time l → Reads d c k r →
@@ -112,9 +116,14 @@ read_at d c b g names i j u r k l seq other x y reads reach wrote = at_slot x.at
     source = source_of d c b g j u other (writes_now d j l u y.point wrote)
 
     at_slot : At d c i b.time k → At d c j b.time l → Read d c b i j u r k
-    at_slot (at_zero z s) _ =
+    at_slot (at_zero z s) (at_later up late slot) = absurd (zero_less b.time up z)
+    at_slot (at_zero z s) (at_zero z' s') =
         let same = first_read d c b g i u r k seq s reads reach in
-        its_own ((g.rules.first_slot i).alone k r j seq s reads (writes_now d j l r.signal y.point (subst (WritesNow d l) same wrote))) (inl same)
+        let now = subst (WritesNow d l) same wrote in
+        elim ((g.rules.first_slot i).alone k r j seq s reads (writes_now d j l r.signal y.point now)) [
+          | inl one ↦ its_own one (inl same)
+          | inr other ↦ its_own ((g.rules.first_slot i).first k l r j other.0 seq s reads s' now) (inl same)
+        ]
     at_slot (at_later up late slot) (at_zero z s) = absurd (zero_less b.time up z)
     at_slot (at_later up late slot) (at_later up' late' slot') =
         let writer = writes_as d c b g b.time j u l up y wrote in
@@ -176,7 +185,7 @@ fired_by d c b g clocks i u r th is seq looks rd up root own slot = by_input is.
     by_input (Some f) e may same =
         let heard : Heard d i may.terms (erased may.todo) = subst (Stands d c i b.time) may.at (stands_found d c b g i seq) in
         let has = heard_term d i may.terms (erased may.todo) may.term heard may.is in
-        (f, e, same_signal f (opened d c b g clocks i f seq may.term has may.fires (λ first. absurd (found_waits d blocks b first i may.terms may.todo may.at))))
+        (f, e, same_signal f (opened d c b g clocks i f seq may.term has may.fires (λ first. found_waits d blocks b first i may.terms may.todo may.at)))
       where
         same_signal : (f : Fired) → Opened d c b i f → f.signal ≡ r.signal
         same_signal f o =
@@ -291,7 +300,7 @@ root_once d c b g heard i root th later h is that w x = by_at (zero_or b.time)
     last_of t timed wrote =
         (subst (Bitwise d c i b.time root) timed.is (bit_iterate d c i (closed d c b g i seq) b.time timed.count root first old.0 refl refl stands (bit_digit b.store root old.0 old.1))).last wrote
 
-    zero_at : (time : ℕ) (k : Todo) → time ≡ 0 → At d c i time k → IsSlot0 d i k
+    zero_at : (time : ℕ) (k : Todo) → time ≡ 0 → At d c i time k → IsSlot0 d (is_wide c) i k
     zero_at time k z (at_zero z' s) = s
     zero_at time k z (at_later up late slot) = absurd (zero_less time up z)
 
@@ -318,9 +327,10 @@ root_once d c b g heard i root th later h is that w x = by_at (zero_or b.time)
         (subst (λ t. writes t root ≡ true) (sym is.is) w) (subst (λ t. writes t root ≡ true) (sym that.is) x)
         ∙ ap (λ (t : Thread). slice_get t.view root) that.is
 
--- a process that waits for nothing where the slot begins is fired by nothing
-unfired : (d : Parts) (c : Claims) (b : State) → Begun d c b → ClockTurns d c b → (i : ℕ) (th : Thread) (f : Fired) → IsTimed (blocks_of d c) b i th → Awaits d (blocks_of d c) b th f → ⊥
-unfired d c b g clocks i th f is w = elim (timed_walks d c b g i th is) [
+-- a process that waits for nothing where the slot begins is fired by nothing but what it wrote
+unfired : (d : Parts) (c : Claims) (b : State) → Begun d c b → ClockTurns d c b → (i : ℕ) (th : Thread) (f : Fired) → IsTimed (blocks_of d c) b i th → Awaits d (blocks_of d c) b th f →
+    writes th f.signal ≡ false → ⊥
+unfired d c b g clocks i th f is w other = elim (timed_walks d c b g i th is) [
   | inl walking ↦ walks walking
   | inr idle ↦ idles idle
 ]
@@ -343,6 +353,13 @@ unfired d c b g clocks i th f is w = elim (timed_walks d c b g i th is) [
         level : is_level w.term ≡ false
         level = hears_level d c g.rules i w.term seq has
 
+        -- it didn't write the root itself, and so it doesn't where it waits
+        not_own : (w.fires.writer ≡ i) × (w.term.range.signal ≡ w.fires.root) → ⊥
+        not_own same =
+            let wrote = timed_wrote d blocks b i w.fires.root th w.fires.by (record { count = is.count; input = None; may = tt; is = is.is }) (ap is_stopped w.at)
+            (subst (λ k. IsTimed blocks b k w.fires.by) same.0 w.fires.timed) w.fires.writes in
+            true≢false (sym (subst (λ n. writes th n ≡ true) (sym same.1 ∙ w.fires.term) wrote) ∙ other)
+
         -- it goes on behind a delay control
         delayed : 0 < b.time → Resumed d c i b.time (waiting w.terms w.todo) → ⊥
         delayed up h =
@@ -350,26 +367,35 @@ unfired d c b g clocks i th f is w = elim (timed_walks d c b g i th is) [
             (w.term, w.is, fires_at d c b g clocks i w.term f has level w.fires up)
 
         by_first : (b ≡ start d) ⊎ ((0 < b.time) ⊎ AllStopped b) → ⊥
-        by_first (inl e) = none_fires d c b g i w.term f has level w.fires (λ first. timed_hears d blocks b first i th is w.terms w.todo w.term w.at w.is) (ap (λ (s : State). s.time) e)
+        by_first (inl e) =
+            none_fires d c b g i w.term f has level w.fires (λ first. (timed_hears d blocks b first i th is w.terms w.todo w.term w.at w.is, not_own)) (ap (λ (s : State). s.time) e)
         by_first (inr (inl up)) = elim (resumed d c b g i is.count seq (λ e. zero_less b.time up (ap (λ (s : State). s.time) e)) th is.is) [
           | inl on ↦ delayed up (subst (Resumed d c i b.time) w.at on)
           | inr rests ↦ idles rests.0
         ]
         by_first (inr (inr still)) = idles (sym is.is ∙ Rattle.vs_law_rules.proofs.Fire.stopped_iterate b.time i is.count (opening blocks b i None) (ap is_stopped (seq_found d c b i seq) ∙ still i))
 
+-- a place that isn't timed waits
+waits_found : (p : Place) → is_timed p ≡ false → (terms : List EventTerm) × (todo : Todo) × (p ≡ waiting terms todo)
+waits_found (going gait k) h = absurd (false≢true (sym h))
+waits_found (inactive k) h = absurd (false≢true (sym h))
+waits_found (sleeping due k) h = absurd (false≢true (sym h))
+waits_found (waiting terms k) h = (terms, k, refl)
+waits_found ended h = absurd (false≢true (sym h))
+
 -- a process is fired by terms of one signal
-opened_by : (d : Parts) (c : Claims) (b : State) → Begun d c b → ClockTurns d c b → (i : ℕ) (th : Thread) (f : Fired) → IsThread d (blocks_of d c) b i th → Awaits d (blocks_of d c) b th f → Opened d c b i f
-opened_by d c b g clocks i th f is w = elim (thread_walks d c b g clocks i th is) [
+opened_by : (d : Parts) (c : Claims) (b : State) → Begun d c b → ClockTurns d c b → (i : ℕ) (th : Thread) (f : Fired) → is_timed (found (blocks_of d c) b i) ≡ false → IsThread d (blocks_of d c) b i th → Awaits d (blocks_of d c) b th f → Opened d c b i f
+opened_by d c b g clocks i th f waits is w = elim (thread_walks d c b g clocks i th is) [
   | inl walking ↦ opened d c b g clocks i f walking.sequential w.term (heard_term d i w.terms (erased w.todo) w.term (subst (Stands d c i b.time) w.at walking.walked.stands) w.is) w.fires
-      (λ first. thread_hears d (blocks_of d c) b first i th is w.terms w.todo w.term w.at w.is)
+      (λ first. let at = waits_found (found (blocks_of d c) b i) waits in found_waits d (blocks_of d c) b first i at.0 at.1 at.2)
   | inr idle ↦ absurd (Rattle.vs_law_rules.proofs.Threads.ended_waits w.terms w.todo (sym (ap (λ (t : Thread). t.place) idle.0 ∙ idle.1) ∙ w.at))
 ]
 
-fired_by_one : (d : Parts) (c : Claims) (b : State) → Begun d c b → ClockTurns d c b → (i : ℕ) (th other : Thread) (f h : Fired) → IsThread d (blocks_of d c) b i th → IsThread d (blocks_of d c) b i other →
-    Awaits d (blocks_of d c) b th f → Awaits d (blocks_of d c) b other h → f.signal ≡ h.signal
-fired_by_one d c b g clocks i th other f h is that w x =
-    let one = opened_by d c b g clocks i th f is w in
-    let two = opened_by d c b g clocks i other h that x in
+fired_by_one : (d : Parts) (c : Claims) (b : State) → Begun d c b → ClockTurns d c b → (i : ℕ) (th other : Thread) (f h : Fired) → is_timed (found (blocks_of d c) b i) ≡ false →
+    IsThread d (blocks_of d c) b i th → IsThread d (blocks_of d c) b i other → Awaits d (blocks_of d c) b th f → Awaits d (blocks_of d c) b other h → f.signal ≡ h.signal
+fired_by_one d c b g clocks i th other f h waits is that w x =
+    let one = opened_by d c b g clocks i th f waits is w in
+    let two = opened_by d c b g clocks i other h waits that x in
     let seven = g.rules.edges i in
     let root : one.fires.root ≡ two.fires.root =
     seven.apart one.fires.root two.fires.root (b.time % c.modulus) one.edge
@@ -473,7 +499,7 @@ reads_rested d c b g clocks i k u r th is reads blk goes puts reach = by_at rd.h
     by_at (at_later up late slot) = true≢false (sym goes ∙ g.rest k blk up)
     by_at (at_zero z s) =
         let same = first_read d c b g i u r rd.k one.sequential s rd.reads reach in
-        clash d c b g i k r.signal one.sequential ((g.rules.first_slot i).written rd.k r one.sequential s rd.reads) blk (subst (Writes d k) same (out_writes d k u puts))
+        no_block_there d c i k one.sequential ((g.rules.first_slot i).alone rd.k r k one.sequential s rd.reads (subst (Writes d k) same (out_writes d k u puts))) blk
 
 -- the processes of a slot that begins keep apart
 pub keeps_apart : (d : Parts) (c : Claims) (b : State) → Begun d c b → ClockTurns d c b → ControlNames d c → HeardStands d → KeepsApart d (blocks_of d c) b
@@ -495,6 +521,6 @@ keeps_apart d c b g clocks names heard = record {
   root_timed = λ i root th h is w. root_timed d c b g clocks heard i root th h is w;
   root_once = λ i root th later h is that w x. root_once d c b g heard i root th later h is that w x;
   root_now = λ i root th h is m. root_now d c b g clocks heard i root th h is m;
-  unfired = λ i th f is w. unfired d c b g clocks i th f is w;
-  fired_by_one = λ i th other f h is that w x. fired_by_one d c b g clocks i th other f h is that w x;
+  unfired = λ i th f is w other. unfired d c b g clocks i th f is w other;
+  fired_by_one = λ i th other f h waits is that w x. fired_by_one d c b g clocks i th other f h waits is that w x;
 }

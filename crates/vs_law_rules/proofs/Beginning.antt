@@ -18,10 +18,10 @@ use Rattle.vs_rules.specs.vs_threads.proofs.Threads.{is_stopped, stopped_from}
 use Rattle.vs_independence.proofs.Making.{none_get}
 use Rattle.vs_independence.proofs.InnerMoves.{AtEnd}
 use Rattle.vs_independence.proofs.Times.{is_after, after_next, get_from_all}
-use Rattle.vs_rules.specs.Points.{Goes, Point, first_todo}
-use Rattle.vs_rules.proofs.Points.{by_path, erased_flat, step_follows}
+use Rattle.vs_rules.specs.Points.{Goes, Point, first_todo, nexts_by}
+use Rattle.vs_rules.proofs.Points.{by_goes, erased_flat, step_follows}
 use Rattle.vs_rules.specs.Claims.{kind_of, Claims, Kind, IsEdge, IsDelay, HasMixedLists, WaitsForEdges, WaitsForTimes, IsSequential, is_wide}
-use Rattle.vs_rules.specs.Paths.{Path, begins, goes, is_zero_time, IsPoint, RunsBehind}
+use Rattle.vs_rules.specs.Paths.{PathBy, begins, goes, is_zero_time, IsPoint, IsSlot0, RunsBehind}
 use Rattle.vs_rules.specs.Slots.{Ends, DelayEnds, EdgeEnds, RunsByDelays, RunsByEdges, HasSlot}
 use Rattle.vs_rules.specs.Rules.{K7, K8}
 use Rattle.vs_rules.specs.vs_threads.specs.Threads.{is_timed}
@@ -30,15 +30,15 @@ use Rattle.vs_law_rules.proofs.Walks.{point_on, at_zero, Heard, Delayed, delayed
 
 -- ---- paths lead to points
 
-pub path_point : (d : Parts) (i : ℕ) (ok : Next → Bool) (from k : Todo) → IsPoint d i from → Path ok from k → IsPoint d i k
-path_point d i ok from k p begins = p
-path_point d i ok from k p (goes j l next path g may is) = subst (IsPoint d i) is (point_on d i j next (path_point d i ok from j p path) g)
+pub path_point : (d : Parts) (wide : Bool) (i : ℕ) (ok : Next → Bool) (from k : Todo) → IsPoint d i from → PathBy (nexts_by wide) ok from k → IsPoint d i k
+path_point d wide i ok from k p begins = p
+path_point d wide i ok from k p (goes j l next path g may is) = subst (IsPoint d i) is (point_on d i j next (path_point d wide i ok from j p path) (by_goes wide j next g))
 
-pub slot0_point : (d : Parts) (i : ℕ) (k : Todo) → Path is_zero_time (first_todo d i) k → IsPoint d i k
-slot0_point d i k path = path_point d i is_zero_time (first_todo d i) k Point.begins path
+pub slot0_point : (d : Parts) (wide : Bool) (i : ℕ) (k : Todo) → IsSlot0 d wide i k → IsPoint d i k
+slot0_point d wide i k path = path_point d wide i is_zero_time (first_todo d i) k Point.begins path
 
 pub runs_point : (d : Parts) (wide : Bool) (i : ℕ) (can_end : Next → ℕ → Type 0) (k : Todo) (r : ℕ) → RunsBehind d wide i can_end k r → IsPoint d i k
-runs_point d wide i can_end k r h = path_point d i _ (todo_behind h.next) k (point_on d i h.at h.next h.point h.goes) (by_path wide _ (todo_behind h.next) k h.path)
+runs_point d wide i can_end k r h = path_point d wide i _ (todo_behind h.next) k (point_on d i h.at h.next h.point h.goes) h.path
 
 -- ---- residues are closed
 
@@ -75,7 +75,7 @@ closed_times d c i lists is r = record {
 
 closed_edge : (d : Parts) (c : Claims) (i : ℕ) → IsEdge d c i → K7 d c i → Closed d c i
 closed_edge d c i e r = record {
-  from_start = λ k l number ticks s g up. absurd (r.no_delay k l number ticks e (slot0_point d i k s) g);
+  from_start = λ k l number ticks s g up. absurd (r.no_delay k l number ticks e (slot0_point d (is_wide c) i k s) g);
   from_residue = λ k l number ticks q h g. absurd (r.no_delay k l number ticks e (runs_point d (is_wide c) i (Ends d c i (kind_of d c i)) k q h) g);
 }
 
@@ -221,7 +221,7 @@ start_begins (p ∷ ps) (suc i) = start_begins ps i
 beginning_stands : (d : Parts) (c : Claims) (i : ℕ) (p : Place) → get_or (start d).places i ended ≡ p → IsBeginning p → Stands d c i 0 p
 beginning_stands d c i (going gait k) e b =
     let first : first_todo d i ≡ erased k = ap todo_of e ∙ sym b in
-    record { point = subst (IsPoint d i) first Point.begins; at = at_zero refl (subst (Path is_zero_time (first_todo d i)) first begins) }
+    record { point = subst (IsPoint d i) first Point.begins; at = at_zero refl (subst (PathBy (nexts_by (is_wide c)) is_zero_time (first_todo d i)) first begins) }
 beginning_stands d c i (sleeping due k) e b = absurd b
 beginning_stands d c i (waiting terms k) e b = absurd b
 beginning_stands d c i (inactive k) e b = absurd b

@@ -163,7 +163,7 @@ beside_seen grain d c T root up writer j alike only none first =
     set_by time i k store w point now ne is h =
         bit_known d T store w T.digit h (step_gives k store time T.root w T.digit h.0 (gives i (erased k) point now ne) is (bit_digit store T.root h.0 h.1))
 
-    stays : (time i : ℕ) (k : Todo) (p : Place) (store : Store) (w : Write) → LedAt d i time (erased k) → WritesNow d (erased k) T.root → (T.process ≡ i → ⊥) → (step k store time).write ≡ Some w →
+    stays : (time i : ℕ) (k : Todo) (p : Place) (store : Store) (w : Write) → LedAt d c i time (erased k) → WritesNow d (erased k) T.root → (T.process ≡ i → ⊥) → (step k store time).write ≡ Some w →
         Clocked d T (Beside d T) (Unset d T) time p store → Clocked d T (Beside d T) (Unset d T) time p (put store w)
     stays time i k p store w led now ne is (inl h) = inl (early_any d T time p store (put store w) h.0, inr (set_by time i k store w led.0 now ne is (bit store h.1)))
     stays time i k p store w led now ne is (inr (inl h)) = absurd (alone_now d c T.root root T.process writer time i (erased k) led now (guard_of d T time p store h) ne)

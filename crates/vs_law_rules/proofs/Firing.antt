@@ -209,7 +209,8 @@ change_of d c b g i t f has level w = record {
     was = bit_shape b.store (start_store d) t.range.signal X g.assigns.shaped (copies_bit d w.root t.range.signal copies)
 
 -- nothing is fired at time 0: terms at slot-0 points are silent there, and nothing waits for others
-pub none_fires : (d : Parts) (c : Claims) (b : State) → Begun d c b → (i : ℕ) (t : EventTerm) (f : Fired) → HasTerm d i t → is_level t ≡ false → Wakes d (blocks_of d c) b t f → (b ≡ start d → IsHeardAtStart d i t) → b.time ≡ 0 → ⊥
+pub none_fires : (d : Parts) (c : Claims) (b : State) → Begun d c b → (i : ℕ) (t : EventTerm) (f : Fired) → HasTerm d i t → is_level t ≡ false → (w : Wakes d (blocks_of d c) b t f) →
+    (b ≡ start d → IsHeardAtStart d i t × ((w.writer ≡ i) × (t.range.signal ≡ w.root) → ⊥)) → b.time ≡ 0 → ⊥
 none_fires d c b g i t f has level w heard zero_time = by_first g.begin.first
   where
     ch : Change d c b t w.root w.writer w.by
@@ -224,7 +225,7 @@ none_fires d c b g i t f has level w heard zero_time = by_first g.begin.first
         let none = (g.rules.first_roots w.root).constant w.writer ch.last.k (t.range.signal, ch.rooted.is) s ch.last.writes in
         let digit : ch.new ≡ none.digit = same_digits w.by.view w.root ch.new none.digit ch.has (ch.last.gave none.digit none.gives) in
         true≢false (sym (subst (λ x. is_edge ch.edge x none.digit ≡ true) (old_x e) (subst (λ x. is_edge ch.edge ch.old x ≡ true) digit ch.comes))
-        ∙ none.silent i t ch.edge has (λ wide. heard e) level ch.rooted.is ch.seen)
+        ∙ none.silent i t ch.edge has (λ wide. ((heard e).0, λ same. (heard e).1 (sym same.0, same.1))) level ch.rooted.is ch.seen)
 
     by_first : (b ≡ start d) ⊎ ((0 < b.time) ⊎ AllStopped b) → ⊥
     by_first (inl e) = silent e ch.last.here.at

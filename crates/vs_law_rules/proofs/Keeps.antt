@@ -10,7 +10,7 @@ use Rattle.vs_design.specs.WellFormed.{WellFormed}
 use Rattle.vs_independence.specs.vs_process.proofs.ProcessLists.{map_at}
 use Rattle.vs_rules.specs.Claims.{Name, names_process, writer_in, second_in}
 use Rattle.vs_rules.specs.Points as p
-use Rattle.vs_rules.specs.Claims.{Claims, Kind, IsSignalNamed, IsAssignNamed, IsProcessNamed, signal_name, assign_name, process_name, claim_for, claim_of, kind_for, kind_of, mode_in, all_names, IsRootOf, IsSecond, WaitsForEdges, WaitsForTimes, IsSequential}
+use Rattle.vs_rules.specs.Claims.{Claims, Kind, IsSignalNamed, IsAssignNamed, IsProcessNamed, signal_name, assign_name, process_name, claim_for, claim_of, kind_for, kind_of, mode_in, all_names, IsRootOf, IsSecond, WaitsForEdges, WaitsForTimes, IsSequential, is_wide}
 use Rattle.vs_rules.specs.Paths.{is_plain, Writes}
 use Rattle.vs_rules.specs.Drivers.{Driver}
 use Rattle.vs_rules.specs.Drivers as x
@@ -182,7 +182,8 @@ past_10p d c i none = record {
   variable = λ k r seq s reads. absurd (no_sequential d c i none seq);
   written = λ k r seq s reads. absurd (no_sequential d c i none seq);
   alone = λ k r j seq s reads w. absurd (no_sequential d c i none seq);
-  untouched = λ k u r pro now needs cone. no_text d i u none (writes_now d i k u (path_point d i is_plain (p.first_todo d i) k p.begins pro) now);
+  first = λ k l r j wide seq slot reads there now. absurd (no_sequential d c i none seq);
+  untouched = λ k u r pro now needs cone. no_text d i u none (writes_now d i k u (path_point d (is_wide c) i is_plain (p.first_todo d i) k p.begins pro) now);
 }
 
 past_1p : (d : Parts) (c : Claims) (i : ℕ) → Past d.processes i → K1_Process d c i

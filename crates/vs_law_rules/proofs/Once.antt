@@ -49,7 +49,7 @@ once_turn d c i time root sound writer (going gait k) th e w wrote = by_write (s
     by_write None is = refl
     by_write (Some x) is = elim (cases_Bool (names x root)) [
       | inl hit ↦
-          absurd (sound.once i (erased k) writer (subst (Stands d c i time) e w.stands).point (inl (step_now d k th.view time x root is hit)) (subst (HotAt d i root) e (w.hot root wrote)))
+          absurd (sound.once i (erased k) writer (subst (Stands d c i time) e w.stands).point (inl (step_now d k th.view time x root is hit)) (subst (HotAt d c i root) e (w.hot root wrote)))
       | inr miss ↦ put_other th.view x root miss
     ]
 once_turn d c i time root sound writer (inactive k) th e w wrote = refl

@@ -1,7 +1,7 @@
 -- The rules on drivers: their order, who writes their outputs, and that nothing touches blocks at first.
-use Rattle.std.proofs.Common.{◌≡◌, ℕ, zero, suc, ◌<◌, ◌||◌, ◌⊎◌, Bool, true, false, Option, Some, None, List, [], ◌∷◌, map, get_or, slice_get, if◌then◌else◌, refl, sym, ◌∙◌, ap, subst, inl, inr, arith}
+use Rattle.std.proofs.Common.{◌≡◌, ℕ, zero, suc, ◌<◌, ◌||◌, ◌⊎◌, Bool, true, false, Option, Some, None, List, [], ◌∷◌, get_or, slice_get, if◌then◌else◌, refl, sym, ◌∙◌, ap, subst, inl, inr, arith}
 use Rattle.std.specs.List.{Contains}
-use Rattle.std.proofs.lemmas.Bool.{cases_Bool, or_cases, true≢false, false≢true}
+use Rattle.std.proofs.lemmas.Bool.{cases_Bool, true≢false, false≢true}
 use Rattle.vs_design.specs.declared.design.Assign.{Assign}
 use Rattle.vs_design.specs.declared.range.BitRange.{BitRange}
 use Rattle.vs_design.specs.Parts.{Parts}
@@ -21,10 +21,10 @@ use Rattle.vs_rules.specs.vs_threads.specs.Threads.{Thread, iterate, writes as w
 use Rattle.vs_rules.specs.vs_threads.proofs.Held.{puts_covered}
 use Rattle.vs_rules.specs.vs_threads.proofs.Lists.{contains_at}
 use Rattle.vs_rules.specs.Claims.{Name, place_of}
-use Rattle.vs_rules.specs.Points.{Goes, Point, first_todo}
-use Rattle.vs_rules.proofs.Points.{step_follows}
-use Rattle.vs_rules.specs.Claims.{Claims, is_block_kind, blocks_of, HasStart, IsWriter, IsSecond, IsSequential, sources}
-use Rattle.vs_rules.specs.Paths.{Bit, Path, begins, goes, is_plain, IsPrologue, WritesNow, Writes, writes_of}
+use Rattle.vs_rules.specs.Points.{Point, first_todo, nexts_by}
+use Rattle.vs_rules.proofs.Points.{step_goes}
+use Rattle.vs_rules.specs.Claims.{Claims, is_block_kind, blocks_of, HasStart, IsWriter, IsSecond, IsSequential, is_wide, sources}
+use Rattle.vs_rules.specs.Paths.{Bit, PathBy, begins, goes, is_plain, IsPrologue, WritesNow, Writes, writes_of}
 use Rattle.vs_rules.specs.Drivers.{Driver, assign, block, driver_name, StandsBefore, IsSource, WritesBit}
 use Rattle.vs_rules.specs.Rules.{K2, K4, needs}
 use Rattle.vs_rules.specs.Blocks.{K11}
@@ -41,7 +41,7 @@ use Rattle.vs_law_rules.proofs.Fire.{Begun, role}
 use Rattle.vs_law_rules.proofs.Firing.{one_writer}
 use Rattle.vs_law_rules.proofs.Texts.{writes_now}
 use Rattle.vs_law_rules.specs.Laws.{roles_of}
-use Rattle.vs_law_rules.proofs.Walks.{log_cases}
+use Rattle.vs_law_rules.proofs.Walks.{Leads, log_cases}
 use Rattle.vs_law_rules.proofs.Words.{step_now}
 
 -- ---- the order
@@ -123,29 +123,29 @@ exclusive d c formed r k l v kb lb ko lo = by_roles ((r v).named k wk) ((r v).na
 
 -- ---- before the first delay
 
-abbrev Early : Parts → ℕ → Place → Type 0
-Early d i (going gait k) = IsPrologue d i (erased k)
-Early d i _ = Unit {0}
+abbrev Early : Parts → Claims → ℕ → Place → Type 0
+Early d c i (going gait k) = IsPrologue d (is_wide c) i (erased k)
+Early d c i _ = Unit {0}
 
-early_active : (d : Parts) (i : ℕ) (gait : Gait) (k : Todo) → IsPrologue d i (erased k) → Early d i (active_at gait k)
-early_active d i gait [] h = tt
-early_active d i gait (x ∷ k) h = h
+early_active : (d : Parts) (c : Claims) (i : ℕ) (gait : Gait) (k : Todo) → IsPrologue d (is_wide c) i (erased k) → Early d c i (active_at gait k)
+early_active d c i gait [] h = tt
+early_active d c i gait (x ∷ k) h = h
 
-early_paused : (d : Parts) (i time ticks : ℕ) (k : Todo) → Early d i (paused time ticks k)
-early_paused d i time ticks k = Rattle.std.proofs.lemmas.Bool.cond_both (Rattle.std.proofs.Common.◌==◌ ticks 0) (inactive k) (sleeping (Rattle.std.proofs.Common.◌+◌ time ticks) k) (Early d i) (λ e. tt) (λ e. tt)
+early_paused : (d : Parts) (c : Claims) (i time ticks : ℕ) (k : Todo) → Early d c i (paused time ticks k)
+early_paused d c i time ticks k = Rattle.std.proofs.lemmas.Bool.cond_both (Rattle.std.proofs.Common.◌==◌ ticks 0) (inactive k) (sleeping (Rattle.std.proofs.Common.◌+◌ time ticks) k) (Early d c i) (λ e. tt) (λ e. tt)
 
-early_behind : (d : Parts) (i time : ℕ) (gait : Gait) (k : Todo) (next : Next) → IsPrologue d i (erased k) → Goes (erased k) (erased_next next) → Early d i (place_behind (going gait k) time next)
-early_behind d i time gait k (on l) h g = early_active d i (stepped_gait gait) l (goes (erased k) (erased l) (on (erased l)) h g refl refl)
-early_behind d i time gait k (after number ticks l) h g = early_paused d i time ticks l
-early_behind d i time gait k (wait number terms l) h g = tt
+early_behind : (d : Parts) (c : Claims) (i time : ℕ) (gait : Gait) (k : Todo) (next : Next) → IsPrologue d (is_wide c) i (erased k) → Leads c (erased k) (erased_next next) → Early d c i (place_behind (going gait k) time next)
+early_behind d c i time gait k (on l) h g = early_active d c i (stepped_gait gait) l (goes (erased k) (erased l) (on (erased l)) h g refl refl)
+early_behind d c i time gait k (after number ticks l) h g = early_paused d c i time ticks l
+early_behind d c i time gait k (wait number terms l) h g = tt
 
-record EarlyThread (d : Parts) (i : ℕ) (th : Thread) : Type 0 where
-  place : Early d i th.place
-  wrote : (v : ℕ) → wrote_by th v ≡ true → (k : Todo) × IsPrologue d i k × WritesNow d k v
+record EarlyThread (d : Parts) (c : Claims) (i : ℕ) (th : Thread) : Type 0 where
+  place : Early d c i th.place
+  wrote : (v : ℕ) → wrote_by th v ≡ true → (k : Todo) × IsPrologue d (is_wide c) i k × WritesNow d k v
 
-early_thread : (d : Parts) (i time : ℕ) (p : Place) (th : Thread) → th.place ≡ p → EarlyThread d i th → EarlyThread d i (early_at time i p th)
-early_thread d i time (going gait k) th e h = record {
-  place = early_behind d i time gait k out.next point (step_follows k th.view time);
+early_thread : (d : Parts) (c : Claims) (i time : ℕ) (p : Place) (th : Thread) → th.place ≡ p → EarlyThread d c i th → EarlyThread d c i (early_at time i p th)
+early_thread d c i time (going gait k) th e h = record {
+  place = early_behind d c i time gait k out.next point (step_goes (is_wide c) k th.view time);
   wrote = λ v w. elim (log_cases th.log out.write v w) [
     | inl new ↦ (erased k, point, step_now d k th.view time new.0 v new.1 new.2)
     | inr old ↦ h.wrote v old
@@ -155,28 +155,28 @@ early_thread d i time (going gait k) th e h = record {
     out : Out
     out = step k th.view time
 
-    point : IsPrologue d i (erased k)
-    point = subst (Early d i) e h.place
-early_thread d i time (sleeping due k) th e h = h
-early_thread d i time (inactive k) th e h = h
-early_thread d i time (waiting terms k) th e h = h
-early_thread d i time ended th e h = h
+    point : IsPrologue d (is_wide c) i (erased k)
+    point = subst (Early d c i) e h.place
+early_thread d c i time (sleeping due k) th e h = h
+early_thread d c i time (inactive k) th e h = h
+early_thread d c i time (waiting terms k) th e h = h
+early_thread d c i time ended th e h = h
 
-early_iterate : (d : Parts) (i time n : ℕ) (th : Thread) → EarlyThread d i th → EarlyThread d i (iterate n (early_turn time i) th)
-early_iterate d i time zero th h = h
-early_iterate d i time (suc n) th h = let one = iterate n (early_turn time i) th in early_thread d i time one.place one refl (early_iterate d i time n th h)
+early_iterate : (d : Parts) (c : Claims) (i time n : ℕ) (th : Thread) → EarlyThread d c i th → EarlyThread d c i (iterate n (early_turn time i) th)
+early_iterate d c i time zero th h = h
+early_iterate d c i time (suc n) th h = let one = iterate n (early_turn time i) th in early_thread d c i time one.place one refl (early_iterate d c i time n th h)
 
-early_start : (d : Parts) (i : ℕ) (p : Place) → get_or (start d).places i ended ≡ p → Early d i p
-early_start d i (going gait k) e = subst (Path is_plain (first_todo d i)) (start_first d i gait k e) begins
-early_start d i (sleeping due k) e = tt
-early_start d i (inactive k) e = tt
-early_start d i (waiting terms k) e = tt
-early_start d i ended e = tt
+early_start : (d : Parts) (c : Claims) (i : ℕ) (p : Place) → get_or (start d).places i ended ≡ p → Early d c i p
+early_start d c i (going gait k) e = subst (PathBy (nexts_by (is_wide c)) is_plain (first_todo d i)) (start_first d i gait k e) begins
+early_start d c i (sleeping due k) e = tt
+early_start d c i (inactive k) e = tt
+early_start d c i (waiting terms k) e = tt
+early_start d c i ended e = tt
 
-early_found : (d : Parts) (blocks : ℕ → Bool) (i : ℕ) → Early d i (found blocks (start d) i)
-early_found d blocks i = elim (cases_Bool (blocks i)) [
-  | inl hit ↦ subst (λ x. Early d i (if x then ended else get_or (start d).places i ended)) (sym hit) tt
-  | inr miss ↦ subst (λ x. Early d i (if x then ended else get_or (start d).places i ended)) (sym miss) (early_start d i (get_or (start d).places i ended) refl)
+early_found : (d : Parts) (c : Claims) (blocks : ℕ → Bool) (i : ℕ) → Early d c i (found blocks (start d) i)
+early_found d c blocks i = elim (cases_Bool (blocks i)) [
+  | inl hit ↦ subst (λ x. Early d c i (if x then ended else get_or (start d).places i ended)) (sym hit) tt
+  | inr miss ↦ subst (λ x. Early d c i (if x then ended else get_or (start d).places i ended)) (sym miss) (early_start d c i (get_or (start d).places i ended) refl)
 ]
 
 -- a thread of a process that has nothing to do writes nothing
@@ -192,14 +192,14 @@ first d c g names i k u r th is blk con w reach = by_role (role d c (start d) g 
     begin : Thread
     begin = opening (blocks_of d c) (start d) i None
 
-    early : EarlyThread d i th
-    early = subst (EarlyThread d i) is.is (early_iterate d i 0 is.count begin (record { place = early_found d (blocks_of d c) i; wrote = λ v h. absurd (false≢true h) }))
+    early : EarlyThread d c i th
+    early = subst (EarlyThread d c i) is.is (early_iterate d c i 0 is.count begin (record { place = early_found d c (blocks_of d c) i; wrote = λ v h. absurd (false≢true h) }))
 
     by_role : IsSequential d c i ⊎ (found (blocks_of d c) (start d) i ≡ ended) → ⊥
     by_role (inr e) = false≢true (subst (λ t. wrote_by t u ≡ true) (sym is.is ∙ ended_early 0 i is.count begin e) w)
     by_role (inl seq) =
         let wrote = early.wrote u w in
-        let text = writes_now d i wrote.0 u (path_point d i is_plain (first_todo d i) wrote.0 Point.begins wrote.1) wrote.2 in
+        let text = writes_now d i wrote.0 u (path_point d (is_wide c) i is_plain (first_todo d i) wrote.0 Point.begins wrote.1) wrote.2 in
         (g.rules.first_slot i).untouched wrote.0 u r wrote.1 wrote.2 (needs k (is_block d c k blk) (inr (names k r blk con))) (reach_cone d c u r names reach (source_of d c (start d) g i u seq text))
 
 -- ---- starts

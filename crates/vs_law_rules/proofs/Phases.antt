@@ -33,7 +33,7 @@ use Rattle.vs_independence.proofs.Times.{is_after}
 use Rattle.vs_rules.specs.Claims.{Claims, IsWriter, IsSecond, IsDelay, IsRoot, IsWide, blocks_of, is_wide}
 use Rattle.vs_rules.specs.Constants.{IsBare, itself, inside, IsKnown, Sets, IsClock, alone, two, HasBody, SetsAfter, SetsAlike, SetsAndTurns, SetsFirst, TurnsForever}
 use Rattle.vs_law_rules.specs.Laws.{TimeRises, ClockTurns, StaysUnset}
-use Rattle.vs_rules.specs.Paths.{Writes, IsSlot0, WritesNow, Path, begins, is_zero_time, statement_now, todo_now}
+use Rattle.vs_rules.specs.Paths.{Writes, IsSlot0, WritesNow, PathBy, begins, is_zero_time, statement_now, todo_now}
 use Rattle.vs_rules.specs.Copies.{IsOneBit, CopiesRoot}
 use Rattle.vs_rules.specs.Copies as r
 use Rattle.vs_law_rules.proofs.Beside.{Beside, beside_is, beside_seen, Unset, unset_watched}
@@ -56,8 +56,8 @@ use Rattle.vs_design.specs.declared.design.ProcessKind.TheVariants.{Initial}
 use Rattle.vs_design.specs.Uses.{is_of}
 use Rattle.vs_independence.specs.Discipline.{BeginsSlot}
 use Rattle.vs_rules.specs.vs_threads.specs.Edges.{one_bit, IsBit}
-use Rattle.vs_rules.specs.Points.{Goes, Point, first_todo}
-use Rattle.vs_rules.proofs.Points.{step_follows}
+use Rattle.vs_rules.specs.Points.{Among, Point, first_todo, nexts_by}
+use Rattle.vs_rules.proofs.Points.{step_goes}
 use Rattle.vs_rules.specs.Verdict.{Keeping}
 use Rattle.vs_law_rules.proofs.Inverses.{copies_root}
 use Rattle.vs_law_rules.proofs.Roots.{whole_writes}
@@ -129,7 +129,7 @@ one_seen grain d c T root up writer S guard first =
     (clocked_watched d T (λ time store. Unit {0}) (Before d T S) Nowhere (before_is d T S guard) (nowhere_watched T.root (λ time store. Unit {0})) (λ time t p store still due less known h. inl (before_goes_on d T S time t p store still h)))
     (λ moves l e. tt) T.process left (inl first)
   where
-    stays : (time j : ℕ) (k : Todo) (p : Place) (store : Store) (w : Write) → LedAt d j time k → WritesNow d k T.root → (T.process ≡ j → ⊥) → Clocked d T (Before d T S) Nowhere time p store → Clocked d T (Before d T S) Nowhere time p (put store w)
+    stays : (time j : ℕ) (k : Todo) (p : Place) (store : Store) (w : Write) → LedAt d c j time k → WritesNow d k T.root → (T.process ≡ j → ⊥) → Clocked d T (Before d T S) Nowhere time p store → Clocked d T (Before d T S) Nowhere time p (put store w)
     stays time j k p store w led now ne (inl h) = inl (h.0, bit_put d T store w h.1)
     stays time j k p store w led now ne (inr (inl h)) = absurd (alone_now d c T.root root T.process writer time j k led now (guard_of d T time p store h) ne)
     stays time j k p store w led now ne (inr (inr h)) = absurd h
@@ -222,7 +222,7 @@ first_seen grain d c T root up writer S j second first =
     stays moves l time i gait k ended store w at is now ne h =
         λ z. absurd (by_role z (role_now d c T.root root (reached d moves).time i (erased k) (led_at grain d c moves l i gait k is) now))
       where
-        by_role : time ≡ 0 → IsWriter d c T.root i ⊎ (IsSecond d c T.root i × ((reached d moves).time ≡ 0) × IsSlot0 d i (erased k)) → ⊥
+        by_role : time ≡ 0 → IsWriter d c T.root i ⊎ (IsSecond d c T.root i × ((reached d moves).time ≡ 0) × IsSlot0 d (is_wide c) i (erased k)) → ⊥
         by_role z (inr (other, same, s)) = ne (one_second d c root.formed T.root j i second other)
         by_role z (inl other) =
             let same : i ≡ T.process = one_writer d c root.formed T.root i T.process other writer in
@@ -258,7 +258,7 @@ two_seen grain d c T root up writer S j second none first early =
     at_ends time (inactive k) store still h = absurd h
     at_ends time (waiting terms k) store still h = absurd h
 
-    stays : (time i : ℕ) (k : Todo) (p : Place) (store : Store) (w : Write) → LedAt d i time k → WritesNow d k T.root → (T.process ≡ i → ⊥) → Clocked d T (Early d T) Nowhere time p store → Clocked d T (Early d T) Nowhere time p (put store w)
+    stays : (time i : ℕ) (k : Todo) (p : Place) (store : Store) (w : Write) → LedAt d c i time k → WritesNow d k T.root → (T.process ≡ i → ⊥) → Clocked d T (Early d T) Nowhere time p store → Clocked d T (Early d T) Nowhere time p (put store w)
     stays time i k p store w led now ne (inl h) = inl (early_any d T time p store (put store w) h)
     stays time i k p store w led now ne (inr (inl h)) = absurd (alone_now d c T.root root T.process writer time i k led now (guard_of d T time p store h) ne)
     stays time i k p store w led now ne (inr (inr h)) = absurd h
@@ -373,8 +373,8 @@ set_now grain d c b root i digit offset half g writer body loop none sets by tim
         (block_flat body.process.body body.body.all body.body.first body.body.second body.body.is body.body.two
         ∙ ap (λ (l : Todo). flat body.body.first ++ (l ++ [])) loop.first ∙ ap (λ (l : Todo). l ++ (perform loop.forever ∷ [])) f.flat_is)
 
-    slot : IsSlot0 d i todo
-    slot = subst (λ (k : Todo). Path is_zero_time k todo) (sym (ap todo_of begin_at)) begins
+    slot : IsSlot0 d true i todo
+    slot = subst (λ (k : Todo). PathBy (nexts_by true) is_zero_time k todo) (sym (ap todo_of begin_at)) begins
 
     has : Has d (turner d (is_wide c) root i digit offset half f.sets.known body.body.second loop g.one) b.time by.view
     has =
@@ -412,15 +412,15 @@ set_after grain d c b root i digit offset half g writer body loop later by timed
         (block_flat body.process.body body.body.all body.body.first body.body.second body.body.is body.body.two
         ∙ ap (λ (l : Todo). flat body.body.first ++ (l ++ [])) loop.first ∙ ap (λ (l : Todo). l ++ (perform loop.forever ∷ [])) pause.flat_is)
 
-    way : Goes todo (after later.number offset sets)
-    way = subst (λ (o : Out). Goes todo (erased_next o.next)) (pauses (perform loop.forever ∷ []) [] 0) (step_follows todo [] 0)
+    way : Among (after later.number offset sets) (nexts_by true todo)
+    way = subst (λ (o : Out). Among (erased_next o.next) (nexts_by true todo)) (pauses (perform loop.forever ∷ []) [] 0) (step_goes true todo [] 0)
 
-    slot : offset ≡ 0 → IsSlot0 d i sets
+    slot : offset ≡ 0 → IsSlot0 d true i sets
     slot none =
-        subst (λ (k : Todo). Path is_zero_time k sets) (sym (ap todo_of begin_at))
-        (q.goes todo sets (after later.number 0 sets) begins (subst (λ n. Goes todo (after later.number n sets)) none way) refl refl)
+        subst (λ (k : Todo). PathBy (nexts_by true) is_zero_time k sets) (sym (ap todo_of begin_at))
+        (q.goes todo sets (after later.number 0 sets) begins (subst (λ n. Among (after later.number n sets) (nexts_by true todo)) none way) refl refl)
 
-    guard : (n time : ℕ) → offset ≡ n → time ≡ offset → (0 < time) ⊎ ((l : Todo) × IsSlot0 d i l × WritesNow d l root)
+    guard : (n time : ℕ) → offset ≡ n → time ≡ offset → (0 < time) ⊎ ((l : Todo) × IsSlot0 d true i l × WritesNow d l root)
     guard zero time none at = inr (sets, slot none, f.now (perform loop.forever ∷ []))
     guard (suc n) time some at = inl (omega (arith, some, at))
 

@@ -11,7 +11,7 @@ use Rattle.vs_independence.specs.vs_process.specs.States.{State, start}
 use Rattle.vs_rules.specs.vs_threads.specs.Threads.{Thread, opening, turn, iterate}
 use Rattle.vs_rules.specs.vs_threads.proofs.Threads.{is_stopped}
 use Rattle.vs_rules.specs.Points.{Among, Goes, nexts_by}
-use Rattle.vs_rules.proofs.Points.{by_goes, by_path, mod_sum}
+use Rattle.vs_rules.proofs.Points.{by_goes, mod_sum}
 use Rattle.vs_rules.specs.Claims.{Claims, Kind, blocks_of, HasMixedLists, IsMixed, WaitsForEdges, IsSequential, is_wide}
 use Rattle.vs_rules.specs.Paths.{PathBy, begins, goes, is_zero_time}
 use Rattle.vs_rules.specs.Rules.{K8}
@@ -20,13 +20,13 @@ use Rattle.vs_rules.specs.Verdict.{Keeping}
 use Rattle.vs_law_rules.proofs.Beginning.{Resumes, runs_point}
 use Rattle.vs_law_rules.proofs.Early.{LedFrom, led_iterate}
 use Rattle.vs_law_rules.proofs.Fire.{Begun, seq_found, stopped_iterate}
-use Rattle.vs_law_rules.proofs.Walks.{Delayed}
+use Rattle.vs_law_rules.proofs.Walks.{Delayed, from_wide}
 
 -- a zero-time path leads from behind such a control to a place
 pub record Resumed (d : Parts) (c : Claims) (i time : ℕ) (p : Place) : Type 0 where
   pub behind : Todo
   pub delayed : Delayed d c i time behind
-  pub led : LedFrom (is_wide c) behind p
+  pub led : LedFrom behind p
 
 -- a thread that no event fires is there, or where the slot found it, stopped
 pub resumed : (d : Parts) (c : Claims) (b : State) → Begun d c b → (i n : ℕ) → IsSequential d c i → (b ≡ start d → ⊥) → (th : Thread) → iterate n (turn b.time i) (opening (blocks_of d c) b i None) ≡ th →
@@ -46,7 +46,7 @@ resumed d c b g i n seq late th is = by_place (get_or b.places i ended) refl (g.
     by_place (going gait k) at h = inl (record {
       behind = erased k;
       delayed = h;
-      led = subst (λ (t : Thread). LedFrom (is_wide c) (erased k) t.place) is (led_iterate (is_wide c) (erased k) i b.time n first (subst (LedFrom (is_wide c) (erased k)) (sym (seq_found d c b i seq ∙ at)) begins));
+      led = subst (λ (t : Thread). LedFrom (erased k) t.place) is (led_iterate (erased k) i b.time n first (subst (LedFrom (erased k)) (sym (seq_found d c b i seq ∙ at)) begins));
     })
     by_place (inactive k) at h = absurd h
     by_place (sleeping due k) at h = inr (stays (sleeping due k) at refl)
@@ -87,11 +87,12 @@ led_runs d c i time lists e r from k h (goes j l next path g may behind) = subst
     by_next before (wait number terms l) g may = absurd (false≢true may)
 
 -- so where such a process is, it runs by delay controls
-pub resumed_runs : (d : Parts) (c : Claims) → Keeping d c → (i time : ℕ) (lists : List (List ℕ)) (p : Place) (k : Todo) → HasMixedLists d c i lists → (h : Resumed d c i time p) → PathBy (nexts_by (is_wide c)) is_zero_time h.behind k → RunsByDelays d (is_wide c) i lists k (time % c.modulus)
+pub resumed_runs : (d : Parts) (c : Claims) → Keeping d c → (i time : ℕ) (lists : List (List ℕ)) (p : Place) (k : Todo) → HasMixedLists d c i lists → (h : Resumed d c i time p) → PathBy (nexts_by true) is_zero_time h.behind k → RunsByDelays d (is_wide c) i lists k (time % c.modulus)
 resumed_runs d c r i time lists p k e h path =
     let x = h.delayed in
     led_runs d c i time lists e (r.residues i) h.behind k
-    (record { at = x.control; next = after x.number x.ticks h.behind; point = x.point; goes = x.way; starts = listed d c i time lists h.behind e x; path = begins }) path
+    (record { at = x.control; next = after x.number x.ticks h.behind; point = x.point; goes = x.way; starts = listed d c i time lists h.behind e x; path = begins })
+    (from_wide (is_wide c) is_zero_time h.behind k path)
 
 -- and it comes to no event control that can end there
 pub resumed_waits : (d : Parts) (c : Claims) → Keeping d c → (i time : ℕ) (terms : List EventTerm) (k : Todo) → IsMixed d c i → (h : Resumed d c i time (waiting terms k)) →
@@ -109,7 +110,7 @@ resumed_waits d c r i time terms k mix h ends =
       goes = x.way;
       above = x.above;
       to = h.led.control;
-      path = by_path (is_wide c) is_zero_time h.behind h.led.control h.led.path;
+      path = h.led.path;
       waits = h.led.way;
     })
     (listed d c i time mix.0 h.behind mix.1 x) ends

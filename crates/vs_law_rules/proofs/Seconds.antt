@@ -22,10 +22,10 @@ use Rattle.vs_independence.specs.vs_process.proofs.Times.{enabled_of}
 use Rattle.vs_rules.specs.vs_threads.specs.Threads.{any_names}
 use Rattle.vs_independence.specs.vs_process.proofs.Permitted.{some_of}
 use Rattle.vs_rules.specs.vs_threads.proofs.Threads.{is_stopped}
-use Rattle.vs_rules.specs.Points.{Goes, Point, first_todo}
-use Rattle.vs_rules.proofs.Points.{step_follows}
-use Rattle.vs_rules.specs.Claims.{Claims, IsWriter, IsSecond, IsRoot}
-use Rattle.vs_rules.specs.Paths.{Path, begins, goes, is_zero_time, IsPoint, IsSlot0, IsLate, WritesNow, WritesLater}
+use Rattle.vs_rules.specs.Points.{Point, first_todo, nexts_by}
+use Rattle.vs_rules.proofs.Points.{by_goes, step_goes}
+use Rattle.vs_rules.specs.Claims.{Claims, IsWriter, IsSecond, IsRoot, is_wide}
+use Rattle.vs_rules.specs.Paths.{PathBy, begins, goes, is_zero_time, IsPoint, IsSlot0, IsLate, WritesNow, WritesLater}
 use Rattle.vs_rules.specs.Rules.{IsSoundRoot, NeverLater}
 use Rattle.vs_rules.specs.Claims.{blocking}
 use Rattle.vs_design.specs.vs_logic4.specs.declared.digit.Digit.{Digit}
@@ -35,87 +35,89 @@ use Rattle.vs_law_rules.proofs.Beginning.{IsBeginning, start_begins}
 use Rattle.vs_law_rules.proofs.Fire.{zero_less}
 use Rattle.vs_law_rules.proofs.Firing.{one_writer}
 use Rattle.vs_law_rules.proofs.Texts.{writes_now, writes_later}
-use Rattle.vs_law_rules.proofs.Walks.{late_on, late_behind, made_cases, point_on}
+use Rattle.vs_law_rules.proofs.Walks.{Leads, from_wide, late_on, late_behind, made_cases, point_on}
 use Rattle.vs_law_rules.proofs.Words.{step_later}
 
 -- ---- where a process can be, whatever its kind
 
 -- at a slot-0 point at time 0, or behind a control
-abbrev pub LedAt : Parts → ℕ → ℕ → Todo → Type 0
-LedAt d i time k = IsPoint d i k × (((time ≡ 0) × IsSlot0 d i k) ⊎ IsLate d i k)
+abbrev pub LedAt : Parts → Claims → ℕ → ℕ → Todo → Type 0
+LedAt d c i time k = IsPoint d i k × (((time ≡ 0) × IsSlot0 d (is_wide c) i k) ⊎ IsLate d i k)
 
-abbrev pub Led : Parts → ℕ → ℕ → Place → Type 0
-Led d i time (going gait k) = LedAt d i time (erased k)
-Led d i time (inactive k) = LedAt d i time (erased k)
-Led d i time (sleeping due k) = IsPoint d i (erased k) × IsLate d i (erased k)
-Led d i time (waiting terms k) = IsPoint d i (erased k) × IsLate d i (erased k)
-Led d i time ended = Unit {0}
+abbrev pub Led : Parts → Claims → ℕ → ℕ → Place → Type 0
+Led d c i time (going gait k) = LedAt d c i time (erased k)
+Led d c i time (inactive k) = LedAt d c i time (erased k)
+Led d c i time (sleeping due k) = IsPoint d i (erased k) × IsLate d i (erased k)
+Led d c i time (waiting terms k) = IsPoint d i (erased k) × IsLate d i (erased k)
+Led d c i time ended = Unit {0}
 
-led_active : (d : Parts) (i time : ℕ) (gait : Gait) (k : Todo) → LedAt d i time (erased k) → Led d i time (active_at gait k)
-led_active d i time gait [] h = tt
-led_active d i time gait (x ∷ rest) h = h
+led_active : (d : Parts) (c : Claims) (i time : ℕ) (gait : Gait) (k : Todo) → LedAt d c i time (erased k) → Led d c i time (active_at gait k)
+led_active d c i time gait [] h = tt
+led_active d c i time gait (x ∷ rest) h = h
 
-led_on : (d : Parts) (i time : ℕ) (k l : Todo) → LedAt d i time k → Goes k (on l) → LedAt d i time l
-led_on d i time k l (p, inl (z, s)) g = (point_on d i k (on l) p g, inl (z, goes k l (on l) s g refl refl))
-led_on d i time k l (p, inr late) g = (point_on d i k (on l) p g, inr (late_on d i k (on l) late g))
+led_on : (d : Parts) (c : Claims) (i time : ℕ) (k l : Todo) → LedAt d c i time k → Leads c k (on l) → LedAt d c i time l
+led_on d c i time k l (p, inl (z, s)) g = (point_on d i k (on l) p (by_goes (is_wide c) k (on l) g), inl (z, goes k l (on l) s g refl refl))
+led_on d c i time k l (p, inr late) g = let way = by_goes (is_wide c) k (on l) g in (point_on d i k (on l) p way, inr (late_on d i k (on l) late way))
 
-led_behind : (d : Parts) (i time : ℕ) (gait : Gait) (k : Todo) (next : Next) → LedAt d i time (erased k) → Goes (erased k) (erased_next next) → Led d i time (place_behind (going gait k) time next)
-led_behind d i time gait k (on l) h g = led_active d i time (stepped_gait gait) l (led_on d i time (erased k) (erased l) h g)
-led_behind d i time gait k (after number ticks l) h g =
-    let p = point_on d i (erased k) (after number ticks (erased l)) h.0 g in
-    let late = late_behind d i (erased k) (after number ticks (erased l)) h.0 g refl in
-    cond_both (ticks == 0) (inactive l) (sleeping (time + ticks) l) (Led d i time) (λ e. (p, inr late)) (λ e. (p, late))
-led_behind d i time gait k (wait number terms l) h g =
-    (point_on d i (erased k) (wait number terms (erased l)) h.0 g, late_behind d i (erased k) (wait number terms (erased l)) h.0 g refl)
+led_behind : (d : Parts) (c : Claims) (i time : ℕ) (gait : Gait) (k : Todo) (next : Next) → LedAt d c i time (erased k) → Leads c (erased k) (erased_next next) → Led d c i time (place_behind (going gait k) time next)
+led_behind d c i time gait k (on l) h g = led_active d c i time (stepped_gait gait) l (led_on d c i time (erased k) (erased l) h g)
+led_behind d c i time gait k (after number ticks l) h g =
+    let way = by_goes (is_wide c) (erased k) (after number ticks (erased l)) g in
+    let p = point_on d i (erased k) (after number ticks (erased l)) h.0 way in
+    let late = late_behind d i (erased k) (after number ticks (erased l)) h.0 way refl in
+    cond_both (ticks == 0) (inactive l) (sleeping (time + ticks) l) (Led d c i time) (λ e. (p, inr late)) (λ e. (p, late))
+led_behind d c i time gait k (wait number terms l) h g =
+    let way = by_goes (is_wide c) (erased k) (wait number terms (erased l)) g in
+    (point_on d i (erased k) (wait number terms (erased l)) h.0 way, late_behind d i (erased k) (wait number terms (erased l)) h.0 way refl)
 
-led_rouses : (d : Parts) (i time : ℕ) (p : Place) → Led d i time p → Led d i time (roused p)
-led_rouses d i time (going gait k) h = h
-led_rouses d i time (inactive k) h = led_active d i time Woken k h
-led_rouses d i time (sleeping due k) h = h
-led_rouses d i time (waiting terms k) h = h
-led_rouses d i time ended h = h
+led_rouses : (d : Parts) (c : Claims) (i time : ℕ) (p : Place) → Led d c i time p → Led d c i time (roused p)
+led_rouses d c i time (going gait k) h = h
+led_rouses d c i time (inactive k) h = led_active d c i time Woken k h
+led_rouses d c i time (sleeping due k) h = h
+led_rouses d c i time (waiting terms k) h = h
+led_rouses d c i time ended h = h
 
-led_wakes : (d : Parts) (i time : ℕ) (old new : Store) (p : Place) → Led d i time p → Led d i time (wakened old new p)
-led_wakes d i time old new (going gait k) h = h
-led_wakes d i time old new (inactive k) h = h
-led_wakes d i time old new (sleeping due k) h = h
-led_wakes d i time old new ended h = h
-led_wakes d i time old new (waiting terms k) h =
-    cond_both (wake_any terms old new) (active_at Woken k) (waiting terms k) (Led d i time) (λ e. led_active d i time Woken k (h.0, inr h.1)) (λ e. h)
+led_wakes : (d : Parts) (c : Claims) (i time : ℕ) (old new : Store) (p : Place) → Led d c i time p → Led d c i time (wakened old new p)
+led_wakes d c i time old new (going gait k) h = h
+led_wakes d c i time old new (inactive k) h = h
+led_wakes d c i time old new (sleeping due k) h = h
+led_wakes d c i time old new ended h = h
+led_wakes d c i time old new (waiting terms k) h =
+    cond_both (wake_any terms old new) (active_at Woken k) (waiting terms k) (Led d c i time) (λ e. led_active d c i time Woken k (h.0, inr h.1)) (λ e. h)
 
-led_later : (d : Parts) (i time t : ℕ) (p : Place) → is_stopped p ≡ true → Led d i time p → Led d i t (woken_at t p)
-led_later d i time t (going gait k) still h = absurd (false≢true still)
-led_later d i time t (inactive k) still h = absurd (false≢true still)
-led_later d i time t (waiting terms k) still h = h
-led_later d i time t ended still h = h
-led_later d i time t (sleeping due k) still h =
-    cond_both (due == t) (active_at Woken k) (sleeping due k) (Led d i t) (λ e. led_active d i t Woken k (h.0, inr h.1)) (λ e. h)
+led_later : (d : Parts) (c : Claims) (i time t : ℕ) (p : Place) → is_stopped p ≡ true → Led d c i time p → Led d c i t (woken_at t p)
+led_later d c i time t (going gait k) still h = absurd (false≢true still)
+led_later d c i time t (inactive k) still h = absurd (false≢true still)
+led_later d c i time t (waiting terms k) still h = h
+led_later d c i time t ended still h = h
+led_later d c i time t (sleeping due k) still h =
+    cond_both (due == t) (active_at Woken k) (sleeping due k) (Led d c i t) (λ e. led_active d c i t Woken k (h.0, inr h.1)) (λ e. h)
 
-led_steady : (d : Parts) (i : ℕ) → IsSteady (Led d i)
-led_steady d i = record {
-  steps = λ time gait k store h. led_behind d i time gait k (step k store time).next h (step_follows k store time);
-  rouses = λ time p h. led_rouses d i time p h;
-  wakes = λ time old new p h. led_wakes d i time old new p h;
-  goes_on = λ time t p still up h. led_later d i time t p still h;
+led_steady : (d : Parts) (c : Claims) (i : ℕ) → IsSteady (Led d c i)
+led_steady d c i = record {
+  steps = λ time gait k store h. led_behind d c i time gait k (step k store time).next h (step_goes (is_wide c) k store time);
+  rouses = λ time p h. led_rouses d c i time p h;
+  wakes = λ time old new p h. led_wakes d c i time old new p h;
+  goes_on = λ time t p still up h. led_later d c i time t p still h;
 }
 
-led_begins : (d : Parts) (i : ℕ) (p : Place) → get_or (start d).places i ended ≡ p → IsBeginning p → Led d i 0 p
-led_begins d i (going gait k) e b =
+led_begins : (d : Parts) (c : Claims) (i : ℕ) (p : Place) → get_or (start d).places i ended ≡ p → IsBeginning p → Led d c i 0 p
+led_begins d c i (going gait k) e b =
     let first : first_todo d i ≡ erased k = ap todo_of e ∙ sym b in
-    (subst (IsPoint d i) first Point.begins, inl (refl, subst (Path is_zero_time (first_todo d i)) first begins))
-led_begins d i (sleeping due k) e b = absurd b
-led_begins d i (waiting terms k) e b = absurd b
-led_begins d i (inactive k) e b = absurd b
-led_begins d i ended e b = tt
+    (subst (IsPoint d i) first Point.begins, inl (refl, subst (PathBy (nexts_by (is_wide c)) is_zero_time (first_todo d i)) first begins))
+led_begins d c i (sleeping due k) e b = absurd b
+led_begins d c i (waiting terms k) e b = absurd b
+led_begins d c i (inactive k) e b = absurd b
+led_begins d c i ended e b = tt
 
-start_led : (d : Parts) (i : ℕ) → Led d i 0 (get_or (start d).places i ended)
-start_led d i = led_begins d i (get_or (start d).places i ended) refl (start_begins d.processes i)
+start_led : (d : Parts) (c : Claims) (i : ℕ) → Led d c i 0 (get_or (start d).places i ended)
+start_led d c i = led_begins d c i (get_or (start d).places i ended) refl (start_begins d.processes i)
 
 -- where an execution finds a process that is active
 pub led_at : (grain : Grain) (d : Parts) (c : Claims) (moves : List Move) → Legal grain d moves → (i : ℕ) (gait : Gait) (k : Todo) → slice_get (reached d moves).places i ≡ Some (going gait k) →
-    LedAt d i (reached d moves).time (erased k)
+    LedAt d c i (reached d moves).time (erased k)
 led_at grain d c moves l i gait k is =
-    subst (Led d i (reached d moves).time) (get_or_from_slice_get (reached d moves).places i (going gait k) ended is) (holds_after grain d (Led d i) (led_steady d i) i (start_led d i) moves l)
+    subst (Led d c i (reached d moves).time) (get_or_from_slice_get (reached d moves).places i (going gait k) ended is) (holds_after grain d (Led d c i) (led_steady d c i) i (start_led d c i) moves l)
 
 -- ---- a root
 
@@ -127,19 +129,19 @@ pub record RootOf (d : Parts) (c : Claims) (v : ℕ) : Type 0 where
   pub sound : IsSoundRoot d c v
 
 -- a write of it, by the writer or by a second at a slot-0 point in the first slot
-pub role_now : (d : Parts) (c : Claims) (v : ℕ) → RootOf d c v → (time j : ℕ) (k : Todo) → LedAt d j time k → WritesNow d k v → IsWriter d c v j ⊎ (IsSecond d c v j × (time ≡ 0) × IsSlot0 d j k)
+pub role_now : (d : Parts) (c : Claims) (v : ℕ) → RootOf d c v → (time j : ℕ) (k : Todo) → LedAt d c j time k → WritesNow d k v → IsWriter d c v j ⊎ (IsSecond d c v j × (time ≡ 0) × IsSlot0 d (is_wide c) j k)
 role_now d c v root time j k (p, led) w = by_role ((root.rules.writers v).named j (writes_now d j k v p w)) led
   where
-    by_role : IsWriter d c v j ⊎ IsSecond d c v j → ((time ≡ 0) × IsSlot0 d j k) ⊎ IsLate d j k → IsWriter d c v j ⊎ (IsSecond d c v j × (time ≡ 0) × IsSlot0 d j k)
+    by_role : IsWriter d c v j ⊎ IsSecond d c v j → ((time ≡ 0) × IsSlot0 d (is_wide c) j k) ⊎ IsLate d j k → IsWriter d c v j ⊎ (IsSecond d c v j × (time ≡ 0) × IsSlot0 d (is_wide c) j k)
     by_role (inl writer) led = inl writer
     by_role (inr second) (inl (z, s)) = inr (second, z, s)
     by_role (inr second) (inr late) = absurd ((root.rules.writers v).early j k second p (inl w) late)
 
 -- no `<=` names it
-never_later : (d : Parts) (c : Claims) (v : ℕ) → RootOf d c v → (time j : ℕ) (k : Todo) → LedAt d j time k → WritesLater d k v → ⊥
+never_later : (d : Parts) (c : Claims) (v : ℕ) → RootOf d c v → (time j : ℕ) (k : Todo) → LedAt d c j time k → WritesLater d k v → ⊥
 never_later d c v root time j k (p, led) w = by_role ((root.rules.writers v).named j (writes_later d j k v p w)) led
   where
-    by_role : IsWriter d c v j ⊎ IsSecond d c v j → ((time ≡ 0) × IsSlot0 d j k) ⊎ IsLate d j k → ⊥
+    by_role : IsWriter d c v j ⊎ IsSecond d c v j → ((time ≡ 0) × IsSlot0 d (is_wide c) j k) ⊎ IsLate d j k → ⊥
     by_role (inl writer) led =
         let mode = root.rules.modes v blocking root.sound.mode in
         let same : mode.0 ≡ j = one_writer d c root.formed v mode.0 j mode.1 writer in
@@ -147,15 +149,15 @@ never_later d c v root time j k (p, led) w = by_role ((root.rules.writers v).nam
     by_role (inr second) (inl (z, s)) = (root.rules.first_roots v).now j k root.is_root s w
     by_role (inr second) (inr late) = (root.rules.writers v).early j k second p (inr w) late
 
--- above time 0, and where the writer writes it at a slot-0 point, it alone does
-pub alone_now : (d : Parts) (c : Claims) (v : ℕ) → RootOf d c v → (i : ℕ) → IsWriter d c v i → (time j : ℕ) (k : Todo) → LedAt d j time k → WritesNow d k v →
-    (0 < time) ⊎ ((l : Todo) × IsSlot0 d i l × WritesNow d l v) → (i ≡ j → ⊥) → ⊥
+-- above time 0, and where the writer writes it at a slot-0 point of every version, it alone does
+pub alone_now : (d : Parts) (c : Claims) (v : ℕ) → RootOf d c v → (i : ℕ) → IsWriter d c v i → (time j : ℕ) (k : Todo) → LedAt d c j time k → WritesNow d k v →
+    (0 < time) ⊎ ((l : Todo) × IsSlot0 d true i l × WritesNow d l v) → (i ≡ j → ⊥) → ⊥
 alone_now d c v root i writer time j k led w guard ne = by_role (role_now d c v root time j k led w) guard
   where
-    by_role : IsWriter d c v j ⊎ (IsSecond d c v j × (time ≡ 0) × IsSlot0 d j k) → (0 < time) ⊎ ((l : Todo) × IsSlot0 d i l × WritesNow d l v) → ⊥
+    by_role : IsWriter d c v j ⊎ (IsSecond d c v j × (time ≡ 0) × IsSlot0 d (is_wide c) j k) → (0 < time) ⊎ ((l : Todo) × IsSlot0 d true i l × WritesNow d l v) → ⊥
     by_role (inl other) guard = ne (one_writer d c root.formed v i j writer other)
     by_role (inr (second, z, s)) (inl up) = zero_less time up z
-    by_role (inr (second, z, s)) (inr (l, first, writes)) = (root.rules.writers v).first_alone j i l second writer first writes
+    by_role (inr (second, z, s)) (inr (l, first, writes)) = (root.rules.writers v).first_alone j i l second writer (from_wide (is_wide c) is_zero_time (first_todo d i) l first) writes
 
 -- ---- no update names it
 

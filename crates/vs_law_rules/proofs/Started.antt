@@ -17,10 +17,10 @@ use Rattle.vs_law_rules.proofs.Variables.{writes_variable}
 use Rattle.vs_law_rules.proofs.Walks.{At, Here, Made, Stands, Wrote, at_later, at_zero, late_behind, late_on, walked_iterate}
 use Rattle.vs_law_rules.proofs.Words.{step_later}
 use Rattle.vs_rules.specs.Blocks.{Begins, CopiesWhole, IsStarted, MayStart, Missing, NamesBit, itself, statement_update, todo_update}
-use Rattle.vs_rules.specs.Claims.{Claims, HasKind, IsSecond, IsSequential, IsWriter, blocks_of, claim_of, is_block_kind}
+use Rattle.vs_rules.specs.Claims.{Claims, HasKind, IsSecond, IsSequential, IsWriter, blocks_of, claim_of, is_block_kind, is_wide}
 use Rattle.vs_rules.specs.Constants.{GivesDigit, IsKnown}
 use Rattle.vs_law_rules.specs.Laws.{ClockTurns}
-use Rattle.vs_rules.specs.Paths.{Bit, IsBit, IsLate, IsPrologue, IsSlot0, ListsSignal, WritesNow, begins, goes, is_plain, statement_now}
+use Rattle.vs_rules.specs.Paths.{Bit, IsBit, IsLate, IsPrologue, IsSlot0, ListsSignal, WritesNow, begins, goes, is_plain, is_zero_time, statement_now}
 use Rattle.vs_rules.specs.Rules.{BlockNeeds}
 use Rattle.vs_rules.specs.Verdict.{Keeping}
 use Rattle.vs_design.specs.Parts.{Parts}
@@ -47,9 +47,9 @@ use Rattle.vs_independence.specs.vs_process.proofs.Digits.{digit-put, laid}
 use Rattle.vs_independence.specs.vs_process.proofs.Stores.{put_other}
 use Rattle.vs_independence.specs.vs_process.proofs.WellFormed.{variable_undriven}
 use Rattle.vs_independence.specs.vs_process.specs.States.{Update, activated, paused, place_behind, start, updates_behind}
-use Rattle.vs_rules.proofs.Points.{step_follows}
+use Rattle.vs_rules.proofs.Points.{by_goes, by_path, step_follows}
 use Rattle.vs_rules.specs.Claims.{Name, names_process, writer_in}
-use Rattle.vs_rules.specs.Points.{Goes}
+use Rattle.vs_rules.specs.Points.{Goes, first_todo}
 use Rattle.vs_design.specs.declared.design.Process.{Process}
 use Rattle.vs_design.specs.declared.statement.EventTerm.{EventTerm}
 use Rattle.vs_rules.specs.Drivers as v
@@ -230,11 +230,11 @@ fared_step d c i g w h gait k th e here fared = by_update (step k th.view 0).upd
     way : Goes (erased k) (erased_next (step k th.view 0).next)
     way = step_follows k th.view 0
 
-    slot0 : Here d c w 0 (erased k) → IsSlot0 d w (erased k)
+    slot0 : Here d c w 0 (erased k) → IsSlot0 d false w (erased k)
     slot0 x = by_at x.at
       where
-        by_at : At d c w 0 (erased k) → IsSlot0 d w (erased k)
-        by_at (at_zero z s) = s
+        by_at : At d c w 0 (erased k) → IsSlot0 d false w (erased k)
+        by_at (at_zero z s) = by_path (is_wide c) is_zero_time (first_todo d w) (erased k) s
         by_at (at_later up late slot) = absurd (zero_less 0 up refl)
 
     -- no step that names nothing of the variable is such an update
@@ -325,14 +325,14 @@ stopped_left d c i g w h th is gone rests = elim (by_input is.input is.may is.is
 -- ---- all
 
 -- a path that takes no time leads through no control, or its end is late
-plain_or_late : (d : Parts) (i : ℕ) (k : Todo) → IsSlot0 d i k → IsPrologue d i k ⊎ IsLate d i k
-plain_or_late d i _ begins = inl begins
-plain_or_late d i l (goes k l' next path way ok e) = elim (plain_or_late d i k path) [
+plain_or_late : (d : Parts) (wide : Bool) (i : ℕ) (k : Todo) → IsSlot0 d wide i k → IsPrologue d wide i k ⊎ IsLate d i k
+plain_or_late d wide i _ begins = inl begins
+plain_or_late d wide i l (goes k l' next path way ok e) = elim (plain_or_late d wide i k path) [
   | inl plain ↦ elim (cases_Bool (is_plain next)) [
     | inl is ↦ inl (goes k l next plain way is e)
-    | inr pauses ↦ inr (subst (IsLate d i) e (late_behind d i k next (slot0_point d i k path) way pauses))
+    | inr pauses ↦ inr (subst (IsLate d i) e (late_behind d i k next (slot0_point d wide i k path) (by_goes wide k next way) pauses))
   ]
-  | inr late ↦ inr (subst (IsLate d i) e (late_on d i k next late way))
+  | inr late ↦ inr (subst (IsLate d i) e (late_on d i k next late (by_goes wide k next way)))
 ]
 
 writer_named : (o : Option Name) (p : Option Process) → names_process o p ≡ true → (name : Name) × (o ≡ Some name)
@@ -386,9 +386,9 @@ starts_moved d c formed r begun clocks k shape blk g w rule = record {
         wrote : Wrote d c i 0 g
         wrote = (writes_walks d c (start d) begun clocks i g th is hit).walked.wrote g hit
 
-        by_path : IsSecond d c g i → At d c i 0 wrote.k → ⊥
-        by_path second (at_later up late slot) = zero_less 0 up refl
-        by_path second (at_zero z path) = elim (plain_or_late d i wrote.k path) [
+        by_second : IsSecond d c g i → At d c i 0 wrote.k → ⊥
+        by_second second (at_later up late slot) = zero_less 0 up refl
+        by_second second (at_zero z path) = elim (plain_or_late d (is_wide c) i wrote.k path) [
           | inl plain ↦ (r.first_slot i).untouched wrote.k g l.named.range plain wrote.writes (BlockNeeds.needs k (is_block d c k blk) (inr l.named.names))
               (copies_cone d c g l.named.range.signal l.bit.word l.bit.place l.named.range source l.named.copies (own_bit d g l.bit l.named.of l.named.is) l.named.has)
           | inr late ↦ (r.writers g).early i wrote.k second wrote.here.point (inl wrote.writes) late
@@ -397,8 +397,10 @@ starts_moved d c formed r begun clocks k shape blk g w rule = record {
         -- its writer updates it alone
         by_writer : i ≡ w → At d c i 0 wrote.k → ⊥
         by_writer same (at_later up late slot) = zero_less 0 up refl
-        by_writer same (at_zero z path) = now_later d g wrote.k (rule.only wrote.k (subst (λ j. IsSlot0 d j wrote.k) same path) (inl wrote.writes)).is wrote.writes
+        by_writer same (at_zero z path) =
+            let slot0 = by_path (is_wide c) is_zero_time (first_todo d w) wrote.k (subst (λ j. IsSlot0 d (is_wide c) j wrote.k) same path) in
+            now_later d g wrote.k (rule.only wrote.k slot0 (inl wrote.writes)).is wrote.writes
 
         by_role : IsWriter d c g i ⊎ IsSecond d c g i → ⊥
         by_role (inl writer) = by_writer (one_writer d c formed g i w writer rule.writer) wrote.here.at
-        by_role (inr second) = by_path second wrote.here.at
+        by_role (inr second) = by_second second wrote.here.at

@@ -18,7 +18,7 @@ use Rattle.vs_rules.specs.vs_threads.proofs.Threads.{is_stopped}
 use Rattle.vs_rules.proofs.Points.{erased_reads}
 use Rattle.vs_rules.specs.Claims.{Claims, blocks_of, WaitsForEdges, IsSequential, is_wide}
 use Rattle.vs_rules.specs.Verdict.{Keeping}
-use Rattle.vs_rules.specs.Paths.{PathBy, is_zero_time, IsHot, HasTerm, IsHeardAtStart}
+use Rattle.vs_rules.specs.Paths.{PathBy, is_zero_time, IsHot, HasTerm}
 use Rattle.vs_rules.specs.Points.{nexts_by}
 use Rattle.vs_rules.specs.Rules.{Reads}
 use Rattle.vs_rules.specs.Slots.{Fires}
@@ -70,14 +70,14 @@ pub record Opened (d : Parts) (c : Claims) (b : State) (i : ℕ) (f : Fired) : T
   pub fires : Fires d c term (b.time % c.modulus)
 
 pub opened : (d : Parts) (c : Claims) (b : State) → Begun d c b → ClockTurns d c b → (i : ℕ) (f : Fired) → IsSequential d c i → (t : EventTerm) → HasTerm d i t →
-    Wakes d (blocks_of d c) b t f → (b ≡ start d → IsHeardAtStart d i t) → Opened d c b i f
-opened d c b g clocks i f seq t has w first = at_time (zero_or b.time)
+    Wakes d (blocks_of d c) b t f → (b ≡ start d → ⊥) → Opened d c b i f
+opened d c b g clocks i f seq t has w late = at_time (zero_or b.time)
   where
     level : is_level t ≡ false
     level = hears_level d c g.rules i t seq has
 
     at_time : (b.time ≡ 0) ⊎ (0 < b.time) → Opened d c b i f
-    at_time (inl z) = absurd (none_fires d c b g i t f has level w first z)
+    at_time (inl z) = absurd (none_fires d c b g i t f has level w (λ first. absurd (late first)) z)
     at_time (inr up) = record { edge = hears_edges d c g.rules i t seq has; up = up; term = t; has = has; of = w.term; fires = fires_at d c b g clocks i t f has level w up }
 
 triggered_stands : (d : Parts) (c : Claims) (b : State) → Begun d c b → ClockTurns d c b → (i : ℕ) (f : Fired) → IsSequential d c i → (p : Place) (terms : List EventTerm) (k : Todo) (t : EventTerm) → p ≡ waiting terms k →
@@ -101,7 +101,7 @@ triggered_stands d c b g clocks i f seq p terms k t e stands is w late =
     has = heard_term d i terms (erased k) t heard is
 
     o : Opened d c b i f
-    o = opened d c b g clocks i f seq t has w (λ first. absurd (late first))
+    o = opened d c b g clocks i f seq t has w late
 
 -- a thread walks, or has nothing to do
 pub thread_walks : (d : Parts) (c : Claims) (b : State) → Begun d c b → ClockTurns d c b → (i : ℕ) (th : Thread) → IsThread d (blocks_of d c) b i th → Walking d c i b.time th ⊎ (th ≡ opening (blocks_of d c) b i None) × (found (blocks_of d c) b i ≡ ended)
@@ -165,8 +165,8 @@ pub record Reading (d : Parts) (c : Claims) (i time : ℕ) (r : BitRange) (p : P
   pub k : Todo
   pub here : Here d c i time k
   pub reads : Reads d c k r
-  pub hot : (u : ℕ) → HotAt d i u p → IsHot d i u k
-  pub led : (from : Todo) → LedFrom (is_wide c) from p → PathBy (nexts_by (is_wide c)) is_zero_time from k
+  pub hot : (u : ℕ) → HotAt d c i u p → IsHot d (is_wide c) i u k
+  pub led : (from : Todo) → LedFrom from p → PathBy (nexts_by true) is_zero_time from k
 
 pub reading : (d : Parts) (c : Claims) (i time : ℕ) (r : BitRange) (p : Place) → Stands d c i time p → Looks c p r → Reading d c i time r p
 reading d c i time r (going gait k) h (inl reads) = record {

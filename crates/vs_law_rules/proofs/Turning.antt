@@ -71,9 +71,9 @@ pub record Owes (d : Parts) (T : Turner d) (time : ℕ) (store : Store) : Type 0
   pub is : slice_get store T.root ≡ Some (one_bit z)
   pub phase : Phase T.digit T.offset T.half time (not_digit z)
 
--- why no other process writes the signal: the first slot is over, or this process writes the signal in it
+-- why no other process writes the signal: the first slot is over, or this process writes the signal in it, on a path of every version
 abbrev pub Guard : (d : Parts) → Turner d → ℕ → Type 0
-Guard d T time = (0 < time) ⊎ ((l : Todo) × IsSlot0 d T.process l × WritesNow d l T.root)
+Guard d T time = (0 < time) ⊎ ((l : Todo) × IsSlot0 d true T.process l × WritesNow d l T.root)
 
 abbrev pub GoesOn : (d : Parts) → Turner d → ℕ → Todo → Store → Type 0
 GoesOn d T time k store =

@@ -1,5 +1,5 @@
 -- Where a process can be in a slot, by the rules on residues.
-use Rattle.std.proofs.Common.{◌≡◌, ℕ, zero, suc, ◌+◌, ◌%◌, ◌<◌, ◌==◌, ◌⊎◌, true, false, ◌||◌, Option, Some, None, List, [], ◌∷◌, refl, sym, ◌∙◌, ap, subst, inl, inr, arith, add-zero}
+use Rattle.std.proofs.Common.{◌≡◌, ℕ, zero, suc, ◌+◌, ◌%◌, ◌<◌, ◌==◌, ◌⊎◌, Bool, true, false, ◌||◌, Option, Some, None, List, [], ◌∷◌, refl, sym, ◌∙◌, ap, subst, inl, inr, arith, add-zero}
 use Rattle.std.specs.List.{list_any}
 use Rattle.std.proofs.lemmas.Bool.{cond_both, eqb-false, eqb-true, or_cases, false≢true}
 use Rattle.std.proofs.lemmas.List.Folds.{list_any-append}
@@ -16,9 +16,9 @@ use Rattle.vs_process.specs.Steps.{Next, on, after, wait, Out, step}
 use Rattle.vs_independence.specs.vs_process.specs.States.{Update, place_behind, paused, updates_behind, roused}
 use Rattle.vs_rules.specs.vs_threads.specs.Threads.{Thread, log_behind, turn_at, turn, iterate, writes, any_names}
 use Rattle.vs_rules.specs.Points.{Among, Goes, nexts_by, Point}
-use Rattle.vs_rules.proofs.Points.{by_goes, step_follows, step_goes, mod_sum}
+use Rattle.vs_rules.proofs.Points.{by_goes, by_path, step_goes, mod_sum}
 use Rattle.vs_rules.specs.Claims.{Claims, kind_of, is_wide}
-use Rattle.vs_rules.specs.Paths.{begins, goes, is_plain, is_zero_time, IsPoint, IsSlot0, IsLate, IsHot, WritesNow, WritesLater}
+use Rattle.vs_rules.specs.Paths.{PathBy, begins, goes, is_plain, is_zero_time, IsPoint, IsSlot0, IsLate, IsHot, WritesNow, WritesLater}
 use Rattle.vs_rules.specs.Slots.{Ends, HasSlot}
 use Rattle.vs_law_rules.proofs.Words.{step_now, step_later}
 
@@ -32,7 +32,7 @@ point_on d i k (wait number terms l) p g = Point.listens k l number terms p g
 
 -- a process can be at a point in a slot
 pub data At (d : Parts) (c : Claims) (i time : ℕ) (k : Todo) : Type 0 where
-  at_zero : time ≡ 0 → IsSlot0 d i k → At d c i time k
+  at_zero : time ≡ 0 → IsSlot0 d (is_wide c) i k → At d c i time k
   at_later : 0 < time → IsLate d i k → HasSlot d c i k (time % c.modulus) → At d c i time k
 
 pub record Here (d : Parts) (c : Claims) (i time : ℕ) (k : Todo) : Type 0 where
@@ -69,7 +69,7 @@ Stands d c i time ended = Unit {0}
 
 -- a process's controls end at the residues at which the rules say that they can
 pub record Closed (d : Parts) (c : Claims) (i : ℕ) : Type 0 where
-  pub from_start : (k l : Todo) (number ticks : ℕ) → IsSlot0 d i k → Goes k (after number ticks l) → 0 < ticks →
+  pub from_start : (k l : Todo) (number ticks : ℕ) → IsSlot0 d (is_wide c) i k → Goes k (after number ticks l) → 0 < ticks →
       Ends d c i (kind_of d c i) (after number ticks l) (ticks % c.modulus)
   pub from_residue : (k l : Todo) (number ticks r : ℕ) → HasSlot d c i k r → Goes k (after number ticks l) →
       Ends d c i (kind_of d c i) (after number ticks l) ((r + ticks) % c.modulus)
@@ -83,8 +83,13 @@ pub late_behind : (d : Parts) (i : ℕ) (k : Todo) (next : Next) → IsPoint d i
 late_behind d i k next p g pauses = record { at = k; next = next; point = p; goes = g; starts = pauses; path = begins }
 
 -- it is a way in the version of a certificate
-abbrev Leads : Claims → Todo → Next → Type 0
+abbrev pub Leads : Claims → Todo → Next → Type 0
 Leads c k next = Among next (nexts_by (is_wide c) k)
+
+-- a path of version 3 is one of each version
+pub from_wide : (wide : Bool) (ok : Next → Bool) (from k : Todo) → PathBy (nexts_by true) ok from k → PathBy (nexts_by wide) ok from k
+from_wide true ok from k path = path
+from_wide false ok from k path = by_path true ok from k path
 
 slot_on : (d : Parts) (c : Claims) (i : ℕ) (k l : Todo) (r : ℕ) → HasSlot d c i k r → Leads c k (on l) → HasSlot d c i l r
 slot_on d c i k l r h g = record { at = h.at; next = h.next; point = h.point; goes = h.goes; starts = h.starts; path = goes k l (on l) h.path g refl refl }
@@ -103,18 +108,21 @@ here_on d c i time k l h g = record { point = point_on d i k (on l) h.point way;
     way = by_goes (is_wide c) k (on l) g
 
     on_at : At d c i time k → At d c i time l
-    on_at (at_zero z s) = at_zero z (goes k l (on l) s way refl refl)
+    on_at (at_zero z s) = at_zero z (goes k l (on l) s g refl refl)
     on_at (at_later up late slot) = at_later up (late_on d i k (on l) late way) (slot_on d c i k l (time % c.modulus) slot g)
 
-here_zero : (d : Parts) (c : Claims) (i : ℕ) → Closed d c i → (time number : ℕ) (k l : Todo) → Here d c i time k → Goes k (after number 0 l) → Here d c i time l
-here_zero d c i closed time number k l h g = record { point = point_on d i k (after number 0 l) h.point g; at = zero_at h.at }
+here_zero : (d : Parts) (c : Claims) (i : ℕ) → Closed d c i → (time number : ℕ) (k l : Todo) → Here d c i time k → Leads c k (after number 0 l) → Here d c i time l
+here_zero d c i closed time number k l h g = record { point = point_on d i k (after number 0 l) h.point way; at = zero_at h.at }
   where
+    way : Goes k (after number 0 l)
+    way = by_goes (is_wide c) k (after number 0 l) g
+
     zero_at : At d c i time k → At d c i time l
     zero_at (at_zero z s) = at_zero z (goes k l (after number 0 l) s g refl refl)
     zero_at (at_later up late slot) =
-        at_later up (late_on d i k (after number 0 l) late g)
-        (slot_behind d c i k (after number 0 l) (time % c.modulus) h.point g
-        (subst (Ends d c i (kind_of d c i) (after number 0 l)) (mod_sum time 0 c.modulus ∙ ap (λ n. n % c.modulus) (add-zero time)) (closed.from_residue k l number 0 (time % c.modulus) slot g)))
+        at_later up (late_on d i k (after number 0 l) late way)
+        (slot_behind d c i k (after number 0 l) (time % c.modulus) h.point way
+        (subst (Ends d c i (kind_of d c i) (after number 0 l)) (mod_sum time 0 c.modulus ∙ ap (λ n. n % c.modulus) (add-zero time)) (closed.from_residue k l number 0 (time % c.modulus) slot way)))
 
 -- where it can be then
 pub delayed_here : (d : Parts) (c : Claims) (i time : ℕ) (k : Todo) → 0 < time → Delayed d c i time k → Here d c i time k
@@ -138,16 +146,16 @@ asleep_after d c i closed time number ticks k l up h g = record {
     ends_of (at_later later late slot) =
         subst (Ends d c i (kind_of d c i) (after number ticks l)) (mod_sum time ticks c.modulus) (closed.from_residue k l number ticks (time % c.modulus) slot g)
 
-stands_paused : (d : Parts) (c : Claims) (i : ℕ) → Closed d c i → (time number ticks : ℕ) (k l : Todo) → Here d c i time k → Goes k (after number ticks (erased l)) → Stands d c i time (paused time ticks l)
+stands_paused : (d : Parts) (c : Claims) (i : ℕ) → Closed d c i → (time number ticks : ℕ) (k l : Todo) → Here d c i time k → Leads c k (after number ticks (erased l)) → Stands d c i time (paused time ticks l)
 stands_paused d c i closed time number ticks k l h g =
     cond_both (ticks == 0) (inactive l) (sleeping (time + ticks) l) (Stands d c i time)
-    (λ e. here_zero d c i closed time number k (erased l) h (subst (λ n. Goes k (after number n (erased l))) (eqb-true ticks 0 e) g))
-    (λ e. let ne : ticks ≡ 0 → ⊥ = eqb-false ticks 0 e in asleep_after d c i closed time number ticks k (erased l) (omega (arith, ne)) h g)
+    (λ e. here_zero d c i closed time number k (erased l) h (subst (λ n. Leads c k (after number n (erased l))) (eqb-true ticks 0 e) g))
+    (λ e. let ne : ticks ≡ 0 → ⊥ = eqb-false ticks 0 e in asleep_after d c i closed time number ticks k (erased l) (omega (arith, ne)) h (by_goes (is_wide c) k (after number ticks (erased l)) g))
 
 stands_behind : (d : Parts) (c : Claims) (i : ℕ) → Closed d c i → (time : ℕ) (gait : Gait) (k : Todo) (next : Next) → Here d c i time (erased k) → Leads c (erased k) (erased_next next) →
     Stands d c i time (place_behind (going gait k) time next)
 stands_behind d c i closed time gait k (on l) h g = stands_active d c i time (stepped_gait gait) l (here_on d c i time (erased k) (erased l) h g)
-stands_behind d c i closed time gait k (after number ticks l) h g = stands_paused d c i closed time number ticks (erased k) l h (by_goes (is_wide c) (erased k) (after number ticks (erased l)) g)
+stands_behind d c i closed time gait k (after number ticks l) h g = stands_paused d c i closed time number ticks (erased k) l h g
 stands_behind d c i closed time gait k (wait number terms l) h g =
     record { control = erased k; number = number; point = h.point; way = by_goes (is_wide c) (erased k) (wait number terms (erased l)) g }
 
@@ -165,38 +173,38 @@ stands_roused d c i time ended h = h
 
 -- ---- what a thread has written is hot where it is
 
-abbrev pub HotAt : Parts → ℕ → ℕ → Place → Type 0
-HotAt d i v (going gait k) = IsHot d i v (erased k)
-HotAt d i v (inactive k) = IsHot d i v (erased k)
-HotAt d i v (sleeping due k) = Unit {0}
-HotAt d i v (waiting terms k) = Unit {0}
-HotAt d i v ended = Unit {0}
+abbrev pub HotAt : Parts → Claims → ℕ → ℕ → Place → Type 0
+HotAt d c i v (going gait k) = IsHot d (is_wide c) i v (erased k)
+HotAt d c i v (inactive k) = IsHot d (is_wide c) i v (erased k)
+HotAt d c i v (sleeping due k) = Unit {0}
+HotAt d c i v (waiting terms k) = Unit {0}
+HotAt d c i v ended = Unit {0}
 
-hot_active : (d : Parts) (i v : ℕ) (gait : Gait) (k : Todo) → IsHot d i v (erased k) → HotAt d i v (active_at gait k)
-hot_active d i v gait [] h = tt
-hot_active d i v gait (x ∷ rest) h = h
+hot_active : (d : Parts) (c : Claims) (i v : ℕ) (gait : Gait) (k : Todo) → IsHot d (is_wide c) i v (erased k) → HotAt d c i v (active_at gait k)
+hot_active d c i v gait [] h = tt
+hot_active d c i v gait (x ∷ rest) h = h
 
-hot_paused : (d : Parts) (i v time ticks : ℕ) (l : Todo) → ((ticks ≡ 0) → IsHot d i v (erased l)) → HotAt d i v (paused time ticks l)
-hot_paused d i v time ticks l h = cond_both (ticks == 0) (inactive l) (sleeping (time + ticks) l) (HotAt d i v) (λ e. h (eqb-true ticks 0 e)) (λ e. tt)
+hot_paused : (d : Parts) (c : Claims) (i v time ticks : ℕ) (l : Todo) → ((ticks ≡ 0) → IsHot d (is_wide c) i v (erased l)) → HotAt d c i v (paused time ticks l)
+hot_paused d c i v time ticks l h = cond_both (ticks == 0) (inactive l) (sleeping (time + ticks) l) (HotAt d c i v) (λ e. h (eqb-true ticks 0 e)) (λ e. tt)
 
-hot_on : (d : Parts) (i v : ℕ) (k : Todo) (next : Next) → IsHot d i v k → Goes k next → is_zero_time next ≡ true → IsHot d i v (todo_behind next)
-hot_on d i v k next h g zero_time =
+hot_on : (d : Parts) (c : Claims) (i v : ℕ) (k : Todo) (next : Next) → IsHot d (is_wide c) i v k → Leads c k next → is_zero_time next ≡ true → IsHot d (is_wide c) i v (todo_behind next)
+hot_on d c i v k next h g zero_time =
     record { at = h.at; next = h.next; point = h.point; starts = h.starts; goes = h.goes; path = goes k (todo_behind next) next h.path g zero_time refl }
 
-hot_new : (d : Parts) (i v : ℕ) (k : Todo) (next : Next) → IsPoint d i k → WritesNow d k v → Goes k next → IsHot d i v (todo_behind next)
-hot_new d i v k next p w g = record { at = k; next = next; point = p; starts = w; goes = g; path = begins }
+hot_new : (d : Parts) (c : Claims) (i v : ℕ) (k : Todo) (next : Next) → IsPoint d i k → WritesNow d k v → Leads c k next → IsHot d (is_wide c) i v (todo_behind next)
+hot_new d c i v k next p w g = record { at = k; next = next; point = p; starts = w; goes = by_goes (is_wide c) k next g; path = begins }
 
-hot_behind : (d : Parts) (i v time : ℕ) (gait : Gait) (k : Todo) (next : Next) → IsHot d i v (erased k) → Goes (erased k) (erased_next next) → HotAt d i v (place_behind (going gait k) time next)
-hot_behind d i v time gait k (on l) h g = hot_active d i v (stepped_gait gait) l (hot_on d i v (erased k) (on (erased l)) h g refl)
-hot_behind d i v time gait k (after number ticks l) h g =
-    hot_paused d i v time ticks l (λ e. hot_on d i v (erased k) (after number 0 (erased l)) h (subst (λ n. Goes (erased k) (after number n (erased l))) e g) refl)
-hot_behind d i v time gait k (wait number terms l) h g = tt
+hot_behind : (d : Parts) (c : Claims) (i v time : ℕ) (gait : Gait) (k : Todo) (next : Next) → IsHot d (is_wide c) i v (erased k) → Leads c (erased k) (erased_next next) → HotAt d c i v (place_behind (going gait k) time next)
+hot_behind d c i v time gait k (on l) h g = hot_active d c i v (stepped_gait gait) l (hot_on d c i v (erased k) (on (erased l)) h g refl)
+hot_behind d c i v time gait k (after number ticks l) h g =
+    hot_paused d c i v time ticks l (λ e. hot_on d c i v (erased k) (after number 0 (erased l)) h (subst (λ n. Leads c (erased k) (after number n (erased l))) e g) refl)
+hot_behind d c i v time gait k (wait number terms l) h g = tt
 
-hot_written : (d : Parts) (i v time : ℕ) (gait : Gait) (k : Todo) (next : Next) → IsPoint d i (erased k) → WritesNow d (erased k) v → Goes (erased k) (erased_next next) →
-    HotAt d i v (place_behind (going gait k) time next)
-hot_written d i v time gait k (on l) p w g = hot_active d i v (stepped_gait gait) l (hot_new d i v (erased k) (on (erased l)) p w g)
-hot_written d i v time gait k (after number ticks l) p w g = hot_paused d i v time ticks l (λ e. hot_new d i v (erased k) (after number ticks (erased l)) p w g)
-hot_written d i v time gait k (wait number terms l) p w g = tt
+hot_written : (d : Parts) (c : Claims) (i v time : ℕ) (gait : Gait) (k : Todo) (next : Next) → IsPoint d i (erased k) → WritesNow d (erased k) v → Leads c (erased k) (erased_next next) →
+    HotAt d c i v (place_behind (going gait k) time next)
+hot_written d c i v time gait k (on l) p w g = hot_active d c i v (stepped_gait gait) l (hot_new d c i v (erased k) (on (erased l)) p w g)
+hot_written d c i v time gait k (after number ticks l) p w g = hot_paused d c i v time ticks l (λ e. hot_new d c i v (erased k) (after number ticks (erased l)) p w g)
+hot_written d c i v time gait k (wait number terms l) p w g = tt
 
 -- ---- threads
 
@@ -215,7 +223,7 @@ pub record Made (d : Parts) (c : Claims) (i time v : ℕ) : Type 0 where
 pub record Walked (d : Parts) (c : Claims) (i time : ℕ) (th : Thread) : Type 0 where
   pub stands : Stands d c i time th.place
   pub wrote : (v : ℕ) → writes th v ≡ true → Wrote d c i time v
-  pub hot : (v : ℕ) → writes th v ≡ true → HotAt d i v th.place
+  pub hot : (v : ℕ) → writes th v ≡ true → HotAt d c i v th.place
   pub made : (v : ℕ) → any_names th.made v ≡ true → Made d c i time v
 
 pub log_cases : (log : List Write) (o : Option Write) (v : ℕ) → list_any (λ w. names w v) (log_behind log o) ≡ true → ((w : Write) × (o ≡ Some w) × (names w v ≡ true)) ⊎ (list_any (λ w. names w v) log ≡ true)
@@ -245,8 +253,8 @@ walked_turn d c i closed time (going gait k) th e w = record {
     | inr old ↦ w.wrote v old
   ];
   hot = λ v h. elim (log_cases th.log out.write v h) [
-    | inl new ↦ hot_written d i v time gait k out.next here.point (step_now d k th.view time new.0 v new.1 new.2) (step_follows k th.view time)
-    | inr old ↦ hot_behind d i v time gait k out.next (subst (HotAt d i v) e (w.hot v old)) (step_follows k th.view time)
+    | inl new ↦ hot_written d c i v time gait k out.next here.point (step_now d k th.view time new.0 v new.1 new.2) (step_goes (is_wide c) k th.view time)
+    | inr old ↦ hot_behind d c i v time gait k out.next (subst (HotAt d c i v) e (w.hot v old)) (step_goes (is_wide c) k th.view time)
   ];
   made = λ v h. elim (made_cases th.made i time out.update v h) [
     | inl new ↦ record { k = erased k; here = here; writes = step_later d k th.view time new.0 v new.1 new.2 }
@@ -262,7 +270,7 @@ walked_turn d c i closed time (going gait k) th e w = record {
 walked_turn d c i closed time (inactive k) th e w = record {
   stands = stands_active d c i time Woken k (subst (Stands d c i time) e w.stands);
   wrote = w.wrote;
-  hot = λ v h. hot_active d i v Woken k (subst (HotAt d i v) e (w.hot v h));
+  hot = λ v h. hot_active d c i v Woken k (subst (HotAt d c i v) e (w.hot v h));
   made = w.made;
 }
 walked_turn d c i closed time (sleeping due k) th e w = w

@@ -1,5 +1,5 @@
 -- A rule that a design keeps, one keeps that says the same: those that aren't of combinational blocks alone.
-use Rattle.std.proofs.Common.{◌≡◌, ℕ, ◌%◌, ◌+◌, ◌⊎◌, true, false, Some, length, refl, ap, sym, subst, ◌∙◌, inl, inr}
+use Rattle.std.proofs.Common.{◌≡◌, ℕ, ◌%◌, ◌+◌, ◌⊎◌, Bool, true, false, Some, length, refl, ap, sym, subst, ◌∙◌, inl, inr}
 use Rattle.vs_design.specs.declared.range.BitRange.{BitRange}
 use Rattle.vs_design.specs.Parts.{Parts}
 use Rattle.vs_design.specs.Uses.{reads}
@@ -20,7 +20,7 @@ use Rattle.vs_law_source.proofs.Done.{listed_as, number_same, writes_now_as, wri
 use Rattle.vs_law_source.proofs.Named.{signal_named_as, process_named_as, assign_named_as, claims_same, writer_as, second_as, mode_as, kind_as, block_as, edge_as, delay_as, mixed_lists_as, mixed_as, waits_for_edges_as, waits_for_times_as, sequential_as, root_of_as, root_as}
 use Rattle.vs_law_source.proofs.Slots.{delay_ends_as, edge_ends_as, runs_by_delays_as, runs_by_edges_as, has_slot_as, slot_point, write_slot_as, fires_of_as}
 use Rattle.vs_law_source.proofs.Todos.{AlikeTodo, AlikeNext, both_after, goes_as, todo_turned}
-use Rattle.vs_law_source.proofs.Walks.{TwinOf, path_as, zero_same, goes_after_as, goes_wait_as, point_as, slot0_as, prologue_as, slot0_point, late_as, hot_as, from_point, runs_point, heard_at_start_as, term_as, one_here}
+use Rattle.vs_law_source.proofs.Walks.{TwinOf, path_by_as, zero_same, goes_after_as, goes_wait_as, point_as, slot0_as, prologue_as, slot0_point, late_as, hot_as, from_point, runs_point, heard_at_start_as, term_as, one_here}
 
 -- one of two, as one of two others
 pub either_as : {A B C D : Type 0} → (A → C) → (B → D) → A ⊎ B → C ⊎ D
@@ -62,13 +62,13 @@ k2_as {d} {d'} t c v h =
       no_block = λ i j s b w. h.no_block i j (second_as u c v i s) (block_as u c j b) (writes_as u j v w);
       early = λ i k s p w l.
           let q = late_as u i k l in
-          h.early i q.to (second_as u c v i s) (from_point d i (λ at next. is_plain next ≡ false) any_way q.to q.is) (writes_any_as d' d k q.to v q.same w) q.is;
+          h.early i q.to (second_as u c v i s) (from_point d false i (λ at next. is_plain next ≡ false) any_way q.to q.is) (writes_any_as d' d k q.to v q.same w) q.is;
       first_alone = λ i j l s w o n.
-          let q = slot0_as u j l o in
+          let q = slot0_as u (is_wide c) j l o in
           h.first_alone i j q.to (second_as u c v i s) (writer_as u c v j w) q.is (writes_now_as d' d l q.to v q.same n);
       first_alone_later = λ i j k l s p n w o m.
           let a = point_as u i k p in
-          let q = slot0_as u j l o in
+          let q = slot0_as u (is_wide c) j l o in
           h.first_alone_later i j a.to q.to (second_as u c v i s) a.is (writes_later_as d' d k a.to v a.same n) (writer_as u c v j w) q.is (writes_later_as d' d l q.to v q.same m);
     }
 
@@ -144,8 +144,8 @@ sound_root_as {d} {d'} t c root h =
       mode = mode_as t c root blocking h.mode;
       writer = has_writer_as t c root (IsDelay d c) (IsDelay d' c) (delay_as t c) h.writer;
       once = λ i k w p n o.
-          let q = hot_as u i root k o in
-          h.once i q.to (writer_as u c root i w) (from_point d i (λ at next. WritesNow d at root) is_zero_time q.to q.is) (writes_any_as d' d k q.to root q.same n) q.is;
+          let q = hot_as u (is_wide c) i root k o in
+          h.once i q.to (writer_as u c root i w) (from_point d (is_wide c) i (λ at next. WritesNow d at root) is_zero_time q.to q.is) (writes_any_as d' d k q.to root q.same n) q.is;
     }
 
 pub k6_as : {d d' : Parts} → Twins d d' → (c : Claims) (v : ℕ) → K6 d c v → K6 d' c v
@@ -172,7 +172,7 @@ arrives_as : {d d' : Parts} → Twins d d' → (i : ℕ) (delay event : Next) �
 arrives_as t i delay event h =
     let p = point_as t i h.from h.point in
     let m = goes_after_as h.from p.to h.behind h.number h.ticks p.same (subst (Goes h.from) h.delay_is h.goes) in
-    let q = path_as is_zero_time zero_same h.behind m.to h.to m.same h.path in
+    let q = path_by_as true is_zero_time zero_same h.behind m.to h.to m.same h.path in
     let e = goes_as h.to q.to event q.same h.waits in
     record {
       delay = after h.number h.ticks m.to;
@@ -226,7 +226,7 @@ k8_as t c i h =
           h.no_event q.to m.to number terms (delay_as u c i e) q.is m.is;
       one_each = λ lists e. h.one_each lists (waits_for_times_as u c i lists e) ∙ ap length (texts_control t i);
       from_start = λ lists k l number ticks e o g above.
-          let q = slot0_as u i k o in
+          let q = slot0_as u (is_wide c) i k o in
           let m = goes_after_as k q.to l number ticks q.same g in
           delay_ends_as t i lists (after number ticks m.to) (after number ticks l) (ticks % c.modulus) (both_after number ticks m.to l (todo_turned l m.to m.same))
           (h.from_start lists q.to m.to number ticks (waits_for_times_as u c i lists e) q.is m.is above);
@@ -250,13 +250,13 @@ module _ (d d' : Parts) (t : Twins d d') (i : ℕ) (k : Todo) (n : HasNumber k) 
   same_point : (z : Todo) → IsPoint d i z → AlikeTodo k z → z ≡ q.to
   same_point z p a = one_here d t.numbered i z q.to n.number p q.is (sym (number_same k z a) ∙ n.is) (sym (number_same k q.to q.same) ∙ n.is)
 
-  not_hot_as : (u : ℕ) → (IsHot d i u q.to → ⊥) → IsHot d' i u k → ⊥
-  not_hot_as u h o =
-      let z = hot_as (back t) i u k o in
-      h (subst (IsHot d i u) (same_point z.to (from_point d i (λ at next. WritesNow d at u) is_zero_time z.to z.is) z.same) z.is)
+  not_hot_as : (wide : Bool) (u : ℕ) → (IsHot d wide i u q.to → ⊥) → IsHot d' wide i u k → ⊥
+  not_hot_as wide u h o =
+      let z = hot_as (back t) wide i u k o in
+      h (subst (IsHot d wide i u) (same_point z.to (from_point d wide i (λ at next. WritesNow d at u) is_zero_time z.to z.is) z.same) z.is)
 
   own_read_as : (c : Claims) (u v : ℕ) → IsOwnRead d c i u v q.to → IsOwnRead d' c i u v k
-  own_read_as c u v h = (writer_as t c u i h.0, either_as (λ e. e) (not_hot_as u) h.1)
+  own_read_as c u v h = (writer_as t c u i h.0, either_as (λ e. e) (not_hot_as (is_wide c) u) h.1)
 
   apart_as : (c : Claims) (u : ℕ) → AreApart d c i u q.to → AreApart d' c i u k
   apart_as c u h = λ r w s.
@@ -289,14 +289,14 @@ k9_as {d} {d'} t c i h = record {
 
 -- ---- K10
 
-fires_none_as : {d d' : Parts} → Twins d d' → (c : Claims) (root : ℕ) (k k' : Todo) → AlikeTodo k k' → FiresNone d c root k → FiresNone d' c root k'
-fires_none_as t c root k k' a h = record {
+fires_none_as : {d d' : Parts} → Twins d d' → (c : Claims) (root i : ℕ) (k k' : Todo) → AlikeTodo k k' → FiresNone d c root i k → FiresNone d' c root i k'
+fires_none_as t c root i k k' a h = record {
   digit = h.digit;
   known = h.known;
   gives = gives_digit_as (bit_of root) h.digit k k' a h.gives;
   silent = λ j term edge has first e r seen.
       let u = back t in
-      h.silent j term edge (term_as u j term has) (λ wide. heard_at_start_as u j term (first wide)) e (root_of_as u c root term.range.signal r) (seen_as u (is_wide c) term edge seen);
+      h.silent j term edge (term_as u j term has) (λ wide. (heard_at_start_as u j term (first wide).0, (first wide).1)) e (root_of_as u c root term.range.signal r) (seen_as u (is_wide c) term edge seen);
 }
 
 pub k10_signal_as : {d d' : Parts} → Twins d d' → (c : Claims) (v : ℕ) → K10_Signal d c v → K10_Signal d' c v
@@ -304,18 +304,18 @@ k10_signal_as {d} {d'} t c v h =
     let u = back t in
     record {
       once = λ i j k l r a m b n.
-          let q = slot0_as u i k a in
-          let z = slot0_as u j l b in
+          let q = slot0_as u (is_wide c) i k a in
+          let z = slot0_as u (is_wide c) j l b in
           let one = h.once i j q.to z.to (root_as u c v r) q.is (writes_any_as d' d k q.to v q.same m) z.is (writes_any_as d' d l z.to v z.same n) in
           let number = write_number d' k v m in
           let other : number_next l ≡ Some number.number = number_same l z.to z.same ∙ ap number_next (sym one.1) ∙ sym (number_same k q.to q.same) ∙ number.is in
-          (one.0, one_here d' t.numbered_too i k l number.number (slot0_point d' i k a) (subst (λ (p : ℕ). IsPoint d' p l) (sym one.0) (slot0_point d' j l b)) number.is other);
+          (one.0, one_here d' t.numbered_too i k l number.number (slot0_point d' (is_wide c) i k a) (subst (λ (p : ℕ). IsPoint d' p l) (sym one.0) (slot0_point d' (is_wide c) j l b)) number.is other);
       now = λ i k r a w.
-          let q = slot0_as u i k a in
+          let q = slot0_as u (is_wide c) i k a in
           h.now i q.to (root_as u c v r) q.is (writes_later_as d' d k q.to v q.same w);
       constant = λ i k r a w.
-          let q = slot0_as u i k a in
-          fires_none_as t c v q.to k (todo_turned k q.to q.same) (h.constant i q.to (root_as u c v r) q.is (writes_now_as d' d k q.to v q.same w));
+          let q = slot0_as u (is_wide c) i k a in
+          fires_none_as t c v i q.to k (todo_turned k q.to q.same) (h.constant i q.to (root_as u c v r) q.is (writes_now_as d' d k q.to v q.same w));
     }
 
 block_needs_as : {d d' : Parts} → Twins d d' → (c : Claims) (r : BitRange) → BlockNeeds d c r → BlockNeeds d' c r
@@ -329,15 +329,22 @@ k10_process_as {d} {d'} t c i h =
     let u = back t in
     record {
       variable = λ k r s a n.
-          let q = slot0_as u i k a in
+          let q = slot0_as u (is_wide c) i k a in
           kind_as t true r.signal (h.variable q.to r (sequential_as u c i s) q.is (reads_as d' d c k q.to r q.same n));
-      written = λ k r s a n.
-          let q = slot0_as u i k a in
-          writes_as t i r.signal (h.written q.to r (sequential_as u c i s) q.is (reads_as d' d c k q.to r q.same n));
+      written = λ k r s a n narrow.
+          let q = slot0_as u (is_wide c) i k a in
+          writes_as t i r.signal (h.written q.to r (sequential_as u c i s) q.is (reads_as d' d c k q.to r q.same n) narrow);
       alone = λ k r j s a n w.
-          let q = slot0_as u i k a in
-          h.alone q.to r j (sequential_as u c i s) q.is (reads_as d' d c k q.to r q.same n) (writes_as u j r.signal w);
+          let q = slot0_as u (is_wide c) i k a in
+          elim (h.alone q.to r j (sequential_as u c i s) q.is (reads_as d' d c k q.to r q.same n) (writes_as u j r.signal w)) [
+            | inl same ↦ inl same
+            | inr other ↦ inr (other.0, λ b. other.1 (block_as u c j b))
+          ];
+      first = λ k l r j wide s a n b w.
+          let q = slot0_as u (is_wide c) i k a in
+          let p = slot0_as u (is_wide c) j l b in
+          h.first q.to p.to r j wide (sequential_as u c i s) q.is (reads_as d' d c k q.to r q.same n) p.is (writes_now_as d' d l p.to r.signal p.same w);
       untouched = λ k v r a w b o.
-          let q = prologue_as u i k a in
+          let q = prologue_as u (is_wide c) i k a in
           h.untouched q.to v r q.is (writes_now_as d' d k q.to v q.same w) (block_needs_as u c r b) (cone_as u c v r o);
     }

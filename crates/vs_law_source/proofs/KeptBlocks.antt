@@ -1,5 +1,5 @@
 -- A rule of combinational blocks that a design keeps, one keeps that says the same.
-use Rattle.std.proofs.Common.{◌≡◌, ℕ, suc, inl, inr, ◌&&◌, ◌||◌, not, Bool, Option, Some, List, [], ◌∷◌, slice_get, refl, ap, ap₂, sym, subst, ◌∙◌}
+use Rattle.std.proofs.Common.{◌≡◌, ℕ, suc, inl, inr, ◌&&◌, ◌||◌, not, Bool, false, Option, Some, List, [], ◌∷◌, slice_get, refl, ap, ap₂, sym, subst, ◌∙◌}
 use Rattle.std.proofs.lemmas.Option.{none-some, same_Some}
 use Rattle.std.specs.List.{AllZip, list_any, list_all}
 use Rattle.vs_syntax.specs.Same.{no_pair, pair_more}
@@ -215,7 +215,7 @@ started_as {d} {d'} t c i g w h =
       writer = writer_as t c g w h.writer;
       named = (h.named.0, names_as t i h.named.0 h.named.1, copies_whole_as t g h.named.0.signal h.named.2);
       only = λ k o n.
-          let q = slot0_as u w k o in
+          let q = slot0_as u false w k o in
           begins_as t i g q.to k (todo_turned k q.to q.same) (h.only q.to q.is (writes_any_as d' d k q.to g q.same n));
       before_end = λ m.
           let q = missing_as u i g w [] m in

@@ -1,5 +1,5 @@
 -- Points and paths of texts that say the same.
-use Rattle.std.proofs.Common.{◌≡◌, ℕ, zero, suc, ◌≤◌, ◌<◌, ◌⊎◌, Bool, false, Some, None, List, [], ◌∷◌, length, map, get_or, slice_get, refl, ap, sym, subst, ◌∙◌, inl, inr}
+use Rattle.std.proofs.Common.{◌≡◌, ℕ, zero, suc, ◌≤◌, ◌<◌, ◌⊎◌, Bool, true, false, Some, None, List, [], ◌∷◌, length, map, get_or, slice_get, refl, ap, sym, subst, ◌∙◌, inl, inr}
 use Rattle.std.proofs.lemmas.Option.{none-some, same_Some, slice_get_cases}
 use Rattle.std.specs.List.{AllZip}
 use Rattle.vs_syntax.specs.Same.{no_pair, pair_more}
@@ -16,7 +16,7 @@ use Rattle.vs_threads.specs.vs_process.specs.Steps.{Next, on, after, wait}
 use Rattle.vs_rules.proofs.Past.{past_points}
 use Rattle.vs_rules.specs.Points.{Goes, Point, first_todo, nexts_by}
 use Rattle.vs_rules.proofs.Points.{by_path}
-use Rattle.vs_rules.specs.Paths.{Path, begins, goes, any_way, is_plain, is_zero_time, IsPoint, IsSlot0, IsPrologue, PathBy, PathFrom, PathFromBy, RunsBehind, IsLate, IsHot, HasTerm, IsHeardAtStart, WritesNow}
+use Rattle.vs_rules.specs.Paths.{Path, begins, goes, any_way, is_plain, is_zero_time, IsPoint, IsSlot0, IsPrologue, PathBy, PathFromBy, RunsBehind, IsLate, IsHot, HasTerm, IsHeardAtStart, WritesNow}
 use Rattle.vs_law_source.proofs.Designs.{AlikeProcess, AreNumbered, Twins}
 use Rattle.vs_law_source.proofs.Done.{writes_now_as}
 use Rattle.vs_law_source.proofs.Spots.{one_point, counted_once}
@@ -148,7 +148,7 @@ path_point d i ok from _ p (goes j l next path g may is) = subst (IsPoint d i) i
 -- ---- paths
 
 -- by the ways of one version
-path_by_as : (wide : Bool) (ok : Next → Bool) → ((next next' : Next) → AlikeNext next next' → ok next ≡ ok next') → (from from' k : Todo) → AlikeTodo from from' → PathBy (nexts_by wide) ok from k →
+pub path_by_as : (wide : Bool) (ok : Next → Bool) → ((next next' : Next) → AlikeNext next next' → ok next ≡ ok next') → (from from' k : Todo) → AlikeTodo from from' → PathBy (nexts_by wide) ok from k →
     TwinOf k (PathBy (nexts_by wide) ok from')
 path_by_as wide ok respects from from' _ h begins = record { to = from'; is = begins; same = h }
 path_by_as wide ok respects from from' _ h (goes k l next p g passes e) =
@@ -160,18 +160,14 @@ path_by_as wide ok respects from from' _ h (goes k l next p g passes e) =
       same = subst (λ (m : Todo). AlikeTodo m (todo_behind n.to)) e (behind_as next n.to n.same);
     }
 
--- by all ways of the text
-pub path_as : (ok : Next → Bool) → ((next next' : Next) → AlikeNext next next' → ok next ≡ ok next') → (from from' k : Todo) → AlikeTodo from from' → Path ok from k → TwinOf k (Path ok from')
-path_as ok respects from from' k h path = path_by_as false ok respects from from' k h path
+pub slot0_as : {d d' : Parts} → Twins d d' → (wide : Bool) (i : ℕ) (k : Todo) → IsSlot0 d wide i k → TwinOf k (IsSlot0 d' wide i)
+slot0_as {d} {d'} t wide i k h = path_by_as wide is_zero_time zero_same (first_todo d i) (first_todo d' i) k (first_alike t i) h
 
-pub slot0_as : {d d' : Parts} → Twins d d' → (i : ℕ) (k : Todo) → IsSlot0 d i k → TwinOf k (IsSlot0 d' i)
-slot0_as {d} {d'} t i k h = path_as is_zero_time zero_same (first_todo d i) (first_todo d' i) k (first_alike t i) h
+pub prologue_as : {d d' : Parts} → Twins d d' → (wide : Bool) (i : ℕ) (k : Todo) → IsPrologue d wide i k → TwinOf k (IsPrologue d' wide i)
+prologue_as {d} {d'} t wide i k h = path_by_as wide is_plain plain_same (first_todo d i) (first_todo d' i) k (first_alike t i) h
 
-pub prologue_as : {d d' : Parts} → Twins d d' → (i : ℕ) (k : Todo) → IsPrologue d i k → TwinOf k (IsPrologue d' i)
-prologue_as {d} {d'} t i k h = path_as is_plain plain_same (first_todo d i) (first_todo d' i) k (first_alike t i) h
-
-pub slot0_point : (d : Parts) (i : ℕ) (k : Todo) → IsSlot0 d i k → IsPoint d i k
-slot0_point d i k h = path_point d i is_zero_time (first_todo d i) k Point.begins h
+pub slot0_point : (d : Parts) (wide : Bool) (i : ℕ) (k : Todo) → IsSlot0 d wide i k → IsPoint d i k
+slot0_point d wide i k h = path_point d i is_zero_time (first_todo d i) k Point.begins (by_path wide is_zero_time (first_todo d i) k h)
 
 -- one way leads as another one does
 abbrev pub SortAs : (sort sort' : Todo → Next → Type 0) → Type 0
@@ -189,12 +185,8 @@ path_from_by_as t wide i sort sort' starts ok respects k h =
       same = q.same;
     }
 
-path_from_as : {d d' : Parts} → Twins d d' → (i : ℕ) (sort sort' : Todo → Next → Type 0) → SortAs sort sort' → (ok : Next → Bool) →
-    ((next next' : Next) → AlikeNext next next' → ok next ≡ ok next') → (k : Todo) → PathFrom d i sort ok k → TwinOf k (PathFrom d' i sort' ok)
-path_from_as t i sort sort' starts ok respects k h = path_from_by_as t false i sort sort' starts ok respects k h
-
-pub from_point : (d : Parts) (i : ℕ) (sort : Todo → Next → Type 0) (ok : Next → Bool) (k : Todo) → PathFrom d i sort ok k → IsPoint d i k
-from_point d i sort ok k h = path_point d i ok (todo_behind h.next) k (point_on d i h.at h.next h.point h.goes) h.path
+pub from_point : (d : Parts) (wide : Bool) (i : ℕ) (sort : Todo → Next → Type 0) (ok : Next → Bool) (k : Todo) → PathFromBy (nexts_by wide) d i sort ok k → IsPoint d i k
+from_point d wide i sort ok k h = path_point d i ok (todo_behind h.next) k (point_on d i h.at h.next h.point h.goes) (by_path wide ok (todo_behind h.next) k h.path)
 
 -- run slots go without a further control
 pub runs_as : {d d' : Parts} → Twins d d' → (wide : Bool) (i : ℕ) (can_end can_end' : Next → ℕ → Type 0) → ((next next' : Next) (r : ℕ) → AlikeNext next next' → can_end next r → can_end' next' r) →
@@ -203,15 +195,15 @@ runs_as t wide i can_end can_end' ends k r h =
     path_from_by_as t wide i (λ at next. can_end next r) (λ at next. can_end' next r) (λ a a' next next' p n e. ends next next' r n e) is_plain plain_same k h
 
 pub runs_point : (d : Parts) (wide : Bool) (i : ℕ) (can_end : Next → ℕ → Type 0) (k : Todo) (r : ℕ) → RunsBehind d wide i can_end k r → IsPoint d i k
-runs_point d wide i can_end k r h = path_point d i is_plain (todo_behind h.next) k (point_on d i h.at h.next h.point h.goes) (by_path wide is_plain (todo_behind h.next) k h.path)
+runs_point d wide i can_end k r h = from_point d wide i (λ at next. can_end next r) is_plain k h
 
 pub late_as : {d d' : Parts} → Twins d d' → (i : ℕ) (k : Todo) → IsLate d i k → TwinOf k (IsLate d' i)
 late_as t i k h =
-    path_from_as t i (λ at next. is_plain next ≡ false) (λ at next. is_plain next ≡ false) (λ a a' next next' p n e. sym (plain_same next next' n) ∙ e) any_way any_same k h
+    path_from_by_as t false i (λ at next. is_plain next ≡ false) (λ at next. is_plain next ≡ false) (λ a a' next next' p n e. sym (plain_same next next' n) ∙ e) any_way any_same k h
 
-pub hot_as : {d d' : Parts} → Twins d d' → (i v : ℕ) (k : Todo) → IsHot d i v k → TwinOf k (IsHot d' i v)
-hot_as {d} {d'} t i v k h =
-    path_from_as t i (λ at next. WritesNow d at v) (λ at next. WritesNow d' at v) (λ a a' next next' p n w. writes_now_as d d' a a' v p w) is_zero_time zero_same k h
+pub hot_as : {d d' : Parts} → Twins d d' → (wide : Bool) (i v : ℕ) (k : Todo) → IsHot d wide i v k → TwinOf k (IsHot d' wide i v)
+hot_as {d} {d'} t wide i v k h =
+    path_from_by_as t wide i (λ at next. WritesNow d at v) (λ at next. WritesNow d' at v) (λ a a' next next' p n w. writes_now_as d d' a a' v p w) is_zero_time zero_same k h
 
 -- ---- terms of event controls
 
@@ -223,7 +215,7 @@ term_as t i term h =
 
 pub heard_at_start_as : {d d' : Parts} → Twins d d' → (i : ℕ) (term : EventTerm) → IsHeardAtStart d i term → IsHeardAtStart d' i term
 heard_at_start_as t i term h =
-    let p = slot0_as t i h.control h.slot0 in
+    let p = slot0_as t true i h.control h.slot0 in
     let m = goes_wait_as h.control p.to h.behind h.number h.terms p.same h.goes in
     record { control = p.to; number = h.number; terms = h.terms; behind = m.to; slot0 = p.is; goes = m.is; is = h.is }
 

@@ -15,7 +15,7 @@ use Rattle.vs_design.specs.declared.statement.Statement.{out-Statement}
 use Rattle.vs_design.specs.declared.expression.Typed.TheViews.{out-Typed}
 use Rattle.vs_design.specs.declared.expression.Typed.TheVariants as e
 use Rattle.vs_design.specs.Stores.{Store, changes_nothing, put, start_store}
-use Rattle.vs_design.specs.Uses.{covers, slice_range, whole, writes}
+use Rattle.vs_design.specs.Uses.{slice_range, whole, writes}
 use Rattle.vs_design.specs.WellFormed.{WellFormed, is_sound_assign, is_sound_process, is_sound_statement, numbers}
 use Rattle.vs_law_rules.specs.vs_process.proofs.Ranges.{covers_signal}
 use Rattle.vs_process.specs.Places.{Todo}
@@ -344,10 +344,11 @@ first_slot g net start i = record {
   variable = λ k r seq slot reads. absurd (none k r seq slot reads);
   written = λ k r seq slot reads. absurd (none k r seq slot reads);
   alone = λ k r j seq slot reads w. absurd (none k r seq slot reads);
+  first = λ k l r j wide seq slot reads there now. absurd (none k r seq slot reads);
   untouched = λ k u r prologue w needed cone. early_now g net i u k (prologue_at g net i k prologue) w;
 }
   where
-    none : (k : Todo) (r : BitRange) → IsSequential (following g net) (block_claims net start) i → IsSlot0 (following g net) i k → Reads (following g net) (block_claims net start) k r → ⊥
+    none : (k : Todo) (r : BitRange) → IsSequential (following g net) (block_claims net start) i → IsSlot0 (following g net) false i k → Reads (following g net) (block_claims net start) k r → ⊥
     none k r seq slot reads = no_sequential_read g net start i k r seq (needs g net start i k r (early_spot g net i k (early_at g net i k slot)) reads)
 
 -- ---- the starts

@@ -137,10 +137,10 @@ early_path : (g : Global) (net : Bool) (i : ℕ) (k : Todo) (ok : Next → Bool)
 early_path g net i k ok still path =
     closed_paths (Early g net i) ok (first_todo (following g net) i) (first_early g net i) (λ l next s h may. early_behind g net i l next (way_at g net i l next (early_spot g net i l s) h) (still next may)) k path
 
-pub early_at : (g : Global) (net : Bool) (i : ℕ) (k : Todo) → IsSlot0 (following g net) i k → Early g net i k
+pub early_at : (g : Global) (net : Bool) (i : ℕ) (k : Todo) → IsSlot0 (following g net) false i k → Early g net i k
 early_at g net i k path = early_path g net i k is_zero_time (λ next may. may) path
 
-pub prologue_at : (g : Global) (net : Bool) (i : ℕ) (k : Todo) → IsPrologue (following g net) i k → Early g net i k
+pub prologue_at : (g : Global) (net : Bool) (i : ℕ) (k : Todo) → IsPrologue (following g net) false i k → Early g net i k
 prologue_at g net i k path = early_path g net i k is_plain plain_is_still path
 
 pub early_now : (g : Global) (net : Bool) (i v : ℕ) (k : Todo) → Early g net i k → WritesNow (following g net) k v → ⊥

@@ -186,8 +186,8 @@ apart g grain b begins = record {
   root_timed = λ i root th r is wrote. absurd (silent i root th is wrote);
   root_once = λ i root th later r is that wrote more. absurd (silent i root th (timed_thread (carrying g) no_blocks.blocks b i th is) wrote);
   root_now = λ i root th r is made. quiet i root th is made;
-  unfired = λ i th f is awaits. deaf i th f (timed_thread (carrying g) no_blocks.blocks b i th is) awaits;
-  fired_by_one = λ i th other f h is that awaits also. absurd (deaf i th f is awaits);
+  unfired = λ i th f is awaits other. deaf i th f (timed_thread (carrying g) no_blocks.blocks b i th is) awaits;
+  fired_by_one = λ i th other f h waits is that awaits also. absurd (deaf i th f is awaits);
 }
   where
     silent : (i v : ℕ) (th : Thread) → IsThread (carrying g) no_blocks.blocks b i th → writes th v ≡ true → ⊥

@@ -26,3 +26,6 @@ pub mod Late
 pub mod ResetsPoints
 pub mod ResetsTimes
 pub mod Resets
+pub mod CounterexampleEdges
+pub mod CounterexampleWaits
+pub mod CounterexampleReads

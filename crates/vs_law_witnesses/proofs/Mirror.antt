@@ -334,8 +334,8 @@ apart g b begins = record {
   root_timed = λ i root th r is wrote. absurd (true≢false (sym wrote ∙ none i root th is));
   root_once = λ i root th later r is that wrote more. absurd (true≢false (sym wrote ∙ none i root th (timed_thread (mirroring g) only_block b i th is)));
   root_now = λ i root th r is made. true≢false (sym made ∙ none_later i root th is);
-  unfired = λ i th f is awaits. deaf i th f (timed_thread (mirroring g) only_block b i th is) awaits;
-  fired_by_one = λ i th other f h is that awaits also. absurd (deaf i th f is awaits);
+  unfired = λ i th f is awaits other. deaf i th f (timed_thread (mirroring g) only_block b i th is) awaits;
+  fired_by_one = λ i th other f h waits is that awaits also. absurd (deaf i th f is awaits);
 }
   where
     one : length b.places ≡ 1

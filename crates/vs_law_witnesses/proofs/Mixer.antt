@@ -301,10 +301,11 @@ first_slot g start i = record {
   variable = λ k r seq slot reads. absurd (none k r seq slot reads);
   written = λ k r seq slot reads. absurd (none k r seq slot reads);
   alone = λ k r j seq slot reads w. absurd (none k r seq slot reads);
+  first = λ k l r j wide seq slot reads there now. absurd (none k r seq slot reads);
   untouched = λ k u r prologue w needed cone. early_now g i u k (prologue_at g i k prologue) w;
 }
   where
-    none : (k : Todo) (r : BitRange) → IsSequential (mixing g) (mixing_claims start) i → IsSlot0 (mixing g) i k → Reads (mixing g) (mixing_claims start) k r → ⊥
+    none : (k : Todo) (r : BitRange) → IsSequential (mixing g) (mixing_claims start) i → IsSlot0 (mixing g) false i k → Reads (mixing g) (mixing_claims start) k r → ⊥
     none k r seq slot reads = no_sequential_read g start i k r seq (early_spot g i k (early_at g i k slot)) reads
 
 -- ---- the starts

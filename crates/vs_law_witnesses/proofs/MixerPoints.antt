@@ -209,10 +209,10 @@ early_path : (g : Global) (i : ℕ) (k : Todo) (ok : Next → Bool) → ((next :
 early_path g i k ok still path =
     closed_paths (Early g i) ok (first_todo (mixing g) i) (first_early g i) (λ l next s h may. early_behind g i l next s h (still next may)) k path
 
-pub early_at : (g : Global) (i : ℕ) (k : Todo) → IsSlot0 (mixing g) i k → Early g i k
+pub early_at : (g : Global) (i : ℕ) (k : Todo) → IsSlot0 (mixing g) false i k → Early g i k
 early_at g i k path = early_path g i k is_zero_time (λ next may. may) path
 
-pub prologue_at : (g : Global) (i : ℕ) (k : Todo) → IsPrologue (mixing g) i k → Early g i k
+pub prologue_at : (g : Global) (i : ℕ) (k : Todo) → IsPrologue (mixing g) false i k → Early g i k
 prologue_at g i k path = early_path g i k is_plain plain_is_still path
 
 pub early_now : (g : Global) (i v : ℕ) (k : Todo) → Early g i k → WritesNow (mixing g) k v → ⊥

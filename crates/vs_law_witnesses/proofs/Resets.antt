@@ -32,8 +32,9 @@ use Rattle.vs_rules.specs.Constants.{zero as known_zero}
 use Rattle.vs_rules.specs.Controls.{controls_of}
 use Rattle.vs_rules.specs.Copies.{CopiesRoot, SeenAs, itself}
 use Rattle.vs_rules.specs.Drivers.{Driver, assign, block as block_driver, here, through, DriverReads, DriverWrites, InCone, IsDriver, IsSource, WritesBit}
-use Rattle.vs_rules.specs.Paths.{Bit, Has, IsHeardAtStart, IsHot, IsLate, IsPoint, IsSlot0, Path, PathBy, Writes, WritesAny, WritesLater, WritesNow, any_way, is_zero_time}
-use Rattle.vs_rules.specs.Points.{Among, Goes}
+use Rattle.vs_rules.specs.Paths.{Bit, Has, IsHeardAtStart, IsHot, IsLate, IsPoint, IsSlot0, PathBy, Writes, WritesAny, WritesLater, WritesNow, any_way, is_zero_time}
+use Rattle.vs_rules.specs.Points.{Among, Goes, nexts_by}
+use Rattle.vs_rules.proofs.Points.{by_path}
 use Rattle.vs_rules.specs.Rules.{K1_Assign, K1_Name, K2, K3, K4, K6, K7, K8, K9, K10_Signal, K10_Process, AreApart, AreEdges, Arrives, BlockNeeds, FiresNone, IsAsModeSays, IsEdgeSignal, IsListed, IsOwnEdge, IsOwnRead, IsSoundRoot, Reads}
 use Rattle.vs_rules.specs.Blocks.{K5}
 use Rattle.vs_rules.specs.Slots.{DelayEnds, EdgeEnds, Ends, Fires, HasSlot, HasWriteSlot}
@@ -344,7 +345,7 @@ hot_c (by_constant _ _) s = elim s [ ]
 hot_r : {g : Global} {digit : Digit} {k : Todo} {n : Next} {a : Act} {early : Bool} → Wrote a 1 → Spot g digit 2 k n a early → Early g digit 2 (todo_behind n)
 hot_r (by_constant _ _) gives_r = in_first (rests 2)
 
-never_hot_c : (g : Global) (digit : Digit) (i : ℕ) (k : Todo) → WriterAt 0 i → WritesAny (resetting g digit) k 0 → IsHot (resetting g digit) i 0 k → ⊥
+never_hot_c : (g : Global) (digit : Digit) (i : ℕ) (k : Todo) → WriterAt 0 i → WritesAny (resetting g digit) k 0 → IsHot (resetting g digit) true i 0 k → ⊥
 never_hot_c g digit _ k writer_c w hot = first_of 0 (early_any g digit 0 0 k (early_path g digit 0 (todo_behind hot.next) k from hot.path) w)
   where
     from : Early g digit 0 (todo_behind hot.next)
@@ -355,7 +356,7 @@ never_hot_c g digit _ k writer_c w hot = first_of 0 (early_any g digit 0 0 k (ea
     first_of : (n : ℕ) → First g digit 0 0 k → ⊥
     first_of n f = elim f [ ]
 
-never_hot_r : (g : Global) (digit : Digit) (i : ℕ) (k : Todo) → WriterAt 1 i → WritesAny (resetting g digit) k 1 → IsHot (resetting g digit) i 1 k → ⊥
+never_hot_r : (g : Global) (digit : Digit) (i : ℕ) (k : Todo) → WriterAt 1 i → WritesAny (resetting g digit) k 1 → IsHot (resetting g digit) true i 1 k → ⊥
 never_hot_r g digit _ k writer_r w hot = first_of 0 (early_any g digit 2 1 k (early_path g digit 2 (todo_behind hot.next) k from hot.path) w)
   where
     from : Early g digit 2 (todo_behind hot.next)
@@ -445,7 +446,7 @@ waits g digit grain i = record {
     never_at_once _ _ delay event r kind_1 comes fires =
         let pause = after comes.number comes.ticks comes.behind in
         let at = going g digit 1 comes.from pause comes.point (subst (Goes comes.from) comes.delay_is comes.goes) in
-        let there = late_path g is_zero_time comes.behind comes.to (late_from at.spot refl refl) comes.path in
+        let there = late_path g is_zero_time comes.behind comes.to (late_from at.spot refl refl) (by_path true is_zero_time comes.behind comes.to comes.path) in
         silent r there.spot
         (subst (λ n. EdgeEnds (resetting g digit) (reset_claims grain) n r) (sym ((late_facts there.spot).ways event comes.waits)) fires)
 
@@ -592,8 +593,8 @@ before g digit grain = record {
 -- ---- the first slot
 
 -- `c = 0` is no rising edge
-fires_none_c : (g : Global) (digit : Digit) (grain : Grain) → FiresNone (resetting g digit) (reset_claims grain) 0 (from_c g digit)
-fires_none_c g digit grain = record {
+fires_none_c : (g : Global) (digit : Digit) (grain : Grain) (i : ℕ) → FiresNone (resetting g digit) (reset_claims grain) 0 i (from_c g digit)
+fires_none_c g digit grain i = record {
   digit = Zero;
   known = known_zero;
   gives = gives_c g (from_r g digit);
@@ -606,8 +607,8 @@ fires_none_c g digit grain = record {
     no_edge _ _ edge term_n root seen = elim root [ ]
 
 -- nor makes `r = 0` a falling one of `n`
-fires_none_r : (g : Global) (grain : Grain) → FiresNone (resetting g Zero) (reset_claims grain) 1 (from_r g Zero)
-fires_none_r g grain = record {
+fires_none_r : (g : Global) (grain : Grain) (i : ℕ) → FiresNone (resetting g Zero) (reset_claims grain) 1 i (from_r g Zero)
+fires_none_r g grain i = record {
   digit = Zero;
   known = known_zero;
   gives = gives_digit g Zero (awaiting g);
@@ -619,7 +620,7 @@ fires_none_r g grain = record {
     no_edge _ _ edge term_3 root seen = elim root [ ]
     no_edge _ _ edge term_n root seen = ap (λ e. is_edge e X Zero) (seen.inverse (is_inverted g Zero))
 
-first_root : (g : Global) (digit : Digit) (grain : Grain) (v : ℕ) → ((i : ℕ) (k : Todo) → First g digit v i k → FiresNone (resetting g digit) (reset_claims grain) v k) →
+first_root : (g : Global) (digit : Digit) (grain : Grain) (v : ℕ) → ((i : ℕ) (k : Todo) → First g digit v i k → FiresNone (resetting g digit) (reset_claims grain) v i k) →
     K10_Signal (resetting g digit) (reset_claims grain) v
 first_root g digit grain v none = record {
   once = λ i j k l root slot w late more. same v i j k l (early_any g digit i v k (early_at g digit i k slot) w) (early_any g digit j v l (early_at g digit j l late) more);
@@ -634,25 +635,26 @@ first_root g digit grain v none = record {
 first_roots : (g : Global) (grain : Grain) (v : ℕ) → K10_Signal (resetting g Zero) (reset_claims grain) v
 first_roots g grain v = first_root g Zero grain v (λ i k first. none v i k first)
   where
-    none : (v i : ℕ) (k : Todo) → First g Zero v i k → FiresNone (resetting g Zero) (reset_claims grain) v k
-    none _ _ _ first_c = fires_none_c g Zero grain
-    none _ _ _ first_r = fires_none_r g grain
+    none : (v i : ℕ) (k : Todo) → First g Zero v i k → FiresNone (resetting g Zero) (reset_claims grain) v i k
+    none _ i _ first_c = fires_none_c g Zero grain i
+    none _ i _ first_r = fires_none_r g grain i
 
 first_clock : (g : Global) (digit : Digit) (grain : Grain) → K10_Signal (resetting g digit) (reset_claims grain) 0
 first_clock g digit grain = first_root g digit grain 0 (λ i k first. none i k first)
   where
-    none : (i : ℕ) (k : Todo) → First g digit 0 i k → FiresNone (resetting g digit) (reset_claims grain) 0 k
-    none _ _ first_c = fires_none_c g digit grain
+    none : (i : ℕ) (k : Todo) → First g digit 0 i k → FiresNone (resetting g digit) (reset_claims grain) 0 i k
+    none i _ first_c = fires_none_c g digit grain i
 
 first_slot : (g : Global) (digit : Digit) (grain : Grain) (i : ℕ) → K10_Process (resetting g digit) (reset_claims grain) i
 first_slot g digit grain i = record {
   variable = λ k r seq slot needs. absurd (never k r slot needs);
   written = λ k r seq slot needs. absurd (never k r slot needs);
   alone = λ k r j seq slot needs w. absurd (never k r slot needs);
+  first = λ k l r j wide seq slot needs there now. absurd (never k r slot needs);
   untouched = λ k u r prologue w needed cone. no_needs r needed;
 }
   where
-    never : (k : Todo) (r : BitRange) → IsSlot0 (resetting g digit) i k → Reads (resetting g digit) (reset_claims grain) k r → ⊥
+    never : (k : Todo) (r : BitRange) → IsSlot0 (resetting g digit) true i k → Reads (resetting g digit) (reset_claims grain) k r → ⊥
     never k r slot (inl reads) = early_reads g digit i k r (early_at g digit i k slot) reads
     never k r slot (inr shows) = false≢true shows.0
 
@@ -694,10 +696,10 @@ reset_keeps_the_rules g grain = keeps_wide_rules (resetting g Zero) (reset_claim
 
 -- ---- with `r = 1` at the start
 
-slot_r : (g : Global) (digit : Digit) → IsSlot0 (resetting g digit) 1 (from_r g digit)
+slot_r : (g : Global) (digit : Digit) → IsSlot0 (resetting g digit) true 1 (from_r g digit)
 unfolding out-Statement denote.Hole.Carrier.out
 slot_r g digit =
-    subst (λ k. Path is_zero_time k (from_r g digit)) (sym (first_is g digit))
+    subst (λ k. PathBy (nexts_by true) is_zero_time k (from_r g digit)) (sym (first_is g digit))
     (PathBy.goes (from_c g digit) (from_r g digit) (on (from_r g digit)) PathBy.begins (Among.first []) refl refl)
 
 writes_r : (g : Global) (digit : Digit) → WritesNow (resetting g digit) (from_r g digit) 1
@@ -722,10 +724,13 @@ root_r g digit grain = record { place = 1; entry = record { root = signal_in_t 1
 broken : (g : Global) (grain : Grain) → K10_Signal (resetting g One) (reset_claims grain) 1 → ⊥
 broken g grain h =
     let none = h.constant 1 (from_r g One) (4, root_r g One grain) (slot_r g One) (writes_r g One) in
-    let quiet = none.silent 3 fall Posedge (has_term g One fall (1, lit< tt, refl)) (λ wide. heard_fall g One) refl (root_r g One grain)
+    let quiet = none.silent 3 fall Posedge (has_term g One fall (1, lit< tt, refl)) (λ wide. (heard_fall g One, λ own. other own.0)) refl (root_r g One grain)
     (record { plain = λ other. absurd (other (is_inverted g One)); inverse = λ is. refl }) in
     let digit = same_Some One none.digit (sym (gives_digit g One (awaiting g)) ∙ none.gives) in
     true≢false (ap (λ d. is_edge Posedge X d) digit ∙ quiet)
+  where
+    other : ◌≡◌ {A = ℕ} 3 1 → ⊥
+    other e = false≢true (ap (λ (n : ℕ). n == 1) e)
 
 pub early_reset_is_told : AnEarlyResetIsTold
 early_reset_is_told g grain = record {

@@ -1,6 +1,6 @@
 -- The points of a design with an inverted reset, and what is done at them.
-use Rattle.std.proofs.Common.{◌≡◌, ℕ, zero, suc, ◌&&◌, ◌++◌, Bool, true, false, if◌then◌else◌, Some, option_map, List, [], ◌∷◌, refl, sym, ◌∙◌, ap, subst, inl, inr}
-use Rattle.std.proofs.lemmas.Bool.{cases_Bool, false≢true, true≢false}
+use Rattle.std.proofs.Common.{◌≡◌, ℕ, zero, suc, ◌++◌, Bool, true, false, Some, option_map, List, [], ◌∷◌, refl, sym, ◌∙◌, ap, subst, inl, inr}
+use Rattle.std.proofs.lemmas.Bool.{false≢true, true≢false}
 use Rattle.std.specs.declared.alloc.Global.{Global}
 use Rattle.std.specs.List.{Contains}
 use Rattle.vs_design.specs.vs_logic4.specs.declared.digit.Digit.{Digit}
@@ -18,9 +18,9 @@ use Rattle.vs_process.specs.Places.{active_at, perform, todo_of, Todo}
 use Rattle.vs_process.specs.Steps.{Next, on, after, wait}
 use Rattle.vs_process.proofs.Shapes.{flat-Block}
 use Rattle.vs_rules.specs.vs_threads.specs.Threads.{todo_reads}
-use Rattle.vs_rules.specs.vs_threads.specs.vs_process.specs.Nexts.{nexts}
 use Rattle.vs_rules.specs.Paths.{HasTerm, IsPoint, IsSlot0, ListsSignal, Path, PathBy, ReadsNow, RunsBehind, WritesAny, WritesLater, WritesNow, is_plain, is_zero_time, todo_later, todo_now}
-use Rattle.vs_rules.specs.Points.{Among, Goes, Point, first_alone, first_todo, nexts_by, todo_turns}
+use Rattle.vs_rules.specs.Points.{Among, Goes, Point, first_todo, nexts_by}
+use Rattle.vs_rules.proofs.Points.{by_path}
 use Rattle.vs_rules.proofs.Places.{closed_paths, closed_points}
 use Rattle.vs_law_rules.proofs.Texts.{none_in}
 use Rattle.vs_law_witnesses.specs.Mixer.{three_of}
@@ -30,7 +30,7 @@ use Rattle.vs_law_witnesses.specs.Rise.{rise}
 use Rattle.vs_law_witnesses.specs.Roots.{sets, sets_late}
 use Rattle.vs_law_witnesses.specs.Swap.{copies_later}
 use Rattle.vs_law_witnesses.proofs.Race.{reads_number, reads_operand, size_operand}
-use Rattle.vs_law_witnesses.proofs.Texts.{among_one, each_in, no_signal, one_in, one_signal, only, reads_resized, reads_unary, size_resized, size_unary}
+use Rattle.vs_law_witnesses.proofs.Texts.{among_one, each_in, no_signal, one_in, one_signal, reads_resized, reads_unary, size_resized, size_unary}
 
 -- ---- its points
 
@@ -299,10 +299,11 @@ early_on : (g : Global) (digit : Digit) (i : ℕ) (k : Todo) (next : Next) → E
 early_on g digit i k next r h still =
     subst (λ n. is_zero_time n ≡ true → Early g digit i (todo_behind n)) ((facts r.spot).ways next h) (early_behind r.spot) still
 
-pub early_path : (g : Global) (digit : Digit) (i : ℕ) (from k : Todo) → Early g digit i from → Path is_zero_time from k → Early g digit i k
-early_path g digit i from k r path = closed_paths (Early g digit i) is_zero_time from r (λ l next at h still. early_on g digit i l next at h still) k path
+pub early_path : (g : Global) (digit : Digit) (i : ℕ) (from k : Todo) → Early g digit i from → PathBy (nexts_by true) is_zero_time from k → Early g digit i k
+early_path g digit i from k r path =
+    closed_paths (Early g digit i) is_zero_time from r (λ l next at h still. early_on g digit i l next at h still) k (by_path true is_zero_time from k path)
 
-pub early_at : (g : Global) (digit : Digit) (i : ℕ) (k : Todo) → IsSlot0 (resetting g digit) i k → Early g digit i k
+pub early_at : (g : Global) (digit : Digit) (i : ℕ) (k : Todo) → IsSlot0 (resetting g digit) true i k → Early g digit i k
 early_at g digit i k path = early_path g digit i (first_todo (resetting g digit) i) k (first_early g digit i) path
 
 -- what is written there: `c = 0` and `r = DIGIT`, by t#p1
@@ -444,26 +445,6 @@ run_from pauses_r pauses = ran run_sets
 run_from listens_q pauses = ran run_copies
 run_from s pauses = absurd (true≢false pauses)
 
--- a way past a `repeat` by a turn alone is a way of the text
-first_among : (n : Next) (xs : List Next) → Among n (first_alone xs) → Among n xs
-first_among n [] h = h
-first_among n (m ∷ ms) h = only (λ x. Among x (m ∷ ms)) n m h (Among.first ms)
-
-abbrev Sure : Todo → Next → Bool → Type 0
-Sure k n sure = Among n (if sure then first_alone (nexts k) else nexts k)
-
-sure_goes : (wide : Bool) (k : Todo) (n : Next) → Among n (nexts_by wide k) → Goes k n
-sure_goes wide k n h = elim (cases_Bool (wide && todo_turns k)) [
-  | inl turn ↦ first_among n (nexts k) (subst (Sure k n) turn h)
-  | inr none ↦ subst (Sure k n) none h
-]
-
-closed_runs : (wide : Bool) (P : Todo → Type 0) (ok : Next → Bool) (from : Todo) → P from → ((k : Todo) (next : Next) → P k → Goes k next → ok next ≡ true → P (todo_behind next)) →
-    (k : Todo) → PathBy (nexts_by wide) ok from k → P k
-closed_runs wide P ok from h ways _ PathBy.begins = h
-closed_runs wide P ok from h ways _ (PathBy.goes k l next path goes may is) =
-    subst P is (ways k next (closed_runs wide P ok from h ways k path) (sure_goes wide k next goes) may)
-
 pauses_or_ends : (P : Next → Type 0) → ((l : Todo) → P (on l) → ⊥) → (n : Next) → P n → is_plain n ≡ false
 pauses_or_ends P never (on l) h = absurd (never l h)
 pauses_or_ends P never (after number ticks l) h = refl
@@ -472,7 +453,8 @@ pauses_or_ends P never (wait number terms l) h = refl
 pub ran_at : (g : Global) (digit : Digit) (wide : Bool) (i : ℕ) (can_end : Next → ℕ → Type 0) (k : Todo) (r : ℕ) → ((l : Todo) → can_end (on l) r → ⊥) →
     (h : RunsBehind (resetting g digit) wide i can_end k r) → Ran g i h.next k
 ran_at g digit wide i can_end k r never h =
-    closed_runs wide (Ran g i h.next) is_plain (todo_behind h.next) begins (λ l next at goes plain. ran_on l next at goes plain) k h.path
+    closed_paths (Ran g i h.next) is_plain (todo_behind h.next) begins (λ l next at goes plain. ran_on l next at goes plain) k
+    (by_path wide is_plain (todo_behind h.next) k h.path)
   where
     begins : Ran g i h.next (todo_behind h.next)
     begins =

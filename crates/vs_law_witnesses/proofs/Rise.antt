@@ -163,8 +163,8 @@ apart g grain b begins_slot = record {
   root_once = λ i root th other r is that h more. ap (λ (s : Store). slice_get s root)
       (view_at i root th r (wrote g b i root None th (timed_shape g b first_is i th is) h) ∙ sym (view_at i root other r (wrote g b i root None other (timed_shape g b first_is i other that) more)));
   root_now = λ i root th r is h. unmade i root th is h;
-  unfired = λ i th f is aw. never i th f is aw;
-  fired_by_one = λ i th other f h is that aw more. awaited g b first_is i th f is aw ∙ sym (awaited g b first_is i other h that more);
+  unfired = λ i th f is aw other. never i th f is aw;
+  fired_by_one = λ i th other f h waits is that aw more. awaited g b first_is i th f is aw ∙ sym (awaited g b first_is i other h that more);
 }
   where
     first_is : Begun g b

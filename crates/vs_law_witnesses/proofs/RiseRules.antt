@@ -141,10 +141,10 @@ early_path : (g : Global) (i : ℕ) (k : Todo) (ok : Next → Bool) → ((next :
 early_path g i k ok still path =
     closed_paths (Early g i) ok (first_todo (rising g) i) (first_early g i) (λ l next s h may. early_behind g i l next (way_at g i l next (early_spot g i l s) h) (still next may)) k path
 
-early_at : (g : Global) (i : ℕ) (k : Todo) → IsSlot0 (rising g) i k → Early g i k
+early_at : (g : Global) (i : ℕ) (k : Todo) → IsSlot0 (rising g) false i k → Early g i k
 early_at g i k path = early_path g i k is_zero_time (λ next may. may) path
 
-prologue_at : (g : Global) (i : ℕ) (k : Todo) → IsPrologue (rising g) i k → Early g i k
+prologue_at : (g : Global) (i : ℕ) (k : Todo) → IsPrologue (rising g) false i k → Early g i k
 prologue_at g i k path = early_path g i k is_plain plain_is_still path
 
 early_now : (g : Global) (i v : ℕ) (k : Todo) → Early g i k → WritesNow (rising g) k v → ⊥
@@ -506,7 +506,7 @@ sound_root g mode grain = record {
 }
   where
     -- a way from the write of `a` leads to the end, where nothing is written
-    never_hot : (i : ℕ) (k : Todo) → WritesAny (rising g) k 0 → IsHot (rising g) i 0 k → ⊥
+    never_hot : (i : ℕ) (k : Todo) → WritesAny (rising g) k 0 → IsHot (rising g) false i 0 k → ⊥
     never_hot i k w hot =
         let last : todo_behind hot.next ≡ [] = wrote_last g i 0 hot.at hot.next (wrote g i 0 hot.at (spot_at g i hot.at hot.point) hot.starts) hot.goes in
         let over : k ≡ [] = ends_there is_zero_time k (subst (λ l. Path is_zero_time l k) last hot.path) in
@@ -607,6 +607,7 @@ first_slot g mode grain i = record {
   variable = λ k r seq slot reads. absurd (no_early_needs g mode grain i k r (early_at g i k slot) reads);
   written = λ k r seq slot reads. absurd (no_early_needs g mode grain i k r (early_at g i k slot) reads);
   alone = λ k r j seq slot reads w. absurd (no_early_needs g mode grain i k r (early_at g i k slot) reads);
+  first = λ k l r j wide seq slot reads there now. absurd (no_early_needs g mode grain i k r (early_at g i k slot) reads);
   untouched = λ k u r prologue w needed cone. early_now g i u k (prologue_at g i k prologue) w;
 }
 

@@ -406,7 +406,7 @@ copies_root g grain root v (inr c) =
     subst (λ n. CopiesRoot (two_rises g) false n v) (sym c.0) (subst (CopiesRoot (two_rises g) false 1) (sym c.1) (itself (bit g 99 Reg, refl, refl, refl, refl)))
 
 -- a way from the write of a root leads to the end, where nothing is written
-never_hot : (g : Global) (i root : ℕ) (k : Todo) → WritesAny (two_rises g) k root → IsHot (two_rises g) i root k → ⊥
+never_hot : (g : Global) (i root : ℕ) (k : Todo) → WritesAny (two_rises g) k root → IsHot (two_rises g) false i root k → ⊥
 never_hot g i root k w hot =
     let last : todo_behind hot.next ≡ [] = wrote_last g i root hot.at hot.next (wrote g i root hot.at (spot_at g i hot.at hot.point) hot.starts) hot.goes in
     let over : k ≡ [] = ends_there is_zero_time k (subst (λ l. Path is_zero_time l k) last hot.path) in
@@ -591,6 +591,7 @@ first_slot g grain i = record {
   variable = λ k r seq slot needs. absurd (no_early_needs g grain i k r (early_at g i k slot) needs);
   written = λ k r seq slot needs. absurd (no_early_needs g grain i k r (early_at g i k slot) needs);
   alone = λ k r j seq slot needs w. absurd (no_early_needs g grain i k r (early_at g i k slot) needs);
+  first = λ k l r j wide seq slot needs there now. absurd (no_early_needs g grain i k r (early_at g i k slot) needs);
   untouched = λ k u r prologue w needed cone. early_now g i u k (prologue_at g i k prologue) w;
 }
 

@@ -1,5 +1,5 @@
 -- The points of a design with two roots, and what is done at them.
-use Rattle.std.proofs.Common.{◌≡◌, ℕ, zero, suc, ◌⊎◌, Bool, true, List, [], ◌∷◌, refl, sym, ◌∙◌, ap, subst, inl, inr, lit<, arith}
+use Rattle.std.proofs.Common.{◌≡◌, ℕ, zero, suc, ◌⊎◌, Bool, true, false, List, [], ◌∷◌, refl, sym, ◌∙◌, ap, subst, inl, inr, lit<, arith}
 use Rattle.std.proofs.lemmas.Bool.{false≢true}
 use Rattle.std.specs.declared.alloc.Global.{Global}
 use Rattle.std.specs.List.{Contains}
@@ -152,10 +152,10 @@ early_path g i k ok still path =
     closed_paths (Early g i) ok (first_todo (two_rises g) i) (first_early g i)
     (λ l next s h may. early_behind g i l next (way_at g i l next (early_spot g i l s) h) (still next may)) k path
 
-pub early_at : (g : Global) (i : ℕ) (k : Todo) → IsSlot0 (two_rises g) i k → Early g i k
+pub early_at : (g : Global) (i : ℕ) (k : Todo) → IsSlot0 (two_rises g) false i k → Early g i k
 early_at g i k path = early_path g i k is_zero_time (λ next may. may) path
 
-pub prologue_at : (g : Global) (i : ℕ) (k : Todo) → IsPrologue (two_rises g) i k → Early g i k
+pub prologue_at : (g : Global) (i : ℕ) (k : Todo) → IsPrologue (two_rises g) false i k → Early g i k
 prologue_at g i k path = early_path g i k is_plain plain_is_still path
 
 pub early_now : (g : Global) (i v : ℕ) (k : Todo) → Early g i k → WritesNow (two_rises g) k v → ⊥

@@ -178,7 +178,7 @@ sound_root g grain = record {
 }
   where
     -- a way from the turn of the clock leads to where no time has gone by, and there it doesn't turn
-    never_hot : (i : ℕ) (k : Todo) → i ≡ 3 → WritesAny (swapping_later g) k 0 → IsHot (swapping_later g) i 0 k → ⊥
+    never_hot : (i : ℕ) (k : Todo) → i ≡ 3 → WritesAny (swapping_later g) k 0 → IsHot (swapping_later g) false i 0 k → ⊥
     never_hot i k at w hot =
         let early = turned_early g i 0 hot.at hot.next at (wrote_who g i 0 hot.at (wrote g i 0 hot.at (spot_at g i hot.at hot.point) hot.starts)) hot.goes in
         let first = early_any g i 0 k (early_path g i (todo_behind hot.next) k is_zero_time (λ next may. may) early hot.path) w in
@@ -305,9 +305,9 @@ readings g grain i = record {
 -- ---- the first slot
 
 -- `c = 0` is no rising edge
-fires_none : (g : Global) (grain : Grain) → FiresNone (swapping_later g) (swap_claims grain) 0 (setting g 0 Zero)
+fires_none : (g : Global) (grain : Grain) (i : ℕ) → FiresNone (swapping_later g) (swap_claims grain) 0 i (setting g 0 Zero)
 unfolding out-Statement denote.Hole.Carrier.out
-fires_none g grain = record {
+fires_none g grain i = record {
   digit = Zero;
   known = known_zero;
   gives = rw (reads_number (Zero ∷ []), value_number (Zero ∷ []) [] 0) refl;
@@ -330,14 +330,14 @@ first_roots g grain v = record {
       (one.0 ∙ sym another.0, one.1 ∙ sym another.1);
   now = λ i k root slot w. early_later g i v k (early_at g i k slot) w;
   constant = λ i k root slot w.
-      subst (FiresNone (swapping_later g) (swap_claims grain) v) (sym (set_at i k (root_0 root) slot (inl w)).1)
-      (subst (λ n. FiresNone (swapping_later g) (swap_claims grain) n (setting g 0 Zero)) (sym (root_0 root)) (fires_none g grain));
+      subst (FiresNone (swapping_later g) (swap_claims grain) v i) (sym (set_at i k (root_0 root) slot (inl w)).1)
+      (subst (λ n. FiresNone (swapping_later g) (swap_claims grain) n i (setting g 0 Zero)) (sym (root_0 root)) (fires_none g grain i));
 }
   where
     root_0 : IsRoot (swapping_later g) (swap_claims grain) v → v ≡ 0
     root_0 root = (root_is g grain v root.0 root.1).0
 
-    set_at : (i : ℕ) (k : Todo) → v ≡ 0 → IsSlot0 (swapping_later g) i k → WritesAny (swapping_later g) k v → (i ≡ 0) × (k ≡ setting g 0 Zero)
+    set_at : (i : ℕ) (k : Todo) → v ≡ 0 → IsSlot0 (swapping_later g) false i k → WritesAny (swapping_later g) k v → (i ≡ 0) × (k ≡ setting g 0 Zero)
     set_at i k at slot w = first_set g i k (early_any g i 0 k (early_at g i k slot) (subst (WritesAny (swapping_later g) k) at w))
 
 first_slot : (g : Global) (grain : Grain) (i : ℕ) → K10_Process (swapping_later g) (swap_claims grain) i
@@ -345,6 +345,7 @@ first_slot g grain i = record {
   variable = λ k r seq slot reads. absurd (no_early_needs g grain i k r (early_at g i k slot) reads);
   written = λ k r seq slot reads. absurd (no_early_needs g grain i k r (early_at g i k slot) reads);
   alone = λ k r j seq slot reads w. absurd (no_early_needs g grain i k r (early_at g i k slot) reads);
+  first = λ k l r j wide seq slot reads there now. absurd (no_early_needs g grain i k r (early_at g i k slot) reads);
   untouched = λ k u r prologue w needed cone. no_needs r needed;
 }
   where

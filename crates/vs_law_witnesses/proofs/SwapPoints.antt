@@ -1,5 +1,5 @@
 -- The points of a clocked design, what is done at them, and its certificate.
-use Rattle.std.proofs.Common.{◌≡◌, ℕ, zero, suc, ◌+◌, ◌<◌, ◌⊎◌, Bool, true, Some, List, [], ◌∷◌, slice_get, refl, sym, ◌∙◌, ap, subst, inl, inr, lit<, arith}
+use Rattle.std.proofs.Common.{◌≡◌, ℕ, zero, suc, ◌+◌, ◌<◌, ◌⊎◌, Bool, true, false, Some, List, [], ◌∷◌, slice_get, refl, sym, ◌∙◌, ap, subst, inl, inr, lit<, arith}
 use Rattle.std.proofs.lemmas.Bool.{false≢true}
 use Rattle.std.proofs.lemmas.Option.{none-some, same_Some}
 use Rattle.std.proofs.lemmas.Slice.Eq.{bytes_eq-Decides}
@@ -180,7 +180,7 @@ pub early_path : (g : Global) (i : ℕ) (from k : Todo) (ok : Next → Bool) →
 early_path g i from k ok still at path =
     closed_paths (Early g i) ok from at (λ l next s h may. early_behind g i l next (way_at g i l next (early_spot g i l s) h) (still next may)) k path
 
-pub early_at : (g : Global) (i : ℕ) (k : Todo) → IsSlot0 (swapping_later g) i k → Early g i k
+pub early_at : (g : Global) (i : ℕ) (k : Todo) → IsSlot0 (swapping_later g) false i k → Early g i k
 early_at g i k path = early_path g i (first_todo (swapping_later g) i) k is_zero_time (λ next may. may) (first_early g i) path
 
 -- ---- what is done at its points

@@ -17,3 +17,4 @@ pub use Rattle.vs_threads
 pub mod Roots
 pub mod Late
 pub mod Resets
+pub mod Counterexamples

@@ -3,12 +3,20 @@
 //! whose executions differ in one thing alone.
 #![tactic(auto)]
 
+mod counterexamples;
 mod differences;
 mod disciplined;
 mod ruled;
 mod staggered;
 mod wide;
 
+pub use counterexamples::{
+    a_delay_behind_an_edge_breaks_the_rules, a_first_edge_breaks_the_rules,
+    a_first_inverse_edge_breaks_the_rules, a_first_read_breaks_the_rules,
+    a_late_read_of_an_edge_breaks_the_rules, an_arrival_breaks_the_rules,
+    an_inverse_edge_breaks_the_rules, two_edges_at_once_break_the_rules,
+    two_signals_of_a_root_break_the_rules,
+};
 pub use differences::{finish_alone_differs, strobe_lines_alone_differ};
 pub use disciplined::{
     a_block_is_disciplined, a_carry_is_disciplined, a_race_is_seen, a_rise_is_disciplined,

@@ -1,5 +1,5 @@
 -- What holds of all points to which paths of a sort lead holds of all places to which walks of that sort lead.
-use Rattle.std.proofs.Common.{◌≡◌, ℕ, ◌↔◌, false, true, Some, List, [], ◌∷◌, slice_get, refl, sym, subst, arith}
+use Rattle.std.proofs.Common.{◌≡◌, ℕ, ◌↔◌, Bool, false, true, Some, List, [], ◌∷◌, slice_get, refl, sym, subst, arith}
 use Rattle.std.specs.List.{Contains}
 use Rattle.std.proofs.lemmas.Bool.{false≢true}
 use Rattle.vs_design.specs.declared.design.Process.{Process}
@@ -127,10 +127,10 @@ pub late_exact : (d : Parts) (i : ℕ) (q : Process) (stops : List Stop) (start 
 late_exact d i q stops start t is =
     walk_exact d i q stops start t is Any (HasControl (record { stops = stops; start = start })) (λ k next. is_plain next ≡ false) (late_sorts q stops start t)
 
-pub hot_exact : (d : Parts) (i : ℕ) (q : Process) (stops : List Stop) (start : ℕ) (t : IsText q.body stops start) → slice_get d.processes i ≡ Some q → (v p n : ℕ) →
-    number_next (t.at p) ≡ Some n → (InHot (record { stops = stops; start = start }) v p ↔ IsHot d i v (t.at p))
-hot_exact d i q stops start t is v =
-    walk_exact d i q stops start t is ZeroTime (λ p. HasSignal (now_at (record { stops = stops; start = start }) p) v) (λ k next. WritesNow d k v) (hot_sorts d q stops start t v)
+pub hot_exact : (d : Parts) (i : ℕ) (q : Process) (stops : List Stop) (start : ℕ) (t : IsText q.body stops start) → slice_get d.processes i ≡ Some q → (wide : Bool) (v p n : ℕ) →
+    number_next (t.at p) ≡ Some n → (InHot wide (record { stops = stops; start = start }) v p ↔ IsHot d wide i v (t.at p))
+hot_exact d i q stops start t is wide v =
+    walk_exact d i q stops start t is (ZeroTime wide) (λ p. HasSignal (now_at (record { stops = stops; start = start }) p) v) (λ k next. WritesNow d k v) (hot_sorts d q stops start t v)
 
 -- ---- terms
 

@@ -1,5 +1,5 @@
 -- The tables of a process are exact.
-use Rattle.std.proofs.Common.{◌≡◌, ℕ, ◌↔◌, Bool, true, false, Some, List, [], ◌∷◌, slice_get, sym, subst}
+use Rattle.std.proofs.Common.{◌≡◌, ℕ, ◌↔◌, false, Some, List, [], ◌∷◌, slice_get, sym, subst}
 use Rattle.std.specs.List.{Contains}
 use Rattle.vs_design.specs.declared.design.Process.{Process}
 use Rattle.vs_design.specs.Parts.{Parts}
@@ -9,15 +9,15 @@ use Rattle.vs_process.specs.Numbers.{number_next}
 use Rattle.vs_process.specs.Ways.{Pause, next_by}
 use Rattle.vs_process.specs.Maps.{IsMap}
 use Rattle.vs_process.specs.Stops.{Stop, stops_tos, stops_behind, IsText}
-use Rattle.vs_rules.specs.Points.{first_todo, nexts_by}
+use Rattle.vs_rules.specs.Points.{first_todo}
 use Rattle.vs_graph.specs.Reached.{Reached}
 use Rattle.vs_rules.specs.Claims.{is_wide, kind_of}
-use Rattle.vs_rules.specs.Paths.{PathFromBy, WritesNow, is_plain}
+use Rattle.vs_rules.specs.Paths.{WritesNow, is_plain}
 use Rattle.vs_rules.specs.Slots.{Ends}
 use Rattle.vs_maps.specs.declared.along.Along.{Along}
-use Rattle.vs_maps.specs.declared.along.Along.TheVariants.{Any, Plain, Turned, ZeroTime}
+use Rattle.vs_maps.specs.declared.along.Along.TheVariants.{Any, Plain, ZeroTime}
 use Rattle.vs_maps.specs.Laws.{IsBegun}
-use Rattle.vs_maps.specs.Reaches.{IsPlace, is_turned, passes, plain_by, stops_along}
+use Rattle.vs_maps.specs.Reaches.{IsPlace, is_turned, passes, stops_along}
 use Rattle.vs_maps.specs.Exact.{AreBegun, TextsAreExact}
 use Rattle.vs_maps.proofs.Join.{same_place, path_from_exact, tos_along}
 use Rattle.vs_maps.proofs.Texts.{PathAlong, reached_same, pause_here, along_is, alike, ok_of, begins_with, place_of, place_back, from_on, from_back}
@@ -56,13 +56,6 @@ from_sort d i q stops start is t along sort seeds all p n numbered = (there, bac
   back : PathFromAlong along d i sort (t.at p) → Reached (stops_along along stops) seeds p
   back h = reached_same (tos_along (is_turned along) (passes along) t.at (stops_tos stops)) (stops_along along stops) seeds (λ a. sym (along_is q.body stops start t along a)) p (both.1 h)
 
--- from control to control
-from_plain : (d : Parts) (i : ℕ) (q : Process) (stops : List Stop) (start : ℕ) (is : slice_get d.processes i ≡ Some q) (t : IsText q.body stops start) (wide : Bool)
-    (sort : Todo → Next → Type 0) (seeds : List ℕ) → AreBegun (record { stops = stops; start = start }) t.at sort seeds → (p n : ℕ) →
-    number_next (t.at p) ≡ Some n → (Reached (stops_along (plain_by wide) stops) seeds p ↔ PathFromBy (nexts_by wide) d i sort is_plain (t.at p))
-from_plain d i q stops start is t false = from_sort d i q stops start is t Plain
-from_plain d i q stops start is t true = from_sort d i q stops start is t Turned
-
 -- from the start
 from_is : (d : Parts) (i : ℕ) (q : Process) (stops : List Stop) (start : ℕ) (is : slice_get d.processes i ≡ Some q) (t : IsText q.body stops start) (along : Along) (p n : ℕ) →
     number_next (t.at p) ≡ Some n → (Reached (stops_along along stops) (start ∷ []) p ↔ PathAlong along (first_todo d i) (t.at p))
@@ -77,9 +70,9 @@ texts_are_exact d i q stops start is t = record {
     place_back d i q stops start t is p,
     λ h. same_place (flat q.body) t.at start (stops_behind stops) (stops_tos stops) t.is_map (IsPlace (record { stops = stops; start = start })) p n numbered (place_of d i q stops start t is (t.at p) h),
   );
-  slot0 = from_is d i q stops start is t ZeroTime;
-  prologue = from_is d i q stops start is t Plain;
+  slot0 = λ wide. from_is d i q stops start is t (ZeroTime wide);
+  prologue = λ wide. from_is d i q stops start is t (Plain wide);
   late = from_sort d i q stops start is t Any (λ k next. is_plain next ≡ false);
-  hot = λ v. from_sort d i q stops start is t ZeroTime (λ k next. WritesNow d k v);
-  slots = λ c r. from_plain d i q stops start is t (is_wide c) (λ k next. Ends d c i (kind_of d c i) next r);
+  hot = λ wide v. from_sort d i q stops start is t (ZeroTime wide) (λ k next. WritesNow d k v);
+  slots = λ c r. from_sort d i q stops start is t (Plain (is_wide c)) (λ k next. Ends d c i (kind_of d c i) next r);
 }

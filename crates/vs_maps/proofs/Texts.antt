@@ -20,9 +20,9 @@ use Rattle.vs_rules.specs.Points.{Among, Goes, Point, first_todo, nexts_by, todo
 use Rattle.vs_rules.specs.Paths.{PathBy, IsPoint, any_way, is_plain, is_zero_time}
 use Rattle.vs_graph.specs.Reached.{Reached, begins, goes_on}
 use Rattle.vs_maps.specs.declared.along.Along.{Along}
-use Rattle.vs_maps.specs.declared.along.Along.TheVariants.{Any, Plain, Turned, ZeroTime}
+use Rattle.vs_maps.specs.declared.along.Along.TheVariants.{Any, Plain, ZeroTime}
 use Rattle.vs_maps.specs.Laws.{Alike}
-use Rattle.vs_maps.specs.Reaches.{is_turned, passes, pause_of, plain_by, statement_turns, stops_along, tos_by_turn, IsPlace}
+use Rattle.vs_maps.specs.Reaches.{is_turned, passes, pause_of, statement_turns, stops_along, tos_by_turn, IsPlace}
 use Rattle.vs_maps.proofs.Join.{go, gone, only, head_in, behind_next, point_on, point_back, path_on, path_back, tos_along}
 
 -- the same edges lead to the same
@@ -57,23 +57,19 @@ along_is body stops start t along p =
 -- which ways of a text count
 abbrev pub ok_of : Along → Next → Bool
 ok_of Any = any_way
-ok_of Plain = is_plain
-ok_of Turned = is_plain
-ok_of ZeroTime = is_zero_time
+ok_of (Plain by_turn) = is_plain
+ok_of (ZeroTime by_turn) = is_zero_time
 
 pub alike : (along : Along) → Alike (ok_of along) (passes along)
 alike Any none l = refl
 alike Any (delay number ticks) l = refl
 alike Any (event number terms) l = refl
-alike Plain none l = refl
-alike Plain (delay number ticks) l = refl
-alike Plain (event number terms) l = refl
-alike Turned none l = refl
-alike Turned (delay number ticks) l = refl
-alike Turned (event number terms) l = refl
-alike ZeroTime none l = refl
-alike ZeroTime (delay number ticks) l = refl
-alike ZeroTime (event number terms) l = refl
+alike (Plain by_turn) none l = refl
+alike (Plain by_turn) (delay number ticks) l = refl
+alike (Plain by_turn) (event number terms) l = refl
+alike (ZeroTime by_turn) none l = refl
+alike (ZeroTime by_turn) (delay number ticks) l = refl
+alike (ZeroTime by_turn) (event number terms) l = refl
 
 -- ---- walks and paths
 
@@ -93,15 +89,6 @@ pub walk_on : (body : Statement) (stops : List Stop) (start : ℕ) (t : IsText b
 walk_on body stops start t along p l h =
     let y = path_on (flat body) t.at start (stops_behind stops) (stops_tos stops) (is_turned along) (ok_of along) (passes along) t.is_map (alike along) (p ∷ []) p (head_in p []) l h in
     (y.0, reached_same (tos_along (is_turned along) (passes along) t.at (stops_tos stops)) (stops_along along stops) (p ∷ []) (λ p. sym (along_is body stops start t along p)) y.0 y.1, y.2)
-
--- a path from control to control
-pub plain_on : (wide : Bool) (k l : Todo) → PathBy (nexts_by wide) is_plain k l → PathAlong (plain_by wide) k l
-plain_on false k l h = h
-plain_on true k l h = h
-
-pub plain_back : (wide : Bool) (k l : Todo) → PathAlong (plain_by wide) k l → PathBy (nexts_by wide) is_plain k l
-plain_back false k l h = h
-plain_back true k l h = h
 
 -- ---- of a process
 

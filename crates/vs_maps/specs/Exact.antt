@@ -1,5 +1,5 @@
 -- The tables of a process are exact.
-use Rattle.std.specs.Prelude.{ℕ, ◌≡◌, ◌↔◌, false, Some, List, slice_get}
+use Rattle.std.specs.Prelude.{ℕ, ◌≡◌, ◌↔◌, Bool, false, Some, List, slice_get}
 use Rattle.std.specs.List.{Contains}
 use Rattle.vs_design.specs.declared.design.Process.{Process}
 use Rattle.vs_design.specs.Parts.{Parts}
@@ -12,8 +12,8 @@ use Rattle.vs_graph.specs.Reached.{Reached}
 use Rattle.vs_rules.specs.Claims.{Claims, is_wide, kind_of}
 use Rattle.vs_rules.specs.Paths.{IsPoint, IsSlot0, IsPrologue, IsLate, IsHot, WritesNow, is_plain}
 use Rattle.vs_rules.specs.Slots.{Ends, HasSlot}
-use Rattle.vs_maps.specs.declared.along.Along.TheVariants.{Any, ZeroTime}
-use Rattle.vs_maps.specs.Reaches.{Chart, IsPlace, InSlot0, InPrologue, pause_of, plain_by, stops_along}
+use Rattle.vs_maps.specs.declared.along.Along.TheVariants.{Any, Plain, ZeroTime}
+use Rattle.vs_maps.specs.Reaches.{Chart, IsPlace, InSlot0, InPrologue, pause_of, stops_along}
 
 -- a way of this sort leads to the place, from a place of a chart that is a point
 pub record Begins (t : Chart) (at : ℕ → Todo) (sort : Todo → Next → Type 0) (seed : ℕ) : Type 0 where
@@ -29,14 +29,14 @@ AreBegun t at sort seeds = (s : ℕ) → (Contains seeds s ↔ Begins t at sort 
 -- at each place where something is done, what its tables say is what the paths of the text say of its point
 pub record IsExact (d : Parts) (i : ℕ) (t : Chart) (at : ℕ → Todo) : Type 0 where
   pub point : (p n : ℕ) → number_next (at p) ≡ Some n → (IsPlace t p ↔ IsPoint d i (at p))
-  pub slot0 : (p n : ℕ) → number_next (at p) ≡ Some n → (InSlot0 t p ↔ IsSlot0 d i (at p))
-  pub prologue : (p n : ℕ) → number_next (at p) ≡ Some n → (InPrologue t p ↔ IsPrologue d i (at p))
+  pub slot0 : (wide : Bool) (p n : ℕ) → number_next (at p) ≡ Some n → (InSlot0 wide t p ↔ IsSlot0 d wide i (at p))
+  pub prologue : (wide : Bool) (p n : ℕ) → number_next (at p) ≡ Some n → (InPrologue wide t p ↔ IsPrologue d wide i (at p))
   pub late : (seeds : List ℕ) → AreBegun t at (λ k next. is_plain next ≡ false) seeds → (p n : ℕ) → number_next (at p) ≡ Some n →
       (Reached (stops_along Any t.stops) seeds p ↔ IsLate d i (at p))
-  pub hot : (v : ℕ) (seeds : List ℕ) → AreBegun t at (λ k next. WritesNow d k v) seeds → (p n : ℕ) → number_next (at p) ≡ Some n →
-      (Reached (stops_along ZeroTime t.stops) seeds p ↔ IsHot d i v (at p))
+  pub hot : (wide : Bool) (v : ℕ) (seeds : List ℕ) → AreBegun t at (λ k next. WritesNow d k v) seeds → (p n : ℕ) → number_next (at p) ≡ Some n →
+      (Reached (stops_along (ZeroTime wide) t.stops) seeds p ↔ IsHot d wide i v (at p))
   pub slots : (c : Claims) (r : ℕ) (seeds : List ℕ) → AreBegun t at (λ k next. Ends d c i (kind_of d c i) next r) seeds →
-      (p n : ℕ) → number_next (at p) ≡ Some n → (Reached (stops_along (plain_by (is_wide c)) t.stops) seeds p ↔ HasSlot d c i (at p) r)
+      (p n : ℕ) → number_next (at p) ≡ Some n → (Reached (stops_along (Plain (is_wide c)) t.stops) seeds p ↔ HasSlot d c i (at p) r)
 
 abbrev pub TextsAreExact : Type 0
 TextsAreExact = (d : Parts) (i : ℕ) (q : Process) (stops : List Stop) (start : ℕ) → slice_get d.processes i ≡ Some q →

@@ -11,7 +11,7 @@ use Rattle.vs_process.specs.Stops.{LeadsIn, Stop, stop_view, stop_at, stop_state
 use Rattle.vs_graph.specs.Reached.{Reached, AreReached}
 use Rattle.vs_rules.specs.Points.{first_alone, surely_turns}
 use Rattle.vs_maps.specs.declared.along.Along.{Along}
-use Rattle.vs_maps.specs.declared.along.Along.TheVariants.{Any, Plain, Turned, ZeroTime}
+use Rattle.vs_maps.specs.declared.along.Along.TheVariants.{Any, Plain, ZeroTime}
 use Rattle.vs_maps.specs.declared.pauses.Pause as p
 use Rattle.vs_maps.specs.declared.pauses.Pause.TheVariants as pauses
 
@@ -19,13 +19,11 @@ use Rattle.vs_maps.specs.declared.pauses.Pause.TheVariants as pauses
 abbrev pub passes : Along → Pause → Bool
 passes along none = true
 passes Any (delay number ticks) = true
-passes Plain (delay number ticks) = false
-passes Turned (delay number ticks) = false
-passes ZeroTime (delay number ticks) = ticks == 0
+passes (Plain by_turn) (delay number ticks) = false
+passes (ZeroTime by_turn) (delay number ticks) = ticks == 0
 passes Any (event number terms) = true
-passes Plain (event number terms) = false
-passes Turned (event number terms) = false
-passes ZeroTime (event number terms) = false
+passes (Plain by_turn) (event number terms) = false
+passes (ZeroTime by_turn) (event number terms) = false
 
 -- how all ways from a statement go on; where there is none, through no control
 abbrev pub pause_of : Option Statement → Pause
@@ -37,8 +35,9 @@ statement_passes along s = passes along (pause_of s)
 
 -- whether of the ways from a turn that is sure the first alone counts
 abbrev pub is_turned : Along → Bool
-is_turned Turned = true
-is_turned _ = false
+is_turned Any = false
+is_turned (Plain by_turn) = by_turn
+is_turned (ZeroTime by_turn) = by_turn
 
 -- whether a statement surely has a turn
 abbrev pub statement_turns : Option Statement → Bool
@@ -55,11 +54,6 @@ stops_along along stops p =
     if statement_passes along (stop_statement (stop_at stops p))
     then tos_by_turn (is_turned along && statement_turns (stop_statement (stop_at stops p))) (stops_tos stops p)
     else []
-
--- which ways count from control to control: in version 3 of certificates past a turn that is sure by it alone
-abbrev pub plain_by : Bool → Along
-plain_by false = Plain
-plain_by true = Turned
 
 -- whether the statement of a stop surely has a turn
 abbrev pub stop_turns : Stop → Bool
@@ -103,24 +97,27 @@ pause_at t p = pause_of (stop_statement (stop_at t.stops p))
 abbrev pub IsPlace : Chart → ℕ → Type 0
 IsPlace t p = Reached (stops_steps t.stops) (t.start ∷ []) p
 
--- ways that take no time lead to a place from the start
-abbrev pub InSlot0 : Chart → ℕ → Type 0
-InSlot0 t p = Reached (stops_along ZeroTime t.stops) (t.start ∷ []) p
+-- ways that take no time lead to a place from the start, by wide rules past a turn that is sure by it alone
+abbrev pub InSlot0 : Bool → Chart → ℕ → Type 0
+InSlot0 wide t p = Reached (stops_along (ZeroTime wide) t.stops) (t.start ∷ []) p
 
 -- ways through no control do
-abbrev pub InPrologue : Chart → ℕ → Type 0
-InPrologue t p = Reached (stops_along Plain t.stops) (t.start ∷ []) p
+abbrev pub InPrologue : Bool → Chart → ℕ → Type 0
+InPrologue wide t p = Reached (stops_along (Plain wide) t.stops) (t.start ∷ []) p
 
 -- marks say which of the places below a number a walk from one of the seeds leads to
 pub record Mark (nexts : ℕ → List ℕ) (seeds : List ℕ) (n : ℕ) (marks : List Bool) : Type 0 where
   pub long : length marks ≡ n
   pub exact : AreReached nexts seeds n marks
 
--- the places are as many, lead to each other alone, and are marked so; and so are the stops that surely have a turn
-pub record AreTables (n : ℕ) (t : Chart) (turns points slot0 prologue : List Bool) : Type 0 where
+-- the places that a path from the start leads to, without time and through no control, are marked so
+pub record AreEarly (n : ℕ) (t : Chart) (wide : Bool) (slot0 prologue : List Bool) : Type 0 where
+  pub slot0_are : Mark (stops_along (ZeroTime wide) t.stops) (t.start ∷ []) n slot0
+  pub prologue_are : Mark (stops_along (Plain wide) t.stops) (t.start ∷ []) n prologue
+
+-- the places are as many, lead to each other alone, and the points are marked so; and so are the stops that surely have a turn
+pub record AreTables (n : ℕ) (t : Chart) (turns points : List Bool) : Type 0 where
   pub starts_in : t.start < n
   pub leads_in : LeadsIn n t.stops
   pub turns_are : turns ≡ map stop_turns t.stops
   pub points_are : Mark (stops_steps t.stops) (t.start ∷ []) n points
-  pub slot0_are : Mark (stops_along ZeroTime t.stops) (t.start ∷ []) n slot0
-  pub prologue_are : Mark (stops_along Plain t.stops) (t.start ∷ []) n prologue

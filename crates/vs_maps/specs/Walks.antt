@@ -31,9 +31,9 @@ HasControl t p = is_control (pause_at t p) ≡ true
 abbrev pub InLate : Chart → ℕ → Type 0
 InLate t p = WalkFrom t Any (HasControl t) p
 
--- one that takes no time does from a write of the signal by `=`
-abbrev pub InHot : Chart → ℕ → ℕ → Type 0
-InHot t v p = WalkFrom t ZeroTime (λ q. HasSignal (now_at t q) v) p
+-- one that takes no time does from a write of the signal by `=`, by wide rules past a turn that is sure by it alone
+abbrev pub InHot : Bool → Chart → ℕ → ℕ → Type 0
+InHot wide t v p = WalkFrom t (ZeroTime wide) (λ q. HasSignal (now_at t q) v) p
 
 -- one along ways that count does from this place, which is of a sort
 abbrev pub IsBefore : Chart → Along → (ℕ → Type 0) → ℕ → ℕ → Type 0
@@ -52,9 +52,9 @@ takes_time _ = false
 abbrev pub HasTime : Chart → ℕ → Type 0
 HasTime t p = takes_time (pause_at t p) ≡ true
 
--- a walk that takes no time leads to the place from the delay at this place, of more than zero ticks
+-- a walk that takes no time leads to the place from the delay at this place, of more than zero ticks, past a turn that is sure by it alone
 abbrev pub IsDelayBefore : Chart → ℕ → ℕ → Type 0
-IsDelayBefore t q p = IsBefore t ZeroTime (HasTime t) q p
+IsDelayBefore t q p = IsBefore t (ZeroTime true) (HasTime t) q p
 
 -- marks say of which numbers below one something holds
 abbrev pub AreMarked : (ℕ → Type 0) → ℕ → List Bool → Type 0

@@ -16,7 +16,7 @@ mod turns;
 mod uses;
 mod walks;
 
-pub use along::{Along, plain_by};
+pub use along::Along;
 pub use delays::controls;
 pub use families::push_signals;
 pub use laws::{maps_are_exact, texts_are_exact};
@@ -25,7 +25,7 @@ pub use pauses::Pause;
 pub use readings::text_reads;
 pub use sites::{Site, SiteRule, Sites, Use, is_now, is_write, is_write_of, places_written};
 pub use tables::Tables;
-pub use turns::turns_of;
+pub use turns::{surely_turns, turns_of};
 pub use uses::Uses;
 pub use vs_graph;
 pub use vs_threads;

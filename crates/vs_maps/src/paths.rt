@@ -41,8 +41,8 @@ fn is_turned(along: Along) -> bool
     ensures { result ≡ is_turned along }
 {
     match along {
-        Along::Turned => true,
-        Along::Any | Along::Plain | Along::ZeroTime => false,
+        Along::Any => false,
+        Along::Plain(by_turn) | Along::ZeroTime(by_turn) => by_turn,
     }
 }
 

@@ -48,9 +48,12 @@ pub(crate) fn passes(along: Along, pause: Pause) -> bool
         Pause::Nothing => true,
         Pause::Delay(_, ticks) => match along {
             Along::Any => true,
-            Along::Plain | Along::Turned => false,
-            Along::ZeroTime => ticks == 0,
+            Along::Plain(_) => false,
+            Along::ZeroTime(_) => ticks == 0,
         },
-        Pause::Event(_, _) => along == Along::Any,
+        Pause::Event(_, _) => match along {
+            Along::Any => true,
+            Along::Plain(_) | Along::ZeroTime(_) => false,
+        },
     }
 }

@@ -17,14 +17,16 @@ pub struct Tables<'a> {
     turns: Vec<bool>,
     points: Vec<bool>,
     slot0: Vec<bool>,
+    slot0_by_turns: Vec<bool>,
     prologue: Vec<bool>,
+    prologue_by_turns: Vec<bool>,
 }
 
 impl<'a> Model for Tables<'a> {
-    ghost use Rattle.std.specs.Prelude.{suc, length};
+    ghost use Rattle.std.specs.Prelude.{suc, true, false, length};
     ghost use Rattle.std.specs.Coded.{codes};
     ghost use Rattle.vs_design.specs.contracts.statement.Statement as statement;
-    ghost use Rattle.vs_maps.specs.Reaches.{Chart, chart_of, AreTables};
+    ghost use Rattle.vs_maps.specs.Reaches.{Chart, chart_of, AreTables, AreEarly};
 
     ghost Value = { Chart };
 
@@ -33,7 +35,9 @@ impl<'a> Model for Tables<'a> {
     ghost view = { λ t. chart_of t.text.now };
 
     ghost invariant = { λ t.
-        AreTables (suc (length t.text.now.stops.items)) (chart_of t.text.now) t.turns.items t.points.items t.slot0.items t.prologue.items };
+        AreTables (suc (length t.text.now.stops.items)) (chart_of t.text.now) t.turns.items t.points.items
+        × AreEarly (suc (length t.text.now.stops.items)) (chart_of t.text.now) false t.slot0.items t.prologue.items
+        × AreEarly (suc (length t.text.now.stops.items)) (chart_of t.text.now) true t.slot0_by_turns.items t.prologue_by_turns.items };
 }
 
 impl<'a> Tables<'a> {
@@ -51,14 +55,31 @@ impl<'a> Tables<'a> {
     {
         let turns = turns_of(alloc, &text.stops)?;
         let points = points(alloc, &text.stops, text.start)?;
-        let slot0 = places_along(alloc, &text.stops, &turns, Along::ZeroTime, &[text.start])?;
-        let prologue = places_along(alloc, &text.stops, &turns, Along::Plain, &[text.start])?;
+        let start = [text.start];
+        let slot0 = places_along(alloc, &text.stops, &turns, Along::ZeroTime(false), &start)?;
+        let slot0_by_turns = places_along(
+            alloc,
+            &text.stops,
+            &turns,
+            Along::ZeroTime(true),
+            &start,
+        )?;
+        let prologue = places_along(alloc, &text.stops, &turns, Along::Plain(false), &start)?;
+        let prologue_by_turns = places_along(
+            alloc,
+            &text.stops,
+            &turns,
+            Along::Plain(true),
+            &start,
+        )?;
         Ok(Tables {
             text,
             turns,
             points,
             slot0,
+            slot0_by_turns,
             prologue,
+            prologue_by_turns,
         })
     }
 
@@ -114,20 +135,28 @@ impl<'a> Tables<'a> {
         self.points[place]
     }
 
-    /// Whether a path without time leads to a place from the start.
-    pub fn is_slot0(&self, place: usize) -> bool
+    /// Whether a path without time leads to a place from the start, by wide rules past a turn that is sure by it alone.
+    pub fn is_slot0(&self, wide: bool, place: usize) -> bool
         requires { place < places self.now }
-        ensures { IsTrue result ↔ InSlot0 self.now place }
+        ensures { IsTrue result ↔ InSlot0 wide self.now place }
     {
-        self.slot0[place]
+        if wide {
+            self.slot0_by_turns[place]
+        } else {
+            self.slot0[place]
+        }
     }
 
-    /// Whether a path through no control leads to a place from the start.
-    pub fn is_prologue(&self, place: usize) -> bool
+    /// Whether a path through no control leads to a place from the start, by wide rules past a turn that is sure by it alone.
+    pub fn is_prologue(&self, wide: bool, place: usize) -> bool
         requires { place < places self.now }
-        ensures { IsTrue result ↔ InPrologue self.now place }
+        ensures { IsTrue result ↔ InPrologue wide self.now place }
     {
-        self.prologue[place]
+        if wide {
+            self.prologue_by_turns[place]
+        } else {
+            self.prologue[place]
+        }
     }
 
     /// The places to which walks along the ways that count lead from one of these: a mark for each place. It takes as long as there are places

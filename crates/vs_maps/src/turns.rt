@@ -58,8 +58,8 @@ fn is_sure(alloc: Global, signed: bool, count: &Typed) -> Result<bool, AllocErro
     }
 }
 
-// Whether a statement is a `repeat` whose count is a constant above 0 (IEEE 1364-2005, clause 9.6): it has a turn, whatever the store.
-fn surely_turns(alloc: Global, s: &Statement) -> Result<bool, AllocError>
+/// Whether a statement is a `repeat` whose count is a constant above 0 (IEEE 1364-2005, clause 9.6): it has a turn, whatever the store.
+pub fn surely_turns(alloc: Global, s: &Statement) -> Result<bool, AllocError>
     ensures { IfOk result (λ b. b ≡ surely_turns (out-Statement s.now)) }
 {
     match s {

@@ -155,17 +155,24 @@ pub fn late<'a>(alloc: Global, tables: &'a Tables<'a>) -> Result<Vec<bool>, Allo
     walks_from(alloc, tables, Along::Any, &Controls { tables })
 }
 
-/// The places to which a path that takes no time leads from a write of a signal by `=`: a mark for each.
+/// The places to which a path that takes no time leads from a write of a signal by `=`, by wide rules past a turn that is sure by it alone: a mark
+/// for each.
 pub fn hot<'a>(
     alloc: Global,
     tables: &'a Tables<'a>,
+    wide: bool,
     signal: usize,
 ) -> Result<Vec<bool>, AllocError>
     ensures len { IfOk result (λ marks. length marks.items ≡ places tables.entry.now) }
     ensures exact { IfOk result (λ marks.
-        AreMarked (InHot tables.entry.now signal) (places tables.entry.now) marks.items) }
+        AreMarked (InHot wide tables.entry.now signal) (places tables.entry.now) marks.items) }
 {
-    walks_from(alloc, tables, Along::ZeroTime, &Writes { tables, signal })
+    walks_from(
+        alloc,
+        tables,
+        Along::ZeroTime(wide),
+        &Writes { tables, signal },
+    )
 }
 
 // The places to which a walk along the ways that count leads from a place, where that keeps a rule.
@@ -232,14 +239,14 @@ pub fn controls_before<'a>(
     rows_before(alloc, tables, along, &Controls { tables })
 }
 
-/// For each place the delay controls of more than zero ticks from which a walk that takes no time leads to it. It takes as long as these rows are,
-/// and the ways of their places.
+/// For each place the delay controls of more than zero ticks from which a walk that takes no time leads to it, past a turn that is sure by it alone.
+/// It takes as long as these rows are, and the ways of their places.
 pub fn delays_before<'a>(alloc: Global, tables: &'a Tables<'a>) -> Result<Rows<usize>, AllocError>
     ensures len { IfOk result (λ table. length table ≡ places tables.entry.now) }
     ensures exact { IfOk result (λ table.
         AreRows (IsDelayBefore tables.entry.now) (places tables.entry.now) (places tables.entry.now) table) }
 {
-    rows_before(alloc, tables, Along::ZeroTime, &Delays { tables })
+    rows_before(alloc, tables, Along::ZeroTime(true), &Delays { tables })
 }
 
 /// The terms of all event controls of a text (IEEE 1364-2005, clause 9.7.2).

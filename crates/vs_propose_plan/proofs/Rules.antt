@@ -317,6 +317,7 @@ keeps_10p d c i still = record {
   variable = λ a r seq. absurd (no_sequential d c still i seq);
   written = λ a r seq. absurd (no_sequential d c still i seq);
   alone = λ a r j seq. absurd (no_sequential d c still i seq);
+  first = λ a b r j wide seq. absurd (no_sequential d c still i seq);
   untouched = λ a u r first writes needs cone. blocks r needs;
 } where
   blocks : (r : BitRange) → BlockNeeds d c r → ⊥

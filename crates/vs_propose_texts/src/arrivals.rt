@@ -71,14 +71,6 @@ pub(crate) fn delayed(arrival: Arrival, ticks: u64, modulus: u64) -> Arrival {
     }
 }
 
-// Whether a text comes so from a control.
-fn is_later(arrival: Arrival) -> bool {
-    match arrival {
-        Arrival::Start | Arrival::FirstSlot => false,
-        Arrival::Residue(_) | Arrival::Woken => true,
-    }
-}
-
 // How a text that comes to a statement goes on from there.
 fn behind(statement: Option<&Statement>, arrival: Arrival, modulus: u64) -> Arrival {
     match statement {
@@ -104,14 +96,14 @@ pub(crate) fn stop_at<'a>(stops: &'a [Stop<'a>], place: usize) -> Option<&'a Sto
 struct Walk {
     rows: Vec<Vec<Arrival>>,
     todo: Vec<(usize, Arrival)>,
-    // For each stop, whether a text that comes from a control passes it by a turn alone.
+    // For each stop, whether a text passes it by a turn alone.
     turns: Vec<bool>,
     // How many ways to come to one place are told apart.
     most: usize,
     is_full: bool,
 }
 
-// For each stop of a map, whether a text that comes from a control passes it by a turn alone: by wide rules where it surely has one.
+// For each stop of a map, whether a text passes it by a turn alone: by wide rules where it surely has one.
 fn turns_by(alloc: Global, map: &TextMap, rules: Rules) -> Result<Vec<bool>, AllocError> {
     match rules {
         Rules::Narrow => Ok(Vec::new(alloc)),
@@ -206,9 +198,9 @@ impl Walk {
         Ok(())
     }
 
-    // Whether a text that comes so passes a place by a turn alone.
-    fn is_by_turn(&self, place: usize, arrival: Arrival) -> bool {
-        if place == 0 || !is_later(arrival) {
+    // Whether a text passes a place by a turn alone.
+    fn is_by_turn(&self, place: usize) -> bool {
+        if place == 0 {
             return false;
         }
         match self.turns.get(place - 1) {
@@ -229,7 +221,7 @@ impl Walk {
             return Ok(());
         };
         let next = behind(stop.statement, arrival, modulus);
-        for to in tos_by_turn(self.is_by_turn(place, arrival), &stop.tos) {
+        for to in tos_by_turn(self.is_by_turn(place), &stop.tos) {
             self.come(*to, next)?;
         }
         Ok(())

@@ -6,9 +6,10 @@ use Rattle.vs_design.specs.Parts.{Parts}
 use Rattle.vs_threads.specs.vs_process.specs.Landings.{todo_behind}
 use Rattle.vs_threads.specs.vs_process.specs.Places.{Todo, ended, start_place, todo_of}
 use Rattle.vs_threads.specs.vs_process.specs.Steps.{Next, on, after, wait}
-use Rattle.vs_rules.specs.Points.{Among, Goes, Point, first_todo}
+use Rattle.vs_rules.specs.Points.{Among, Goes, Point, first_todo, nexts_by}
 use Rattle.vs_rules.specs.Points as r
-use Rattle.vs_rules.specs.Paths.{Path, IsPoint}
+use Rattle.vs_rules.specs.Paths.{Path, PathBy, IsPoint}
+use Rattle.vs_rules.proofs.Points.{by_path}
 use Rattle.vs_rules.specs.Paths as x
 
 first_past : (d : Parts) (i : ℕ) → length d.processes ≤ i → first_todo d i ≡ []
@@ -39,5 +40,5 @@ end_paths ok first e _ (x.goes k l next before goes passes is) =
 pub past_points : (d : Parts) (i : ℕ) (k : Todo) → length d.processes ≤ i → IsPoint d i k → k ≡ []
 past_points d i k past h = end_points (first_todo d i) (first_past d i past) k h
 
-pub past_paths : (ok : Next → Bool) (d : Parts) (i : ℕ) (k : Todo) → length d.processes ≤ i → Path ok (first_todo d i) k → k ≡ []
-past_paths ok d i k past h = end_paths ok (first_todo d i) (first_past d i past) k h
+pub past_paths : (wide : Bool) (ok : Next → Bool) (d : Parts) (i : ℕ) (k : Todo) → length d.processes ≤ i → PathBy (nexts_by wide) ok (first_todo d i) k → k ≡ []
+past_paths wide ok d i k past h = end_paths ok (first_todo d i) (first_past d i past) k (by_path wide ok (first_todo d i) k h)

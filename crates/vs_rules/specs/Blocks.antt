@@ -168,7 +168,7 @@ pub record IsStarted (d : Parts) (c : Claims) (i g w : ℕ) : Type 0 where
   -- the control names it, itself or by way of a copy
   pub named : (r : BitRange) × Names d i r × CopiesWhole d g r.signal
   -- each of its writes there is such a one
-  pub only : (k : Todo) → IsSlot0 d w k → WritesAny d k g → Begins d i g k
+  pub only : (k : Todo) → IsSlot0 d false w k → WritesAny d k g → Begins d i g k
   -- on every path, before the end and before a control that takes time
   pub before_end : Missing d i g w [] → ⊥
   pub before_delay : (k l : Todo) (number ticks : ℕ) → Missing d i g w k → Goes k (after number (suc ticks) l) → ⊥

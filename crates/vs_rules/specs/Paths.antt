@@ -128,13 +128,13 @@ is_zero_time (wait number terms l) = false
 abbrev pub IsPoint : Parts → ℕ → Todo → Type 0
 IsPoint d i k = Point (first_todo d i) k
 
--- a zero-time path leads there from the start
-abbrev pub IsSlot0 : Parts → ℕ → Todo → Type 0
-IsSlot0 d i k = Path is_zero_time (first_todo d i) k
+-- a zero-time path leads there from the start; in version 3 past a `repeat` with a constant count above 0 by a turn alone
+abbrev pub IsSlot0 : Parts → Bool → ℕ → Todo → Type 0
+IsSlot0 d wide i k = PathBy (nexts_by wide) is_zero_time (first_todo d i) k
 
 -- one without any delay does
-abbrev pub IsPrologue : Parts → ℕ → Todo → Type 0
-IsPrologue d i k = Path is_plain (first_todo d i) k
+abbrev pub IsPrologue : Parts → Bool → ℕ → Todo → Type 0
+IsPrologue d wide i k = PathBy (nexts_by wide) is_plain (first_todo d i) k
 
 -- a path of such ways leads there once a way of this sort has been gone, from a point of a process
 pub record PathFromBy (ways : Todo → List Next) (d : Parts) (i : ℕ) (sort : Todo → Next → Type 0) (ok : Next → Bool) (k : Todo) : Type 0 where
@@ -152,11 +152,11 @@ PathFrom d i sort ok k = PathFromBy nexts d i sort ok k
 abbrev pub IsLate : Parts → ℕ → Todo → Type 0
 IsLate d i k = PathFrom d i (λ at next. is_plain next ≡ false) any_way k
 
--- by a zero-time path from a write of the variable by `=`, of the same process
-abbrev pub IsHot : Parts → ℕ → ℕ → Todo → Type 0
-IsHot d i v k = PathFrom d i (λ at next. WritesNow d at v) is_zero_time k
+-- by a zero-time path from a write of the variable by `=`, of the same process; in version 3 past such a `repeat` by a turn alone
+abbrev pub IsHot : Parts → Bool → ℕ → ℕ → Todo → Type 0
+IsHot d wide i v k = PathFromBy (nexts_by wide) d i (λ at next. WritesNow d at v) is_zero_time k
 
--- without a further control from a control that can end at a residue; in version 3 past a `repeat` with a constant count above 0 by a turn alone
+-- without a further control from a control that can end at a residue; in version 3 past such a `repeat` by a turn alone
 abbrev pub RunsBehind : Parts → Bool → ℕ → (Next → ℕ → Type 0) → Todo → ℕ → Type 0
 RunsBehind d wide i can_end k r = PathFromBy (nexts_by wide) d i (λ at next. can_end next r) is_plain k
 
@@ -206,13 +206,13 @@ writes_of d i = outputs d i
 abbrev pub Writes : Parts → ℕ → ℕ → Type 0
 Writes d i v = ListsSignal d (writes_of d i) v
 
--- an event control at a slot-0 point has this term
+-- an event control at a slot-0 point, by the paths of version 3, has this term
 pub record IsHeardAtStart (d : Parts) (i : ℕ) (t : EventTerm) : Type 0 where
   pub control : Todo
   pub number : ℕ
   pub terms : List EventTerm
   pub behind : Todo
-  pub slot0 : IsSlot0 d i control
+  pub slot0 : IsSlot0 d true i control
   pub goes : Goes control (wait number terms behind)
   pub is : Contains terms t
 

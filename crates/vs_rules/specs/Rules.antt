@@ -16,10 +16,10 @@ use Rattle.vs_threads.specs.vs_process.specs.Places.{Todo}
 use Rattle.vs_threads.specs.vs_process.specs.Steps.{Next, after, wait}
 use Rattle.vs_rules.specs.Claims.{Name, Mode, net, unwritten, combinational, nonblocking, blocking, private, both, writer_in, second_in, times_in}
 use Rattle.vs_rules.specs.Controls.{controls_of}
-use Rattle.vs_rules.specs.Points.{Goes}
+use Rattle.vs_rules.specs.Points.{Goes, nexts_by}
 use Rattle.vs_rules.specs.Claims.{Claims, IsSignalNamed, IsProcessNamed, IsAssignNamed, claim_of, IsWriter, IsSecond, HasMode, HasKind, IsBlock, IsEdge, HasLists, IsDelay, HasMixedLists, IsMixed, WaitsForEdges, WaitsForTimes, IsSequential, IsLater, IsWide, is_wide}
 use Rattle.vs_rules.specs.Claims.{signal_names, process_names, edge_names, edge_signals, IsRootOf, IsRoot}
-use Rattle.vs_rules.specs.Paths.{Bit, IsBit, Has, ListsSignal, WritesNow, WritesLater, WritesAny, ReadsNow, ShowsNow, IsPoint, IsSlot0, IsPrologue, IsLate, IsHot, Path, is_zero_time, Writes, reads_of, HasTerm, IsHeardAtStart}
+use Rattle.vs_rules.specs.Paths.{Bit, IsBit, Has, ListsSignal, WritesNow, WritesLater, WritesAny, ReadsNow, ShowsNow, IsPoint, IsSlot0, IsPrologue, IsLate, IsHot, PathBy, is_zero_time, Writes, reads_of, HasTerm, IsHeardAtStart}
 use Rattle.vs_rules.specs.Drivers.{Driver, block, IsDriver, DriverReads, DriverNeeds, StandsBefore, WritesBit, IsSource, IsBlocking, InCone}
 use Rattle.vs_rules.specs.Constants.{bit_of, Gives, IsKnown}
 use Rattle.vs_rules.specs.Copies.{CopiesRoot, SeenAs}
@@ -65,10 +65,10 @@ pub record K2 (d : Parts) (c : Claims) (v : ℕ) : Type 0 where
   -- no path leads through a control to a write of the second
   pub early : (i : ℕ) (k : Todo) → IsSecond d c v i → IsPoint d i k → WritesAny d k v → IsLate d i k → ⊥
   -- where there is a second, the writer has no `=` of it at slot-0 points
-  pub first_alone : (i j : ℕ) (l : Todo) → IsSecond d c v i → IsWriter d c v j → IsSlot0 d j l → WritesNow d l v → ⊥
+  pub first_alone : (i j : ℕ) (l : Todo) → IsSecond d c v i → IsWriter d c v j → IsSlot0 d (is_wide c) j l → WritesNow d l v → ⊥
   -- and where the second writes it by `<=`, no `<=` of it either
   pub first_alone_later : (i j : ℕ) (k l : Todo) → IsSecond d c v i → IsPoint d i k → WritesLater d k v →
-      IsWriter d c v j → IsSlot0 d j l → WritesLater d l v → ⊥
+      IsWriter d c v j → IsSlot0 d (is_wide c) j l → WritesLater d l v → ⊥
 
 -- ---- K3: a signal is written as its mode says
 
@@ -145,7 +145,7 @@ pub record IsSoundRoot (d : Parts) (c : Claims) (root : ℕ) : Type 0 where
   pub mode : HasMode d c root blocking
   pub writer : HasWriter d c root (IsDelay d c)
   -- its writer has no write of it at which it is hot
-  pub once : (i : ℕ) (k : Todo) → IsWriter d c root i → IsPoint d i k → WritesAny d k root → IsHot d i root k → ⊥
+  pub once : (i : ℕ) (k : Todo) → IsWriter d c root i → IsPoint d i k → WritesAny d k root → IsHot d (is_wide c) i root k → ⊥
 
 pub record K6 (d : Parts) (c : Claims) (v : ℕ) : Type 0 where
   -- it has one entry where an edge term names it, else none
@@ -161,7 +161,7 @@ pub record K6 (d : Parts) (c : Claims) (v : ℕ) : Type 0 where
 abbrev pub AreEdges : List EventTerm → Type 0
 AreEdges terms = list_any is_level terms ≡ false
 
--- a zero-time path leads from behind a delay control of a process, with more than zero ticks, to an event control
+-- a zero-time path, as version 3 has them, leads from behind a delay control of a process, with more than zero ticks, to an event control
 pub record Arrives (d : Parts) (i : ℕ) (delay event : Next) : Type 0 where
   pub from : Todo
   pub number : ℕ
@@ -172,7 +172,7 @@ pub record Arrives (d : Parts) (i : ℕ) (delay event : Next) : Type 0 where
   pub goes : Goes from delay
   pub above : 0 < ticks
   pub to : Todo
-  pub path : Path is_zero_time behind to
+  pub path : PathBy (nexts_by true) is_zero_time behind to
   pub waits : Goes to event
 
 pub record K7 (d : Parts) (c : Claims) (i : ℕ) : Type 0 where
@@ -199,7 +199,7 @@ pub record K8 (d : Parts) (c : Claims) (i : ℕ) : Type 0 where
   -- there is one list for each of its delay controls
   pub one_each : (lists : List (List ℕ)) → WaitsForTimes d c i lists → length lists ≡ length (controls_of d i)
   -- from the start, or from a `#0` in the first slot, a next control of d ticks, above 0, can end at d modulo the modulus
-  pub from_start : (lists : List (List ℕ)) (k l : Todo) (number ticks : ℕ) → WaitsForTimes d c i lists → IsSlot0 d i k →
+  pub from_start : (lists : List (List ℕ)) (k l : Todo) (number ticks : ℕ) → WaitsForTimes d c i lists → IsSlot0 d (is_wide c) i k →
       Goes k (after number ticks l) → 0 < ticks → DelayEnds d i lists (after number ticks l) (ticks % c.modulus)
   -- from a residue r of a control it can end at r + d modulo the modulus
   pub from_residue : (lists : List (List ℕ)) (k l : Todo) (number ticks r : ℕ) → WaitsForTimes d c i lists → RunsByDelays d (is_wide c) i lists k r →
@@ -216,7 +216,7 @@ Reads d c k r = ReadsNow d k r ⊎ ((c.displays ≡ true) × ShowsNow d k r)
 
 -- it is the writer, and either reads that very signal, or the signal isn't hot where it reads
 abbrev pub IsOwnRead : Parts → Claims → ℕ → ℕ → ℕ → Todo → Type 0
-IsOwnRead d c i u v k = IsWriter d c u i × ((u ≡ v) ⊎ (IsHot d i u k → ⊥))
+IsOwnRead d c i u v k = IsWriter d c u i × ((u ≡ v) ⊎ (IsHot d (is_wide c) i u k → ⊥))
 
 -- the process has an edge term of the signal, whose root is written at no residue at which a term of another root can fire, and in a mixed process
 -- at none at which a delay control ends from which a path without further control leads to the point
@@ -240,35 +240,41 @@ pub record K9 (d : Parts) (c : Claims) (i : ℕ) : Type 0 where
 -- ---- K10: the first slot
 
 -- of a signal: a root is written at slot-0 points at most once in all, by `=`, by a constant 0 or 1 that fires no edge term of it
-pub record FiresNone (d : Parts) (c : Claims) (root : ℕ) (k : Todo) : Type 0 where
+pub record FiresNone (d : Parts) (c : Claims) (root i : ℕ) (k : Todo) : Type 0 where
   pub digit : Digit
   pub known : IsKnown digit
   pub gives : Gives k (bit_of root) digit
-  -- in version 3 terms of other event controls than those at slot-0 points don't count: nothing waits there yet
-  pub silent : (j : ℕ) (t : EventTerm) (edge : Edge) → HasTerm d j t → (IsWide c → IsHeardAtStart d j t) → is_level t ≡ false →
+  -- in version 3 terms of other event controls than those at slot-0 points don't count: nothing waits there yet; nor do terms of the root itself by
+  -- which the process waits that writes it: it waits behind the write
+  pub silent : (j : ℕ) (t : EventTerm) (edge : Edge) → HasTerm d j t →
+      (IsWide c → IsHeardAtStart d j t × ((j ≡ i) × (t.range.signal ≡ root) → ⊥)) → is_level t ≡ false →
       IsRootOf d c root t.range.signal → SeenAs d (is_wide c) t edge → is_edge edge X digit ≡ false
 
 pub record K10_Signal (d : Parts) (c : Claims) (v : ℕ) : Type 0 where
   -- one statement at most, of all processes, writes it at slot-0 points
-  pub once : (i j : ℕ) (k l : Todo) → IsRoot d c v → IsSlot0 d i k → WritesAny d k v → IsSlot0 d j l → WritesAny d l v → (i ≡ j) × (k ≡ l)
+  pub once : (i j : ℕ) (k l : Todo) → IsRoot d c v → IsSlot0 d (is_wide c) i k → WritesAny d k v → IsSlot0 d (is_wide c) j l → WritesAny d l v → (i ≡ j) × (k ≡ l)
   -- by `=`
-  pub now : (i : ℕ) (k : Todo) → IsRoot d c v → IsSlot0 d i k → WritesLater d k v → ⊥
+  pub now : (i : ℕ) (k : Todo) → IsRoot d c v → IsSlot0 d (is_wide c) i k → WritesLater d k v → ⊥
   -- a constant 0 or 1, which from x fires no edge term of it
-  pub constant : (i : ℕ) (k : Todo) → IsRoot d c v → IsSlot0 d i k → WritesNow d k v → FiresNone d c v k
+  pub constant : (i : ℕ) (k : Todo) → IsRoot d c v → IsSlot0 d (is_wide c) i k → WritesNow d k v → FiresNone d c v i k
 
 -- what a process of kind comb reads or waits for, and where the certificate says so what it shows
 pub data BlockNeeds (d : Parts) (c : Claims) (r : BitRange) : Type 0 where
   needs : (i : ℕ) → IsBlock d c i → DriverNeeds d (block i) r → BlockNeeds d c r
   shows : (i : ℕ) (k : Todo) → IsBlock d c i → c.displays ≡ true → IsPoint d i k → ShowsNow d k r → BlockNeeds d c r
 
--- of a process: at slot-0 points one of kind edge or delay, or mixed, reads variables that it alone writes; at prologue points none writes by `=` what a block
--- hangs on
+-- of a process: at slot-0 points one of kind edge or delay, or mixed, reads variables that it alone writes, in version 3 also ones that no other process
+-- writes there by `=`; at prologue points none writes by `=` what a block hangs on
 pub record K10_Process (d : Parts) (c : Claims) (i : ℕ) : Type 0 where
   -- what one of kind edge or delay, or mixed, reads at a slot-0 point is a variable
-  pub variable : (k : Todo) (r : BitRange) → IsSequential d c i → IsSlot0 d i k → Reads d c k r → HasKind true d r.signal
-  -- that it writes
-  pub written : (k : Todo) (r : BitRange) → IsSequential d c i → IsSlot0 d i k → Reads d c k r → Writes d i r.signal
-  -- and no other process
-  pub alone : (k : Todo) (r : BitRange) (j : ℕ) → IsSequential d c i → IsSlot0 d i k → Reads d c k r → Writes d j r.signal → j ≡ i
+  pub variable : (k : Todo) (r : BitRange) → IsSequential d c i → IsSlot0 d (is_wide c) i k → Reads d c k r → HasKind true d r.signal
+  -- that it writes, but for version 3
+  pub written : (k : Todo) (r : BitRange) → IsSequential d c i → IsSlot0 d (is_wide c) i k → Reads d c k r → (IsWide c → ⊥) → Writes d i r.signal
+  -- and no other process, in version 3 none of kind comb
+  pub alone : (k : Todo) (r : BitRange) (j : ℕ) → IsSequential d c i → IsSlot0 d (is_wide c) i k → Reads d c k r → Writes d j r.signal →
+      (j ≡ i) ⊎ (IsWide c × (IsBlock d c j → ⊥))
+  -- and there none by `=` at slot-0 points: so it reads what the variable began with
+  pub first : (k l : Todo) (r : BitRange) (j : ℕ) → IsWide c → IsSequential d c i → IsSlot0 d (is_wide c) i k → Reads d c k r →
+      IsSlot0 d (is_wide c) j l → WritesNow d l r.signal → j ≡ i
   -- no `=` at a prologue point writes what is in the cone of what a block needs
-  pub untouched : (k : Todo) (u : ℕ) (r : BitRange) → IsPrologue d i k → WritesNow d k u → BlockNeeds d c r → InCone d c u r → ⊥
+  pub untouched : (k : Todo) (u : ℕ) (r : BitRange) → IsPrologue d (is_wide c) i k → WritesNow d k u → BlockNeeds d c r → InCone d c u r → ⊥

@@ -11,10 +11,10 @@ use Rattle.vs_process.specs.Places.{Todo}
 use Rattle.vs_process.specs.Steps.{Next, on, after, wait}
 use Rattle.vs_process.specs.Stops.{stop_at, stop_statement, stops_tos}
 use Rattle.vs_process.specs.Ways.{Pause, none, delay, event, next_by}
-use Rattle.vs_rules.specs.Points.{Goes}
+use Rattle.vs_rules.specs.Points.{Goes, nexts_by}
 use Rattle.vs_rules.specs.Claims.{Claims, Kind, edges, mixed, HasMixedLists, IsEdge, IsRootOf, WaitsForEdges, kind_for, kind_of}
 use Rattle.vs_rules.specs.Controls.{controls_of, list_of}
-use Rattle.vs_rules.specs.Paths.{IsPoint, Path, is_zero_time}
+use Rattle.vs_rules.specs.Paths.{IsPoint, PathBy, is_zero_time}
 use Rattle.vs_rules.specs.Rules.{AreEdges, Arrives, K7}
 use Rattle.vs_rules.specs.Slots.{DelayEnds, EdgeEnds, FiresOf}
 use Rattle.vs_claims.specs.vs_maps.specs.declared.along.Along.TheVariants.{ZeroTime}
@@ -120,7 +120,7 @@ edges_are_by_places d c i q stops start is t = record { edges = λ kind. (there 
       let here = pause_of (stop_statement (stop_at stops p.0)) in
       let paused_here : here ≡ pause_in one = pause_as here (t.at s.0) one s.2 in
       let behind : a.behind ≡ t.at s.0 = sym (ap todo_behind a.delay_is) ∙ behind_step here (t.at s.0) one s.2 in
-      let w = walk_on q.body stops start t ZeroTime s.0 a.to (subst (λ (z : Todo). Path is_zero_time z a.to) behind a.path) in
+      let w = walk_on q.body stops start t (ZeroTime true) s.0 a.to (subst (λ (z : Todo). PathBy (nexts_by true) is_zero_time z a.to) behind a.path) in
       let v = step_on q.body stops start t w.0 other (subst (λ (z : Todo). Goes z other) (sym w.2) a.waits) in
       let there = pause_of (stop_statement (stop_at stops w.0)) in
       let paused_there : there ≡ pause_in other = pause_as there (t.at v.0) other v.2 in
@@ -160,7 +160,7 @@ edges_are_by_places d c i q stops start is t = record { edges = λ kind. (there 
         goes = step_back q.body stops start t before.from before.to before.leads;
         above = time.3;
         to = t.at p;
-        path = walk_back q.body stops start t ZeroTime before.to p before.reached;
+        path = walk_back q.body stops start t (ZeroTime true) before.to p before.reached;
         waits = step_back q.body stops start t p w.0 w.1;
       })
       (delay_back d i lists here (t.at before.to) r ends_here) (y.3 (t.at w.0))

@@ -6,6 +6,7 @@ pub mod ReadingLemmas
 pub mod PairLemmas
 mod HungLemmas
 mod PlaceLemmas
+mod FirstReads
 mod SlotLemmas
 pub mod ByNumber
 pub mod ResidueLemmas

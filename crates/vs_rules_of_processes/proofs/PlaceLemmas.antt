@@ -1,5 +1,5 @@
 -- Ranges of variables of a process's own, and places past the end of a map.
-use Rattle.std.proofs.Common.{◌≡◌, ℕ, zero, suc, ◌+◌, ◌<◌, ◌≤◌, ◌⊎◌, ◌↔◌, inl, inr, Bool, true, false, IsTrue, Some, None, List, [], ◌∷◌, length, get_or, slice_get, refl, sym, ◌∙◌, ap, subst, arith}
+use Rattle.std.proofs.Common.{◌≡◌, ℕ, zero, suc, ◌+◌, ◌<◌, ◌≤◌, ◌⊎◌, ◌↔◌, inl, inr, true, false, IsTrue, Some, None, List, [], ◌∷◌, length, get_or, slice_get, refl, sym, ◌∙◌, ap, subst, arith}
 use Rattle.std.specs.List.{Contains}
 use Rattle.std.proofs.lemmas.Bool.{false≢true}
 use Rattle.std.proofs.lemmas.List.Elements.{Contains-get_or}
@@ -11,12 +11,12 @@ use Rattle.vs_design.specs.Parts.{Parts}
 use Rattle.vs_process.specs.Stops.{Stop, stop_at, stop_statement}
 use Rattle.vs_maps.specs.vs_rules.specs.vs_threads.specs.Threads.{own_reads, own_shows}
 use Rattle.vs_maps.specs.vs_rules.specs.Claims.{Claims}
-use Rattle.vs_maps.specs.vs_rules.specs.Paths.{Writes, statement_now}
+use Rattle.vs_maps.specs.vs_rules.specs.Paths.{statement_now}
 use Rattle.vs_drivers.specs.vs_maps.specs.Ranges.{ranges_of, now_at, reads_at, shows_at}
 use Rattle.vs_drivers.specs.vs_maps.specs.Reaches.{Chart, places}
 use Rattle.vs_rules_of_processes.specs.FirstSlot.{IsOwn, AreOwn, Hangs, NoneHangs, ReadsOwn}
 
-get_or_same : {A : Type 0} (xs : List A) (k : ℕ) (d e : A) → k < length xs → get_or xs k d ≡ get_or xs k e
+pub get_or_same : {A : Type 0} (xs : List A) (k : ℕ) (d e : A) → k < length xs → get_or xs k d ≡ get_or xs k e
 get_or_same [] k d e h = absurd (omega (arith, h))
 get_or_same (x ∷ xs) zero d e h = refl
 get_or_same (x ∷ xs) (suc k) d e h = get_or_same xs k d e (omega (arith, h))
@@ -50,38 +50,31 @@ none_same row i is = (λ h. absurd (false≢true h), λ y. absurd (let c = subst
 
 -- ---- own variables
 
-pub own_unknown : (d : Parts) (i v : ℕ) → slice_get d.signals v ≡ None → (IsTrue false ↔ IsOwn d i v)
-own_unknown d i v is = (λ h. absurd (false≢true h), λ o. absurd (none-some o.variable.0 (sym is ∙ o.variable.1)))
+pub own_unknown : (d : Parts) (c : Claims) (i v : ℕ) → slice_get d.signals v ≡ None → (IsTrue false ↔ IsOwn d c i v)
+own_unknown d c i v is = (λ h. absurd (false≢true h), λ o. absurd (none-some o.variable.0 (sym is ∙ o.variable.1)))
 
-pub own_net : (d : Parts) (i v : ℕ) (s : Signal) → slice_get d.signals v ≡ Some s → is_variable s.kind ≡ false → (IsTrue false ↔ IsOwn d i v)
-own_net d i v s is net = (
+pub own_net : (d : Parts) (c : Claims) (i v : ℕ) (s : Signal) → slice_get d.signals v ≡ Some s → is_variable s.kind ≡ false → (IsTrue false ↔ IsOwn d c i v)
+own_net d c i v s is net = (
   λ h. absurd (false≢true h),
   λ o. absurd (false≢true (sym net ∙ ap (λ (k : Signal). is_variable k.kind) (same_Some s o.variable.0 (sym is ∙ o.variable.1)) ∙ o.variable.2)),
 )
 
-pub own_variable : (d : Parts) (i v : ℕ) (s : Signal) (row : List ℕ) (b : Bool) → slice_get d.signals v ≡ Some s → is_variable s.kind ≡ true →
-    ((j : ℕ) → (Contains row j ↔ Writes d j v)) → (IsTrue b ↔ (Contains row i × ((j : ℕ) → Contains row j → j ≡ i))) → (IsTrue b ↔ IsOwn d i v)
-own_variable d i v s row b is kind row_is sole = (
-  λ t. let y = sole.0 t in record { variable = (s, is, kind); written = (row_is i).0 y.0; alone = λ j w. y.1 j ((row_is j).1 w) },
-  λ o. sole.1 ((row_is i).1 o.written, λ j c. o.alone j ((row_is j).0 c)),
-)
-
 -- the first of some ranges are of own variables, or of no signal that blocks hang on
-abbrev pub OwnSoFar : Parts → ℕ → List BitRange → ℕ → Type 0
-OwnSoFar d i rs n = (k : ℕ) (e : BitRange) → k < n → k < length rs → IsOwn d i (get_or rs k e).signal
+abbrev pub OwnSoFar : Parts → Claims → ℕ → List BitRange → ℕ → Type 0
+OwnSoFar d c i rs n = (k : ℕ) (e : BitRange) → k < n → k < length rs → IsOwn d c i (get_or rs k e).signal
 
-pub own_more : (d : Parts) (i : ℕ) (rs : List BitRange) (n : ℕ) (e : BitRange) → IsOwn d i (get_or rs n e).signal → OwnSoFar d i rs n → OwnSoFar d i rs (n + 1)
-own_more d i rs n e here h k f less within = elim (below_or k n less) [
+pub own_more : (d : Parts) (c : Claims) (i : ℕ) (rs : List BitRange) (n : ℕ) (e : BitRange) → IsOwn d c i (get_or rs n e).signal → OwnSoFar d c i rs n → OwnSoFar d c i rs (n + 1)
+own_more d c i rs n e here h k f less within = elim (below_or k n less) [
   | inl l ↦ h k f l within
-  | inr s ↦ subst (λ (r : BitRange). IsOwn d i r.signal) (get_or_same rs k e f within) (subst (λ (j : ℕ). IsOwn d i (get_or rs j e).signal) (sym s) here)
+  | inr s ↦ subst (λ (r : BitRange). IsOwn d c i r.signal) (get_or_same rs k e f within) (subst (λ (j : ℕ). IsOwn d c i (get_or rs j e).signal) (sym s) here)
 ]
 
-pub own_not : (d : Parts) (i : ℕ) (rs : List BitRange) (n : ℕ) (e : BitRange) → n < length rs → (IsOwn d i (get_or rs n e).signal → ⊥) → (IsTrue false ↔ AreOwn d i rs)
-own_not d i rs n e within not = (λ h. absurd (false≢true h), λ all. absurd (not (all (get_or rs n e) (Contains-get_or rs n e within))))
+pub own_not : (d : Parts) (c : Claims) (i : ℕ) (rs : List BitRange) (n : ℕ) (e : BitRange) → n < length rs → (IsOwn d c i (get_or rs n e).signal → ⊥) → (IsTrue false ↔ AreOwn d c i rs)
+own_not d c i rs n e within not = (λ h. absurd (false≢true h), λ all. absurd (not (all (get_or rs n e) (Contains-get_or rs n e within))))
 
-pub own_all : (d : Parts) (i : ℕ) (rs : List BitRange) (n : ℕ) → length rs ≤ n → OwnSoFar d i rs n → (IsTrue true ↔ AreOwn d i rs)
-own_all d i rs n past h = (
-  λ t r c. subst (λ (x : BitRange). IsOwn d i x.signal) c.2 (h c.0 r (omega (arith, c.1, past)) c.1),
+pub own_all : (d : Parts) (c : Claims) (i : ℕ) (rs : List BitRange) (n : ℕ) → length rs ≤ n → OwnSoFar d c i rs n → (IsTrue true ↔ AreOwn d c i rs)
+own_all d c i rs n past h = (
+  λ t r has. subst (λ (x : BitRange). IsOwn d c i x.signal) has.2 (h has.0 r (omega (arith, has.1, past)) has.1),
   λ all. refl,
 )
 
@@ -120,13 +113,13 @@ no_stop stops (suc p) h = slice_get_past stops p (omega (arith, h))
 nothing : (t : Chart) (p : ℕ) → places t ≤ p → stop_statement (stop_at t.stops p) ≡ None
 nothing t p past = ap stop_statement (no_stop t.stops p past)
 
-none_own : (d : Parts) (i : ℕ) (rs : List BitRange) → rs ≡ [] → AreOwn d i rs
-none_own d i rs is r c = absurd (let h = subst (λ (l : List BitRange). Contains l r) is c in omega (arith, h.1))
+none_own : (d : Parts) (c : Claims) (i : ℕ) (rs : List BitRange) → rs ≡ [] → AreOwn d c i rs
+none_own d c i rs is r has = absurd (let h = subst (λ (l : List BitRange). Contains l r) is has in omega (arith, h.1))
 
 pub reads_past : (d : Parts) (c : Claims) (i : ℕ) (t : Chart) (p : ℕ) → places t ≤ p → ReadsOwn d c i t p
 reads_past d c i t p past = record {
-  reads = none_own d i (reads_at t p) (ap (ranges_of own_reads) (nothing t p past));
-  shows = λ displays. none_own d i (shows_at t p) (ap (ranges_of own_shows) (nothing t p past));
+  reads = none_own d c i (reads_at t p) (ap (ranges_of own_reads) (nothing t p past));
+  shows = λ displays. none_own d c i (shows_at t p) (ap (ranges_of own_shows) (nothing t p past));
 }
 
 pub writes_past : (d : Parts) (c : Claims) (t : Chart) (p : ℕ) → places t ≤ p → NoneHangs d c (now_at t p)

@@ -11,7 +11,7 @@ use Rattle.vs_process.specs.Places.{perform, turns, Todo}
 use Rattle.vs_process.specs.Numbers.{number_next}
 use Rattle.vs_process.specs.Stops.{Stop, IsText}
 use Rattle.vs_rules.specs.vs_threads.specs.Threads.{todo_reads, own_shows, todo_shows}
-use Rattle.vs_rules.specs.Claims.{Claims, IsRootOf, IsSequential, edges, delays, mixed}
+use Rattle.vs_rules.specs.Claims.{Claims, IsRootOf, IsSequential, edges, delays, is_wide, mixed}
 use Rattle.vs_rules.specs.Paths.{IsHot}
 use Rattle.vs_rules.specs.Rules.{K9, Reads, IsOwnRead, IsOwnEdge, AreApart}
 use Rattle.vs_claims.specs.vs_maps.specs.Reaches.{Chart, IsPlace}
@@ -61,8 +61,8 @@ may_exact : (d : Parts) (c : Claims) (i : ℕ) (q : Process) (stops : List Stop)
     number_next (t.at p) ≡ Some n → (v u : ℕ) →
     (MayReadOf d c i (record { stops = stops; start = start }) p v u ↔ (IsOwnRead d c i u v (t.at p) ⊎ (IsOwnEdge d c i v (t.at p) ⊎ AreApart d c i u (t.at p))))
 may_exact d c i q stops start is t p n has v u = (there, back) where
-  hot : InHot (record { stops = stops; start = start }) u p ↔ IsHot d i u (t.at p)
-  hot = hot_exact d i q stops start t is u p n has
+  hot : InHot (is_wide c) (record { stops = stops; start = start }) u p ↔ IsHot d (is_wide c) i u (t.at p)
+  hot = hot_exact d i q stops start t is (is_wide c) u p n has
 
   own_there : OwnReadAt d c i (record { stops = stops; start = start }) p u v → IsOwnRead d c i u v (t.at p)
   own_there y = (y.0, elim y.1 [ inl e ↦ inl e | inr cold ↦ inr (λ h. cold (hot.1 h)) ])

@@ -6,7 +6,7 @@ use Rattle.vs_process.specs.Places.{Todo}
 use Rattle.vs_process.specs.Steps.{Next, on, after, wait}
 use Rattle.vs_process.specs.Ways.{Pause, none, delay, event, next_by}
 use Rattle.vs_process.specs.Stops.{Stop, stop_at, stop_statement, stops_tos, IsText}
-use Rattle.vs_rules.specs.Claims.{WaitsForTimes}
+use Rattle.vs_rules.specs.Claims.{WaitsForTimes, is_wide}
 use Rattle.vs_rules.specs.Points.{Goes}
 use Rattle.vs_rules.specs.Rules.{K8}
 use Rattle.vs_rules.specs.Slots.{DelayEnds, HasSlot}
@@ -56,7 +56,7 @@ residues_by_places d c i q stops start is t = (there, back) where
         m.no_event p.0 number terms delay_kind p.1 (pause_as (pause_of (stop_statement (stop_at stops p.0))) (t.at s.0) (wait number terms l) s.2);
     one_each = m.one_each;
     from_start = λ lists k l number ticks has early goes some.
-        let p = from_on d i q stops start t is ZeroTime k early in
+        let p = from_on d i q stops start t is (ZeroTime (is_wide c)) k early in
         let s = step_on q.body stops start t p.0 (after number ticks l) (subst (λ (z : Todo). Goes z (after number ticks l)) (sym p.2) goes) in
         m.from_start lists p.0 number ticks has p.1 (pause_as (pause_of (stop_statement (stop_at stops p.0))) (t.at s.0) (after number ticks l) s.2) some;
     from_residue = λ lists k l number ticks r has runs goes. from m lists k l number ticks r has (slot_by_delays d c i lists k r has runs) goes;
@@ -69,7 +69,7 @@ residues_by_places d c i q stops start is t = (there, back) where
         m.no_event (t.at p) (t.at w.0) number terms delay_kind (place_back d i q stops start t is p place) (has_way q stops start t p (event number terms) pause w.0 w.1);
     one_each = m.one_each;
     from_start = λ lists p number ticks has early pause some. let w = control_on q.body stops start t p (delay number ticks) pause refl in
-        m.from_start lists (t.at p) (t.at w.0) number ticks has (from_back d i q stops start t is ZeroTime p early) (has_way q stops start t p (delay number ticks) pause w.0 w.1) some;
+        m.from_start lists (t.at p) (t.at w.0) number ticks has (from_back d i q stops start t is (ZeroTime (is_wide c)) p early) (has_way q stops start t p (delay number ticks) pause w.0 w.1) some;
     from_run = λ lists p number ticks r has run pause.
         let w = control_on q.body stops start t p (delay number ticks) pause refl in
         let goes = has_way q stops start t p (delay number ticks) pause w.0 w.1 in

@@ -9,7 +9,7 @@ use Rattle.vs_design.specs.Parts.{Parts}
 use Rattle.vs_process.specs.Places.{Todo}
 use Rattle.vs_process.specs.Stops.{IsText}
 use Rattle.vs_maps.specs.vs_rules.specs.vs_threads.specs.Threads.{todo_reads, todo_shows}
-use Rattle.vs_maps.specs.vs_rules.specs.Claims.{Claims, IsSequential}
+use Rattle.vs_maps.specs.vs_rules.specs.Claims.{Claims, IsSequential, is_wide}
 use Rattle.vs_maps.specs.vs_rules.specs.Paths.{IsSlot0, IsPrologue, WritesNow, todo_now, is_plain, is_zero_time}
 use Rattle.vs_maps.specs.vs_rules.specs.Rules.{K10_Process, Reads}
 use Rattle.vs_drivers.specs.vs_maps.specs.declared.along.Along.TheVariants.{Plain, ZeroTime}
@@ -23,7 +23,7 @@ use Rattle.vs_rules_of_processes.specs.FirstSlot.{IsOwn, AreOwn, Hangs, NoneHang
 
 -- what is read at a point is of the process's own
 abbrev pub OwnAt : Parts → Claims → ℕ → Todo → Type 0
-OwnAt d c i k = (r : BitRange) → Reads d c k r → IsOwn d i r.signal
+OwnAt d c i k = (r : BitRange) → Reads d c k r → IsOwn d c i r.signal
 
 -- no `=` at a point writes what blocks hang on
 abbrev pub UntouchedAt : Parts → Claims → Todo → Type 0
@@ -50,8 +50,8 @@ untouched_at d c q t text p = (
 
 -- the rule, of points that do something
 record OfPoints (d : Parts) (c : Claims) (i : ℕ) : Type 0 where
-  reads : IsSequential d c i → (k : Todo) → IsSlot0 d i k → OwnAt d c i k
-  untouched : (k : Todo) → IsPrologue d i k → UntouchedAt d c k
+  reads : IsSequential d c i → (k : Todo) → IsSlot0 d (is_wide c) i k → OwnAt d c i k
+  untouched : (k : Todo) → IsPrologue d (is_wide c) i k → UntouchedAt d c k
 
 points_are : (d : Parts) (c : Claims) (i : ℕ) → (OfPoints d c i ↔ K10_Process d c i)
 points_are d c i = (
@@ -59,6 +59,7 @@ points_are d c i = (
     variable = λ k r seq early reads. (h.reads seq k early r reads).variable;
     written = λ k r seq early reads. (h.reads seq k early r reads).written;
     alone = λ k r j seq early reads. (h.reads seq k early r reads).alone j;
+    first = λ k l r j wide seq early reads slot. (h.reads seq k early r reads).first j l wide slot;
     untouched = λ k u r first writes needs cone. h.untouched k first u writes (record { range = r; needs = needs; cone = cone });
   },
   λ n. record {
@@ -66,6 +67,7 @@ points_are d c i = (
       variable = n.variable k r seq early reads;
       written = n.written k r seq early reads;
       alone = λ j. n.alone k r j seq early reads;
+      first = λ j l wide slot. n.first k l r j wide seq early reads slot;
     };
     untouched = λ k first u writes hangs. n.untouched k u hangs.range first writes hangs.needs hangs.cone;
   },
@@ -84,17 +86,17 @@ places_are d c i q t is text = (
     untouched = λ p walk. (untouched_at d c q t text p).1 (first.1 h.untouched p walk);
   },
 ) where
-  early : ((p : ℕ) → InSlot0 t p → OwnAt d c i (text.at p)) ↔ ((k : Todo) → IsSlot0 d i k → OwnAt d c i k)
-  early = each_from d i q t.stops t.start text is ZeroTime (OwnAt d c i)
+  early : ((p : ℕ) → InSlot0 (is_wide c) t p → OwnAt d c i (text.at p)) ↔ ((k : Todo) → IsSlot0 d (is_wide c) i k → OwnAt d c i k)
+  early = each_from d i q t.stops t.start text is (ZeroTime (is_wide c)) (OwnAt d c i)
 
-  first : ((p : ℕ) → InPrologue t p → UntouchedAt d c (text.at p)) ↔ ((k : Todo) → IsPrologue d i k → UntouchedAt d c k)
-  first = each_from d i q t.stops t.start text is Plain (UntouchedAt d c)
+  first : ((p : ℕ) → InPrologue (is_wide c) t p → UntouchedAt d c (text.at p)) ↔ ((k : Todo) → IsPrologue d (is_wide c) i k → UntouchedAt d c k)
+  first = each_from d i q t.stops t.start text is (Plain (is_wide c)) (UntouchedAt d c)
 
 -- a process past the end keeps it
 pub past_keeps : (d : Parts) (c : Claims) (i : ℕ) → length d.processes ≤ i → K10_Process d c i
 past_keeps d c i past = (points_are d c i).0 (record {
-  reads = λ seq k early r reads. absurd (none k (past_paths is_zero_time d i k past early) r reads);
-  untouched = λ k first u writes hangs. none_now k (past_paths is_plain d i k past first) u writes;
+  reads = λ seq k early r reads. absurd (none k (past_paths (is_wide c) is_zero_time d i k past early) r reads);
+  untouched = λ k first u writes hangs. none_now k (past_paths (is_wide c) is_plain d i k past first) u writes;
 }) where
   none : (k : Todo) → k ≡ [] → (r : BitRange) → Reads d c k r → ⊥
   none k e r (inl n) = let h = subst (λ (l : Todo). Contains (todo_reads l) r) e n.0 in omega (arith, h.1)
@@ -120,11 +122,11 @@ no_reads A B not = (λ t a. absurd (not a), λ h. refl)
 pub some_reads : (A : Type 0) (B : Type 0) (b : Bool) → A → (IsTrue b ↔ B) → (IsTrue b ↔ (A → B))
 some_reads A B b a h = (λ t x. h.0 t, λ f. h.1 (f a))
 
-pub keeps_is : (d : Parts) (c : Claims) (i : ℕ) (t : Chart) (b : Bool) → (IsSequential d c i → (p : ℕ) → InSlot0 t p → ReadsOwn d c i t p) →
-    (IsTrue b ↔ ((p : ℕ) → InPrologue t p → NoneHangs d c (now_at t p))) → (IsTrue b ↔ KeepsFirst d c i t)
+pub keeps_is : (d : Parts) (c : Claims) (i : ℕ) (t : Chart) (b : Bool) → (IsSequential d c i → (p : ℕ) → InSlot0 (is_wide c) t p → ReadsOwn d c i t p) →
+    (IsTrue b ↔ ((p : ℕ) → InPrologue (is_wide c) t p → NoneHangs d c (now_at t p))) → (IsTrue b ↔ KeepsFirst d c i t)
 keeps_is d c i t b reads h = (λ t. record { reads = reads; untouched = h.0 t }, λ k. h.1 k.untouched)
 
-pub keeps_not : (d : Parts) (c : Claims) (i : ℕ) (t : Chart) → ((IsSequential d c i → (p : ℕ) → InSlot0 t p → ReadsOwn d c i t p) → ⊥) → (IsTrue false ↔ KeepsFirst d c i t)
+pub keeps_not : (d : Parts) (c : Claims) (i : ℕ) (t : Chart) → ((IsSequential d c i → (p : ℕ) → InSlot0 (is_wide c) t p → ReadsOwn d c i t p) → ⊥) → (IsTrue false ↔ KeepsFirst d c i t)
 keeps_not d c i t not = (λ h. absurd (false≢true h), λ k. absurd (not k.reads))
 
 -- of a process by its number
@@ -143,12 +145,12 @@ no_process k maps i is = elim (slice_get_cases k.charts i).1 [
 
 -- ---- what is read at a place
 
-pub reads_not : (d : Parts) (c : Claims) (i : ℕ) (t : Chart) (p : ℕ) → (AreOwn d i (reads_at t p) → ⊥) → (IsTrue false ↔ ReadsOwn d c i t p)
+pub reads_not : (d : Parts) (c : Claims) (i : ℕ) (t : Chart) (p : ℕ) → (AreOwn d c i (reads_at t p) → ⊥) → (IsTrue false ↔ ReadsOwn d c i t p)
 reads_not d c i t p not = (λ h. absurd (false≢true h), λ k. absurd (not k.reads))
 
-pub reads_mute : (d : Parts) (c : Claims) (i : ℕ) (t : Chart) (p : ℕ) → AreOwn d i (reads_at t p) → (c.displays ≡ true → ⊥) → (IsTrue true ↔ ReadsOwn d c i t p)
+pub reads_mute : (d : Parts) (c : Claims) (i : ℕ) (t : Chart) (p : ℕ) → AreOwn d c i (reads_at t p) → (c.displays ≡ true → ⊥) → (IsTrue true ↔ ReadsOwn d c i t p)
 reads_mute d c i t p reads mute = (λ h. record { reads = reads; shows = λ displays. absurd (mute displays) }, λ k. refl)
 
-pub reads_shown : (d : Parts) (c : Claims) (i : ℕ) (t : Chart) (p : ℕ) (b : Bool) → AreOwn d i (reads_at t p) → c.displays ≡ true → (IsTrue b ↔ AreOwn d i (shows_at t p)) →
+pub reads_shown : (d : Parts) (c : Claims) (i : ℕ) (t : Chart) (p : ℕ) (b : Bool) → AreOwn d c i (reads_at t p) → c.displays ≡ true → (IsTrue b ↔ AreOwn d c i (shows_at t p)) →
     (IsTrue b ↔ ReadsOwn d c i t p)
 reads_shown d c i t p b reads displays h = (λ t1. record { reads = reads; shows = λ e. h.0 t1 }, λ k. h.1 (k.shows displays))

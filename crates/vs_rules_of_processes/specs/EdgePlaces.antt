@@ -30,7 +30,7 @@ FiresIn d c t root r = (x : EventTerm) × HasTermAt t x × IsRootOf d c root x.r
 abbrev pub ArrivesApart : Parts → Claims → Chart → (ℕ → List ℕ) → ℕ → ℕ → Type 0
 ArrivesApart d c t list q p = (r : ℕ) → DelayEndsBy list (pause_at t q) r → TermsEnd d c (pause_at t p) r → ⊥
 
--- nor have any two of which a walk that takes no time leads from the one to the other
+-- nor have any two of which a walk that takes no time, past a turn that is sure by it alone, leads from the one to the other
 abbrev pub AreArrivalsApart : Parts → Claims → Chart → (ℕ → List ℕ) → Type 0
 AreArrivalsApart d c t list = (q p : ℕ) → IsDelayBefore t q p → ArrivesApart d c t list q p
 

@@ -1,15 +1,16 @@
 -- The rule K10 of processes, by the places of maps.
-use Rattle.std.specs.Prelude.{ℕ, ◌≡◌, ◌↔◌, Bool, true, false, Some, List, slice_get, slice_index_or, IsTrue}
+use Rattle.std.specs.Prelude.{ℕ, ◌≡◌, ◌<◌, ◌⊎◌, ◌↔◌, Bool, true, false, Some, List, slice_get, slice_index_or, IsTrue}
 use Rattle.std.specs.List.{Contains}
 use Rattle.vs_design.specs.declared.range.BitRange.{BitRange}
 use Rattle.vs_design.specs.Parts.{Parts}
-use Rattle.vs_maps.specs.vs_rules.specs.Claims.{Claims, HasKind, IsBlock, IsSequential}
+use Rattle.vs_maps.specs.vs_rules.specs.Claims.{Claims, HasKind, IsBlock, IsSequential, IsWide, is_wide}
 use Rattle.vs_maps.specs.vs_rules.specs.Drivers.{block, DriverNeeds, InCone}
-use Rattle.vs_maps.specs.vs_rules.specs.Paths.{Writes}
+use Rattle.vs_maps.specs.vs_rules.specs.Paths.{IsSlot0, Writes, WritesNow}
 use Rattle.vs_maps.specs.vs_rules.specs.Rules.{BlockNeeds}
 use Rattle.vs_drivers.specs.vs_maps.specs.Ranges.{HasSignal, now_at, reads_at, shows_at}
-use Rattle.vs_drivers.specs.vs_maps.specs.Reaches.{Chart, IsPlace, InSlot0, InPrologue}
-use Rattle.vs_maps.specs.Texts.{Texts}
+use Rattle.vs_drivers.specs.vs_maps.specs.Reaches.{Chart, IsPlace, InSlot0, InPrologue, places}
+use Rattle.vs_process.specs.Places.{Todo}
+use Rattle.vs_maps.specs.Texts.{AllNow, Texts, texts_of}
 use Rattle.vs_claims.specs.Facts.{Case}
 
 -- ---- what blocks hang on
@@ -46,20 +47,30 @@ pub record AreFirst (k : Case) (uses : Texts) (hung : List Bool) : Type 0 where
 
 -- ---- places
 
--- a variable that the process writes, and no other one
-pub record IsOwn (d : Parts) (i v : ℕ) : Type 0 where
+-- a place is of this process, or isn't done in the first slot, by the paths of version 3
+abbrev pub IsPast : List Chart → ℕ → ℕ → ℕ → Type 0
+IsPast charts i j p = (j ≡ i) ⊎ ((t : Chart) → slice_get charts j ≡ Some t → p < places t → InSlot0 true t p → ⊥)
+
+-- a variable that the process writes, and no other one; in version 3 one that no other process writes by `=` in the first slot, nor a block
+pub record IsOwn (d : Parts) (c : Claims) (i v : ℕ) : Type 0 where
   pub variable : HasKind true d v
-  pub written : Writes d i v
-  pub alone : (j : ℕ) → Writes d j v → j ≡ i
+  pub written : (IsWide c → ⊥) → Writes d i v
+  pub alone : (j : ℕ) → Writes d j v → (j ≡ i) ⊎ (IsWide c × (IsBlock d c j → ⊥))
+  pub first : (j : ℕ) (l : Todo) → IsWide c → IsSlot0 d (is_wide c) j l → WritesNow d l v → j ≡ i
+
+-- no process but this one is a block and writes the variable, and by the maps none but this one writes it by `=` in the first slot
+pub record IsFirst (k : Case) (i v : ℕ) : Type 0 where
+  pub others : (j : ℕ) → Writes k.design j v → (j ≡ i) ⊎ (IsBlock k.design k.claims j → ⊥)
+  pub now : AllNow (texts_of k.design k.charts) v (IsPast k.charts i)
 
 -- all ranges are of such variables
-abbrev pub AreOwn : Parts → ℕ → List BitRange → Type 0
-AreOwn d i rs = (r : BitRange) → Contains rs r → IsOwn d i r.signal
+abbrev pub AreOwn : Parts → Claims → ℕ → List BitRange → Type 0
+AreOwn d c i rs = (r : BitRange) → Contains rs r → IsOwn d c i r.signal
 
 -- what is read at a place is a variable of the process's own, and where the certificate says so what is shown
 pub record ReadsOwn (d : Parts) (c : Claims) (i : ℕ) (t : Chart) (p : ℕ) : Type 0 where
-  pub reads : AreOwn d i (reads_at t p)
-  pub shows : c.displays ≡ true → AreOwn d i (shows_at t p)
+  pub reads : AreOwn d c i (reads_at t p)
+  pub shows : c.displays ≡ true → AreOwn d c i (shows_at t p)
 
 -- no range is of a signal on which blocks hang
 abbrev pub NoneHangs : Parts → Claims → List BitRange → Type 0
@@ -67,5 +78,5 @@ NoneHangs d c rs = (u : ℕ) → HasSignal rs u → Hangs d c u → ⊥
 
 -- the places of a process's map keep the rule
 pub record KeepsFirst (d : Parts) (c : Claims) (i : ℕ) (t : Chart) : Type 0 where
-  pub reads : IsSequential d c i → (p : ℕ) → InSlot0 t p → ReadsOwn d c i t p
-  pub untouched : (p : ℕ) → InPrologue t p → NoneHangs d c (now_at t p)
+  pub reads : IsSequential d c i → (p : ℕ) → InSlot0 (is_wide c) t p → ReadsOwn d c i t p
+  pub untouched : (p : ℕ) → InPrologue (is_wide c) t p → NoneHangs d c (now_at t p)

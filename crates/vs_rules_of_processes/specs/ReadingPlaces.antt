@@ -7,7 +7,7 @@ use Rattle.vs_design.specs.declared.statement.EventTerm.{EventTerm}
 use Rattle.vs_design.specs.Parts.{Parts}
 use Rattle.vs_process.specs.Stops.{Stop, IsText}
 use Rattle.vs_claims.specs.vs_process.specs.Executions.{is_level}
-use Rattle.vs_rules.specs.Claims.{Claims, IsMixed, IsSequential, IsRootOf, IsWriter}
+use Rattle.vs_rules.specs.Claims.{Claims, IsMixed, IsSequential, IsRootOf, IsWriter, is_wide}
 use Rattle.vs_rules.specs.Drivers.{IsBlocking, InCone}
 use Rattle.vs_rules.specs.Rules.{K9}
 use Rattle.vs_rules.specs.Slots.{Fires, HasWriteSlot}
@@ -23,7 +23,7 @@ ReadsAt c t p r = Contains (reads_at t p) r ⊎ ((c.displays ≡ true) × Contai
 
 -- the process is the writer, and either reads that very signal, or the signal isn't hot at the place
 abbrev pub OwnReadAt : Parts → Claims → ℕ → Chart → ℕ → ℕ → ℕ → Type 0
-OwnReadAt d c i t p u v = IsWriter d c u i × ((u ≡ v) ⊎ (InHot t u p → ⊥))
+OwnReadAt d c i t p u v = IsWriter d c u i × ((u ≡ v) ⊎ (InHot (is_wide c) t u p → ⊥))
 
 -- write slots of a signal's roots are no firing slots of other roots of a process
 abbrev pub RootsApart : Parts → Claims → Chart → ℕ → Type 0

@@ -10,7 +10,7 @@ use Rattle.vs_process.specs.Ways.{delay, event}
 use Rattle.vs_process.specs.Stops.{Stop, IsText}
 use Rattle.vs_rules.specs.Controls.{controls_of, list_of}
 use Rattle.vs_maps.specs.Reaches.{Chart, IsPlace, InSlot0, pause_at}
-use Rattle.vs_rules.specs.Claims.{Claims, IsDelay, WaitsForTimes}
+use Rattle.vs_rules.specs.Claims.{Claims, IsDelay, WaitsForTimes, is_wide}
 use Rattle.vs_rules.specs.Rules.{K8}
 use Rattle.vs_rules.specs.Certificates.{residues_from}
 use Rattle.vs_rules_of_processes.specs.vs_slots.specs.Runs.{HasRun}
@@ -20,7 +20,7 @@ use Rattle.vs_rules_of_processes.specs.Closed.{KeepsResidues}
 pub record K8_Places (d : Parts) (c : Claims) (i : ℕ) (t : Chart) : Type 0 where
   pub no_event : (p number : ℕ) (terms : List EventTerm) → IsDelay d c i → IsPlace t p → pause_at t p ≡ event number terms → ⊥
   pub one_each : (lists : List (List ℕ)) → WaitsForTimes d c i lists → length lists ≡ length (controls_of d i)
-  pub from_start : (lists : List (List ℕ)) (p number ticks : ℕ) → WaitsForTimes d c i lists → InSlot0 t p →
+  pub from_start : (lists : List (List ℕ)) (p number ticks : ℕ) → WaitsForTimes d c i lists → InSlot0 (is_wide c) t p →
       pause_at t p ≡ delay number ticks → 0 < ticks → Contains (list_of (controls_of d i) lists number) (ticks % c.modulus)
   -- from a residue of a control of either sort
   pub from_run : (lists : List (List ℕ)) (p number ticks r : ℕ) → WaitsForTimes d c i lists → HasRun d c i t p r →

@@ -1,13 +1,13 @@
 //! What processes do in the first slot.
-ghost use Rattle.std.specs.Prelude.{ℕ, ◌≡◌, ◌↔◌, false, slice_index_or, IfOk, IsTrue};
+ghost use Rattle.std.specs.Prelude.{ℕ, ◌≡◌, ◌<◌, ◌↔◌, ◌⊎◌, false, length, slice_index_or, IfOk, IsTrue};
 ghost use Rattle.std.specs.List.{Contains};
 ghost use Rattle.vs_design.specs.Kinds.{is_variable};
-ghost use Rattle.vs_maps.specs.vs_rules.specs.Claims.{IsSequential};
+ghost use Rattle.vs_maps.specs.vs_rules.specs.Claims.{IsBlock, IsSequential, is_wide};
 ghost use Rattle.vs_maps.specs.vs_rules.specs.Rules.{K10_Process};
 ghost use Rattle.vs_drivers.specs.Wires.{IsWiringOf};
 ghost use Rattle.vs_drivers.specs.vs_maps.specs.Ranges.{now_at};
 ghost use Rattle.vs_drivers.specs.vs_maps.specs.Reaches.{InSlot0, InPrologue};
-ghost use Rattle.vs_rules_of_processes.specs.FirstSlot.{IsOwn, AreOwn, NoneHangs, ReadsOwn, KeepsFirst};
+ghost use Rattle.vs_rules_of_processes.specs.FirstSlot.{IsOwn, IsFirst, IsPast, AreOwn, NoneHangs, ReadsOwn, KeepsFirst};
 
 use crate::hung::hung;
 use std::alloc::{AllocError, Global};
@@ -17,7 +17,7 @@ use vs_design::{BitRange, SignalKind};
 use vs_drivers::Cones;
 use vs_drivers::vs_maps::Tables;
 use vs_graph::{Rule, all_keep};
-use vs_maps::Uses;
+use vs_maps::{SiteRule, Uses};
 
 /// What the rule K10 asks of processes. A contract sees the facts.
 #[derive(Drop)]
@@ -69,6 +69,45 @@ fn is_sole(row: &[usize], i: usize) -> bool
     true
 }
 
+// Whether none of some processes but this one is a block.
+fn others_are_no_blocks<'a>(facts: &'a Facts<'a>, row: &[usize], i: usize) -> bool
+    ensures { IsTrue result ↔ ((j : ℕ) → Contains row.now j →
+        (j ≡ i) ⊎ (IsBlock facts.entry.now.design facts.entry.now.claims j → ⊥)) }
+{
+    for j in row {
+        if *j != i && facts.is_block(*j) {
+            return false;
+        }
+    }
+    true
+}
+
+// A point is of this process, or isn't done in the first slot, by the paths of version 3.
+#[derive(Drop)]
+struct IsPast<'a> {
+    facts: &'a Facts<'a>,
+    reader: usize,
+}
+
+impl<'a> SiteRule for IsPast<'a> {
+    ghost keeps = { λ f i p. IsPast f.facts.now.charts f.reader i p };
+
+    fn test(&self, process: usize, place: usize) -> bool {
+        if process == self.reader {
+            return true;
+        }
+        match self.facts.tables(process) {
+            None => true,
+            Some(tables) => {
+                if place >= tables.places() {
+                    return true;
+                }
+                !tables.is_slot0(true, place)
+            }
+        }
+    }
+}
+
 // Whether the mark of a number is set.
 fn is_set(marks: &[bool], u: usize) -> bool
     ensures { result ≡ slice_index_or marks.now u false }
@@ -92,16 +131,41 @@ impl<'a> FirstSlot<'a> {
         Ok(FirstSlot { facts, uses, hung })
     }
 
-    // Whether a signal is a variable that a process writes, and no other one.
-    fn is_own(&self, i: usize, v: usize) -> bool
-        ensures { IsTrue result ↔ IsOwn self.now.design i v }
+    // Whether the certificate is of version 3.
+    fn is_wide(&self) -> bool
+        ensures { result ≡ is_wide self.now.claims }
     {
+        self.facts.is_wide()
+    }
+
+    // Whether no other process than one is a block and writes a signal, and none but that one writes it by `=` in the first slot.
+    fn is_first(&self, i: usize, v: usize) -> bool
+        requires { v < length self.now.design.signals }
+        ensures { IsTrue result ↔ IsFirst self.now i v }
+    {
+        let facts = self.facts;
+        let uses = facts.uses();
+        if !others_are_no_blocks(facts, uses.writers(v), i) {
+            return false;
+        }
+        uses.all_now(v, &IsPast { facts, reader: i })
+    }
+
+    // Whether a signal is a variable that a process writes, and no other one; in version 3 one that no other process writes in the first slot by `=`,
+    // nor a block.
+    fn is_own(&self, i: usize, v: usize) -> bool
+        ensures { IsTrue result ↔ IsOwn self.now.design self.now.claims i v }
+    {
+        self.facts.maps();
         let signals = self.facts.design().signals();
         match signals.get(v) {
             None => false,
             Some(s) => {
                 if !is_variable(s.kind) {
                     return false;
+                }
+                if self.is_wide() {
+                    return self.is_first(i, v);
                 }
                 is_sole(self.uses.writers(v), i)
             }
@@ -110,7 +174,7 @@ impl<'a> FirstSlot<'a> {
 
     // Whether all ranges are of such variables.
     fn are_own(&self, i: usize, ranges: &[BitRange]) -> bool
-        ensures { IsTrue result ↔ AreOwn self.now.design i ranges.now }
+        ensures { IsTrue result ↔ AreOwn self.now.design self.now.claims i ranges.now }
     {
         for range in ranges {
             if !self.is_own(i, range.signal) {
@@ -169,7 +233,8 @@ impl<'a> FirstSlot<'a> {
         i: usize,
     ) -> Result<bool, AllocError>
         ensures { IfOk result (λ b. (IsTrue b ↔ (IsSequential self.entry.now.design self.entry.now.claims i →
-            (p : ℕ) → InSlot0 tables.entry.now p → ReadsOwn self.entry.now.design self.entry.now.claims i tables.entry.now p))) }
+            (p : ℕ) → InSlot0 (is_wide self.entry.now.claims) tables.entry.now p →
+            ReadsOwn self.entry.now.design self.entry.now.claims i tables.entry.now p))) }
     {
         if !self.facts.is_sequential(i) {
             return Ok(true);
@@ -185,7 +250,7 @@ impl<'a> FirstSlot<'a> {
 
     // Whether no `=` of a process before any delay writes a signal that blocks hang on.
     fn keeps_writes<'b>(&'b self, alloc: Global, tables: &'b Tables<'b>) -> Result<bool, AllocError>
-        ensures { IfOk result (λ b. (IsTrue b ↔ ((p : ℕ) → InPrologue tables.entry.now p →
+        ensures { IfOk result (λ b. (IsTrue b ↔ ((p : ℕ) → InPrologue (is_wide self.entry.now.claims) tables.entry.now p →
             NoneHangs self.entry.now.design self.entry.now.claims (now_at tables.entry.now p)))) }
     {
         let writings = Writings { slot: self, tables };
@@ -233,13 +298,14 @@ struct Readings<'s, 'a> {
 }
 
 impl<'s, 'a> Rule for Readings<'s, 'a> {
-    ghost keeps = { λ f p. InSlot0 f.tables.now p → ReadsOwn f.slot.now.design f.slot.now.claims f.process f.tables.now p };
+    ghost keeps = { λ f p. InSlot0 (is_wide f.slot.now.claims) f.tables.now p →
+        ReadsOwn f.slot.now.design f.slot.now.claims f.process f.tables.now p };
 
     fn test(&self, alloc: Global, i: usize) -> Result<bool, AllocError> {
         if i >= self.tables.places() {
             return Ok(true);
         }
-        if !self.tables.is_slot0(i) {
+        if !self.tables.is_slot0(self.slot.is_wide(), i) {
             return Ok(true);
         }
         self.slot.reads_own(alloc, self.tables, self.process, i)
@@ -254,13 +320,14 @@ struct Writings<'s, 'a> {
 }
 
 impl<'s, 'a> Rule for Writings<'s, 'a> {
-    ghost keeps = { λ f p. InPrologue f.tables.now p → NoneHangs f.slot.now.design f.slot.now.claims (now_at f.tables.now p) };
+    ghost keeps = { λ f p. InPrologue (is_wide f.slot.now.claims) f.tables.now p →
+        NoneHangs f.slot.now.design f.slot.now.claims (now_at f.tables.now p) };
 
     fn test(&self, alloc: Global, i: usize) -> Result<bool, AllocError> {
         if i >= self.tables.places() {
             return Ok(true);
         }
-        if !self.tables.is_prologue(i) {
+        if !self.tables.is_prologue(self.slot.is_wide(), i) {
             return Ok(true);
         }
         self.slot.is_untouched(alloc, self.tables, i)

@@ -3,7 +3,7 @@ ghost use Rattle.std.specs.Prelude.{ℕ, ◌≡◌, ◌<◌, ◌↔◌, Some, If
 ghost use Rattle.std.specs.List.{Contains};
 ghost use Rattle.vs_design.specs.declared.range.BitRange as range;
 ghost use Rattle.vs_design.specs.declared.statement.EventTerm as statement;
-ghost use Rattle.vs_rules.specs.Claims.{IsWriter};
+ghost use Rattle.vs_rules.specs.Claims.{IsWriter, is_wide};
 ghost use Rattle.vs_rules.specs.Drivers.{InCone};
 ghost use Rattle.vs_rules.specs.Rules.{K9};
 ghost use Rattle.vs_rules.specs.Slots.{HasWriteSlot};
@@ -201,12 +201,12 @@ impl<'a> Reader<'a> {
         }
     }
 
-    // Whether no path that takes no time leads to a place from a write of a variable by `=`.
+    // Whether no path that takes no time, by wide rules past a turn that is sure by it alone, leads to a place from a write of a variable by `=`.
     fn is_cold(&self, alloc: Global, u: usize, place: usize) -> Result<bool, AllocError>
         requires { place < places self.now.tables.now }
-        ensures { IfOk result (λ b. (IsTrue b ↔ (InHot self.now.tables.now u place → ⊥))) }
+        ensures { IfOk result (λ b. (IsTrue b ↔ (InHot (is_wide self.now.slots.now.claims) self.now.tables.now u place → ⊥))) }
     {
-        let marks = hot(alloc, self.tables, u)?;
+        let marks = hot(alloc, self.tables, self.slots.facts().is_wide(), u)?;
         Ok(!marks[place])
     }
 

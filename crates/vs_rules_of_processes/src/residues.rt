@@ -3,7 +3,7 @@ ghost use Rattle.std.specs.Prelude.{ℕ, ◌≡◌, ◌<◌, ◌≤◌, ◌+◌,
 ghost use Rattle.std.specs.List.{Contains};
 ghost use Rattle.vs_slots.specs.Controls.{list_by};
 ghost use Rattle.vs_maps.specs.Reaches.{places, IsPlace};
-ghost use Rattle.vs_rules.specs.Claims.{IsDelay};
+ghost use Rattle.vs_rules.specs.Claims.{IsDelay, is_wide};
 ghost use Rattle.vs_rules_of_processes.specs.Closed.{EndsWell, KeepsResidues, PlaceIsClosed, StartsWell};
 
 use std::alloc::{AllocError, Global};
@@ -58,15 +58,16 @@ struct Waits<'a> {
 }
 
 impl<'a> Waits<'a> {
-    // Whether a list has so many ticks, where they are above 0 and a path that takes no time leads to a place from the start.
+    // Whether a list has so many ticks, where they are above 0 and a path that takes no time, by wide rules past a turn that is sure by it alone,
+    // leads to a place from the start.
     fn starts_well(&self, place: usize, ticks: u64, list: &[u64]) -> bool
         requires { place < places self.now.tables.now }
-        ensures { IsTrue result ↔ StartsWell self.now.tables.now place ticks list.now self.now.modulus }
+        ensures { IsTrue result ↔ StartsWell (is_wide self.now.slots.now.claims) self.now.tables.now place ticks list.now self.now.modulus }
     {
         if ticks == 0 {
             return true;
         }
-        if !self.tables.is_slot0(place) {
+        if !self.tables.is_slot0(self.slots.facts().is_wide(), place) {
             return true;
         }
         has_residue(&Residues::of(list), ticks % self.modulus)
@@ -97,8 +98,8 @@ impl<'a> Waits<'a> {
         list: &[u64],
     ) -> Result<bool, AllocError>
         requires { place < places self.now.tables.now }
-        ensures { IfOk result (λ b. (IsTrue b ↔ (StartsWell self.now.tables.now place ticks list.now self.now.modulus
-            × EndsWell self.now.slots.now.design self.now.slots.now.claims self.now.process
+        ensures { IfOk result (λ b. (IsTrue b ↔ (StartsWell (is_wide self.now.slots.now.claims) self.now.tables.now place ticks list.now
+            self.now.modulus × EndsWell self.now.slots.now.design self.now.slots.now.claims self.now.process
             self.now.tables.now place ticks list.now self.now.modulus))) }
     {
         if !self.starts_well(place, ticks, list) {

@@ -1,23 +1,21 @@
 -- The points of one process, as the places of its map.
-use Rattle.std.proofs.Common.{◌≡◌, ℕ, ◌<◌, ◌↔◌, inl, inr, Bool, true, false, IsTrue, Option, Some, None, List, [], ◌∷◌, slice_get, slice_index_or, refl, sym, ◌∙◌, ap, subst, arith}
+use Rattle.std.proofs.Common.{◌≡◌, ℕ, ◌<◌, ◌↔◌, inl, inr, Bool, true, false, IsTrue, Option, Some, None, List, slice_get, slice_index_or, refl, sym, ◌∙◌, ap, subst, arith}
 use Rattle.std.proofs.lemmas.Bool.{false≢true}
 use Rattle.std.proofs.lemmas.Option.{slice_get_cases, slice_get_within, same_Some}
 use Rattle.vs_design.specs.declared.design.Process.{Process}
 use Rattle.vs_design.specs.Parts.{Parts}
 use Rattle.vs_process.specs.Places.{Todo}
-use Rattle.vs_process.specs.Stops.{stop_at, stop_statement, stops_tos, stops_behind, IsText}
-use Rattle.vs_graph.specs.Reached.{Reached, begins, goes_on}
+use Rattle.vs_process.specs.Stops.{IsText}
 use Rattle.vs_maps.specs.vs_rules.specs.Claims.{Name, names_process}
 use Rattle.vs_maps.specs.vs_rules.specs.Paths.{IsPoint, IsSlot0, IsLate, WritesNow, WritesLater, is_plain}
 use Rattle.vs_claims.specs.vs_maps.specs.declared.along.Along.TheVariants.{Any, ZeroTime}
 use Rattle.vs_claims.specs.vs_maps.specs.Ranges.{HasSignal, now_at, later_at}
-use Rattle.vs_claims.specs.vs_maps.specs.Reaches.{Chart, IsPlace, InSlot0, places, stops_along, statement_passes}
+use Rattle.vs_claims.specs.vs_maps.specs.Reaches.{Chart, IsPlace, InSlot0, places}
 use Rattle.vs_claims.specs.vs_maps.specs.Walks.{AreMarked, HasControl, InLate}
 use Rattle.vs_claims.specs.vs_maps.proofs.EachPoint.{all_points}
 use Rattle.vs_claims.specs.vs_maps.proofs.EachWalk.{walk_path, path_walk, late_sorts, writes_now_at, writes_later_at}
-use Rattle.vs_claims.specs.vs_maps.proofs.Join.{tail_in, true_if}
 use Rattle.vs_claims.specs.vs_maps.proofs.Texts.{place_back, from_on, from_back}
-use Rattle.vs_claims.specs.vs_maps.proofs.WalkLemmas.{place_below, walk_place}
+use Rattle.vs_claims.specs.vs_maps.proofs.WalkLemmas.{place_below, start_walked, walk_place}
 use Rattle.vs_claims.specs.Facts.{AreCharts}
 
 -- a process that is there, with its map
@@ -99,19 +97,13 @@ never_marked d charts i h has holds marks marked = (
 
 -- ---- those of the first slot
 
-slot0_place : (t : Chart) (p : ℕ) → Reached (stops_along ZeroTime t.stops) (t.start ∷ []) p → IsPlace t p
-slot0_place t _ (begins a c) = begins a c
-slot0_place t _ (goes_on a b r c) =
-    goes_on a b (slot0_place t a r) (tail_in (stops_behind t.stops a) b (stops_tos t.stops a)
-    (true_if (statement_passes ZeroTime (stop_statement (stop_at t.stops a))) (stops_tos t.stops a) b c).1)
-
-pub never_slot0 : (d : Parts) (charts : List Chart) (i : ℕ) (h : Here d charts i) (has : Chart → ℕ → Type 0) (W : Todo → Type 0) → ((p : ℕ) → (has h.chart p ↔ W (h.text.at p))) →
-    (((p : ℕ) → IsPlace h.chart p → has h.chart p → p < places h.chart → InSlot0 h.chart p → ⊥) ↔ ((l : Todo) → IsSlot0 d i l → W l → ⊥))
-never_slot0 d charts i h has W same = (
+pub never_slot0 : (d : Parts) (charts : List Chart) (wide : Bool) (i : ℕ) (h : Here d charts i) (has : Chart → ℕ → Type 0) (W : Todo → Type 0) → ((p : ℕ) → (has h.chart p ↔ W (h.text.at p))) →
+    (((p : ℕ) → IsPlace h.chart p → has h.chart p → p < places h.chart → InSlot0 wide h.chart p → ⊥) ↔ ((l : Todo) → IsSlot0 d wide i l → W l → ⊥))
+never_slot0 d charts wide i h has W same = (
   λ all l slot w.
-      let y = from_on d i h.process h.chart.stops h.chart.start h.text h.is ZeroTime l slot in
-      let place = slot0_place h.chart y.0 y.1 in
+      let y = from_on d i h.process h.chart.stops h.chart.start h.text h.is (ZeroTime wide) l slot in
+      let place = start_walked h.chart (ZeroTime wide) y.0 y.1 in
       all y.0 place ((same y.0).1 (subst W (sym y.2) w)) (below d charts i h y.0 place) y.1,
   λ all p place w less slot.
-      all (h.text.at p) (from_back d i h.process h.chart.stops h.chart.start h.text h.is ZeroTime p slot) ((same p).0 w),
+      all (h.text.at p) (from_back d i h.process h.chart.stops h.chart.start h.text h.is (ZeroTime wide) p slot) ((same p).0 w),
 )

@@ -5,7 +5,7 @@ use Rattle.std.proofs.lemmas.Option.{none-some, same_Some, slice_get-get_or}
 use Rattle.vs_design.specs.declared.signal.Signal.{Signal}
 use Rattle.vs_design.specs.Kinds.{is_variable}
 use Rattle.vs_design.specs.Parts.{Parts}
-use Rattle.vs_maps.specs.vs_rules.specs.Claims.{Name, Claims, names_process, HasKind, IsWriter, IsSecond}
+use Rattle.vs_maps.specs.vs_rules.specs.Claims.{Name, Claims, names_process, HasKind, IsWriter, IsSecond, is_wide}
 use Rattle.vs_maps.specs.vs_rules.specs.Paths.{IsPoint, IsSlot0, IsLate, WritesNow, WritesLater}
 use Rattle.vs_maps.specs.vs_rules.specs.Rules.{NeverNow, NeverLater}
 use Rattle.vs_claims.specs.vs_maps.specs.Ranges.{HasSignal, now_at, later_at}
@@ -102,23 +102,23 @@ early_parts d c charts i v x e h second one marks marked =
 
 -- the writer has no `=` in the first slot
 pub first_part : (d : Parts) (c : Claims) (charts : List Chart) (s j v : ℕ) (x : Texts) → x ≡ texts_of d charts → (h : Here d charts j) → IsSecond d c v s → IsWriter d c v j →
-    ((k : ℕ) → IsWriter d c v k → k ≡ j) → (FirstAlone d c v ↔ AllNow x v (λ k p. k ≡ j → p < places h.chart → InSlot0 h.chart p → ⊥))
+    ((k : ℕ) → IsWriter d c v k → k ≡ j) → (FirstAlone d c v ↔ AllNow x v (λ k p. k ≡ j → p < places h.chart → InSlot0 (is_wide c) h.chart p → ⊥))
 first_part d c charts s j v x e h second writer one =
-    subst (λ (x : Texts). (FirstAlone d c v ↔ AllNow x v (λ k p. k ≡ j → p < places h.chart → InSlot0 h.chart p → ⊥))) (sym e)
-    (let a = of_one d charts j h (λ t p. HasSignal (now_at t p) v) (λ p. p < places h.chart → InSlot0 h.chart p → ⊥) in
-    let b = never_slot0 d charts j h (λ t p. HasSignal (now_at t p) v) (λ k. WritesNow d k v) (now_here d charts j h v) in (
+    subst (λ (x : Texts). (FirstAlone d c v ↔ AllNow x v (λ k p. k ≡ j → p < places h.chart → InSlot0 (is_wide c) h.chart p → ⊥))) (sym e)
+    (let a = of_one d charts j h (λ t p. HasSignal (now_at t p) v) (λ p. p < places h.chart → InSlot0 (is_wide c) h.chart p → ⊥) in
+    let b = never_slot0 d charts (is_wide c) j h (λ t p. HasSignal (now_at t p) v) (λ k. WritesNow d k v) (now_here d charts j h v) in (
       λ alone. a.1 (b.1 (λ l slot w. alone s j l second writer slot w)),
-      λ all i k l sec wr slot w. b.0 (a.0 all) l (subst (λ (n : ℕ). IsSlot0 d n l) (one k wr) slot) w,
+      λ all i k l sec wr slot w. b.0 (a.0 all) l (subst (λ (n : ℕ). IsSlot0 d (is_wide c) n l) (one k wr) slot) w,
     ))
 
 -- no `<=` either
 pub later_part : (d : Parts) (c : Claims) (charts : List Chart) (j v : ℕ) (x : Texts) → x ≡ texts_of d charts → (h : Here d charts j) →
-    ((k : ℕ) → IsWriter d c v k → k ≡ j) → AllLater x v (λ k p. k ≡ j → p < places h.chart → InSlot0 h.chart p → ⊥) → FirstAloneLater d c v
+    ((k : ℕ) → IsWriter d c v k → k ≡ j) → AllLater x v (λ k p. k ≡ j → p < places h.chart → InSlot0 (is_wide c) h.chart p → ⊥) → FirstAloneLater d c v
 later_part d c charts j v x e h one all i k _ l sec point w wr slot u =
-    let a = of_one d charts j h (λ t p. HasSignal (later_at t p) v) (λ p. p < places h.chart → InSlot0 h.chart p → ⊥) in
-    let b = never_slot0 d charts j h (λ t p. HasSignal (later_at t p) v) (λ k. WritesLater d k v) (later_here d charts j h v) in
-    b.0 (a.0 (subst (λ (x : Texts). AllLater x v (λ k p. k ≡ j → p < places h.chart → InSlot0 h.chart p → ⊥)) e all)) l
-    (subst (λ (n : ℕ). IsSlot0 d n l) (one k wr) slot) u
+    let a = of_one d charts j h (λ t p. HasSignal (later_at t p) v) (λ p. p < places h.chart → InSlot0 (is_wide c) h.chart p → ⊥) in
+    let b = never_slot0 d charts (is_wide c) j h (λ t p. HasSignal (later_at t p) v) (λ k. WritesLater d k v) (later_here d charts j h v) in
+    b.0 (a.0 (subst (λ (x : Texts). AllLater x v (λ k p. k ≡ j → p < places h.chart → InSlot0 (is_wide c) h.chart p → ⊥)) e all)) l
+    (subst (λ (n : ℕ). IsSlot0 d (is_wide c) n l) (one k wr) slot) u
 
 -- where the second has none
 pub no_later : (d : Parts) (c : Claims) (charts : List Chart) (s v : ℕ) (x : Texts) → x ≡ texts_of d charts → Here d charts s → ((k : ℕ) → IsSecond d c v k → k ≡ s) →
@@ -128,11 +128,11 @@ no_later d c charts s v x e h one all i j k l sec point w wr slot u =
 
 -- where it has one
 pub some_later : (d : Parts) (c : Claims) (charts : List Chart) (s j v : ℕ) (x : Texts) → x ≡ texts_of d charts → (g : Here d charts s) (h : Here d charts j) → IsSecond d c v s → IsWriter d c v j →
-    (AllLater x v (λ k p. k ≡ s → ⊥) → ⊥) → FirstAloneLater d c v → AllLater x v (λ k p. k ≡ j → p < places h.chart → InSlot0 h.chart p → ⊥)
+    (AllLater x v (λ k p. k ≡ s → ⊥) → ⊥) → FirstAloneLater d c v → AllLater x v (λ k p. k ≡ j → p < places h.chart → InSlot0 (is_wide c) h.chart p → ⊥)
 some_later d c charts s j v x e g h second writer not alone =
-    let a = of_one d charts j h (λ t p. HasSignal (later_at t p) v) (λ p. p < places h.chart → InSlot0 h.chart p → ⊥) in
-    let b = never_slot0 d charts j h (λ t p. HasSignal (later_at t p) v) (λ k. WritesLater d k v) (later_here d charts j h v) in
-    subst (λ (x : Texts). AllLater x v (λ k p. k ≡ j → p < places h.chart → InSlot0 h.chart p → ⊥)) (sym e)
+    let a = of_one d charts j h (λ t p. HasSignal (later_at t p) v) (λ p. p < places h.chart → InSlot0 (is_wide c) h.chart p → ⊥) in
+    let b = never_slot0 d charts (is_wide c) j h (λ t p. HasSignal (later_at t p) v) (λ k. WritesLater d k v) (later_here d charts j h v) in
+    subst (λ (x : Texts). AllLater x v (λ k p. k ≡ j → p < places h.chart → InSlot0 (is_wide c) h.chart p → ⊥)) (sym e)
     (a.1 (b.1 (λ l slot u. not ((never_later d charts s v x e g).1 (λ k point w. alone s j k l second point w writer slot u)))))
 
 -- ---- rows

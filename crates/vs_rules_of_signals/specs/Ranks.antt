@@ -1,5 +1,5 @@
 -- Ranks of the places of maps, and what they tell of where signals are hot.
-use Rattle.std.specs.Prelude.{ℕ, ◌≡◌, ◌+◌, ◌<◌, ◌≤◌, Some, List, get_or, length, slice_get}
+use Rattle.std.specs.Prelude.{ℕ, ◌≡◌, ◌+◌, ◌<◌, ◌≤◌, false, Some, List, get_or, length, slice_get}
 use Rattle.std.specs.List.{Contains}
 use Rattle.vs_process.specs.Stops.{stops_tos}
 use Rattle.vs_maps.specs.vs_rules.specs.Claims.{IsWriter}
@@ -16,7 +16,7 @@ rank_of ranks p = get_or ranks p 0
 
 -- no way that takes no time leads from a place to a lower rank
 abbrev pub RisesFrom : Chart → List ℕ → ℕ → Type 0
-RisesFrom t ranks a = (b : ℕ) → Contains (stops_along ZeroTime t.stops a) b → rank_of ranks a ≤ rank_of ranks b
+RisesFrom t ranks a = (b : ℕ) → Contains (stops_along (ZeroTime false) t.stops a) b → rank_of ranks a ≤ rank_of ranks b
 
 -- none does from any place
 abbrev pub Rises : Chart → List ℕ → Type 0

@@ -4,7 +4,7 @@ use Rattle.vs_design.specs.Parts.{Parts}
 use Rattle.vs_process.specs.Places.{Todo}
 use Rattle.vs_claims.specs.Facts.{Case}
 use Rattle.vs_maps.specs.Texts.{Texts, texts_of}
-use Rattle.vs_maps.specs.vs_rules.specs.Claims.{Name, Claims, claim_of, writer_in, second_in, IsWriter, IsSecond, IsBlock}
+use Rattle.vs_maps.specs.vs_rules.specs.Claims.{Name, Claims, claim_of, writer_in, second_in, IsWriter, IsSecond, IsBlock, is_wide}
 use Rattle.vs_maps.specs.vs_rules.specs.Paths.{IsPoint, IsSlot0, IsLate, WritesNow, WritesLater, WritesAny, Writes}
 
 -- the design and the maps of what is claimed
@@ -34,9 +34,9 @@ IsEarly d c v = (i : ℕ) (k : Todo) → IsSecond d c v i → IsPoint d i k → 
 
 -- where there is a second, the writer has no `=` of the signal at slot-0 points
 abbrev pub FirstAlone : Parts → Claims → ℕ → Type 0
-FirstAlone d c v = (i j : ℕ) (l : Todo) → IsSecond d c v i → IsWriter d c v j → IsSlot0 d j l → WritesNow d l v → ⊥
+FirstAlone d c v = (i j : ℕ) (l : Todo) → IsSecond d c v i → IsWriter d c v j → IsSlot0 d (is_wide c) j l → WritesNow d l v → ⊥
 
 -- and where the second writes it by `<=`, no `<=` of it either
 abbrev pub FirstAloneLater : Parts → Claims → ℕ → Type 0
 FirstAloneLater d c v = (i j : ℕ) (k l : Todo) → IsSecond d c v i → IsPoint d i k → WritesLater d k v →
-    IsWriter d c v j → IsSlot0 d j l → WritesLater d l v → ⊥
+    IsWriter d c v j → IsSlot0 d (is_wide c) j l → WritesLater d l v → ⊥

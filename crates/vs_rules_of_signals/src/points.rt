@@ -40,15 +40,16 @@ impl<'a> SiteRule for NotMarked<'a> {
     }
 }
 
-/// A point is none of a process to which a path without time leads from the start.
+/// A point is none of a process to which a path without time leads from the start, by wide rules past a turn that is sure by it alone.
 #[derive(Drop)]
 pub(crate) struct NotInSlot0<'a> {
     pub(crate) process: usize,
+    pub(crate) wide: bool,
     pub(crate) tables: &'a Tables<'a>,
 }
 
 impl<'a> SiteRule for NotInSlot0<'a> {
-    ghost keeps = { λ f i p. i ≡ f.process → p < places f.tables.now → InSlot0 f.tables.now p → ⊥ };
+    ghost keeps = { λ f i p. i ≡ f.process → p < places f.tables.now → InSlot0 f.wide f.tables.now p → ⊥ };
 
     fn test(&self, process: usize, place: usize) -> bool {
         if process != self.process {
@@ -57,6 +58,6 @@ impl<'a> SiteRule for NotInSlot0<'a> {
         if place >= self.tables.places() {
             return true;
         }
-        !self.tables.is_slot0(place)
+        !self.tables.is_slot0(self.wide, place)
     }
 }

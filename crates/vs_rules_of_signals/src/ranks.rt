@@ -1,5 +1,5 @@
 //! Ranks of the places of a text, which no way that takes no time lowers.
-ghost use Rattle.std.specs.Prelude.{ℕ, ◌≡◌, ◌+◌, ◌<◌, ◌≤◌, ◌↔◌, length, IfOk, OnOk, IsTrue};
+ghost use Rattle.std.specs.Prelude.{ℕ, ◌≡◌, ◌+◌, ◌<◌, ◌≤◌, ◌↔◌, false, length, IfOk, OnOk, IsTrue};
 ghost use Rattle.std.specs.List.{Contains};
 ghost use Rattle.std.specs.Bool.{OnTrue, OnFalse};
 ghost use Rattle.vs_graph.specs.Reached.{IsMarkedNow, WasMarked};
@@ -45,7 +45,7 @@ fn set_rank(ranks: &mut Vec<usize>, place: usize, rank: usize) {
 
 // Whether a way that goes on so takes no time.
 fn takes_no_time(pause: Pause) -> bool
-    ensures { result ≡ passes ZeroTime (pause_view pause.entry) }
+    ensures { result ≡ passes (ZeroTime false) (pause_view pause.entry) }
 {
     match pause {
         Pause::Nothing => true,
@@ -56,7 +56,7 @@ fn takes_no_time(pause: Pause) -> bool
 
 // The places where ways that take no time lead from a place.
 fn nexts<'a>(tables: &'a Tables<'a>, place: usize) -> &'a [usize]
-    ensures { result.now ≡ stops_along ZeroTime tables.entry.now.stops place }
+    ensures { result.now ≡ stops_along (ZeroTime false) tables.entry.now.stops place }
 {
     if takes_no_time(tables.pause(place)) {
         tables.tos(place)

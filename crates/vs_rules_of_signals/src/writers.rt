@@ -146,7 +146,12 @@ impl<'a> Claimed<'a> {
         let Some(tables) = self.facts.tables(process) else {
             return true;
         };
-        self.uses.all_now(v, &NotInSlot0 { process, tables })
+        let rule = NotInSlot0 {
+            process,
+            wide: self.facts.is_wide(),
+            tables,
+        };
+        self.uses.all_now(v, &rule)
     }
 
     fn first_alone_later(&self, v: usize) -> bool
@@ -166,7 +171,12 @@ impl<'a> Claimed<'a> {
         if self.uses.all_later(v, &NotOf { process: second }) {
             return true;
         }
-        self.uses.all_later(v, &NotInSlot0 { process, tables })
+        let rule = NotInSlot0 {
+            process,
+            wide: self.facts.is_wide(),
+            tables,
+        };
+        self.uses.all_later(v, &rule)
     }
 }
 

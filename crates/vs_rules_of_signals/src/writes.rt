@@ -1,5 +1,5 @@
 //! The places at which signals are written by their writers.
-ghost use Rattle.std.specs.Prelude.{◌≡◌, ◌<◌, Some, length, slice_get, IfOk, IsTrue};
+ghost use Rattle.std.specs.Prelude.{◌≡◌, ◌<◌, Bool, Some, length, slice_get, IfOk, IsTrue};
 ghost use Rattle.vs_maps.specs.vs_rules.specs.Claims.{IsDelay, IsWriter};
 ghost use Rattle.vs_rules_of_signals.specs.Ranks.{AreAllPlaces, AreAllRanks, ArePlacesOf, AreRanksOf};
 ghost use Rattle.vs_rules_of_signals.specs.Places.{NeverHotIn};
@@ -105,13 +105,13 @@ impl<'a> Writes<'a> {
         self.facts
     }
 
-    /// Whether the ranks tell that a process of kind delay writes a signal, of which it is the writer, nowhere where it is hot. It takes as long as
-    /// there are places at which it does.
+    /// Whether the ranks tell that a process of kind delay writes a signal, of which it is the writer, nowhere where it is hot, by the ways of any
+    /// version. It takes as long as there are places at which it does.
     pub fn are_apart(&self, tables: &'a Tables<'a>, i: usize, v: usize) -> bool
         requires text { slice_get self.now.charts i ≡ Some tables.now }
         requires delay { IsDelay self.now.design self.now.claims i }
         requires writer { IsWriter self.now.design self.now.claims v i }
-        ensures { IsTrue result → NeverHotIn tables.entry.now v }
+        ensures { IsTrue result → (wide : Bool) → NeverHotIn wide tables.entry.now v }
     {
         tables.leads_in();
         if i >= self.ranks.len() {

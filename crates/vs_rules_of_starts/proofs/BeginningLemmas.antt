@@ -307,14 +307,14 @@ starts_for d i g w named are q stops start t is = (there, back)
     there : StartsSurely d named g (record { stops = stops; start = start }) → StartsFor d i g w
     there s = record {
       only = λ k early any.
-          let y = from_on d w q stops start t is ZeroTime k early in
+          let y = from_on d w q stops start t is (ZeroTime false) k early in
           subst (Begins d i g) y.2 ((begins y.0).0 (s.only y.0 y.1 (writes y.0 (subst (λ (x : Todo). WritesAny d x g) (sym y.2) any))));
       ends = (sure_ends d w i g q stops start t is).0 (λ p m. s.sure p (same_missing _ _ _ (λ p x. (begins p).0 x) p m));
     }
 
     back : StartsFor d i g w → StartsSurely d named g (record { stops = stops; start = start })
     back s = record {
-      only = λ p early any. (begins p).1 (s.only (t.at p) (from_back d w q stops start t is ZeroTime p early) (written p any));
+      only = λ p early any. (begins p).1 (s.only (t.at p) (from_back d w q stops start t is (ZeroTime false) p early) (written p any));
       sure = λ p m. (sure_ends d w i g q stops start t is).1 s.ends p (same_missing _ _ _ (λ p x. (begins p).1 x) p m);
     }
 
@@ -336,8 +336,8 @@ gives_is d named target value b there any digit is t told = (λ h. (there, any, 
 pub asked : (P Q R : Type 0) → P → Q → (t : Bool) → (IsTrue t ↔ R) → (IsTrue t ↔ (P → Q → R))
 asked P Q R p q t told = (λ h x y. told.0 h, λ f. told.1 (f p q))
 
-pub surely_is : (d : Parts) (named : List BitRange) (g : ℕ) (t : Chart) → ((p : ℕ) → InSlot0 t p → p < Rattle.vs_drivers.specs.vs_maps.specs.Reaches.places t) → IsSure t (BeginsAt d named g t) → (n : ℕ) → n ≡ Rattle.vs_drivers.specs.vs_maps.specs.Reaches.places t →
-    (b : Bool) → (IsTrue b ↔ ((p : ℕ) → p < n → InSlot0 t p → WritesAt t g p → BeginsAt d named g t p)) → (IsTrue b ↔ StartsSurely d named g t)
+pub surely_is : (d : Parts) (named : List BitRange) (g : ℕ) (t : Chart) → ((p : ℕ) → InSlot0 false t p → p < Rattle.vs_drivers.specs.vs_maps.specs.Reaches.places t) → IsSure t (BeginsAt d named g t) → (n : ℕ) → n ≡ Rattle.vs_drivers.specs.vs_maps.specs.Reaches.places t →
+    (b : Bool) → (IsTrue b ↔ ((p : ℕ) → p < n → InSlot0 false t p → WritesAt t g p → BeginsAt d named g t p)) → (IsTrue b ↔ StartsSurely d named g t)
 surely_is d named g t below sure n is b told = (
   λ h. record { only = λ p early any. told.0 h p (subst (λ (m : ℕ). p < m) (sym is) (below p early)) early any; sure = sure },
   λ s. told.1 (λ p lt early any. s.only p early any),

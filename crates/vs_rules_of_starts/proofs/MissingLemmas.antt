@@ -62,7 +62,7 @@ reached_below t sort marks told _ (goes_on a b r h) = unmarked_in marks (places 
 to_missing : (t : Chart) (sort : ℕ → Type 0) (marks : List Bool) → Told t sort marks → (p : ℕ) → Reached (unmarked marks t.stops) (t.start ∷ []) p → MissingAt t sort p
 to_missing t sort marks told _ (begins a h) = subst (MissingAt t sort) (only t.start a h) MissingAt.begins
 to_missing t sort marks told _ (goes_on a b r h) =
-    let l = leads (slice_index_or marks a false) (passes ZeroTime (pause_at t a)) (stops_tos t.stops a) b h in
+    let l = leads (slice_index_or marks a false) (passes (ZeroTime false) (pause_at t a)) (stops_tos t.stops a) b h in
     MissingAt.goes_on a b (to_missing t sort marks told a r)
     (λ done. true≢false (sym (is_true (slice_index_or marks a false) ((told.marked a (reached_below t sort marks told a r)).1 done)) ∙ l.0)) l.1 l.2
 
@@ -78,7 +78,7 @@ from_missing : (t : Chart) (sort : ℕ → Type 0) (marks : List Bool) → Told 
 from_missing t sort marks told _ MissingAt.begins = begins t.start (head_in t.start [])
 from_missing t sort marks told _ (MissingAt.goes_on p q h free passing to) =
     goes_on p q (from_missing t sort marks told p h)
-    (led (slice_index_or marks p false) (passes ZeroTime (pause_at t p)) (stops_tos t.stops p) q
+    (led (slice_index_or marks p false) (passes (ZeroTime false) (pause_at t p)) (stops_tos t.stops p) q
     (unmarked_there (slice_index_or marks p false) (λ m. free ((told.marked p (missing_below t sort marks told p h)).0 (true_is (slice_index_or marks p false) m)))) passing to)
 
 -- whether each walk is sure to have it, by the places that walks from the start lead to
@@ -130,7 +130,7 @@ suc_not : (n : ℕ) → (suc n == 0) ≡ false
 suc_not n = false_from_ne_true (suc n == 0) (λ e. let f : suc n ≡ 0 = eqb-true (suc n) 0 e in omega (arith, f))
 
 -- a step of a walk as one of a path
-by_pause : (d : Parts) (w b g : ℕ) (k l : Todo) (pause : Pause) → Missing d b g w k → (Begins d b g k → ⊥) → passes ZeroTime pause ≡ true → Goes k (next_by pause l) → Missing d b g w l
+by_pause : (d : Parts) (w b g : ℕ) (k l : Todo) (pause : Pause) → Missing d b g w k → (Begins d b g k → ⊥) → passes (ZeroTime false) pause ≡ true → Goes k (next_by pause l) → Missing d b g w l
 by_pause d w b g k l none m free passing goes = Missing.goes_on k l m free goes
 by_pause d w b g k l (delay number zero) m free passing goes = Missing.waits k l number m goes
 by_pause d w b g k l (delay number (suc ticks)) m free passing goes = absurd (true≢false (sym passing ∙ suc_not ticks))
@@ -145,7 +145,7 @@ path_on d w b g q stops start t is _ (Missing.goes_on k l h free goes) =
     let s = step_on q.body stops start t y.0 (on l) (subst (λ (x : Todo). Goes x (on l)) (sym y.2) goes) in
     let e = by_none (pause_at (chart stops start) y.0) (t.at s.0) l s.2 in (
       s.0,
-      MissingAt.goes_on y.0 s.0 y.1 (λ x. free (subst (Begins d b g) y.2 x)) (ap (passes ZeroTime) e.0) s.1,
+      MissingAt.goes_on y.0 s.0 y.1 (λ x. free (subst (Begins d b g) y.2 x)) (ap (passes (ZeroTime false)) e.0) s.1,
       e.1,
     )
 path_on d w b g q stops start t is _ (Missing.waits k l number h goes) =
@@ -155,7 +155,7 @@ path_on d w b g q stops start t is _ (Missing.waits k l number h goes) =
       s.0,
       MissingAt.goes_on y.0 s.0 y.1
           (λ x. let f : none ≡ delay number 0 = sym (still_todo (t.at y.0) (0, x.target, x.value) x.is) ∙ pause_here q.body stops start t y.0 ∙ e.0 in cc)
-          (ap (passes ZeroTime) e.0) s.1,
+          (ap (passes (ZeroTime false)) e.0) s.1,
       e.1,
     )
 
@@ -205,12 +205,12 @@ sure_ends d w b g q stops start t is = (there, back)
           let y = path_on d w b g q stops start t is k m in
           let s = step_on q.body stops start t y.0 (after number (suc ticks) l) (subst (λ (x : Todo). Goes x (after number (suc ticks) l)) (sym y.2) goes) in
           true≢false (sym (or_right (is_end (statement_at (chart stops start) y.0) (stops_tos stops y.0)) _
-          (ap (λ (x : Pause). not (passes ZeroTime x)) (by_delay (pause_at (chart stops start) y.0) (t.at s.0) l number (suc ticks) s.2).0 ∙ ap not (suc_not ticks))) ∙ sure y.0 y.1);
+          (ap (λ (x : Pause). not (passes (ZeroTime false) x)) (by_delay (pause_at (chart stops start) y.0) (t.at s.0) l number (suc ticks) s.2).0 ∙ ap not (suc_not ticks))) ∙ sure y.0 y.1);
       before_wait = λ k l number terms m goes.
           let y = path_on d w b g q stops start t is k m in
           let s = step_on q.body stops start t y.0 (wait number terms l) (subst (λ (x : Todo). Goes x (wait number terms l)) (sym y.2) goes) in
           true≢false (sym (or_right (is_end (statement_at (chart stops start) y.0) (stops_tos stops y.0)) _
-          (ap (λ (x : Pause). not (passes ZeroTime x)) (by_event (pause_at (chart stops start) y.0) (t.at s.0) l number terms s.2))) ∙ sure y.0 y.1);
+          (ap (λ (x : Pause). not (passes (ZeroTime false) x)) (by_event (pause_at (chart stops start) y.0) (t.at s.0) l number terms s.2))) ∙ sure y.0 y.1);
     }
 
     back : EndsNowhere d b g w → IsSure (chart stops start) (λ p. Begins d b g (t.at p))
@@ -222,7 +222,7 @@ sure_ends d w b g q stops start t is = (there, back)
         missing : Missing d b g w (t.at p)
         missing = path_back d w b g q stops start t is p m
 
-        goes_through : (pause : Pause) → pause_at (chart stops start) p ≡ pause → not (passes ZeroTime pause) ≡ false
+        goes_through : (pause : Pause) → pause_at (chart stops start) p ≡ pause → not (passes (ZeroTime false) pause) ≡ false
         goes_through none e = refl
         goes_through (delay number zero) e = refl
         goes_through (delay number (suc ticks)) e =
@@ -238,6 +238,6 @@ same_missing t one other same _ MissingAt.begins = MissingAt.begins
 same_missing t one other same _ (MissingAt.goes_on p q h free passing to) = MissingAt.goes_on p q (same_missing t one other same p h) (λ x. free (same p x)) passing to
 
 -- what is done in the first slot is done at places of the map
-pub slot0_below : (t : Chart) → t.start < places t → LeadsIn (places t) t.stops → (p : ℕ) → InSlot0 t p → p < places t
+pub slot0_below : (t : Chart) → t.start < places t → LeadsIn (places t) t.stops → (p : ℕ) → InSlot0 false t p → p < places t
 slot0_below t starts leads_in _ (begins a h) = subst (λ (n : ℕ). n < places t) (only t.start a h) starts
-slot0_below t starts leads_in _ (goes_on a b r h) = along_in ZeroTime (places t) t.stops leads_in a b h
+slot0_below t starts leads_in _ (goes_on a b r h) = along_in (ZeroTime false) (places t) t.stops leads_in a b h

@@ -1,5 +1,5 @@
 -- Statements that are sure to change a bit of a variable that a control names.
-use Rattle.std.specs.Prelude.{ℕ, ◌≡◌, ◌<◌, ◌⊎◌, ◌↔◌, Option, Some, None, List}
+use Rattle.std.specs.Prelude.{ℕ, ◌≡◌, ◌<◌, ◌⊎◌, ◌↔◌, false, Option, Some, None, List}
 use Rattle.std.specs.List.{Contains}
 use Rattle.vs_design.specs.vs_logic4.specs.declared.digit.Digit.{Digit}
 use Rattle.vs_design.specs.declared.expression.Typed.{Typed}
@@ -85,7 +85,7 @@ WritesAt t g p = HasSignal (now_at t p) g ⊎ HasSignal (later_at t p) g
 
 -- in the first slot each write of the variable is such a one, and one is sure to be made
 pub record StartsSurely (d : Parts) (named : List BitRange) (g : ℕ) (t : Chart) : Type 0 where
-  pub only : (p : ℕ) → InSlot0 t p → WritesAt t g p → BeginsAt d named g t p
+  pub only : (p : ℕ) → InSlot0 false t p → WritesAt t g p → BeginsAt d named g t p
   pub sure : IsSure t (BeginsAt d named g t)
 
 -- these are the ranges of the control of a block that are of the variable, or of a copy of it

@@ -18,4 +18,4 @@ left_below false xs n h = h
 pub unmarked_in : (marks : List Bool) (n : ℕ) (stops : List Stop) → LeadsIn n stops → (a b : ℕ) → Contains (unmarked marks stops a) b → b < n
 unmarked_in marks n stops h a b c =
     All-contains (λ q. q < n) (unmarked marks stops a) b
-    (left_below (slice_index_or marks a false) (stops_along ZeroTime stops a) n (all_below (stops_along ZeroTime stops a) n (along_in ZeroTime n stops h a))) c
+    (left_below (slice_index_or marks a false) (stops_along (ZeroTime false) stops a) n (all_below (stops_along (ZeroTime false) stops a) n (along_in (ZeroTime false) n stops h a))) c

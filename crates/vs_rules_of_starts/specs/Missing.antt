@@ -10,12 +10,12 @@ use Rattle.vs_drivers.specs.vs_maps.specs.Ranges.{statement_at}
 -- a walk leads there from the start, on which nothing of the sort is done
 pub data MissingAt (t : Chart) (sort : ℕ → Type 0) : ℕ → Type 0 where
   begins : MissingAt t sort t.start
-  goes_on : (p q : ℕ) → MissingAt t sort p → (sort p → ⊥) → passes ZeroTime (pause_at t p) ≡ true → Contains (stops_tos t.stops p) q →
+  goes_on : (p q : ℕ) → MissingAt t sort p → (sort p → ⊥) → passes (ZeroTime false) (pause_at t p) ≡ true → Contains (stops_tos t.stops p) q →
       MissingAt t sort q
 
 -- where a map leads in no time, but from the places that are marked
 abbrev pub unmarked : List Bool → List Stop → ℕ → List ℕ
-unmarked marks stops p = if slice_index_or marks p false then [] else stops_along ZeroTime stops p
+unmarked marks stops p = if slice_index_or marks p false then [] else stops_along (ZeroTime false) stops p
 
 abbrev pub is_one : List ℕ → Bool
 is_one (to ∷ []) = true
@@ -28,7 +28,7 @@ is_end (Some s) tos = false
 
 -- whether a walk that takes no time ends at a place: at the end, or at a control that takes time
 abbrev pub stops_here : Chart → ℕ → Bool
-stops_here t p = is_end (statement_at t p) (stops_tos t.stops p) || not (passes ZeroTime (pause_at t p))
+stops_here t p = is_end (statement_at t p) (stops_tos t.stops p) || not (passes (ZeroTime false) (pause_at t p))
 
 -- on each walk in no time something of the sort is done before it ends
 abbrev pub IsSure : Chart → (ℕ → Type 0) → Type 0

@@ -1,5 +1,5 @@
 -- Variables that a process is sure to change in the first slot.
-use Rattle.std.specs.Prelude.{ℕ, suc, ◌≡◌, ◌↔◌, ◌⊎◌, List, []}
+use Rattle.std.specs.Prelude.{ℕ, suc, ◌≡◌, ◌↔◌, ◌⊎◌, false, List, []}
 use Rattle.std.specs.List.{Contains}
 use Rattle.vs_design.specs.declared.range.BitRange.{BitRange}
 use Rattle.vs_design.specs.declared.statement.EventTerm.{EventTerm}
@@ -20,7 +20,7 @@ pub record EndsNowhere (d : Parts) (b g w : ℕ) : Type 0 where
 
 -- each write of the variable in the first slot is of the sort, and one is sure to be made
 pub record StartsFor (d : Parts) (i g w : ℕ) : Type 0 where
-  pub only : (k : Todo) → IsSlot0 d w k → WritesAny d k g → Begins d i g k
+  pub only : (k : Todo) → IsSlot0 d false w k → WritesAny d k g → Begins d i g k
   pub ends : EndsNowhere d i g w
 
 -- these are the terms of the event controls of a process

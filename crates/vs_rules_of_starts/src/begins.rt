@@ -1,5 +1,5 @@
 //! Statements that are sure to change a bit of a variable that a control names.
-ghost use Rattle.std.specs.Prelude.{ℕ, ◌≡◌, ◌<◌, ◌↔◌, ◌⊎◌, IfOk, IsTrue};
+ghost use Rattle.std.specs.Prelude.{ℕ, ◌≡◌, ◌<◌, ◌↔◌, ◌⊎◌, false, IfOk, IsTrue};
 ghost use Rattle.vs_design.specs.declared.statement.Statement.TheViews.{out-Statement};
 ghost use Rattle.vs_design.specs.Uses.{has_bit, has_word};
 ghost use Rattle.vs_design.specs.WellFormed.{width_at};
@@ -265,7 +265,7 @@ struct WritesAlone<'a> {
 }
 
 impl<'a> Rule for WritesAlone<'a> {
-    ghost keeps = { λ f p. InSlot0 f.begins.tables.now p → WritesAt f.begins.tables.now f.begins.g p →
+    ghost keeps = { λ f p. InSlot0 false f.begins.tables.now p → WritesAt f.begins.tables.now f.begins.g p →
         BeginsAt f.begins.design.now f.begins.named.now f.begins.g f.begins.tables.now p };
 
     fn test(&self, alloc: Global, i: usize) -> Result<bool, AllocError> {
@@ -273,7 +273,7 @@ impl<'a> Rule for WritesAlone<'a> {
         if i >= begins.tables.places() {
             return Ok(true);
         }
-        if !begins.tables.is_slot0(i) {
+        if !begins.tables.is_slot0(false, i) {
             return Ok(true);
         }
         if !writes_at(begins.tables, begins.g, i) {

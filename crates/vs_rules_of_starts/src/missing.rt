@@ -15,7 +15,7 @@ use vs_graph::{Graph, Rule, all_keep, reach};
 
 // Whether ways that go on so take no time.
 fn takes_no_time(pause: Pause) -> bool
-    ensures { result ≡ passes ZeroTime (pause_view pause.entry) }
+    ensures { result ≡ passes (ZeroTime false) (pause_view pause.entry) }
 {
     match pause {
         Pause::Nothing => true,

@@ -27,7 +27,8 @@ use Rattle.vs_maps.specs.vs_rules.specs.Controls.{controls_at, controls_in, cont
 use Rattle.vs_maps.specs.vs_rules.specs.Paths.{WritesNow}
 use Rattle.vs_maps.specs.vs_rules.specs.Slots.{EdgeEnds, HasSlot, HasWriteSlot}
 use Rattle.vs_slots_constants.specs.declared.clocks.Clock.{Clock}
-use Rattle.vs_claims.specs.vs_maps.specs.Reaches.{Chart, IsPlace, pause_at, places, plain_by}
+use Rattle.vs_claims.specs.vs_maps.specs.declared.along.Along.TheVariants.{Plain}
+use Rattle.vs_claims.specs.vs_maps.specs.Reaches.{Chart, IsPlace, pause_at, places}
 use Rattle.vs_claims.specs.vs_maps.proofs.Texts.{place_of, place_back}
 use Rattle.vs_claims.specs.vs_maps.proofs.WalkLemmas.{place_below}
 use Rattle.vs_claims.specs.Facts.{Case, AreCharts}
@@ -69,12 +70,12 @@ inside_of f i t maps is p place =
 -- ---- run slots
 
 pub kept_runs : (can_end : Parts → Claims → ℕ → Pause → ℕ → Type 0) (f : Case) (runs : List Runs) (i : ℕ) (t : Chart) → AreCharts f.design f.charts → AreAllRuns can_end f runs →
-    slice_get f.charts i ≡ Some t → (p r : ℕ) → p < places t → (IsRunIn runs i p r ↔ HasRunBy (plain_by (is_wide f.claims)) (can_end f.design f.claims i) t p r)
+    slice_get f.charts i ≡ Some t → (p r : ℕ) → p < places t → (IsRunIn runs i p r ↔ HasRunBy (Plain (is_wide f.claims)) (can_end f.design f.claims i) t p r)
 kept_runs can_end f runs i t maps all is p r within = (
   λ y. (both y.0 y.1).0 y.2,
   λ h. let y = there_is runs i (subst (λ (n : ℕ). i < n) (maps.as_many ∙ sym all.long) (slice_get_within f.charts i t is)) in (y.0, y.1, (both y.0 y.1).1 h),
 ) where
-  both : (x : Runs) → slice_get runs i ≡ Some x → (IsOneOf (rows x.ends.items) (row x.before p) r ↔ HasRunBy (plain_by (is_wide f.claims)) (can_end f.design f.claims i) t p r)
+  both : (x : Runs) → slice_get runs i ≡ Some x → (IsOneOf (rows x.ends.items) (row x.before p) r ↔ HasRunBy (Plain (is_wide f.claims)) (can_end f.design f.claims i) t p r)
   both x at = all.each i x at t is p r within
 
 -- ---- runs by lists and by terms
@@ -105,11 +106,11 @@ past_times d c i lists past (inl e) = past_kind c (slice_get d.processes i) (del
 past_times d c i lists past (inr e) = past_kind c (slice_get d.processes i) (mixed lists) (slice_get_past d.processes i past) e
 
 pub listed_are : (f : Case) (i : ℕ) (q : Process) (t : Chart) (lists : List (List ℕ)) (before ends : List (List ℕ)) → ((p : ℕ) → IsPlace t p → p < places t) →
-    slice_get f.design.processes i ≡ Some q → WaitsForTimes f.design f.claims i lists → AreRunsBy (plain_by (is_wide f.claims)) (DelayEndsBy (list_of (controls_in q.body) lists)) t before ends →
-    AreRuns (plain_by (is_wide f.claims)) (DelayPauseEnds f.design f.claims i) t before ends
+    slice_get f.design.processes i ≡ Some q → WaitsForTimes f.design f.claims i lists → AreRunsBy (Plain (is_wide f.claims)) (DelayEndsBy (list_of (controls_in q.body) lists)) t before ends →
+    AreRuns (Plain (is_wide f.claims)) (DelayPauseEnds f.design f.claims i) t before ends
 listed_are f i q t lists before ends inside is has h =
     let e : list_of (controls_of f.design i) lists ≡ list_of (controls_in q.body) lists = ap (λ (x : Option Process). list_of (controls_at x) lists) is in
-    listed_runs f.design f.claims i lists t before ends has inside (subst (λ (l : ℕ → List ℕ). AreRunsBy (plain_by (is_wide f.claims)) (DelayEndsBy l) t before ends) (sym e) h)
+    listed_runs f.design f.claims i lists t before ends has inside (subst (λ (l : ℕ → List ℕ). AreRunsBy (Plain (is_wide f.claims)) (DelayEndsBy l) t before ends) (sym e) h)
 
 terms_end : (d : Parts) (c : Claims) (pause : Pause) (r : ℕ) → (TermsEnd d c pause r ↔ EdgeEnds d c (next_by pause []) r)
 terms_end d c none r = (λ y. absurd (omega (arith, y.1.1)), λ h. absurd h)
@@ -117,10 +118,10 @@ terms_end d c (delay number ticks) r = (λ y. absurd (omega (arith, y.1.1)), λ 
 terms_end d c (event number terms) r = (λ y. y, λ h. h)
 
 pub fired_are : (f : Case) (i : ℕ) (t : Chart) (before ends : List (List ℕ)) → ((p : ℕ) → IsPlace t p → p < places t) → WaitsForEdges f.design f.claims i →
-    AreRunsBy (plain_by (is_wide f.claims)) (TermsEnd f.design f.claims) t before ends → AreRuns (plain_by (is_wide f.claims)) (EdgePauseEnds f.design f.claims i) t before ends
+    AreRunsBy (Plain (is_wide f.claims)) (TermsEnd f.design f.claims) t before ends → AreRuns (Plain (is_wide f.claims)) (EdgePauseEnds f.design f.claims i) t before ends
 fired_are f i t before ends inside waits h =
     fired_runs f.design f.claims i t before ends waits inside
-    (ends_as (plain_by (is_wide f.claims)) (TermsEnd f.design f.claims) (λ pause r. EdgeEnds f.design f.claims (next_by pause []) r) t before ends (terms_end f.design f.claims) h)
+    (ends_as (Plain (is_wide f.claims)) (TermsEnd f.design f.claims) (λ pause r. EdgeEnds f.design f.claims (next_by pause []) r) t before ends (terms_end f.design f.claims) h)
 
 -- ---- writers
 

@@ -13,9 +13,10 @@ use Rattle.vs_maps.specs.vs_rules.specs.Controls.{controls_of, list_of}
 use Rattle.vs_maps.specs.vs_rules.specs.Paths.{PathBy, RunsBehind, is_plain}
 use Rattle.vs_maps.specs.vs_rules.specs.Slots.{DelayEnds, EdgeEnds, Ends, HasSlot, RunsByDelays, RunsByEdges}
 use Rattle.vs_claims.specs.vs_maps.specs.declared.along.Along.{Along}
-use Rattle.vs_claims.specs.vs_maps.specs.Reaches.{Chart, IsPlace, pause_at, pause_of, places, plain_by}
+use Rattle.vs_claims.specs.vs_maps.specs.declared.along.Along.TheVariants.{Plain}
+use Rattle.vs_claims.specs.vs_maps.specs.Reaches.{Chart, IsPlace, pause_at, pause_of, places}
 use Rattle.vs_claims.specs.vs_maps.proofs.Join.{same_place}
-use Rattle.vs_claims.specs.vs_maps.proofs.Texts.{place_of, place_back, plain_on, plain_back, walk_on, walk_back, step_on, step_back, behind_step}
+use Rattle.vs_claims.specs.vs_maps.proofs.Texts.{place_of, place_back, walk_on, walk_back, step_on, step_back, behind_step}
 use Rattle.vs_claims.specs.vs_maps.specs.Walks.{WalkFrom, IsControlBefore, is_control}
 use Rattle.vs_slots.specs.Runs.{PauseEnds, DelayPauseEnds, EdgePauseEnds, HasRunBy, HasRun, HasDelayRun, RunsAreExact, DelayRunsAreExact, AreRuns, AreRunsBy, DelayEndsBy}
 
@@ -100,13 +101,13 @@ runs_as d wide i one other k r f h = record { at = h.at; next = h.next; point = 
 module _ (d : Parts) (wide : Bool) (i : ℕ) (can_end : Next → ℕ → Type 0) (alike : (pause : Pause) (l m : Todo) (r : ℕ) → can_end (next_by pause l) r → can_end (next_by pause m) r)
     (q : Process) (stops : List Stop) (start : ℕ) (t : IsText q.body stops start) (is : slice_get d.processes i ≡ Some q) where
   -- a run slot of a point is one of a place of it
-  on_by : (k : Todo) (r : ℕ) → RunsBehind d wide i can_end k r → (p : ℕ) × HasRunBy (plain_by wide) (λ pause s. can_end (next_by pause []) s) (record { stops = stops; start = start }) p r × (t.at p ≡ k)
+  on_by : (k : Todo) (r : ℕ) → RunsBehind d wide i can_end k r → (p : ℕ) × HasRunBy (Plain wide) (λ pause s. can_end (next_by pause []) s) (record { stops = stops; start = start }) p r × (t.at p ≡ k)
   on_by k r h =
       let a = place_of d i q stops start t is h.at h.point in
       let s = step_on q.body stops start t a.0 h.next (subst (λ (z : Todo). Goes z h.next) (sym a.2) h.goes) in
       let pause = pause_of (stop_statement (stop_at stops a.0)) in
-      let w = walk_on q.body stops start t (plain_by wide) s.0 k
-      (plain_on wide (t.at s.0) k (subst (λ (z : Todo). PathBy (nexts_by wide) is_plain z k) (behind_step pause (t.at s.0) h.next s.2) h.path)) in (
+      let w = walk_on q.body stops start t (Plain wide) s.0 k
+      (subst (λ (z : Todo). PathBy (nexts_by wide) is_plain z k) (behind_step pause (t.at s.0) h.next s.2) h.path) in (
         w.0,
         record {
           from = a.0;
@@ -119,7 +120,7 @@ module _ (d : Parts) (wide : Bool) (i : ℕ) (can_end : Next → ℕ → Type 0)
         w.2,
       )
 
-  back_by : (p r : ℕ) → HasRunBy (plain_by wide) (λ pause s. can_end (next_by pause []) s) (record { stops = stops; start = start }) p r → RunsBehind d wide i can_end (t.at p) r
+  back_by : (p r : ℕ) → HasRunBy (Plain wide) (λ pause s. can_end (next_by pause []) s) (record { stops = stops; start = start }) p r → RunsBehind d wide i can_end (t.at p) r
   back_by p r h =
       let pause = pause_of (stop_statement (stop_at stops h.from)) in record {
         at = t.at h.from;
@@ -128,15 +129,15 @@ module _ (d : Parts) (wide : Bool) (i : ℕ) (can_end : Next → ℕ → Type 0)
         goes = step_back q.body stops start t h.from h.to h.leads;
         starts = alike pause [] (t.at h.to) r h.starts;
         path = subst (λ (z : Todo). PathBy (nexts_by wide) is_plain z (t.at p)) (sym (behind_step pause (t.at h.to) (next_by pause (t.at h.to)) refl))
-            (plain_back wide (t.at h.to) (t.at p) (walk_back q.body stops start t (plain_by wide) h.to p h.reached));
+            (walk_back q.body stops start t (Plain wide) h.to p h.reached);
       }
 
   exact_by : (p n r : ℕ) → number_next (t.at p) ≡ Some n →
-      (HasRunBy (plain_by wide) (λ pause s. can_end (next_by pause []) s) (record { stops = stops; start = start }) p r ↔ RunsBehind d wide i can_end (t.at p) r)
+      (HasRunBy (Plain wide) (λ pause s. can_end (next_by pause []) s) (record { stops = stops; start = start }) p r ↔ RunsBehind d wide i can_end (t.at p) r)
   exact_by p n r numbered = (
     back_by p r,
     λ h. same_place (flat q.body) t.at start (stops_behind stops) (stops_tos stops) t.is_map
-        (λ p. HasRunBy (plain_by wide) (λ pause s. can_end (next_by pause []) s) (record { stops = stops; start = start }) p r) p n numbered (on_by (t.at p) r h),
+        (λ p. HasRunBy (Plain wide) (λ pause s. can_end (next_by pause []) s) (record { stops = stops; start = start }) p r) p n numbered (on_by (t.at p) r h),
   )
 
 pub run_on : (d : Parts) (c : Claims) (i : ℕ) (q : Process) (stops : List Stop) (start : ℕ) (t : IsText q.body stops start) → slice_get d.processes i ≡ Some q → (k : Todo) (r : ℕ) →
@@ -195,17 +196,17 @@ slot_parts d c i lists k r has h = elim (ends_of d c i (kind_of d c i) refl h.ne
   both (inr e) f = e
 
 -- a place has its run slots behind the one or the other
-pub runs_parts : (d : Parts) (c : Claims) (i : ℕ) (t : Chart) (p r : ℕ) → (HasRun d c i t p r ↔ (HasDelayRun d c i t p r ⊎ HasRunBy (plain_by (is_wide c)) (EdgePauseEnds d c i) t p r))
+pub runs_parts : (d : Parts) (c : Claims) (i : ℕ) (t : Chart) (p r : ℕ) → (HasRun d c i t p r ↔ (HasDelayRun d c i t p r ⊎ HasRunBy (Plain (is_wide c)) (EdgePauseEnds d c i) t p r))
 runs_parts d c i t p r = (there, back) where
-  there : HasRun d c i t p r → HasDelayRun d c i t p r ⊎ HasRunBy (plain_by (is_wide c)) (EdgePauseEnds d c i) t p r
+  there : HasRun d c i t p r → HasDelayRun d c i t p r ⊎ HasRunBy (Plain (is_wide c)) (EdgePauseEnds d c i) t p r
   there w = elim (ends_of d c i (kind_of d c i) refl (next_by (pause_at t w.from) []) r w.starts) [
     | inl y ↦ inl (record { from = w.from; to = w.to; is_place = w.is_place; starts = y; leads = w.leads; reached = w.reached })
     | inr y ↦ inr (record { from = w.from; to = w.to; is_place = w.is_place; starts = y; leads = w.leads; reached = w.reached })
   ]
 
-  back : HasDelayRun d c i t p r ⊎ HasRunBy (plain_by (is_wide c)) (EdgePauseEnds d c i) t p r → HasRun d c i t p r
-  back (inl w) = walk_as t (plain_by (is_wide c)) (λ q. DelayPauseEnds d c i (pause_at t q) r) (λ q. PauseEnds d c i (pause_at t q) r) p (λ q y. delays_end d c i (next_by (pause_at t q) []) r y) w
-  back (inr w) = walk_as t (plain_by (is_wide c)) (λ q. EdgePauseEnds d c i (pause_at t q) r) (λ q. PauseEnds d c i (pause_at t q) r) p (λ q y. events_end d c i (next_by (pause_at t q) []) r y) w
+  back : HasDelayRun d c i t p r ⊎ HasRunBy (Plain (is_wide c)) (EdgePauseEnds d c i) t p r → HasRun d c i t p r
+  back (inl w) = walk_as t (Plain (is_wide c)) (λ q. DelayPauseEnds d c i (pause_at t q) r) (λ q. PauseEnds d c i (pause_at t q) r) p (λ q y. delays_end d c i (next_by (pause_at t q) []) r y) w
+  back (inr w) = walk_as t (Plain (is_wide c)) (λ q. EdgePauseEnds d c i (pause_at t q) r) (λ q. PauseEnds d c i (pause_at t q) r) p (λ q y. events_end d c i (next_by (pause_at t q) []) r y) w
 
 not_both : (d : Parts) (c : Claims) (i : ℕ) → IsDelay d c i → WaitsForEdges d c i → ⊥
 not_both d c i l (inl e) = let same : Some (delays l.0) ≡ Some edges = sym l.1 ∙ e in absurd cc
@@ -271,15 +272,15 @@ delay_ends d c i lists has pause r = (
   back (event number terms) h = h
 
 pub listed_runs : (d : Parts) (c : Claims) (i : ℕ) (lists : List (List ℕ)) (t : Chart) (before ends : List (List ℕ)) → WaitsForTimes d c i lists →
-    ((p : ℕ) → IsPlace t p → p < places t) → AreRunsBy (plain_by (is_wide c)) (DelayEndsBy (list_of (controls_of d i) lists)) t before ends →
-    AreRuns (plain_by (is_wide c)) (DelayPauseEnds d c i) t before ends
+    ((p : ℕ) → IsPlace t p → p < places t) → AreRunsBy (Plain (is_wide c)) (DelayEndsBy (list_of (controls_of d i) lists)) t before ends →
+    AreRuns (Plain (is_wide c)) (DelayPauseEnds d c i) t before ends
 listed_runs d c i lists t before ends has inside h =
-    runs_by (plain_by (is_wide c)) (DelayPauseEnds d c i) (λ pause r y. delay_control d i y.0 pause r y.2) t before ends
-    (ends_as (plain_by (is_wide c)) (DelayEndsBy (list_of (controls_of d i) lists)) (DelayPauseEnds d c i) t before ends (delay_ends d c i lists has) h) inside
+    runs_by (Plain (is_wide c)) (DelayPauseEnds d c i) (λ pause r y. delay_control d i y.0 pause r y.2) t before ends
+    (ends_as (Plain (is_wide c)) (DelayEndsBy (list_of (controls_of d i) lists)) (DelayPauseEnds d c i) t before ends (delay_ends d c i lists has) h) inside
 
 -- and by the terms of event controls
 pub fired_runs : (d : Parts) (c : Claims) (i : ℕ) (t : Chart) (before ends : List (List ℕ)) → WaitsForEdges d c i → ((p : ℕ) → IsPlace t p → p < places t) →
-    AreRunsBy (plain_by (is_wide c)) (λ pause r. EdgeEnds d c (next_by pause []) r) t before ends → AreRuns (plain_by (is_wide c)) (EdgePauseEnds d c i) t before ends
+    AreRunsBy (Plain (is_wide c)) (λ pause r. EdgeEnds d c (next_by pause []) r) t before ends → AreRuns (Plain (is_wide c)) (EdgePauseEnds d c i) t before ends
 fired_runs d c i t before ends waits inside h =
-    runs_by (plain_by (is_wide c)) (EdgePauseEnds d c i) (λ pause r y. edge_control d c pause r y.1) t before ends
-    (ends_as (plain_by (is_wide c)) (λ pause r. EdgeEnds d c (next_by pause []) r) (EdgePauseEnds d c i) t before ends (λ pause r. (λ h. (waits, h), λ y. y.1)) h) inside
+    runs_by (Plain (is_wide c)) (EdgePauseEnds d c i) (λ pause r y. edge_control d c pause r y.1) t before ends
+    (ends_as (Plain (is_wide c)) (λ pause r. EdgeEnds d c (next_by pause []) r) (EdgePauseEnds d c i) t before ends (λ pause r. (λ h. (waits, h), λ y. y.1)) h) inside

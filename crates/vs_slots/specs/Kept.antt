@@ -16,7 +16,8 @@ use Rattle.vs_maps.specs.vs_rules.specs.Slots.{HasWriteSlot}
 use Rattle.vs_slots_constants.specs.declared.clocks.Clock.{Clock}
 use Rattle.vs_slots_constants.specs.Inverted.{AreInverted}
 use Rattle.vs_claims.specs.vs_maps.specs.Ranges.{HasSignal, now_at}
-use Rattle.vs_claims.specs.vs_maps.specs.Reaches.{Chart, IsPlace, places, plain_by}
+use Rattle.vs_claims.specs.vs_maps.specs.declared.along.Along.TheVariants.{Plain}
+use Rattle.vs_claims.specs.vs_maps.specs.Reaches.{Chart, IsPlace, places}
 use Rattle.vs_maps.specs.Sites.{IsWrite}
 use Rattle.vs_maps.specs.declared.sites.Site.{Site}
 use Rattle.vs_maps.specs.declared.sites.Use.TheVariants.{Now}
@@ -35,7 +36,7 @@ IsRunIn runs i p r = (x : Runs) × (slice_get runs i ≡ Some x) × IsOneOf (row
 -- these are the runs of a process, by its number, behind controls that can end so
 abbrev pub RunsWhere : (Parts → Claims → ℕ → Pause → ℕ → Type 0) → Case → ℕ → Runs → Type 0
 RunsWhere can_end f i x = (t : Chart) → slice_get f.charts i ≡ Some t →
-    AreRuns (plain_by (is_wide f.claims)) (can_end f.design f.claims i) t x.before (rows x.ends.items)
+    AreRuns (Plain (is_wide f.claims)) (can_end f.design f.claims i) t x.before (rows x.ends.items)
 
 -- these are those of all processes, in their order
 pub record AreAllRuns (can_end : Parts → Claims → ℕ → Pause → ℕ → Type 0) (f : Case) (runs : List Runs) : Type 0 where

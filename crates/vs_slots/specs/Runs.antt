@@ -9,7 +9,8 @@ use Rattle.vs_process.specs.Ways.{Pause, none, delay, event, next_by}
 use Rattle.vs_maps.specs.vs_rules.specs.Claims.{Claims, is_wide, kind_of, WaitsForEdges, WaitsForTimes}
 use Rattle.vs_maps.specs.vs_rules.specs.Slots.{DelayEnds, EdgeEnds, Ends, HasSlot, RunsByDelays}
 use Rattle.vs_claims.specs.vs_maps.specs.declared.along.Along.{Along}
-use Rattle.vs_claims.specs.vs_maps.specs.Reaches.{Chart, IsPlace, pause_at, places, plain_by}
+use Rattle.vs_claims.specs.vs_maps.specs.declared.along.Along.TheVariants.{Plain}
+use Rattle.vs_claims.specs.vs_maps.specs.Reaches.{Chart, IsPlace, pause_at, places}
 use Rattle.vs_claims.specs.vs_maps.specs.Ranges.{pause_terms}
 use Rattle.vs_claims.specs.vs_maps.specs.Walks.{WalkFrom, IsControlBefore}
 use Rattle.vs_slots.specs.Terms.{TermsFire}
@@ -33,11 +34,11 @@ HasRunBy along ends t p r = WalkFrom t along (λ q. ends (pause_at t q) r) p
 
 -- a place of a process has a run slot
 abbrev pub HasRun : Parts → Claims → ℕ → Chart → ℕ → ℕ → Type 0
-HasRun d c i t p r = HasRunBy (plain_by (is_wide c)) (PauseEnds d c i) t p r
+HasRun d c i t p r = HasRunBy (Plain (is_wide c)) (PauseEnds d c i) t p r
 
 -- it has one by a delay control
 abbrev pub HasDelayRun : Parts → Claims → ℕ → Chart → ℕ → ℕ → Type 0
-HasDelayRun d c i t p r = HasRunBy (plain_by (is_wide c)) (DelayPauseEnds d c i) t p r
+HasDelayRun d c i t p r = HasRunBy (Plain (is_wide c)) (DelayPauseEnds d c i) t p r
 
 -- a place where something is done has the run slots of its point
 abbrev pub RunsAreExact : Type 0

@@ -3,7 +3,7 @@ ghost use Rattle.std.specs.Prelude.{IfOk, map};
 ghost use Rattle.vs_design.specs.Tables.{rows};
 ghost use Rattle.vs_maps.specs.vs_rules.specs.Certificates.{residues_from};
 ghost use Rattle.vs_maps.specs.vs_rules.specs.Controls.{controls_in, list_of};
-ghost use Rattle.vs_claims.specs.vs_maps.specs.Reaches.{plain_by};
+ghost use Rattle.vs_claims.specs.vs_maps.specs.declared.along.Along.TheVariants.{Plain};
 ghost use Rattle.vs_slots.specs.Runs.{AreRunsBy, DelayEndsBy, DelayPauseEnds};
 ghost use Rattle.vs_slots.specs.Kept.{RunsWhere, AreAllRuns};
 
@@ -11,7 +11,7 @@ use crate::controls::{ControlLists, delay_ends};
 use crate::runs::Runs;
 use std::alloc::{AllocError, Global};
 use vs_claims::Facts;
-use vs_claims::vs_maps::{Tables, controls, controls_before, plain_by};
+use vs_claims::vs_maps::{Along, Tables, controls, controls_before};
 use vs_design::Statement;
 
 // The runs of a process that waits for times, by the version of the certificate, its text, its tables and its lists.
@@ -22,13 +22,13 @@ fn listed_runs<'a>(
     tables: &'a Tables<'a>,
     lists: &[Vec<u64>],
 ) -> Result<Runs, AllocError>
-    ensures { IfOk result (λ x. AreRunsBy (plain_by wide) (DelayEndsBy (list_of (controls_in body.now) (map residues_from lists.now)))
+    ensures { IfOk result (λ x. AreRunsBy (Plain wide) (DelayEndsBy (list_of (controls_in body.now) (map residues_from lists.now)))
         tables.entry.now x.before (rows x.ends.items)) }
 {
     let controls = controls(alloc, body)?;
     let lists = ControlLists::new(&controls, lists);
     let ends = delay_ends(alloc, &*tables, &lists)?;
-    let before = controls_before(alloc, tables, plain_by(wide))?;
+    let before = controls_before(alloc, tables, Along::Plain(wide))?;
     Ok(Runs { before, ends })
 }
 

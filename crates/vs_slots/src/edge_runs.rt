@@ -4,7 +4,8 @@ ghost use Rattle.std.specs.List.{Contains};
 ghost use Rattle.vs_design.specs.Tables.{rows};
 ghost use Rattle.vs_claims.specs.vs_maps.specs.Ranges.{pause_terms};
 ghost use Rattle.vs_maps.specs.vs_rules.specs.Claims.{is_wide};
-ghost use Rattle.vs_claims.specs.vs_maps.specs.Reaches.{places, pause_at, pause_view, plain_by, IsPlace};
+ghost use Rattle.vs_claims.specs.vs_maps.specs.declared.along.Along.TheVariants.{Plain};
+ghost use Rattle.vs_claims.specs.vs_maps.specs.Reaches.{places, pause_at, pause_view, IsPlace};
 ghost use Rattle.vs_slots.specs.Kept.{AreAllRuns, AreFirings, AreTermsIn, RunsWhere};
 ghost use Rattle.vs_slots.specs.Runs.{AreRunsBy, EdgePauseEnds, TermsEnd};
 
@@ -13,7 +14,7 @@ use crate::roots::Firing;
 use crate::runs::Runs;
 use std::alloc::{AllocError, Global};
 use vs_claims::Facts;
-use vs_claims::vs_maps::{Pause, Tables, controls_before, plain_by};
+use vs_claims::vs_maps::{Along, Pause, Tables, controls_before};
 
 // The places of a process that waits for edges, and when terms can fire.
 #[derive(Drop)]
@@ -59,7 +60,7 @@ fn fired_runs<'a>(
     tables: &'a Tables<'a>,
 ) -> Result<Runs, AllocError>
     requires { AreFirings facts.now firing.now }
-    ensures { IfOk result (λ x. AreRunsBy (plain_by (is_wide facts.entry.now.claims))
+    ensures { IfOk result (λ x. AreRunsBy (Plain (is_wide facts.entry.now.claims))
         (TermsEnd facts.entry.now.design facts.entry.now.claims) tables.entry.now x.before (rows x.ends.items)) }
 {
     let edges = EdgeEnds {
@@ -68,7 +69,7 @@ fn fired_runs<'a>(
         tables,
     };
     let ends = table_of(alloc, &edges, tables.places())?;
-    let before = controls_before(alloc, &*tables, plain_by(facts.is_wide()))?;
+    let before = controls_before(alloc, &*tables, Along::Plain(facts.is_wide()))?;
     Ok(Runs { before, ends })
 }
 

@@ -10,5 +10,5 @@ pub returns-in-Some : goal.returns-in-Some
 returns-in-Some c =
     let t = c.in-Some.tables.now in (
       λ h. (t, sym c.in-Some.ensures, c.is_early.ensures.0 h),
-      λ h. c.is_early.ensures.1 (subst (λ (x : Chart). InSlot0 x c.args.site.place) (sym (same_Some t h.0 (c.in-Some.ensures ∙ h.1))) h.2),
+      λ h. c.is_early.ensures.1 (subst (λ (x : Chart). InSlot0 c.args.wide x c.args.site.place) (sym (same_Some t h.0 (c.in-Some.ensures ∙ h.1))) h.2),
     )

@@ -4,4 +4,4 @@ use Rattle.vs_cert_roots.specs.First.{WakesSite}
 use Rattle.vs_cert_roots.proofs.entries.none_wakes.Given as goal
 
 abbrev pub invariant-loop-site : goal.invariant-loop-site
-invariant-loop-site l = (k : ℕ) (s : Site) → k < l.site-index → slice_get l.sites k ≡ Some s → WakesSite l.facts l.digit s → ⊥
+invariant-loop-site l = (k : ℕ) (s : Site) → k < l.site-index → slice_get l.sites k ≡ Some s → WakesSite l.facts l.digit l.except s → ⊥

@@ -1,6 +1,7 @@
 use Rattle.std.proofs.Common.{◌≡◌, ◌==◌, ◌↔◌, ℕ, length, Bool, IsTrue, List, refl, sym, ◌∙◌, ap, subst, arith}
 use Rattle.std.specs.List.{Contains}
 use Rattle.std.proofs.lemmas.Result.{IfOk-weaker}
+use Rattle.vs_rules.specs.Claims.{is_wide}
 use Rattle.vs_rules_of_signals.specs.vs_claims.specs.Facts.{Case, AreCharts}
 use Rattle.vs_cert_roots.specs.First.{HasSite, StartsWell}
 use Rattle.vs_cert_roots.proofs.FirstLemmas.{no_root}
@@ -21,7 +22,7 @@ returns-in-Some c =
     let K = c.args.first.now in
     let maps = subst (λ (k : Case). AreCharts k.design k.charts) c.first.view_is c.first.invariant.maps in
     let root = c.if-not-is_root.ensures.0 refl in
-    let are = subst (λ (l : List ℕ). (i : ℕ) → (Contains l i ↔ HasSite K.charts i c.args.v)) (sym c.deref.ensures.value) c.in_ok-writers.ensures in
+    let are = subst (λ (l : List ℕ). (i : ℕ) → (Contains l i ↔ HasSite (is_wide K.claims) K.charts i c.args.v)) (sym c.deref.ensures.value) c.in_ok-writers.ensures in
     let l = one_kept K.design K.claims K.charts maps c.args.v c.in-Some.j c.deref.result.now are (λ x. c.in-Some.ensures x) root in
     IfOk-weaker _ (λ (b : Bool). (IsTrue b ↔ StartsWell K.design K.claims K.charts c.in-Some.j c.args.v)) _ (λ b g. (λ t. l.0 (g.0 t), λ h. g.1 (l.1 h))) c.starts_well.ensures
 
@@ -30,7 +31,7 @@ returns c =
     let K = c.args.first.now in
     let maps = subst (λ (k : Case). AreCharts k.design k.charts) c.first.view_is c.first.invariant.maps in
     let root = c.if-not-is_root.ensures.0 refl in
-    let are = subst (λ (l : List ℕ). (i : ℕ) → (Contains l i ↔ HasSite K.charts i c.args.v)) (sym c.deref.ensures.value) c.in_ok-writers.ensures in
+    let are = subst (λ (l : List ℕ). (i : ℕ) → (Contains l i ↔ HasSite (is_wide K.claims) K.charts i c.args.v)) (sym c.deref.ensures.value) c.in_ok-writers.ensures in
     let all = c.in_ok-writers.writers in
     let long : all.len ≡ length c.deref.result.now = omega (arith, all.ok.0, ap length c.deref.ensures.value) in
     none_kept K.design K.claims K.charts maps c.args.v c.deref.result.now are (λ x. c.in-None.ensures x) root c.is_empty.result

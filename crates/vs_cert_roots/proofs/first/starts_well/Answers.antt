@@ -19,4 +19,4 @@ returns-in-Some c =
     let K = c.args.first.now in
     let t = c.in-Some.tables.now in
     let l = well_at K.design K.claims K.charts c.args.j c.args.v t (sym (c.in-Some.ensures ∙ ap (λ (k : Case). slice_get k.charts c.args.j) (c.facts.ensures ∙ c.first.view_is))) in
-    IfOk-weaker _ (λ (b : Bool). (IsTrue b ↔ StartsWellIn K.design K.claims t c.args.v)) _ (λ b e. (λ h. l.0 (e.0 h), λ w. e.1 (l.1 w))) c.starts_well_in.ensures
+    IfOk-weaker _ (λ (b : Bool). (IsTrue b ↔ StartsWellIn K.design K.claims c.args.j t c.args.v)) _ (λ b e. (λ h. l.0 (e.0 h), λ w. e.1 (l.1 w))) c.starts_well_in.ensures

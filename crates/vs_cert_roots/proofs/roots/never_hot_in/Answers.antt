@@ -9,8 +9,8 @@ returns c =
     let t = c.args.tables.now in
     let M = c.deref.result.now in
     let long : length M ≡ places t = ap length c.deref.ensures.value ∙ c.in_ok-marks.ensures.len in
-    let exact = subst (AreMarked (InHot t c.args.v) (places t)) (sym c.deref.ensures.value) c.in_ok-marks.ensures.exact in
-    let k = marks_keep t c.args.v M long exact c.leads_in.ensures.points in (
+    let exact = subst (AreMarked (InHot c.args.wide t c.args.v) (places t)) (sym c.deref.ensures.value) c.in_ok-marks.ensures.exact in
+    let k = marks_keep c.args.wide t c.args.v M long exact c.leads_in.ensures.points in (
       λ h. k.0 (λ p l. (c.in_ok-all.ensures.0 h) p (subst (λ (n : ℕ). p < n) (sym c.places.ensures) l)),
       λ h. c.in_ok-all.ensures.1 (λ p l. k.1 h p (subst (λ (n : ℕ). p < n) c.places.ensures l)),
     )

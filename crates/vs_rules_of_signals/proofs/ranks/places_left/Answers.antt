@@ -1,4 +1,4 @@
-use Rattle.std.proofs.Common.{◌≡◌, ◌+◌, [], ◌∷◌, length, ap, ◌∙◌, arith, length-append}
+use Rattle.std.proofs.Common.{◌≡◌, ◌+◌, false, [], ◌∷◌, length, ap, ◌∙◌, arith, length-append}
 use Rattle.vs_claims.specs.vs_maps.specs.declared.along.Along.TheVariants.{ZeroTime}
 use Rattle.vs_claims.specs.vs_maps.specs.Reaches.{stops_along}
 use Rattle.vs_rules_of_signals.proofs.RankLemmas.{entered_less}
@@ -6,7 +6,7 @@ use Rattle.vs_rules_of_signals.proofs.ranks.places_left.Goals as goal
 
 pub loop-visit-smaller-in-Continue-branch-5 : goal.loop-visit-smaller-in-Continue-branch-5
 loop-visit-smaller-in-Continue-branch-5 c =
-    let nexts = stops_along ZeroTime c.args.tables.now.stops in
+    let nexts = stops_along (ZeroTime false) c.args.tables.now.stops in
     let m = c.if-enter.ensures.fresh in
     let rest = c.pop.new.self.items in
     let a : length c.loop-visit.todo.items ≡ length rest + 1 = ap length c.in-Some.ensures.items ∙ length-append rest (c.in-Some.visit ∷ []) in

@@ -1,16 +1,15 @@
 use Rattle.std.proofs.Common.{ℕ, ◌↔◌, List, ◌∙◌, subst}
 use Rattle.std.specs.List.{Contains}
 use Rattle.vs_design.specs.Tables.{rows}
-use Rattle.vs_claims.specs.vs_maps.specs.declared.along.Along.{Along}
 use Rattle.vs_claims.specs.vs_maps.specs.Reaches.{IsPlace, pause_at}
 use Rattle.vs_slots.specs.Lists.{row}
-use Rattle.vs_slots.specs.Runs.{AreBefore, DelayEndsBy}
+use Rattle.vs_slots.specs.Runs.{DelayEndsBy}
 use Rattle.vs_slots.proofs.ListLemmas.{list_for}
 use Rattle.vs_slots.proofs.delay_runs.listed_runs.Goals as goal
 
 pub returns : goal.returns
 returns c = record {
-  before_are = subst (λ (a : Along). AreBefore a c.args.tables.now c.in_ok-before.before) c.plain_by.ensures c.in_ok-before.ensures.exact;
+  before_are = c.in_ok-before.ensures.exact;
   ends_are = λ q r within.
       subst (λ (list : ℕ → List ℕ). (Contains (row (rows c.in_ok-ends.ends.items) q) r ↔ (IsPlace c.args.tables.now q
       × DelayEndsBy list (pause_at c.args.tables.now q) r)))

@@ -15,4 +15,4 @@ returns c =
     let maps = subst (λ (k : Case). AreCharts k.design k.charts) c.facts-facts.ensures c.maps.ensures in
     let G = subst (λ (x : Texts). AreSitesOf x.charts c.args.v c.of_signal.result.now) c.sites.ensures c.of_signal.ensures in
     let are = subst (λ (k : Case). AreSitesOf k.charts c.args.v c.of_signal.result.now) c.facts-facts.ensures G in
-    calm_is K maps c.args.v c.args.digit c.of_signal.result.now are c.none_wakes.result (subst (λ (k : Case). IsNone k c.args.digit c.of_signal.result.now c.none_wakes.result) c.facts-facts.ensures c.none_wakes.ensures)
+    calm_is K maps c.args.v c.args.digit c.args.except c.of_signal.result.now are c.none_wakes.result (subst (λ (k : Case). IsNone k c.args.digit c.args.except c.of_signal.result.now c.none_wakes.result) c.facts-facts.ensures c.none_wakes.ensures)

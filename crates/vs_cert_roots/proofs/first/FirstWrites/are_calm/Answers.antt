@@ -6,14 +6,14 @@ use Rattle.vs_cert_roots.proofs.first.FirstWrites.are_calm.Goals as goal
 pub loop-place-preserved : goal.loop-place-preserved
 loop-place-preserved c =
     let K = c.args.self.now in
-    further (λ (p : ℕ). WakesEntry K.design K.claims p c.args.root c.args.digit → ⊥) c.args.places.now c.loop-place.place-index c.loop-place.invariant (c.if-not-is_calm.ensures.0 refl)
+    further (λ (p : ℕ). WakesEntry K.design K.claims c.args.writer p c.args.root c.args.digit → ⊥) c.args.places.now c.loop-place.place-index c.loop-place.invariant (c.if-not-is_calm.ensures.0 refl)
 
 pub returns-then-not-is_calm : goal.returns-then-not-is_calm
 returns-then-not-is_calm c =
     let K = c.args.self.now in
-    one_not (λ (p : ℕ). WakesEntry K.design K.claims p c.args.root c.args.digit → ⊥) c.args.places.now c.loop-place.place-index (omega arith) (λ p. c.if-not-is_calm.ensures.1 p)
+    one_not (λ (p : ℕ). WakesEntry K.design K.claims c.args.writer p c.args.root c.args.digit → ⊥) c.args.places.now c.loop-place.place-index (omega arith) (λ p. c.if-not-is_calm.ensures.1 p)
 
 pub returns : goal.returns
 returns c =
     let K = c.args.self.now in
-    all_do (λ (p : ℕ). WakesEntry K.design K.claims p c.args.root c.args.digit → ⊥) c.args.places.now c.loop-place.place-index (omega arith) c.loop-place.invariant
+    all_do (λ (p : ℕ). WakesEntry K.design K.claims c.args.writer p c.args.root c.args.digit → ⊥) c.args.places.now c.loop-place.place-index (omega arith) c.loop-place.invariant

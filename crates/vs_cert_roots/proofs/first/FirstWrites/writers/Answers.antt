@@ -1,5 +1,6 @@
 use Rattle.std.proofs.Common.{◌≡◌, ◌<◌, ◌↔◌, length, sym, ◌∙◌, subst}
 use Rattle.std.specs.List.{Contains}
+use Rattle.vs_rules.specs.Claims.{is_wide}
 use Rattle.vs_drivers.specs.vs_maps.specs.Texts.{Texts}
 use Rattle.vs_drivers.specs.vs_maps.proofs.SiteLemmas.{AreSitesOf}
 use Rattle.vs_rules_of_signals.specs.vs_claims.specs.Facts.{Case}
@@ -17,6 +18,6 @@ returns c i =
     let G = c.facts-facts.result.now in
     let F : G ≡ c.args.self.now = c.facts-facts.ensures ∙ c.self.view_is in
     let sites = subst (λ (x : Texts). AreSitesOf x.charts c.args.v c.of_signal.result.now) c.sites.ensures c.of_signal.ensures in
-    let l = processes_are G.charts c.args.v c.of_signal.result.now sites i in
+    let l = processes_are (is_wide G.claims) G.charts c.args.v c.of_signal.result.now sites i in
     let e = c.in_ok-all.ensures i in
-    subst (λ (k : Case). (Contains c.in_ok-all.all.items i ↔ HasSite k.charts i c.args.v)) F (λ h. l.0 (e.0 h), λ h. e.1 (l.1 h))
+    subst (λ (k : Case). (Contains c.in_ok-all.all.items i ↔ HasSite (is_wide k.claims) k.charts i c.args.v)) F (λ h. l.0 (e.0 h), λ h. e.1 (l.1 h))

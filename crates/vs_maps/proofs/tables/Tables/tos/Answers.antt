@@ -13,4 +13,4 @@ returns-in-Some-clause-within c q h =
     ap (λ (l : List k.Stop). stop_at (map stop_view l) c.args.place) (sym c.deref.ensures.value) ∙ sym c.stop_at.ensures ∙ ap stop_seen c.in-Some.is in
     let leads = subst (λ (l : List ℕ). Contains l q) (c.deref-in-Some.ensures.value ∙ sym (ap stop_tos here)) h in
     subst (λ (n : ℕ). q < suc n) (sym (length-map stops stop_view) ∙ ap (λ (t : Chart). length t.stops) c.self.view_is)
-    (c.self.invariant.leads_in.ways c.args.place q leads)
+    (c.self.invariant.0.leads_in.ways c.args.place q leads)

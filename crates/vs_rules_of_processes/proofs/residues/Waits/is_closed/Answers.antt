@@ -1,6 +1,7 @@
 use Rattle.std.proofs.Common.{◌↔◌, IsTrue, refl}
 use Rattle.std.proofs.lemmas.Bool.{false≢true}
 use Rattle.std.proofs.lemmas.Result.{IfOk-weaker}
+use Rattle.vs_rules.specs.Claims.{is_wide}
 use Rattle.vs_rules_of_processes.specs.Closed.{EndsWell, StartsWell}
 use Rattle.vs_rules_of_processes.proofs.residues.Waits.is_closed.Goals as goal
 
@@ -14,6 +15,6 @@ returns c =
     let t = s.tables.now in
     IfOk-weaker c.ends_well.result
     (λ b. (IsTrue b ↔ EndsWell f.design f.claims s.process t c.args.place c.args.ticks c.args.list.now s.modulus))
-    (λ b. (IsTrue b ↔ (StartsWell t c.args.place c.args.ticks c.args.list.now s.modulus × EndsWell f.design f.claims s.process t c.args.place c.args.ticks c.args.list.now s.modulus)))
+    (λ b. (IsTrue b ↔ (StartsWell (is_wide f.claims) t c.args.place c.args.ticks c.args.list.now s.modulus × EndsWell f.design f.claims s.process t c.args.place c.args.ticks c.args.list.now s.modulus)))
     (λ b h. (λ x. (c.if-not-starts_well.ensures.0 refl, h.0 x), λ y. h.1 y.1))
     c.ends_well.ensures
