@@ -8,7 +8,7 @@ use Rattle.vs_design.specs.declared.range.BitRange.{BitRange}
 use Rattle.vs_design.specs.declared.signal.Signal.{Signal}
 use Rattle.vs_design.specs.declared.statement.EventTerm.{EventTerm}
 use Rattle.vs_design.specs.Parts.{Parts}
-use Rattle.vs_threads.specs.Writes.{statement_writes}
+use Rattle.vs_process.specs.Writes.{statement_writes}
 use Rattle.vs_drivers.specs.vs_rules.specs.Paths.{Has, text_reads}
 use Rattle.vs_claims.specs.vs_maps.specs.Ranges.{HasSignal, HasTermAt}
 use Rattle.vs_claims.specs.vs_maps.specs.Reaches.{Chart}

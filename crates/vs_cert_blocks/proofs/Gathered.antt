@@ -10,7 +10,7 @@ use Rattle.vs_design.specs.declared.statement.Statement.{Statement}
 use Rattle.vs_process.specs.Stops.{stop_at, stop_statement}
 use Rattle.vs_claims.specs.vs_maps.specs.Reaches.{Chart, pause_of, places}
 use Rattle.vs_claims.specs.vs_maps.specs.Ranges.{ranges_of, reads_at}
-use Rattle.vs_drivers.specs.vs_rules.specs.vs_threads.specs.Threads.{own_reads}
+use Rattle.vs_drivers.specs.vs_rules.specs.vs_process.specs.Threads.{own_reads}
 use Rattle.std.proofs.lemmas.List.{length-append}
 use Rattle.vs_cert_blocks.specs.Walks.{WakesFrom, AreWoken, sure_at, statement_sure, HaveSure, row_at, AreReads}
 use Rattle.vs_cert_blocks.proofs.CornerLemmas.{below_or}

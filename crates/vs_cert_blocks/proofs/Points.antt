@@ -11,9 +11,9 @@ use Rattle.vs_process.specs.Places.{perform, turns, Todo}
 use Rattle.vs_process.specs.Steps.{Next, on, after, wait}
 use Rattle.vs_process.specs.Stops.{Stop, stop_at, stop_statement, stops_tos, next_statement, IsText}
 use Rattle.vs_process.specs.Ways.{Pause, none, delay, event, next_by}
-use Rattle.vs_drivers.specs.vs_rules.specs.vs_threads.specs.Blocks.{outputs_for}
-use Rattle.vs_drivers.specs.vs_rules.specs.vs_threads.specs.Threads.{todo_reads}
-use Rattle.vs_threads.specs.Writes.{statement_writes}
+use Rattle.vs_drivers.specs.vs_rules.specs.vs_process.specs.BlockDrivers.{outputs_for}
+use Rattle.vs_drivers.specs.vs_rules.specs.vs_process.specs.Threads.{todo_reads}
+use Rattle.vs_process.specs.Writes.{statement_writes}
 use Rattle.vs_claims.specs.vs_process.specs.declared.moves.Grain.{Grain}
 use Rattle.vs_claims.specs.vs_process.specs.Executions.{is_combinational}
 use Rattle.vs_drivers.specs.vs_rules.specs.Blocks.{todo_surely, has_late_effect, K5}

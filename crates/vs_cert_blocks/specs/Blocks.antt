@@ -6,7 +6,7 @@ use Rattle.vs_design.specs.declared.range.BitRange.{BitRange}
 use Rattle.vs_design.specs.declared.statement.EventTerm.{EventTerm}
 use Rattle.vs_design.specs.Parts.{Parts}
 use Rattle.vs_process.specs.Stops.{Stop, IsText}
-use Rattle.vs_threads.specs.Writes.{statement_writes}
+use Rattle.vs_process.specs.Writes.{statement_writes}
 use Rattle.vs_claims.specs.vs_process.specs.declared.moves.Grain.{Grain}
 use Rattle.vs_claims.specs.vs_process.specs.declared.moves.Grain.TheVariants as g
 use Rattle.vs_claims.specs.vs_process.specs.Executions.{is_combinational}

@@ -21,7 +21,7 @@ use vs_claims::vs_process::{Grain, is_combinational};
 use vs_design::{BitRange, Design, EventTerm, Process};
 use vs_drivers::{BySignal, SignalSet, covers};
 use vs_graph::{Rule, all_keep, clear_marks};
-use vs_threads::statement_writes;
+use vs_process::statement_writes;
 
 // The places of a map.
 #[derive(Drop)]

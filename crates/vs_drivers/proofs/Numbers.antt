@@ -8,7 +8,7 @@ use Rattle.vs_design.specs.declared.range.BitRange.{BitRange}
 use Rattle.vs_design.specs.Parts.{Parts}
 use Rattle.vs_rules.specs.Claims.{Claims, IsBlock}
 use Rattle.vs_rules.specs.Drivers.{Driver, assign, block, IsDriver, DriverWrites, IsSource}
-use Rattle.vs_rules.specs.vs_threads.specs.Blocks.{outputs_for}
+use Rattle.vs_rules.specs.vs_process.specs.BlockDrivers.{outputs_for}
 use Rattle.vs_drivers.specs.Wires.{Wiring, OfWiring, driver_at, drivers, IsMarked, Drives, WritesAt, IsFree}
 use Rattle.vs_drivers.proofs.ListBasics.{none_in}
 

@@ -8,8 +8,8 @@ use Rattle.vs_design.specs.declared.range.BitRange.{BitRange}
 use Rattle.vs_design.specs.Parts.{Parts}
 use Rattle.vs_design.specs.Uses.{reads, writes}
 use Rattle.vs_process.specs.Stops.{IsText}
-use Rattle.vs_rules.specs.vs_threads.specs.Blocks.{outputs_for}
-use Rattle.vs_threads.specs.Writes.{statement_writes}
+use Rattle.vs_rules.specs.vs_process.specs.BlockDrivers.{outputs_for}
+use Rattle.vs_process.specs.Writes.{statement_writes}
 use Rattle.vs_rules.specs.Drivers.{Driver, assign, block, DriverWrites, DriverNeeds}
 use Rattle.vs_rules.specs.Paths.{reads_for, text_reads}
 use Rattle.vs_maps.specs.Reaches.{Chart}

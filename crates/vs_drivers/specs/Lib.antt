@@ -10,6 +10,6 @@ pub mod Wires
 pub mod Walks
 pub mod Names
 pub mod Assigned
-pub use Rattle.vs_threads
+pub use Rattle.vs_process
 pub mod Same
 pub mod Signals

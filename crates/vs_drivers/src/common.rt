@@ -1,7 +1,7 @@
 //! Ranges that have bits in common.
 ghost use Rattle.std.specs.Prelude.{◌≡◌, ◌+◌, ◌≤◌, ◌^◌, Some, map, option_map};
 ghost use Rattle.vs_design.specs.WellFormed.{bits_or_all};
-ghost use Rattle.vs_rules.specs.vs_threads.specs.Bits.{common_word, common_place};
+ghost use Rattle.vs_rules.specs.vs_process.specs.Bits.{common_word, common_place};
 ghost use Rattle.vs_drivers.specs.Meets.{meet_among};
 
 use vs_design::{BitRange, Bits, Signal};

@@ -29,7 +29,7 @@ pub use ranges::BySignal;
 pub use set::SignalSet;
 pub use shares::{has, share};
 pub use vs_maps;
+pub use vs_process;
 pub use vs_rules;
 pub use vs_slots_constants;
-pub use vs_threads;
 pub use writers::Written;

@@ -12,7 +12,7 @@ use std::alloc::{AllocError, Global};
 use std::marker::Model;
 use vs_design::{BitRange, Design, reads, writes};
 use vs_maps::{Tables, terms, text_reads};
-use vs_threads::statement_writes;
+use vs_process::statement_writes;
 
 /// A design, the tables of its processes, and a mark for each of these: whether it is of kind comb.
 #[derive(Drop)]

@@ -3,12 +3,12 @@ use Rattle.std.proofs.Common.{◌≡◌, ℕ, zero, suc, ◌-◌, ◌≤◌, ◌
 use Rattle.std.specs.List.{list_any}
 use Rattle.std.specs.Str.{bytes_eq}
 use Rattle.std.proofs.Math.Path.{fun_ext}
-use Rattle.vs_scopes.specs.vs_width_selects.specs.declared.bindings.Binding.{Binding}
-use Rattle.vs_scopes.specs.vs_width_selects.specs.declared.bindings.Binding.TheVariants.{Constant, Pending, Other}
-use Rattle.vs_scopes.specs.vs_width_selects.specs.declared.constants.Const.{Const}
-use Rattle.vs_scopes.specs.vs_width_selects.specs.declared.faults.WidthReason.{WidthReason}
-use Rattle.vs_scopes.specs.vs_width_selects.specs.declared.faults.WidthReason.TheVariants.{TooWide, Unknown, NotConstant, WrongKind}
-use Rattle.vs_scopes.specs.vs_width_selects.specs.Environment.{Environment}
+use Rattle.vs_scopes.specs.vs_widths.specs.declared.bindings.Binding.{Binding}
+use Rattle.vs_scopes.specs.vs_widths.specs.declared.bindings.Binding.TheVariants.{Constant, Pending, Other}
+use Rattle.vs_scopes.specs.vs_widths.specs.declared.constants.Const.{Const}
+use Rattle.vs_scopes.specs.vs_widths.specs.declared.faults.WidthReason.{WidthReason}
+use Rattle.vs_scopes.specs.vs_widths.specs.declared.faults.WidthReason.TheVariants.{TooWide, Unknown, NotConstant, WrongKind}
+use Rattle.vs_scopes.specs.vs_widths.specs.Environment.{Environment}
 use Rattle.vs_scopes.specs.Parameters.{Given, constant_given, own_fault, own_faults, outer_fault, any_fault, with_given, bound_given, known_after, known_behind, blamed_given, blamed_after, blamed_behind}
 use Rattle.vs_elab_constants.specs.passes.Finding.{Below}
 use Rattle.vs_elab_constants.proofs.FindingLemmas.{fault_same, none_any, rounds_below}

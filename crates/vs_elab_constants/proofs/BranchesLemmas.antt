@@ -10,11 +10,11 @@ use Rattle.vs_syntax.specs.declared.tree.ModuleItem.TheOpen as m
 use Rattle.vs_syntax.specs.declared.tree.ModuleItem.TheVariants.{rolls-If}
 use Rattle.vs_syntax.specs.declared.tree.ModuleItem.TheViews.{roll-ModuleItem, out-ModuleItem, out-roll-ModuleItem}
 use Rattle.vs_syntax.specs.declared.tree.ModuleItem.TheFolds.{fold-ModuleItem, fold-roll-ModuleItem, map-ModuleItem}
-use Rattle.vs_scopes.specs.vs_width_selects.specs.declared.faults.WidthReason.{WidthReason}
-use Rattle.vs_scopes.specs.vs_width_selects.specs.Environment.{Environment}
-use Rattle.vs_elab_pieces.specs.Pieces.{unboxed}
-use Rattle.vs_elab_pieces.specs.Reads.{read_content}
-use Rattle.vs_elab_pieces.specs.declared.contents.Content.{Content as Found}
+use Rattle.vs_scopes.specs.vs_widths.specs.declared.faults.WidthReason.{WidthReason}
+use Rattle.vs_scopes.specs.vs_widths.specs.Environment.{Environment}
+use Rattle.vs_scopes.specs.Pieces.{unboxed}
+use Rattle.vs_scopes.specs.Reads.{read_content}
+use Rattle.vs_scopes.specs.declared.contents.Content.{Content as Found}
 use Rattle.vs_scopes.specs.declared.faults.BodyFault.{BodyFault}
 use Rattle.vs_scopes.specs.declared.faults.Reason.{Reason}
 use Rattle.vs_scopes.specs.declared.faults.Reason.TheVariants.{Width}

@@ -12,14 +12,14 @@ use Rattle.vs_syntax.specs.declared.tree.Form.{Form}
 use Rattle.vs_syntax.specs.declared.tree.Item.{Item}
 use Rattle.vs_syntax.specs.declared.tree.Item.TheVariants as t
 use Rattle.vs_syntax.specs.declared.tree.LocalDeclaration.{LocalDeclaration}
-use Rattle.vs_elab_pieces.specs.declared.scope.ScopePiece.{ScopePiece as FoundPiece}
-use Rattle.vs_elab_pieces.specs.declared.scope.ScopePiece.TheVariants as p
-use Rattle.vs_elab_pieces.specs.Reads.{read_piece}
+use Rattle.vs_scopes.specs.declared.scope.ScopePiece.{ScopePiece as FoundPiece}
+use Rattle.vs_scopes.specs.declared.scope.ScopePiece.TheVariants as p
+use Rattle.vs_scopes.specs.Reads.{read_piece}
 use Rattle.vs_design.specs.declared.signal.SignalKind.{SignalKind}
-use Rattle.vs_elab_pieces.specs.Pieces.{Piece}
-use Rattle.vs_scopes.specs.vs_width_selects.specs.declared.bindings.Meaning.{Meaning}
-use Rattle.vs_scopes.specs.vs_width_selects.specs.declared.bindings.Binding.{Binding}
-use Rattle.vs_scopes.specs.vs_width_selects.specs.declared.bindings.Binding.TheVariants.{Signal, Genvar, Other}
+use Rattle.vs_scopes.specs.Pieces.{Piece}
+use Rattle.vs_scopes.specs.vs_widths.specs.declared.bindings.Meaning.{Meaning}
+use Rattle.vs_scopes.specs.vs_widths.specs.declared.bindings.Binding.{Binding}
+use Rattle.vs_scopes.specs.vs_widths.specs.declared.bindings.Binding.TheVariants.{Signal, Genvar, Other}
 use Rattle.vs_widths.specs.Names.{meaning_of}
 use Rattle.vs_scopes.specs.Parameters.{Parameter}
 use Rattle.vs_scopes.specs.Ports.{ModulePort}

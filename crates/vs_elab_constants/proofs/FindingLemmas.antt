@@ -12,15 +12,15 @@ use Rattle.vs_syntax.specs.declared.tree.Expr.{Expr}
 use Rattle.vs_syntax.specs.declared.tree.Range.{Range}
 use Rattle.vs_syntax.specs.declared.tree.ParameterForm.{ParameterForm}
 use Rattle.vs_syntax.specs.declared.tree.ParameterForm.TheVariants.{Integer, Vector}
-use Rattle.vs_scopes.specs.vs_width_selects.specs.declared.bindings.Binding.{Binding}
-use Rattle.vs_scopes.specs.vs_width_selects.specs.declared.bindings.Binding.TheVariants.{Constant, Pending}
-use Rattle.vs_scopes.specs.vs_width_selects.specs.declared.constants.Const.{Const}
-use Rattle.vs_scopes.specs.vs_width_selects.specs.declared.faults.WidthReason.{WidthReason}
-use Rattle.vs_scopes.specs.vs_width_selects.specs.declared.faults.WidthReason.TheVariants.{TooWide, Unknown, NotConstant, WrongKind}
-use Rattle.vs_scopes.specs.vs_width_selects.specs.Environment.{Environment}
-use Rattle.vs_scopes.specs.vs_width_selects.specs.Findings.{Finding, Has, Lacks, stands, too_wide}
-use Rattle.vs_scopes.specs.vs_width_selects.specs.Meants.{Meant, own}
-use Rattle.vs_scopes.specs.vs_width_selects.specs.Constants.{where_none, constant_finding, whole_at}
+use Rattle.vs_scopes.specs.vs_widths.specs.declared.bindings.Binding.{Binding}
+use Rattle.vs_scopes.specs.vs_widths.specs.declared.bindings.Binding.TheVariants.{Constant, Pending}
+use Rattle.vs_scopes.specs.vs_widths.specs.declared.constants.Const.{Const}
+use Rattle.vs_scopes.specs.vs_widths.specs.declared.faults.WidthReason.{WidthReason}
+use Rattle.vs_scopes.specs.vs_widths.specs.declared.faults.WidthReason.TheVariants.{TooWide, Unknown, NotConstant, WrongKind}
+use Rattle.vs_scopes.specs.vs_widths.specs.Environment.{Environment}
+use Rattle.vs_scopes.specs.vs_widths.specs.Findings.{Finding, Has, Lacks, stands, too_wide}
+use Rattle.vs_scopes.specs.vs_widths.specs.Meants.{Meant, own}
+use Rattle.vs_scopes.specs.vs_widths.specs.Constants.{where_none, constant_finding, whole_at}
 use Rattle.vs_widths.specs.Expressions.{meant}
 use Rattle.vs_widths.specs.Names.{meaning_of, Binds}
 use Rattle.vs_widths.proofs.MeasuringLemmas.{stands_alone}

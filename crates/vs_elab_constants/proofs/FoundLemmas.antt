@@ -4,12 +4,12 @@ use Rattle.std.specs.List.{list_any}
 use Rattle.std.specs.Str.{bytes_eq}
 use Rattle.std.proofs.Math.Path.{fun_ext}
 use Rattle.std.proofs.lemmas.Option.{slice_get_within, slice_get-get_or, none-some}
-use Rattle.vs_scopes.specs.vs_width_selects.specs.declared.bindings.Binding.{Binding}
-use Rattle.vs_scopes.specs.vs_width_selects.specs.declared.bindings.Binding.TheVariants.{Constant, Pending}
-use Rattle.vs_scopes.specs.vs_width_selects.specs.declared.constants.Const.{Const}
-use Rattle.vs_scopes.specs.vs_width_selects.specs.declared.faults.WidthReason.{WidthReason}
-use Rattle.vs_scopes.specs.vs_width_selects.specs.declared.faults.WidthReason.TheVariants.{TooWide, Unknown, NotConstant, WrongKind}
-use Rattle.vs_scopes.specs.vs_width_selects.specs.Environment.{Environment}
+use Rattle.vs_scopes.specs.vs_widths.specs.declared.bindings.Binding.{Binding}
+use Rattle.vs_scopes.specs.vs_widths.specs.declared.bindings.Binding.TheVariants.{Constant, Pending}
+use Rattle.vs_scopes.specs.vs_widths.specs.declared.constants.Const.{Const}
+use Rattle.vs_scopes.specs.vs_widths.specs.declared.faults.WidthReason.{WidthReason}
+use Rattle.vs_scopes.specs.vs_widths.specs.declared.faults.WidthReason.TheVariants.{TooWide, Unknown, NotConstant, WrongKind}
+use Rattle.vs_scopes.specs.vs_widths.specs.Environment.{Environment}
 use Rattle.vs_widths.specs.Names.{meaning_of, by_bytes}
 use Rattle.vs_scopes.specs.Parameters.{Given, constant_given, own_fault, own_faults, outer_faults, with_given, bound_given, known_after, known_behind}
 use Rattle.vs_scopes.specs.Declarations.{Bindings}

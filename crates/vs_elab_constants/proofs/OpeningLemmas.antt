@@ -2,13 +2,13 @@
 use Rattle.std.proofs.Common.{◌≡◌, ℕ, suc, ◌+◌, ◌<◌, Bool, true, false, true≢false, ◌||◌, is_none, List, [], ◌∷◌, ◌++◌, Option, Some, None, length, map, drop, get_or, cond, Bor, refl, ap, ap₂, sym, ◌∙◌, arith}
 use Rattle.std.proofs.lemmas.List.{append-nil}
 use Rattle.vs_syntax.specs.declared.tree.ModuleItem.{ModuleItem}
-use Rattle.vs_scopes.specs.vs_width_selects.specs.declared.constants.Const.{Const}
-use Rattle.vs_scopes.specs.vs_width_selects.specs.Environment.{Environment}
-use Rattle.vs_elab_pieces.specs.Pieces.{Content, nothing, block, Piece}
-use Rattle.vs_elab_pieces.specs.Reads.{read_content, read_piece}
-use Rattle.vs_elab_pieces.specs.declared.contents.Content.{Content as FoundContent}
-use Rattle.vs_elab_pieces.specs.declared.contents.Content.TheVariants as f
-use Rattle.vs_elab_pieces.specs.declared.scope.ScopePiece.{ScopePiece as FoundPiece}
+use Rattle.vs_scopes.specs.vs_widths.specs.declared.constants.Const.{Const}
+use Rattle.vs_scopes.specs.vs_widths.specs.Environment.{Environment}
+use Rattle.vs_scopes.specs.Pieces.{Content, nothing, block, Piece}
+use Rattle.vs_scopes.specs.Reads.{read_content, read_piece}
+use Rattle.vs_scopes.specs.declared.contents.Content.{Content as FoundContent}
+use Rattle.vs_scopes.specs.declared.contents.Content.TheVariants as f
+use Rattle.vs_scopes.specs.declared.scope.ScopePiece.{ScopePiece as FoundPiece}
 use Rattle.vs_scopes.specs.declared.faults.BodyFault.{BodyFault}
 use Rattle.vs_scopes.specs.declared.faults.Reason.{Reason}
 use Rattle.vs_scopes.specs.declared.faults.Reason.TheVariants.{Width, Endless, Unnamed}

@@ -8,16 +8,16 @@ use Rattle.vs_design.specs.vs_logic4.specs.Vectors.{resized, extension_digit}
 use Rattle.vs_design.specs.declared.range.BitRange.{BitRange}
 use Rattle.vs_syntax.specs.declared.tree.Expr.{Expr}
 use Rattle.vs_syntax.specs.declared.tree.LoopHeader.{LoopHeader}
-use Rattle.vs_scopes.specs.vs_width_selects.specs.declared.bindings.Binding.{Binding}
-use Rattle.vs_scopes.specs.vs_width_selects.specs.declared.bindings.Binding.TheVariants.{Constant}
-use Rattle.vs_scopes.specs.vs_width_selects.specs.declared.constants.Const.{Const}
-use Rattle.vs_scopes.specs.vs_width_selects.specs.declared.faults.WidthReason.{WidthReason}
-use Rattle.vs_scopes.specs.vs_width_selects.specs.declared.faults.WidthReason.TheVariants.{NotConstant}
-use Rattle.vs_scopes.specs.vs_width_selects.specs.Environment.{Environment}
-use Rattle.vs_scopes.specs.vs_width_selects.specs.Findings.{Finding, Has, Lacks, stands, alone, not_constant}
-use Rattle.vs_scopes.specs.vs_width_selects.specs.Meants.{Meant}
-use Rattle.vs_scopes.specs.vs_width_selects.specs.Constants.{where_none, constant_finding, constant_in}
-use Rattle.vs_scopes.specs.vs_width_selects.specs.Selects.{size_found}
+use Rattle.vs_scopes.specs.vs_widths.specs.declared.bindings.Binding.{Binding}
+use Rattle.vs_scopes.specs.vs_widths.specs.declared.bindings.Binding.TheVariants.{Constant}
+use Rattle.vs_scopes.specs.vs_widths.specs.declared.constants.Const.{Const}
+use Rattle.vs_scopes.specs.vs_widths.specs.declared.faults.WidthReason.{WidthReason}
+use Rattle.vs_scopes.specs.vs_widths.specs.declared.faults.WidthReason.TheVariants.{NotConstant}
+use Rattle.vs_scopes.specs.vs_widths.specs.Environment.{Environment}
+use Rattle.vs_scopes.specs.vs_widths.specs.Findings.{Finding, Has, Lacks, stands, alone, not_constant}
+use Rattle.vs_scopes.specs.vs_widths.specs.Meants.{Meant}
+use Rattle.vs_scopes.specs.vs_widths.specs.Constants.{where_none, constant_finding, constant_in}
+use Rattle.vs_scopes.specs.vs_widths.specs.Selects.{size_found}
 use Rattle.vs_widths.specs.Expressions.{meant}
 use Rattle.vs_widths.specs.Names.{meaning_of, Binds}
 use Rattle.vs_widths.proofs.NameLemmas.{or_else, meaning_of_append}

@@ -11,17 +11,17 @@ use Rattle.vs_syntax.specs.declared.tree.Module.{Module}
 use Rattle.vs_syntax.specs.declared.tree.Range.{Range}
 use Rattle.vs_design.specs.declared.range.BitRange.{BitRange}
 use Rattle.vs_design.specs.declared.signal.Bounds.{Bounds}
-use Rattle.vs_scopes.specs.vs_width_selects.specs.declared.shape.Shape.{Shape}
-use Rattle.vs_scopes.specs.vs_width_selects.specs.declared.bindings.Binding.TheVariants.{Constant}
-use Rattle.vs_scopes.specs.vs_width_selects.specs.declared.constants.Const.{Const}
-use Rattle.vs_scopes.specs.vs_width_selects.specs.declared.faults.WidthReason.{WidthReason}
-use Rattle.vs_scopes.specs.vs_width_selects.specs.declared.faults.WidthFault.{WidthFault}
-use Rattle.vs_scopes.specs.vs_width_selects.specs.declared.faults.WidthFault.TheVariants as f
-use Rattle.vs_scopes.specs.vs_width_selects.specs.Environment.{Environment}
-use Rattle.vs_scopes.specs.vs_width_selects.specs.Findings.{Finding, Has, Lacks, Refuses, stands, alone}
-use Rattle.vs_scopes.specs.vs_width_selects.specs.Meants.{Meant, own}
-use Rattle.vs_scopes.specs.vs_width_selects.specs.Selects.{size_found}
-use Rattle.vs_scopes.specs.vs_width_selects.specs.Constants.{where_none, constant_finding, constant_in}
+use Rattle.vs_scopes.specs.vs_widths.specs.declared.shape.Shape.{Shape}
+use Rattle.vs_scopes.specs.vs_widths.specs.declared.bindings.Binding.TheVariants.{Constant}
+use Rattle.vs_scopes.specs.vs_widths.specs.declared.constants.Const.{Const}
+use Rattle.vs_scopes.specs.vs_widths.specs.declared.faults.WidthReason.{WidthReason}
+use Rattle.vs_scopes.specs.vs_widths.specs.declared.faults.WidthFault.{WidthFault}
+use Rattle.vs_scopes.specs.vs_widths.specs.declared.faults.WidthFault.TheVariants as f
+use Rattle.vs_scopes.specs.vs_widths.specs.Environment.{Environment}
+use Rattle.vs_scopes.specs.vs_widths.specs.Findings.{Finding, Has, Lacks, Refuses, stands, alone}
+use Rattle.vs_scopes.specs.vs_widths.specs.Meants.{Meant, own}
+use Rattle.vs_scopes.specs.vs_widths.specs.Selects.{size_found}
+use Rattle.vs_scopes.specs.vs_widths.specs.Constants.{where_none, constant_finding, constant_in}
 use Rattle.vs_widths.specs.Expressions.{meant}
 use Rattle.vs_widths.specs.Names.{meaning_of, by_bytes, Binds}
 use Rattle.vs_scopes.specs.declared.sizes.Size.{Size}
@@ -41,7 +41,7 @@ use Rattle.vs_scopes.specs.scopes_passes.Declared.{first_of}
 use Rattle.vs_elab_constants.specs.passes.Early.{AreEarly}
 use Rattle.vs_elab_constants.specs.passes.Values.{constant_as, IsTaking, IsGivenBy, IsGiven, RefusesValues, AddsConstants, BindsConstants, AreValues, AreNoValues, early_inside, block_faults, AreBlockValues}
 use Rattle.vs_elab_constants.specs.declared.evaluating.ParameterValues.{ParameterValues}
-use Rattle.vs_elab_pieces.specs.Pieces.{Piece, pieces_of}
+use Rattle.vs_scopes.specs.Pieces.{Piece, pieces_of}
 use Rattle.vs_scopes.specs.Declarations.{Bindings, valueless_of, early_names}
 use Rattle.vs_scopes.specs.Scopes.{nowhere, outward, early, block_given, with_constants}
 use Rattle.vs_scopes.proofs.DeclaredLemmas.{first_none, said_first, meaning_of-append}

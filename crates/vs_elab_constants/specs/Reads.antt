@@ -1,8 +1,8 @@
 -- What opens scopes, by what it refers to.
 use Rattle.std.specs.Prelude.{ℕ, List, [], ◌∷◌, Option, None, Some, map}
 use Rattle.std.specs.Borrow.{Bor}
-use Rattle.vs_scopes.specs.vs_width_selects.specs.declared.constants.Const.{Const}
-use Rattle.vs_elab_pieces.specs.Reads.{referred, read_block}
+use Rattle.vs_scopes.specs.vs_widths.specs.declared.constants.Const.{Const}
+use Rattle.vs_scopes.specs.Reads.{referred, read_block}
 use Rattle.vs_scopes.specs.Declarations.{Use}
 use Rattle.vs_scopes.specs.Generate.{Inner, instance, generated, named}
 use Rattle.vs_scopes.specs.scopes_passes.Names.{read_title}

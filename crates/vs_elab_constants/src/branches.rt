@@ -1,16 +1,15 @@
 //! The branches of generate constructs.
 ghost use Rattle.std.specs.Prelude.{◌≡◌};
 ghost use Rattle.vs_widths.specs.Names.{meaning_of};
-ghost use Rattle.vs_elab_pieces.specs.Pieces.{unboxed};
-ghost use Rattle.vs_elab_pieces.specs.Reads.{read_content};
+ghost use Rattle.vs_scopes.specs.Pieces.{unboxed};
+ghost use Rattle.vs_scopes.specs.Reads.{read_content};
 ghost use Rattle.vs_scopes.specs.Generate.{takes, branch_taken, other_taken, chosen};
 ghost use Rattle.vs_scopes.specs.scopes_passes.Answers.{Elaborates};
 ghost use Rattle.vs_elab_constants.specs.generate_passes.Branches.{choice_fault};
 
 use crate::conditions::holds;
 use std::alloc::Global;
-use vs_elab_pieces::{Content, content_of};
-use vs_scopes::BodyFault;
+use vs_scopes::{BodyFault, Content, content_of};
 use vs_syntax::{Expr, ModuleItem};
 use vs_widths::Levels;
 

@@ -1,14 +1,13 @@
 //! How many turns generate loops have.
 ghost use Rattle.std.specs.Prelude.{◌≡◌, ◌≤◌, map, IfOk};
 ghost use Rattle.vs_widths.specs.Names.{meaning_of};
-ghost use Rattle.vs_elab_pieces.specs.Reads.{read_piece};
+ghost use Rattle.vs_scopes.specs.Reads.{read_piece};
 ghost use Rattle.vs_scopes.specs.Generate.{piece_turns, turns_among};
 ghost use Rattle.vs_elab_constants.specs.generate_passes.Turns.{CountsTurns};
 
 use crate::loops::turns;
 use std::alloc::{AllocError, Global};
-use vs_elab_pieces::ScopePiece;
-use vs_scopes::BodyFault;
+use vs_scopes::{BodyFault, ScopePiece};
 use vs_widths::Levels;
 
 /// A design has at most so many turns of generate loops.

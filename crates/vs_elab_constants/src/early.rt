@@ -4,12 +4,11 @@ ghost use Rattle.std.specs.List.{flat_map};
 ghost use Rattle.std.specs.declared.vec.Vec.{Vec};
 ghost use Rattle.std.specs.declared.alloc.Global.{Global};
 ghost use Rattle.vs_syntax.specs.declared.tree.Connections.{Connections};
-ghost use Rattle.vs_elab_pieces.specs.Pieces.{NamedBlock as TheBlock, plain, content_of, block_name};
-ghost use Rattle.vs_elab_pieces.specs.Reads.{read_block, read_piece};
-ghost use Rattle.vs_scopes.specs.vs_width_selects.specs.declared.bindings.Binding.TheVariants.{Genvar, Other};
+ghost use Rattle.vs_scopes.specs.Pieces.{NamedBlock as TheBlock, plain, content_of, block_name};
+ghost use Rattle.vs_scopes.specs.Reads.{read_block, read_piece};
+ghost use Rattle.vs_scopes.specs.vs_widths.specs.declared.bindings.Binding.TheVariants.{Genvar, Other};
 ghost use Rattle.vs_scopes.specs.Ranges.{Sized};
-ghost use Rattle.vs_scopes.specs.Declarations.{declared_as, declared_by_port, declared_by_item, declared_local, declared_locally, declared_in, declared_among};
-ghost use Rattle.vs_scopes.specs.Declarations.{Use, use_of, uses_by_item, genvars_in, inner_names_in, inner_names_among, bound_to, unsized_of, signal_names, pending_names};
+ghost use Rattle.vs_scopes.specs.Declarations.{declared_as, declared_by_port, declared_by_item, declared_local, declared_locally, declared_in, declared_among, Use, use_of, uses_by_item, genvars_in, inner_names_in, inner_names_among, bound_to, unsized_of, signal_names, pending_names};
 ghost use Rattle.vs_scopes.specs.scopes_passes.Answers.{borrowed};
 ghost use Rattle.vs_scopes.specs.scopes_passes.Declared.{AddsNames};
 ghost use Rattle.vs_scopes.specs.scopes_passes.Parts.{read_port, read_parameter};
@@ -17,9 +16,11 @@ ghost use Rattle.vs_elab_constants.specs.passes.Early.{bound_by, AreEarly};
 
 use std::alloc::{AllocError, Global};
 use vs_design::SignalKind;
-use vs_elab_pieces::{Content, NamedBlock, ScopePiece, branch_names, content_of, item_blocks};
-use vs_scopes::vs_width_selects::{Binding, Meaning, Shape};
-use vs_scopes::{ModulePort, Parameter, add_first};
+use vs_scopes::vs_widths::{Binding, Meaning, Shape};
+use vs_scopes::{
+    Content, ModulePort, NamedBlock, Parameter, ScopePiece, add_first, branch_names, content_of,
+    item_blocks,
+};
 use vs_syntax::{Declarator, Instance, Item, Local, LocalDeclaration, ModuleItem};
 use vs_widths::Names;
 

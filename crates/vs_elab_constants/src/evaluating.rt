@@ -1,10 +1,10 @@
 //! The values of parameters.
 ghost use Rattle.std.specs.Prelude.{◌≡◌, ◌++◌, ◌∷◌, [], Bool, false, IfOk, IfErr, OnOk, map};
-ghost use Rattle.vs_elab_pieces.specs.Pieces.{pieces_of};
-ghost use Rattle.vs_elab_pieces.specs.Reads.{read_piece};
-ghost use Rattle.vs_scopes.specs.vs_width_selects.specs.Constants.{constant_finding};
-ghost use Rattle.vs_scopes.specs.vs_width_selects.specs.Findings.{Finding, Lacks, Refuses, stands};
-ghost use Rattle.vs_scopes.specs.vs_width_selects.specs.declared.faults.WidthReason.{WidthReason};
+ghost use Rattle.vs_scopes.specs.Pieces.{pieces_of};
+ghost use Rattle.vs_scopes.specs.Reads.{read_piece};
+ghost use Rattle.vs_scopes.specs.vs_widths.specs.Constants.{constant_finding};
+ghost use Rattle.vs_scopes.specs.vs_widths.specs.Findings.{Finding, Lacks, Refuses, stands};
+ghost use Rattle.vs_scopes.specs.vs_widths.specs.declared.faults.WidthReason.{WidthReason};
 ghost use Rattle.vs_widths.specs.Names.{meaning_of, nested_names, by_bytes, Binds};
 ghost use Rattle.vs_widths.specs.Expressions.{meant};
 ghost use Rattle.vs_scopes.specs.Parameters.{vector_takes, takes_by, takes_fault, outer_fault, own_fault};
@@ -18,11 +18,10 @@ ghost use Rattle.vs_elab_constants.specs.passes.Values.{IsTaking, IsGivenBy, Ref
 use crate::early::{SignalNames, early_names};
 use crate::finding::add_constants;
 use std::alloc::{AllocError, Global};
-use vs_elab_pieces::ScopePiece;
-use vs_scopes::vs_width_selects::{Binding, Const, Shape, WidthFault};
+use vs_scopes::vs_widths::{Binding, Const, Shape, WidthFault};
 use vs_scopes::{
-    BodyFault, Given, INTEGER, ModulePort, ParameterRefusal, Reason, Size, block_parameters,
-    declared_size, given_alone, given_to, module_parameters,
+    BodyFault, Given, INTEGER, ModulePort, ParameterRefusal, Reason, ScopePiece, Size,
+    block_parameters, declared_size, given_alone, given_to, module_parameters,
 };
 use vs_syntax::{Connections, Expr, Form, Module, ParameterForm};
 use vs_widths::{Levels, Names, constant, constant_at, shape_of};

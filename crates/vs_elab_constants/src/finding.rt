@@ -1,8 +1,8 @@
 //! The values of parameters that may name one another, whatever their order.
 ghost use Rattle.std.specs.Prelude.{◌≡◌, ◌++◌, ◌<◌, ◌⊎◌, ℕ, List, Bool, Some, None, false, length, map, replicate, IfOk, IfErr, OnOk};
 ghost use Rattle.std.proofs.Common.{set};
-ghost use Rattle.vs_scopes.specs.vs_width_selects.specs.declared.bindings.Binding.TheVariants.{Pending};
-ghost use Rattle.vs_scopes.specs.vs_width_selects.specs.Environment.{Environment};
+ghost use Rattle.vs_scopes.specs.vs_widths.specs.declared.bindings.Binding.TheVariants.{Pending};
+ghost use Rattle.vs_scopes.specs.vs_widths.specs.Environment.{Environment};
 ghost use Rattle.vs_widths.specs.Names.{meaning_of, nested_names, by_bytes};
 ghost use Rattle.vs_scopes.specs.Declarations.{Bindings};
 ghost use Rattle.vs_scopes.specs.Parameters.{outer_fault, outer_faults, own_faults, with_given};
@@ -13,7 +13,7 @@ ghost use Rattle.vs_elab_constants.specs.passes.Values.{RefusesValues, AddsConst
 use crate::evaluating::{ParameterValues, bind, constant_given, push_constant};
 use crate::order::order;
 use std::alloc::{AllocError, Global};
-use vs_scopes::vs_width_selects::{Binding, Const, WidthReason};
+use vs_scopes::vs_widths::{Binding, Const, WidthReason};
 use vs_scopes::{Given, ParameterRefusal, add_first};
 use vs_widths::{Levels, Names};
 

@@ -1,7 +1,7 @@
 //! The values of genvars.
 ghost use Rattle.std.specs.Prelude.{◌≡◌, IfOk, IfErr};
-ghost use Rattle.vs_scopes.specs.vs_width_selects.specs.Constants.{constant_finding};
-ghost use Rattle.vs_scopes.specs.vs_width_selects.specs.Findings.{Refuses};
+ghost use Rattle.vs_scopes.specs.vs_widths.specs.Constants.{constant_finding};
+ghost use Rattle.vs_scopes.specs.vs_widths.specs.Findings.{Refuses};
 ghost use Rattle.vs_widths.specs.Names.{meaning_of};
 ghost use Rattle.vs_widths.specs.Expressions.{meant};
 ghost use Rattle.vs_scopes.specs.Generate.{genvar_value, genvar_fault};
@@ -10,7 +10,7 @@ ghost use Rattle.vs_scopes.specs.scopes_passes.Sizes.{width_faults};
 ghost use Rattle.vs_elab_constants.specs.generate_passes.Turns.{IsGenvarValue};
 
 use std::alloc::Global;
-use vs_scopes::vs_width_selects::{Const, WidthFault, WidthReason};
+use vs_scopes::vs_widths::{Const, WidthFault, WidthReason};
 use vs_scopes::{BodyFault, Reason};
 use vs_syntax::Expr;
 use vs_widths::{Levels, Shape, constant_at, shape_of};

@@ -2,7 +2,7 @@
 ghost use Rattle.std.specs.Prelude.{◌≡◌, [], ◌∷◌, ◌++◌, true, IfOk, OnOk};
 ghost use Rattle.std.specs.Str.{bytes_eq};
 ghost use Rattle.vs_widths.specs.Names.{meaning_of, nested_names, Binds};
-ghost use Rattle.vs_scopes.specs.vs_width_selects.specs.declared.bindings.Binding.TheVariants.{Constant};
+ghost use Rattle.vs_scopes.specs.vs_widths.specs.declared.bindings.Binding.TheVariants.{Constant};
 ghost use Rattle.vs_scopes.specs.Parameters.{with_constant};
 ghost use Rattle.vs_scopes.specs.Generate.{turns, turns_from, turns_of, wrong_genvar, wrong_name, header_fault, condition_fault, holds};
 ghost use Rattle.vs_scopes.specs.declared.faults.BodyFault.TheVariants as fault;
@@ -14,7 +14,7 @@ ghost use Rattle.vs_elab_constants.specs.generate_passes.Turns.{turn_fault, step
 use crate::conditions::holds;
 use crate::genvars::genvar_value;
 use std::alloc::{AllocError, Global};
-use vs_scopes::vs_width_selects::{Binding, Const, WidthReason};
+use vs_scopes::vs_widths::{Binding, Const, WidthReason};
 use vs_scopes::{BodyFault, Reason};
 use vs_syntax::LoopHeader;
 use vs_widths::{Levels, Names};

@@ -6,7 +6,7 @@ ghost use Rattle.vs_scopes.specs.Generate.{free_name, unnamed_name};
 ghost use Rattle.vs_elab_constants.specs.generate_passes.Numbering.{AreNames, free_with};
 
 use std::alloc::{AllocError, Global};
-use vs_scopes::vs_width_selects::Binding;
+use vs_scopes::vs_widths::Binding;
 use vs_scopes::{PartName, numbered_name};
 use vs_widths::Names;
 

@@ -1,8 +1,8 @@
 //! What opens a scope in another one.
 ghost use Rattle.std.specs.Prelude.{◌≡◌, ℕ, suc, List, [], ◌∷◌, ◌++◌, Some, map, OnOk, if◌then◌else◌};
 ghost use Rattle.vs_widths.specs.Names.{meaning_of};
-ghost use Rattle.vs_elab_pieces.specs.Pieces.{unboxed, blocks_of, loop, choice};
-ghost use Rattle.vs_elab_pieces.specs.Reads.{read_block, read_piece, referred};
+ghost use Rattle.vs_scopes.specs.Pieces.{unboxed, blocks_of, loop, choice};
+ghost use Rattle.vs_scopes.specs.Reads.{read_block, read_piece, referred};
 ghost use Rattle.vs_scopes.specs.Declarations.{use_of, uses_by_item};
 ghost use Rattle.vs_scopes.specs.Generate.{instance, named, name_of_block, inner_in, inner_from, behind_piece, construct_fault, constructs_fault};
 ghost use Rattle.vs_scopes.specs.scopes_passes.Answers.{Elaborates};
@@ -16,9 +16,10 @@ use crate::loops::turns;
 use crate::numbering::unnamed_name;
 use std::alloc::{AllocError, Global};
 use std::slice;
-use vs_elab_pieces::{Content, NamedBlock, ScopePiece, content_of, item_blocks};
-use vs_scopes::vs_width_selects::{Binding, Const};
-use vs_scopes::{BodyFault, PartName, PathName, Reason};
+use vs_scopes::vs_widths::{Binding, Const};
+use vs_scopes::{
+    BodyFault, Content, NamedBlock, PartName, PathName, Reason, ScopePiece, content_of, item_blocks,
+};
 use vs_syntax::{Connections, Expr, Instance, Item, LoopHeader, ModuleItem};
 use vs_widths::{Levels, Names};
 

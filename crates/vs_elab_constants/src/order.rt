@@ -1,7 +1,6 @@
 //! In which order to look at parameters that name one another. No value rests on it: whatever the order, what is found is the same.
 use std::alloc::{AllocError, Global};
-use vs_elab_pieces::names_in;
-use vs_scopes::Given;
+use vs_scopes::{Given, names_in};
 use vs_syntax::{Expr, ParameterForm, Range};
 use vs_widths::Names;
 

@@ -7,8 +7,8 @@ use Rattle.std.proofs.lemmas.List.Sums.{sum-map, sum_by-append}
 use Rattle.std.proofs.lemmas.List.Elements.{All-append, All-nil, All-cons}
 use Rattle.std.proofs.lemmas.Option.{none-some, same_Some}
 use Rattle.vs_syntax.specs.declared.tree.Module.{Module}
-use Rattle.vs_scopes.specs.vs_width_selects.specs.declared.constants.Const.{Const}
-use Rattle.vs_elab_listed.specs.vs_elab_pieces.specs.Pieces.{Piece, block_pieces, pieces_of}
+use Rattle.vs_scopes.specs.vs_widths.specs.declared.constants.Const.{Const}
+use Rattle.vs_elab_listed.specs.vs_scopes.specs.Pieces.{Piece, block_pieces, pieces_of}
 use Rattle.vs_scopes.specs.Printed.{PathName, plainly, Path}
 use Rattle.vs_scopes.specs.Parameters.{any_fault}
 use Rattle.vs_scopes.specs.Declarations.{Use, Bindings}

@@ -10,9 +10,9 @@ use Rattle.vs_syntax.specs.declared.tree.ModuleItem.{ModuleItem, ModuleItem-F, r
 use Rattle.vs_syntax.specs.declared.tree.ModuleItem.TheOpen as m
 use Rattle.vs_syntax.specs.declared.tree.ModuleItem.TheFolds.{fold-ModuleItem, fold-roll-ModuleItem}
 use Rattle.vs_syntax.specs.declared.tree.ModuleItem.TheViews.{out-ModuleItem, out-roll-ModuleItem}
-use Rattle.vs_scopes.specs.vs_width_selects.specs.declared.faults.WidthReason.{WidthReason}
-use Rattle.vs_scopes.specs.vs_width_selects.specs.Environment.{Environment}
-use Rattle.vs_elab_pieces.specs.Pieces.{nothing, block, names_step, branch_names, other_names}
+use Rattle.vs_scopes.specs.vs_widths.specs.declared.faults.WidthReason.{WidthReason}
+use Rattle.vs_scopes.specs.vs_widths.specs.Environment.{Environment}
+use Rattle.vs_scopes.specs.Pieces.{nothing, block, names_step, branch_names, other_names}
 use Rattle.vs_scopes.specs.Parameters.{any_fault}
 use Rattle.vs_scopes.specs.Declarations.{each_once}
 use Rattle.vs_scopes.specs.Generate.{holds, condition_fault, Taken, takes, refused, decided, taken_step, branch_taken, other_taken, chosen}

@@ -4,9 +4,9 @@ use Rattle.std.specs.List.{slice_get}
 use Rattle.std.specs.Borrow.{Bor}
 use Rattle.vs_syntax.specs.declared.tree.Module.{Module}
 use Rattle.vs_syntax.specs.declared.tree.ModuleItem.{ModuleItem}
-use Rattle.vs_width_selects.specs.declared.constants.Const.{Const}
+use Rattle.vs_widths.specs.declared.constants.Const.{Const}
 use Rattle.vs_elab_constants.specs.vs_widths.specs.Names.{meaning_of}
-use Rattle.vs_elab_pieces.specs.Pieces.{NamedBlock, Piece, pieces_of, block_pieces}
+use Rattle.vs_scopes.specs.Pieces.{NamedBlock, Piece, pieces_of, block_pieces}
 use Rattle.vs_elab_constants.specs.Reads.{read_constant}
 use Rattle.vs_elab_listed.specs.vs_scopes.specs.declared.faults.ElabFault.{ElabFault}
 use Rattle.vs_elab_listed.specs.vs_scopes.specs.declared.printed.PathName.{PathName as FoundName}

@@ -4,9 +4,9 @@ use Rattle.std.specs.List.{slice_get}
 use Rattle.std.proofs.lemmas.List.{map-append, length-append, take_all}
 use Rattle.vs_syntax.specs.declared.tree.Module.{Module}
 use Rattle.vs_design.specs.declared.design.Entry.TheVariants.{Leave}
-use Rattle.vs_scopes.specs.vs_width_selects.specs.Environment.{Environment}
+use Rattle.vs_scopes.specs.vs_widths.specs.Environment.{Environment}
 use Rattle.vs_elab_constants.specs.vs_widths.specs.Names.{meaning_of}
-use Rattle.vs_elab_listed.specs.vs_elab_pieces.specs.Pieces.{Piece}
+use Rattle.vs_elab_listed.specs.vs_scopes.specs.Pieces.{Piece}
 use Rattle.vs_elab_listed.specs.vs_elab_constants.specs.declared.opening.Inner.{Inner as FoundInner}
 use Rattle.vs_elab_listed.specs.vs_elab_constants.specs.Reads.{read_inner}
 use Rattle.vs_elab_listed.specs.vs_elab_constants.specs.generate_passes.Numbering.{AreNames}

@@ -6,7 +6,7 @@ use Rattle.std.proofs.lemmas.List.Elements.{All-append, All-nil, All-cons}
 use Rattle.std.proofs.lemmas.Option.{none-some, same_Some}
 use Rattle.vs_syntax.specs.declared.tree.Module.{Module}
 use Rattle.vs_design.specs.declared.design.Entry.TheVariants.{Leave}
-use Rattle.vs_elab_listed.specs.vs_elab_pieces.specs.Pieces.{NamedBlock}
+use Rattle.vs_elab_listed.specs.vs_scopes.specs.Pieces.{NamedBlock}
 use Rattle.vs_scopes.specs.Generate.{Inner}
 use Rattle.vs_scopes.specs.Generate as g
 use Rattle.vs_scopes.specs.Scopes.{Scope, Before, behind, within_first, inner_of, is_named_as_net, opened, listed, below, scopes_within}

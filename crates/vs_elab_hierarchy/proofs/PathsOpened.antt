@@ -2,12 +2,11 @@
 use Rattle.std.proofs.Common.{◌≡◌, ℕ, Bool, true, false, ◌||◌, cond, List, [], ◌∷◌, Option, Some, None, refl, subst}
 use Rattle.std.proofs.lemmas.Option.{none-some, same_Some}
 use Rattle.vs_syntax.specs.declared.tree.Module.{Module}
-use Rattle.vs_scopes.specs.vs_width_selects.specs.declared.constants.Const.{Const}
-use Rattle.vs_elab_pieces.specs.Pieces.{block_pieces, Piece, pieces_of}
+use Rattle.vs_scopes.specs.vs_widths.specs.declared.constants.Const.{Const}
+use Rattle.vs_scopes.specs.Pieces.{block_pieces, Piece, pieces_of}
 use Rattle.vs_scopes.specs.Printed.{PathName, plainly}
-use Rattle.vs_scopes.specs.Parameters.{any_fault}
+use Rattle.vs_scopes.specs.Parameters.{any_fault, parameters_of, parameters_among}
 use Rattle.vs_scopes.specs.Declarations.{Use, inner_names_among}
-use Rattle.vs_scopes.specs.Parameters.{parameters_of, parameters_among}
 use Rattle.vs_scopes.specs.Ports.{ports_of}
 use Rattle.vs_scopes.specs.Nets.{permits_nets, Sight, nothing_seen, pieces_with_nets}
 use Rattle.vs_scopes.specs.Generate.{Inner, instance, generated}

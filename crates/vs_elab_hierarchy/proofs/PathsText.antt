@@ -4,11 +4,11 @@ use Rattle.std.specs.List.{list_any, flat_map}
 use Rattle.std.specs.Str.{bytes_eq}
 use Rattle.std.proofs.lemmas.List.{map-append}
 use Rattle.std.proofs.lemmas.List.Concat.{flat_map-append}
-use Rattle.vs_scopes.specs.vs_width_selects.specs.declared.bindings.Binding.{Binding}
-use Rattle.vs_scopes.specs.vs_width_selects.specs.declared.bindings.Binding.TheVariants.{Genvar, Other}
-use Rattle.vs_scopes.specs.vs_width_selects.specs.declared.constants.Const.{Const}
-use Rattle.vs_elab_pieces.specs.Pieces.{Piece, net}
-use Rattle.vs_elab_pieces.specs.Uses.{names_used}
+use Rattle.vs_scopes.specs.vs_widths.specs.declared.bindings.Binding.{Binding}
+use Rattle.vs_scopes.specs.vs_widths.specs.declared.bindings.Binding.TheVariants.{Genvar, Other}
+use Rattle.vs_scopes.specs.vs_widths.specs.declared.constants.Const.{Const}
+use Rattle.vs_scopes.specs.Pieces.{Piece, net}
+use Rattle.vs_scopes.specs.Uses.{names_used}
 use Rattle.vs_scopes.specs.Parameters.{Parameter}
 use Rattle.vs_scopes.specs.Ports.{ModulePort}
 use Rattle.vs_scopes.specs.Declarations.{Bindings, declared_by_port, declared_among, unsized_of, signal_names, pending_names, genvars_in, inner_names_in, inner_names_among, bound_to, early_names}

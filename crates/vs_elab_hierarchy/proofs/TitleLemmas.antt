@@ -12,12 +12,12 @@ use Rattle.std.proofs.lemmas.Slice.Eq.{bytes_eq-Decides}
 use Rattle.vs_syntax.specs.declared.tree.Item.{Item}
 use Rattle.vs_syntax.specs.declared.tree.LoopHeader.{LoopHeader}
 use Rattle.vs_syntax.specs.declared.tree.ModuleItem.{ModuleItem}
-use Rattle.vs_scopes.specs.vs_width_selects.specs.declared.constants.Const.{Const}
-use Rattle.vs_scopes.specs.vs_width_selects.specs.Environment.{Environment}
-use Rattle.vs_elab_pieces.specs.Pieces.{NamedBlock, blocks_of, Piece, plain, loop, choice, local, inside, net, Content, nothing, block, content_of, block_name, branch_names, other_names}
+use Rattle.vs_scopes.specs.vs_widths.specs.declared.constants.Const.{Const}
+use Rattle.vs_scopes.specs.vs_widths.specs.Environment.{Environment}
+use Rattle.vs_scopes.specs.Pieces.{NamedBlock, blocks_of, Piece, plain, loop, choice, local, inside, net, Content, nothing, block, content_of, block_name, branch_names, other_names}
 use Rattle.vs_scopes.specs.Printed.{PathName, plainly, same_turn, same_part}
-use Rattle.vs_scopes.specs.vs_width_selects.specs.declared.bindings.Binding.{Binding}
-use Rattle.vs_scopes.specs.vs_width_selects.specs.declared.bindings.Binding.TheVariants.{Genvar, Other}
+use Rattle.vs_scopes.specs.vs_widths.specs.declared.bindings.Binding.{Binding}
+use Rattle.vs_scopes.specs.vs_widths.specs.declared.bindings.Binding.TheVariants.{Genvar, Other}
 use Rattle.vs_scopes.specs.Ports.{ports_again}
 use Rattle.vs_scopes.specs.Declarations.{Bindings, DeclaredName, names_in, Use, uses_by_item, genvars_in, inner_names_in, inner_names_among, each_once, bound_to}
 use Rattle.vs_scopes.specs.Scopes.{Scope, declarations_of, names_of, numbered_names, constant_names, bindings_of, keys, all_names_of, text_names, environment, inner_of}

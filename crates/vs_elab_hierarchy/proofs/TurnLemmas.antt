@@ -18,14 +18,14 @@ use Rattle.vs_design.specs.vs_logic4.proofs.Numbers.{number-lt}
 use Rattle.vs_design.specs.vs_logic4.proofs.Properties.{of_integer-integer}
 use Rattle.vs_syntax.specs.declared.tree.Expr.{Expr}
 use Rattle.vs_syntax.specs.declared.tree.LoopHeader.{LoopHeader}
-use Rattle.vs_scopes.specs.vs_width_selects.specs.declared.constants.Const.{Const}
-use Rattle.vs_scopes.specs.vs_width_selects.specs.declared.faults.WidthReason.{WidthReason}
-use Rattle.vs_scopes.specs.vs_width_selects.specs.declared.faults.WidthReason.TheVariants.{TooWide, Unknown, NotConstant, WrongKind}
-use Rattle.vs_scopes.specs.vs_width_selects.specs.Environment.{Environment}
-use Rattle.vs_scopes.specs.vs_width_selects.specs.Findings.{Finding, Has, Lacks}
-use Rattle.vs_scopes.specs.vs_width_selects.specs.Meants.{Meant}
-use Rattle.vs_scopes.specs.vs_width_selects.specs.Selects.{size_found}
-use Rattle.vs_scopes.specs.vs_width_selects.specs.Constants.{where_none, constant_finding, plain_range, constant_in}
+use Rattle.vs_scopes.specs.vs_widths.specs.declared.constants.Const.{Const}
+use Rattle.vs_scopes.specs.vs_widths.specs.declared.faults.WidthReason.{WidthReason}
+use Rattle.vs_scopes.specs.vs_widths.specs.declared.faults.WidthReason.TheVariants.{TooWide, Unknown, NotConstant, WrongKind}
+use Rattle.vs_scopes.specs.vs_widths.specs.Environment.{Environment}
+use Rattle.vs_scopes.specs.vs_widths.specs.Findings.{Finding, Has, Lacks}
+use Rattle.vs_scopes.specs.vs_widths.specs.Meants.{Meant}
+use Rattle.vs_scopes.specs.vs_widths.specs.Selects.{size_found}
+use Rattle.vs_scopes.specs.vs_widths.specs.Constants.{where_none, constant_finding, plain_range, constant_in}
 use Rattle.vs_widths.specs.Expressions.{meant}
 use Rattle.vs_scopes.specs.Ranges.{number_fault}
 use Rattle.vs_scopes.specs.Parameters.{sign_found, with_constant, any_fault}

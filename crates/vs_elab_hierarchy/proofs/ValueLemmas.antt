@@ -22,20 +22,20 @@ use Rattle.vs_syntax.specs.declared.tree.PartSelect.TheVariants as p
 use Rattle.vs_design.specs.declared.range.BitRange.{BitRange}
 use Rattle.vs_design.specs.declared.signal.Bounds.{Bounds}
 use Rattle.vs_design.specs.Stores.{Store, word_of}
-use Rattle.vs_scopes.specs.vs_width_selects.specs.vs_eval.specs.Values.{left_side, right_side, operand_value, picked, chosen}
-use Rattle.vs_scopes.specs.vs_width_selects.specs.declared.shape.Shape.{Shape}
-use Rattle.vs_scopes.specs.vs_width_selects.specs.Operations.{operated}
-use Rattle.vs_scopes.specs.vs_width_selects.specs.declared.constants.Const.{Const}
-use Rattle.vs_scopes.specs.vs_width_selects.specs.declared.faults.WidthReason.{WidthReason}
-use Rattle.vs_scopes.specs.vs_width_selects.specs.declared.faults.WidthReason.TheVariants.{TooWide, Unknown, NotConstant, WrongKind}
-use Rattle.vs_scopes.specs.vs_width_selects.specs.declared.bindings.Meaning.{Meaning}
-use Rattle.vs_scopes.specs.vs_width_selects.specs.declared.bindings.Binding.{Binding}
-use Rattle.vs_scopes.specs.vs_width_selects.specs.declared.bindings.Binding.TheVariants.{Signal, Constant, Pending, Other, Genvar}
-use Rattle.vs_scopes.specs.vs_width_selects.specs.Environment.{Environment}
-use Rattle.vs_scopes.specs.vs_width_selects.specs.Findings.{Finding, Has, Lacks, unknown, wrong_kind, not_constant, too_wide, together, alone, alike, linked_shape, second, unsigned, beside, repeated}
-use Rattle.vs_scopes.specs.vs_width_selects.specs.Meants.{Meant, own}
-use Rattle.vs_scopes.specs.vs_width_selects.specs.Constants.{where_none, constant_finding, whole_of, natural_of, positive, where_some, count_finding}
-use Rattle.vs_scopes.specs.vs_width_selects.specs.Selects.{Select, stands_in, refused, is_reversed, between, counted, base_finding, select_span, span_of, in_array, of_words, named, constant_span, operand_meant, select_meant}
+use Rattle.vs_scopes.specs.vs_widths.specs.vs_eval.specs.Values.{left_side, right_side, operand_value, picked, chosen}
+use Rattle.vs_scopes.specs.vs_widths.specs.declared.shape.Shape.{Shape}
+use Rattle.vs_scopes.specs.vs_widths.specs.Operations.{operated}
+use Rattle.vs_scopes.specs.vs_widths.specs.declared.constants.Const.{Const}
+use Rattle.vs_scopes.specs.vs_widths.specs.declared.faults.WidthReason.{WidthReason}
+use Rattle.vs_scopes.specs.vs_widths.specs.declared.faults.WidthReason.TheVariants.{TooWide, Unknown, NotConstant, WrongKind}
+use Rattle.vs_scopes.specs.vs_widths.specs.declared.bindings.Meaning.{Meaning}
+use Rattle.vs_scopes.specs.vs_widths.specs.declared.bindings.Binding.{Binding}
+use Rattle.vs_scopes.specs.vs_widths.specs.declared.bindings.Binding.TheVariants.{Signal, Constant, Pending, Other, Genvar}
+use Rattle.vs_scopes.specs.vs_widths.specs.Environment.{Environment}
+use Rattle.vs_scopes.specs.vs_widths.specs.Findings.{Finding, Has, Lacks, unknown, wrong_kind, not_constant, too_wide, together, alone, alike, linked_shape, second, unsigned, beside, repeated}
+use Rattle.vs_scopes.specs.vs_widths.specs.Meants.{Meant, own}
+use Rattle.vs_scopes.specs.vs_widths.specs.Constants.{where_none, constant_finding, whole_of, natural_of, positive, where_some, count_finding}
+use Rattle.vs_scopes.specs.vs_widths.specs.Selects.{Select, stands_in, refused, is_reversed, between, counted, base_finding, select_span, span_of, in_array, of_words, named, constant_span, operand_meant, select_meant}
 use Rattle.vs_widths.specs.Expressions.{meant, meant_step, signal_finding, name_meant, unary_meant, linked_meant, chain_meant, linked_value, choice_finding, choice_meant, sum_finding, concat_meant}
 
 -- ---- findings

@@ -5,8 +5,8 @@ use Rattle.std.specs.Str.{bytes_eq}
 use Rattle.std.specs.Int.Signed.{mag}
 use Rattle.vs_syntax.specs.declared.tree.Module.{Module}
 use Rattle.vs_syntax.specs.declared.tree.LoopHeader.{LoopHeader}
-use Rattle.vs_scopes.specs.vs_width_selects.specs.declared.constants.Const.{Const}
-use Rattle.vs_scopes.specs.vs_width_selects.specs.Environment.{Environment}
+use Rattle.vs_scopes.specs.vs_widths.specs.declared.constants.Const.{Const}
+use Rattle.vs_scopes.specs.vs_widths.specs.Environment.{Environment}
 use Rattle.vs_scopes.specs.Printed.{PathName, Path, same_turn, same_path, printed, part_name}
 use Rattle.vs_scopes.specs.Generate.{genvar_number, turns, turn_limit, turns_of}
 use Rattle.vs_scopes.specs.Scopes.{Scope, is_instance, all_names_of, named_at, environment, scopes_of, signal_count, instance_count, turn_count, signal_paths}

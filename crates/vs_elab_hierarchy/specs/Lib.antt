@@ -1,5 +1,5 @@
 pub mod Laws
-pub use Rattle.vs_elab_pieces
+pub use Rattle.vs_scopes
 pub mod passes
 pub use Rattle.vs_elab_listed
 pub mod scope_passes

@@ -16,7 +16,7 @@ use vs_design::ScopeKind;
 use vs_elab_listed::vs_elab_constants::Inner;
 use vs_elab_listed::{ListedScope, Numbering, path_inside};
 use vs_scopes::ElabFault;
-use vs_scopes::vs_width_selects::Binding;
+use vs_scopes::vs_widths::Binding;
 use vs_widths::Names;
 
 /// Counts a scope as an instance, where it is one, and the turns of generate loops behind it.

@@ -4,8 +4,8 @@ ghost use Rattle.std.specs.List.{list_any};
 ghost use Rattle.std.specs.Str.{bytes_eq};
 ghost use Rattle.vs_syntax.specs.declared.tree.Module.{Module as Tree};
 ghost use Rattle.vs_elab_constants.specs.vs_widths.specs.Names.{by_bytes};
-ghost use Rattle.vs_elab_pieces.specs.Reads.{read_piece};
-ghost use Rattle.vs_elab_pieces.specs.Pieces.{pieces_of};
+ghost use Rattle.vs_scopes.specs.Reads.{read_piece};
+ghost use Rattle.vs_scopes.specs.Pieces.{pieces_of};
 ghost use Rattle.vs_elab_constants.specs.Reads.{read_use, read_constant, read_inner};
 ghost use Rattle.vs_elab_listed.specs.vs_scopes.specs.Generate.{instance, generated};
 ghost use Rattle.vs_elab_listed.specs.vs_scopes.specs.Ports.{ports_of};
@@ -32,9 +32,9 @@ use vs_elab_listed::{
     Enclosing, ListedScope, Numbering, block_members, connections, fault_at, module_members,
     named_fault, names_outward, path_inside, scope_fault,
 };
-use vs_elab_pieces::{ScopePiece, block_pieces, pieces};
+use vs_scopes::{ScopePiece, block_pieces, pieces};
 use vs_syntax::{Module, ModuleItem};
-use vs_width_selects::{Const, WidthFault};
+use vs_widths::{Const, WidthFault};
 
 /// A module, as it is listed.
 #[derive(Clone, Copy)]

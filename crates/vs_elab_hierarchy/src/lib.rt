@@ -17,4 +17,4 @@ pub use laws::{
 };
 pub use source::open_all;
 pub use vs_elab_listed;
-pub use vs_elab_pieces;
+pub use vs_scopes;

@@ -1,7 +1,7 @@
 //! The names and signals of a scope.
 ghost use Rattle.std.specs.Prelude.{◌≡◌, ◌<◌, ◌≤◌, ◌∷◌, ◌++◌, [], List, Some, length, map, IfOk, OnOk, MatchResult};
 ghost use Rattle.vs_widths.specs.Names.{meaning_of};
-ghost use Rattle.vs_elab_listed.specs.vs_elab_pieces.specs.Reads.{read_piece};
+ghost use Rattle.vs_elab_listed.specs.vs_scopes.specs.Reads.{read_piece};
 ghost use Rattle.vs_scopes.specs.Ports.{names_where, is_joined, ports_again};
 ghost use Rattle.vs_scopes.specs.Scopes.{Scope};
 ghost use Rattle.vs_scopes.specs.scopes_passes.Answers.{borrowed, IsFaultAt, Told};
@@ -16,14 +16,14 @@ use crate::vs_elab_listed::{Enclosing, check_late};
 use std::alloc::{AllocError, Global};
 use vs_design::{Entry, ScopeKind};
 use vs_elab_listed::vs_elab_constants::turns_behind;
-use vs_elab_listed::vs_elab_pieces::ScopePiece;
+use vs_elab_listed::vs_scopes::ScopePiece;
 use vs_elab_listed::{
     Declared, LEVELS, ListedScope, Numbering, Site, bind_all, bind_constants, counted,
     declare_pieces, declare_ports, fault_at, genvars, has_parameter, has_stray_port,
     has_wrong_port, inner_names, is_unlike, member_fault, names_around, passes_limit, ports_again,
     scope_fault,
 };
-use vs_scopes::vs_width_selects::Binding;
+use vs_scopes::vs_widths::Binding;
 use vs_scopes::{ElabFault, ModulePort, PathName, PortSource, Reason, kinds_said, print_title};
 use vs_widths::{Levels, Names};
 

@@ -10,8 +10,8 @@ ghost use Rattle.vs_elab_constants.specs.passes.Values.{AreValues};
 ghost use Rattle.vs_elab_listed.specs.Opened.{AreSeated, OpensAll};
 ghost use Rattle.vs_elab_listed.specs.ScopeFaults.{StandsOpening};
 ghost use Rattle.vs_elab_hierarchy.specs.passes.Entering.{Lists, ListsNot};
-ghost use Rattle.vs_elab_listed.specs.vs_elab_pieces.specs.Pieces.{pieces_of};
-ghost use Rattle.vs_elab_listed.specs.vs_elab_pieces.specs.Reads.{read_piece, referred};
+ghost use Rattle.vs_elab_listed.specs.vs_scopes.specs.Pieces.{pieces_of};
+ghost use Rattle.vs_elab_listed.specs.vs_scopes.specs.Reads.{read_piece, referred};
 ghost use Rattle.vs_elab_hierarchy.specs.passes.Blocks.{text_name, HasIndex, HasNoBlocks, AddsBlock, AreIndexed};
 ghost use Rattle.vs_elab_hierarchy.specs.scope_passes.Adding.{IsPlanned};
 ghost use Rattle.vs_elab_hierarchy.specs.hierarchy_passes.Opens.{IsTop, TopNot, Made};
@@ -23,7 +23,7 @@ use std::alloc::{AllocError, Global};
 use vs_design::ScopeKind;
 use vs_elab_constants::vs_widths::{Levels, Names};
 use vs_elab_constants::{ParameterValues, values};
-use vs_elab_listed::vs_elab_pieces::{ScopePiece, pieces};
+use vs_elab_listed::vs_scopes::{ScopePiece, pieces};
 use vs_elab_listed::{DEEPEST, Hierarchy, ListedScope, Numbering, fault_at};
 use vs_scopes::{
     ElabFault, ModulePort, ParameterRefusal, PartName, PathName, Reason, module_ports,

@@ -7,8 +7,8 @@ use Rattle.std.proofs.lemmas.List.{map-append}
 use Rattle.std.proofs.lemmas.Option.{none-some}
 use Rattle.std.proofs.lemmas.Slice.Eq.{bytes_eq-Decides}
 use Rattle.std.proofs.lemmas.Map.Keys.{IsDistinct-push}
-use Rattle.vs_scopes.specs.vs_width_selects.specs.declared.bindings.Binding.{Binding}
-use Rattle.vs_scopes.specs.vs_width_selects.specs.declared.bindings.Binding.TheVariants as b
+use Rattle.vs_scopes.specs.vs_widths.specs.declared.bindings.Binding.{Binding}
+use Rattle.vs_scopes.specs.vs_widths.specs.declared.bindings.Binding.TheVariants as b
 use Rattle.vs_elab_listed.specs.vs_widths.specs.Names.{meaning_of, by_bytes, Declares as NamesDeclare}
 use Rattle.vs_scopes.specs.declared.faults.Reason.{Reason}
 use Rattle.vs_scopes.specs.declared.faults.Reason.TheVariants.{NoModule, Inside, PortMismatch, ParameterMismatch, DeclaredTwice, DrivenTwice, Limit, Width, Endless, Unnamed, Timescales, Format}
@@ -18,7 +18,7 @@ use Rattle.vs_scopes.specs.Declarations.{Bindings, DeclaredName, names_in, meani
 use Rattle.vs_scopes.specs.Scopes.{keys, constant_names, numbered_names}
 use Rattle.vs_scopes.specs.scopes_passes.Answers.{Told, IsFaultAt}
 use Rattle.vs_elab_listed.specs.ScopeFaults.{Repeated}
-use Rattle.vs_scopes.specs.vs_width_selects.specs.declared.constants.Const.{Const}
+use Rattle.vs_scopes.specs.vs_widths.specs.declared.constants.Const.{Const}
 use Rattle.std.specs.Borrow.{Bor}
 use Rattle.vs_elab_listed.specs.listed_passes.Naming.{Bound, BoundBehind, BoundNot}
 use Rattle.vs_scopes.specs.scopes_passes.Answers.{borrowed}

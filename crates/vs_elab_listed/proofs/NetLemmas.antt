@@ -6,13 +6,13 @@ use Rattle.std.specs.Str.{bytes_eq}
 use Rattle.std.proofs.lemmas.List.{append-nil, map-append, take_more, drop_more, drop_all}
 use Rattle.std.proofs.lemmas.List.Folds.{list_any-append}
 use Rattle.std.proofs.lemmas.Slice.Eq.{bytes_eq-Decides}
-use Rattle.vs_syntax.specs.vs_lexer.specs.declared.Directive.{Directive}
+use Rattle.vs_syntax.specs.vs_lexer.specs.declared.token.Directive.{Directive}
 use Rattle.vs_elab_constants.specs.vs_widths.specs.Names.{meaning_of, Binds}
-use Rattle.vs_elab_listed.specs.vs_elab_pieces.specs.Pieces.{Piece, net}
-use Rattle.vs_elab_listed.specs.vs_elab_pieces.specs.Uses.{names_used}
-use Rattle.vs_elab_listed.specs.vs_elab_pieces.specs.Reads.{read_piece}
-use Rattle.vs_elab_listed.specs.vs_elab_pieces.specs.declared.scope.ScopePiece.{ScopePiece as FoundPiece}
-use Rattle.vs_elab_listed.specs.vs_elab_pieces.specs.declared.scope.ScopePiece.TheVariants.{Net}
+use Rattle.vs_elab_listed.specs.vs_scopes.specs.Pieces.{Piece, net}
+use Rattle.vs_elab_listed.specs.vs_scopes.specs.Uses.{names_used}
+use Rattle.vs_elab_listed.specs.vs_scopes.specs.Reads.{read_piece}
+use Rattle.vs_elab_listed.specs.vs_scopes.specs.declared.scope.ScopePiece.{ScopePiece as FoundPiece}
+use Rattle.vs_elab_listed.specs.vs_scopes.specs.declared.scope.ScopePiece.TheVariants.{Net}
 use Rattle.std.specs.Borrow.{Bor}
 use Rattle.vs_scopes.specs.Declarations.{Bindings}
 use Rattle.vs_scopes.specs.Scopes.{Scope}

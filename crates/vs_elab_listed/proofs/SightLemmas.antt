@@ -4,11 +4,11 @@ use Rattle.std.proofs.lemmas.List.{append-nil, map-append, length-map, length-ta
 use Rattle.std.proofs.lemmas.Option.{none-some}
 use Rattle.vs_design.specs.declared.design.ScopeKind.{ScopeKind}
 use Rattle.vs_design.specs.declared.design.ScopeKind.TheVariants as opened_by
-use Rattle.vs_scopes.specs.vs_width_selects.specs.declared.bindings.Binding.{Binding}
+use Rattle.vs_scopes.specs.vs_widths.specs.declared.bindings.Binding.{Binding}
 use Rattle.vs_elab_listed.specs.vs_widths.specs.Names.{meaning_of}
-use Rattle.vs_elab_listed.specs.vs_elab_pieces.specs.Pieces.{Piece}
-use Rattle.vs_elab_listed.specs.vs_elab_pieces.specs.Reads.{read_piece}
-use Rattle.vs_elab_listed.specs.vs_elab_pieces.specs.declared.scope.ScopePiece.{ScopePiece as FoundPiece}
+use Rattle.vs_elab_listed.specs.vs_scopes.specs.Pieces.{Piece}
+use Rattle.vs_elab_listed.specs.vs_scopes.specs.Reads.{read_piece}
+use Rattle.vs_elab_listed.specs.vs_scopes.specs.declared.scope.ScopePiece.{ScopePiece as FoundPiece}
 use Rattle.vs_scopes.specs.Nets.{seen, coming, nothing_seen, told_in, told_from, first_told, is_before, is_net}
 use Rattle.vs_scopes.specs.Scopes.{Scope, named, sight_by, sight_in}
 use Rattle.vs_scopes.specs.scopes_passes.Declared.{AddsNames}

@@ -1,5 +1,5 @@
 pub mod passes
-pub use Rattle.vs_elab_pieces
+pub use Rattle.vs_scopes
 pub use Rattle.vs_widths
 pub use Rattle.vs_scopes.specs.Printed
 pub use Rattle.vs_scopes.specs.Ranges
@@ -16,4 +16,3 @@ pub mod Opened
 pub mod listed_passes
 pub use Rattle.vs_elab_constants
 pub mod nets_passes
-pub use Rattle.vs_scopes

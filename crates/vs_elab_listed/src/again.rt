@@ -2,8 +2,8 @@
 ghost use Rattle.std.specs.Prelude.{◌≡◌, ℕ, ◌∷◌, [], List, map, IfOk, OnOk};
 ghost use Rattle.std.specs.declared.vec.Vec.{Vec};
 ghost use Rattle.std.specs.declared.alloc.Global.{Global};
-ghost use Rattle.vs_elab_pieces.specs.Pieces.{plain};
-ghost use Rattle.vs_elab_pieces.specs.Reads.{read_piece};
+ghost use Rattle.vs_scopes.specs.Pieces.{plain};
+ghost use Rattle.vs_scopes.specs.Reads.{read_piece};
 ghost use Rattle.vs_scopes.specs.Ports.{is_of_items, names_where, port_names_in, ports_again};
 ghost use Rattle.vs_scopes.specs.scopes_passes.Answers.{borrowed};
 ghost use Rattle.vs_scopes.specs.scopes_passes.Parts.{read_port, read_source};
@@ -11,8 +11,7 @@ ghost use Rattle.vs_elab_listed.specs.passes.Counting.{Counts, Leaves};
 
 use crate::counts::{counted, take_one};
 use std::alloc::{AllocError, Global};
-use vs_elab_pieces::ScopePiece;
-use vs_scopes::{ModulePort, PortSource};
+use vs_scopes::{ModulePort, PortSource, ScopePiece};
 use vs_syntax::Item;
 use vs_widths::Names;
 

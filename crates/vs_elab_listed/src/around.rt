@@ -9,7 +9,7 @@ ghost use Rattle.vs_elab_listed.specs.nets_passes.Nets.{IsAround, IsPlaced};
 use crate::{ListedScope, Sight, sight_around};
 use vs_design::ScopeKind;
 use vs_elab_constants::vs_widths::Names;
-use vs_scopes::vs_width_selects::Binding;
+use vs_scopes::vs_widths::Binding;
 
 /// What is around a scope: the scopes before it, what it is, the place of the scope around it, and that of the piece there that opens it.
 #[derive(Clone, Copy)]

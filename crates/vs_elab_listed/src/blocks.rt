@@ -11,7 +11,7 @@ ghost use Rattle.vs_elab_listed.specs.nets_passes.Nets.{IsNetName, IsNamedAsNet}
 use crate::vs_elab_constants::Inner;
 use crate::{ListedScope, named_fault};
 use std::alloc::Global;
-use vs_scopes::vs_width_selects::Binding;
+use vs_scopes::vs_widths::Binding;
 use vs_scopes::{ElabFault, PartName, Reason, numbered_name};
 
 /// Whether a name that a scope declares as a port or net at this place is none of its text.

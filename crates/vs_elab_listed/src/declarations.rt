@@ -1,8 +1,8 @@
 //! What a scope declares, as signals of a design.
 ghost use Rattle.std.specs.Prelude.{◌≡◌, ◌<◌, ◌∷◌, [], Option, length, map, IfOk};
 ghost use Rattle.vs_syntax.specs.declared.tree.Range.{Range};
-ghost use Rattle.vs_elab_listed.specs.vs_elab_pieces.specs.Pieces.{plain, local, net};
-ghost use Rattle.vs_elab_listed.specs.vs_elab_pieces.specs.Reads.{read_piece};
+ghost use Rattle.vs_elab_listed.specs.vs_scopes.specs.Pieces.{plain, local, net};
+ghost use Rattle.vs_elab_listed.specs.vs_scopes.specs.Reads.{read_piece};
 ghost use Rattle.vs_scopes.specs.Ranges.{Sized, Words, words_as};
 ghost use Rattle.vs_scopes.specs.Declarations.{declared_as, declared_local, declared_by_port, declared_in, declared_among, selectable};
 ghost use Rattle.vs_scopes.specs.Scopes.{Scope};
@@ -17,11 +17,11 @@ use crate::naming::declare_once;
 use crate::opened::Numbering;
 use crate::take_one;
 use crate::telling::{fault_at, member_fault, part_fault};
-use crate::vs_elab_pieces::ScopePiece;
+use crate::vs_scopes::ScopePiece;
 use crate::vs_widths::{Levels, Names};
 use std::alloc::{AllocError, Global};
 use vs_design::{Bounds, Entry, Signal, SignalKind};
-use vs_scopes::vs_width_selects::{Binding, Meaning, Shape};
+use vs_scopes::vs_widths::{Binding, Meaning, Shape};
 use vs_scopes::{
     BodyFault, ElabFault, INTEGER, ModulePort, PathName, Reason, Size, WordCount, declared_size,
     declared_words, port_size, print_member, print_name,

@@ -5,15 +5,13 @@ ghost use Rattle.std.specs.declared.vec.Vec.{Vec};
 ghost use Rattle.std.specs.declared.alloc.Global.{Global};
 ghost use Rattle.vs_syntax.specs.declared.tree.Connections.{Connections};
 ghost use Rattle.std.specs.Prelude.{Option};
-ghost use Rattle.vs_elab_listed.specs.vs_elab_pieces.specs.Pieces.{NamedBlock as TheBlock, plain, content_of, block_name};
-ghost use Rattle.vs_elab_listed.specs.vs_elab_pieces.specs.Reads.{read_block, read_piece};
+ghost use Rattle.vs_elab_listed.specs.vs_scopes.specs.Pieces.{NamedBlock as TheBlock, plain, content_of, block_name};
+ghost use Rattle.vs_elab_listed.specs.vs_scopes.specs.Reads.{read_block, read_piece};
 ghost use Rattle.vs_scopes.specs.Declarations.{Use, use_of, uses_by_item, genvars_in, inner_names_in, inner_names_among, each_once};
 ghost use Rattle.vs_scopes.specs.scopes_passes.Answers.{borrowed};
 ghost use Rattle.vs_elab_listed.specs.listed_passes.Naming.{KeepsOnce};
 
-use crate::vs_elab_pieces::{
-    Content, NamedBlock, ScopePiece, branch_names, content_of, item_blocks,
-};
+use crate::vs_scopes::{Content, NamedBlock, ScopePiece, branch_names, content_of, item_blocks};
 use crate::vs_widths::Names;
 use std::alloc::{AllocError, Global};
 use vs_syntax::{Instance, Item, ModuleItem};

@@ -1,6 +1,6 @@
 //! Nets that are declared behind their use.
 ghost use Rattle.std.specs.Prelude.{◌≡◌, ◌<◌, [], List, length, map, MatchResult};
-ghost use Rattle.vs_elab_listed.specs.vs_elab_pieces.specs.Reads.{read_piece};
+ghost use Rattle.vs_elab_listed.specs.vs_scopes.specs.Reads.{read_piece};
 ghost use Rattle.vs_scopes.specs.Nets.{coming_paths};
 ghost use Rattle.vs_scopes.specs.Scopes.{Scope, sight_in, late_nets};
 ghost use Rattle.vs_scopes.specs.scopes_passes.Answers.{borrowed, Told};
@@ -9,11 +9,11 @@ ghost use Rattle.vs_elab_listed.specs.Opened.{AreSeated};
 ghost use Rattle.vs_elab_listed.specs.nets_passes.Nets.{IsAround, IsPlaced, IsTold, IsLate, late_among};
 
 use crate::around::Enclosing;
-use crate::vs_elab_pieces::{ScopePiece, names_used};
+use crate::vs_scopes::{ScopePiece, names_used};
 use crate::{Level, Sight, member_fault, named_fault, own_sight, sight_around};
 use std::alloc::Global;
 use vs_elab_constants::vs_widths::Names;
-use vs_scopes::vs_width_selects::Binding;
+use vs_scopes::vs_widths::Binding;
 use vs_scopes::{ElabFault, PathName, Reason};
 
 /// Sees that a name, which the scope itself doesn't declare, is none of a net that is declared behind.

@@ -42,6 +42,5 @@ pub use stray::has_stray_port;
 pub use telling::{fault_at, member_fault, named_fault, scope_fault};
 pub use unlike::is_unlike;
 pub use vs_elab_constants;
-pub use vs_elab_pieces;
 pub use vs_scopes;
 pub use vs_widths;

@@ -1,13 +1,13 @@
 //! The limits of a design, and what a scope may not have.
 ghost use Rattle.std.specs.Prelude.{◌≡◌, map};
 ghost use Rattle.std.specs.List.{list_any};
-ghost use Rattle.vs_elab_listed.specs.vs_elab_pieces.specs.Reads.{read_piece};
+ghost use Rattle.vs_elab_listed.specs.vs_scopes.specs.Reads.{read_piece};
 ghost use Rattle.vs_scopes.specs.Ports.{is_wrong_as, is_unsaid, is_wrong_port};
 ghost use Rattle.vs_scopes.specs.Scopes.{is_parameter};
 ghost use Rattle.vs_scopes.specs.scopes_passes.Parts.{read_port, read_source};
 ghost use Rattle.vs_elab_listed.specs.listed_passes.Sites.{passes_limit};
 
-use crate::vs_elab_pieces::ScopePiece;
+use crate::vs_scopes::ScopePiece;
 use vs_design::{ScopeKind, SignalKind};
 use vs_scopes::{ModulePort, PortSource};
 use vs_syntax::{Direction, Item};

@@ -1,8 +1,8 @@
 //! What stands in a scope, with its implicit nets.
 ghost use Rattle.std.specs.Prelude.{◌≡◌, List, map, IfOk};
 ghost use Rattle.vs_elab_constants.specs.vs_widths.specs.Names.{by_bytes};
-ghost use Rattle.vs_elab_listed.specs.vs_elab_pieces.specs.Pieces.{pieces_of};
-ghost use Rattle.vs_elab_listed.specs.vs_elab_pieces.specs.Reads.{read_piece};
+ghost use Rattle.vs_elab_listed.specs.vs_scopes.specs.Pieces.{pieces_of};
+ghost use Rattle.vs_elab_listed.specs.vs_scopes.specs.Reads.{read_piece};
 ghost use Rattle.vs_scopes.specs.Declarations.{Bindings};
 ghost use Rattle.vs_scopes.specs.Ports.{ports_of};
 ghost use Rattle.vs_scopes.specs.Scopes.{Scope, text_of, block_text};
@@ -14,11 +14,11 @@ use crate::around::Enclosing;
 use crate::nets::with_nets;
 use crate::texts::{block_text, module_text};
 use crate::told;
-use crate::vs_elab_pieces::ScopePiece;
+use crate::vs_scopes::ScopePiece;
 use std::alloc::{AllocError, Global};
 use vs_elab_constants::vs_widths::Names;
 use vs_scopes::ModulePort;
-use vs_scopes::vs_width_selects::{Binding, Const};
+use vs_scopes::vs_widths::{Binding, Const};
 use vs_syntax::Module;
 
 /// What stands in a scope.

@@ -10,7 +10,7 @@ ghost use Rattle.vs_elab_listed.specs.listed_passes.Naming.{BoundBehind, BoundNo
 use crate::telling::member_fault;
 use crate::vs_widths::Names;
 use std::alloc::{AllocError, Global};
-use vs_scopes::vs_width_selects::{Binding, Const};
+use vs_scopes::vs_widths::{Binding, Const};
 use vs_scopes::{ElabFault, PathName, Reason};
 
 /// Declares a name, unless it is declared already.

@@ -1,6 +1,6 @@
 //! Implicit nets among the pieces of a scope.
 ghost use Rattle.std.specs.Prelude.{◌≡◌, ◌∷◌, [], ℕ, List, map, IfOk, OnOk};
-ghost use Rattle.vs_elab_listed.specs.vs_elab_pieces.specs.Reads.{read_piece};
+ghost use Rattle.vs_elab_listed.specs.vs_scopes.specs.Reads.{read_piece};
 ghost use Rattle.vs_scopes.specs.Nets.{is_known, with_nets, pieces_with_nets};
 ghost use Rattle.vs_scopes.specs.Scopes.{Scope};
 ghost use Rattle.vs_scopes.specs.scopes_passes.Answers.{borrowed};
@@ -9,10 +9,10 @@ ghost use Rattle.vs_elab_listed.specs.Opened.{AreSeated};
 ghost use Rattle.vs_elab_listed.specs.nets_passes.Nets.{IsAround, IsPlaced, AddsNets};
 
 use crate::around::{Enclosing, is_known};
-use crate::vs_elab_pieces::{ScopePiece, names_used};
+use crate::vs_scopes::{ScopePiece, names_used};
 use std::alloc::{AllocError, Global};
 use vs_elab_constants::vs_widths::Names;
-use vs_scopes::vs_width_selects::Binding;
+use vs_scopes::vs_widths::Binding;
 
 /// Adds the net of a name that is used, where the name isn't known and wasn't used before.
 fn add_net<'s>(

@@ -1,11 +1,11 @@
 //! Scopes of a source, as they are listed.
 ghost use Rattle.std.specs.Prelude.{◌≡◌, []};
 
-use crate::vs_elab_pieces::ScopePiece;
+use crate::vs_scopes::ScopePiece;
 use crate::vs_widths::Names;
 use std::alloc::Global;
 use vs_design::{Entry, ScopeKind, Signal};
-use vs_scopes::vs_width_selects::{Binding, Const};
+use vs_scopes::vs_widths::{Binding, Const};
 use vs_scopes::{ModulePort, PathName};
 use vs_syntax::Expr;
 

@@ -5,7 +5,7 @@ ghost use Rattle.std.specs.declared.alloc.Global.{Global};
 ghost use Rattle.vs_syntax.specs.declared.tree.Declarator.{Declarator};
 ghost use Rattle.vs_design.specs.Kinds.{is_variable};
 ghost use Rattle.vs_elab_listed.specs.vs_widths.specs.Names.{meaning_of};
-ghost use Rattle.vs_elab_listed.specs.vs_elab_pieces.specs.Reads.{read_piece};
+ghost use Rattle.vs_elab_listed.specs.vs_scopes.specs.Reads.{read_piece};
 ghost use Rattle.vs_scopes.specs.Nets.{told_in, told_from, is_before, is_net};
 ghost use Rattle.vs_scopes.specs.Scopes.{Scope, sight_in};
 ghost use Rattle.vs_scopes.specs.scopes_passes.Declared.{AddsNames};
@@ -15,12 +15,12 @@ ghost use Rattle.vs_elab_listed.specs.listed_passes.Sights.{placed, level_of, Is
 
 use crate::opened::ListedScope;
 use crate::sites::outward_place;
-use crate::vs_elab_pieces::ScopePiece;
+use crate::vs_scopes::ScopePiece;
 use crate::vs_widths::Names;
 use std::alloc::{AllocError, Global};
 use vs_design::{ScopeKind, SignalKind};
 use vs_scopes::add_first;
-use vs_scopes::vs_width_selects::Binding;
+use vs_scopes::vs_widths::Binding;
 use vs_syntax::{Declarator, Item};
 
 /// How a name stands at a place of the text (IEEE 1364-2005, clauses 4.5 and 12.7).

@@ -11,7 +11,7 @@ use crate::vs_widths::Names;
 use std::alloc::{AllocError, Global};
 use vs_design::ScopeKind;
 use vs_scopes::PathName;
-use vs_scopes::vs_width_selects::Binding;
+use vs_scopes::vs_widths::Binding;
 
 /// The place of the scope whose names are seen in one of this kind (IEEE 1364-2005, clause 12.7).
 pub fn outward_place(kind: ScopeKind, around: Option<usize>) -> Option<usize>

@@ -4,15 +4,14 @@ ghost use Rattle.std.specs.List.{list_any};
 ghost use Rattle.std.specs.Str.{bytes_eq};
 ghost use Rattle.std.specs.declared.vec.Vec.{Vec};
 ghost use Rattle.std.specs.declared.alloc.Global.{Global};
-ghost use Rattle.vs_elab_pieces.specs.Pieces.{plain};
-ghost use Rattle.vs_elab_pieces.specs.Reads.{read_piece};
+ghost use Rattle.vs_scopes.specs.Pieces.{plain};
+ghost use Rattle.vs_scopes.specs.Reads.{read_piece};
 ghost use Rattle.vs_scopes.specs.Ports.{port_names, port_names_in, has_stray_port};
 ghost use Rattle.vs_scopes.specs.scopes_passes.Parts.{read_port, IsSet};
 ghost use Rattle.vs_elab_listed.specs.passes.Strays.{has_other_name};
 
 use std::alloc::{AllocError, Global};
-use vs_elab_pieces::ScopePiece;
-use vs_scopes::ModulePort;
+use vs_scopes::{ModulePort, ScopePiece};
 use vs_syntax::Item;
 use vs_widths::Names;
 

@@ -1,19 +1,19 @@
 //! The names that the text of a scope declares.
 ghost use Rattle.std.specs.Prelude.{◌≡◌, map, IfOk, OnOk};
 ghost use Rattle.vs_elab_constants.specs.vs_widths.specs.Names.{by_bytes};
-ghost use Rattle.vs_elab_listed.specs.vs_elab_pieces.specs.Pieces.{pieces_of};
-ghost use Rattle.vs_elab_listed.specs.vs_elab_pieces.specs.Reads.{read_piece};
+ghost use Rattle.vs_elab_listed.specs.vs_scopes.specs.Pieces.{pieces_of};
+ghost use Rattle.vs_elab_listed.specs.vs_scopes.specs.Reads.{read_piece};
 ghost use Rattle.vs_scopes.specs.Ports.{ports_of};
 ghost use Rattle.vs_scopes.specs.Scopes.{text_of, block_text, constant_names};
 ghost use Rattle.vs_scopes.specs.scopes_passes.Declared.{AddsNames};
 ghost use Rattle.vs_scopes.specs.scopes_passes.Parts.{read_port};
 ghost use Rattle.vs_elab_listed.specs.nets_passes.Nets.{MeansAs};
 
-use crate::vs_elab_pieces::ScopePiece;
+use crate::vs_scopes::ScopePiece;
 use std::alloc::{AllocError, Global};
 use vs_elab_constants::vs_widths::Names;
 use vs_elab_constants::{SignalNames, early_names};
-use vs_scopes::vs_width_selects::{Binding, Const};
+use vs_scopes::vs_widths::{Binding, Const};
 use vs_scopes::{ModulePort, add_first, block_parameters, module_parameters};
 use vs_syntax::Module;
 

@@ -1,6 +1,6 @@
 //! Ports that two items declare, not alike.
 ghost use Rattle.std.specs.Prelude.{◌≡◌, List, Some, IfOk, OnOk};
-ghost use Rattle.vs_elab_pieces.specs.Pieces.{Piece as GivenPiece};
+ghost use Rattle.vs_scopes.specs.Pieces.{Piece as GivenPiece};
 ghost use Rattle.vs_widths.specs.Names.{meaning_of};
 ghost use Rattle.vs_scopes.specs.Ranges.{range_bounds};
 ghost use Rattle.vs_scopes.specs.Ports.{is_joined};

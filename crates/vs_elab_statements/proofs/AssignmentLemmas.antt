@@ -3,11 +3,11 @@ use Rattle.std.proofs.Common.{◌≡◌, ℕ, true, false, max, refl, ap, subst}
 use Rattle.vs_syntax.specs.declared.tree.Expr.{Expr}
 use Rattle.vs_design.specs.declared.expression.Typed.{Typed}
 use Rattle.vs_design.specs.declared.statement.Target.{Target}
-use Rattle.vs_scopes.specs.vs_width_selects.specs.declared.shape.Shape.{Shape}
-use Rattle.vs_scopes.specs.vs_width_selects.specs.Environment.{Environment}
-use Rattle.vs_scopes.specs.vs_width_selects.specs.Findings.{Has, stands}
+use Rattle.vs_scopes.specs.vs_widths.specs.declared.shape.Shape.{Shape}
+use Rattle.vs_scopes.specs.vs_widths.specs.Environment.{Environment}
+use Rattle.vs_scopes.specs.vs_widths.specs.Findings.{Has, stands}
 use Rattle.vs_widths.specs.Expressions.{meant}
-use Rattle.vs_scopes.specs.vs_width_selects.specs.Meants.{Meant}
+use Rattle.vs_scopes.specs.vs_widths.specs.Meants.{Meant}
 use Rattle.vs_widths.specs.Typing.{IsTypedAs}
 use Rattle.vs_widths.specs.declared.kinds.AssignmentKind.{AssignmentKind}
 use Rattle.vs_widths.specs.Aiming.{IsTarget}

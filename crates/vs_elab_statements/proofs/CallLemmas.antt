@@ -14,7 +14,7 @@ use Rattle.vs_design.specs.declared.statement.CallKind.{CallKind}
 use Rattle.vs_scopes.specs.vs_strobe.specs.declared.fault.FormatReason.{FormatReason}
 use Rattle.vs_scopes.specs.vs_strobe.specs.declared.fault.FormatReason.TheVariants.{BadDirective, TooFewArguments, TooManyArguments}
 use Rattle.vs_scopes.specs.vs_strobe.specs.Pieces.{format_fault}
-use Rattle.vs_scopes.specs.vs_width_selects.specs.Environment.{Environment}
+use Rattle.vs_scopes.specs.vs_widths.specs.Environment.{Environment}
 use Rattle.vs_scopes.specs.declared.faults.Reason.{Reason}
 use Rattle.vs_scopes.specs.declared.faults.Reason.TheVariants.{Width, Format}
 use Rattle.vs_scopes.specs.declared.faults.BodyFault.{BodyFault}

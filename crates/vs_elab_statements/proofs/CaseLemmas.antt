@@ -7,12 +7,12 @@ use Rattle.vs_syntax.specs.declared.tree.Expr.{Expr}
 use Rattle.vs_syntax.specs.declared.tree.CaseLabel.{CaseLabel}
 use Rattle.vs_syntax.specs.declared.tree.Stmt.{Stmt}
 use Rattle.vs_design.specs.declared.expression.Typed.{Typed}
-use Rattle.vs_scopes.specs.vs_width_selects.specs.declared.shape.Shape.{Shape}
-use Rattle.vs_scopes.specs.vs_width_selects.specs.declared.faults.WidthReason.{WidthReason}
-use Rattle.vs_scopes.specs.vs_width_selects.specs.declared.faults.WidthFault.{WidthFault}
-use Rattle.vs_scopes.specs.vs_width_selects.specs.declared.faults.WidthFault.TheVariants as fault
-use Rattle.vs_scopes.specs.vs_width_selects.specs.Environment.{Environment}
-use Rattle.vs_scopes.specs.vs_width_selects.specs.Findings.{Finding, Has, Lacks, stands, together, alike, Refuses as Found}
+use Rattle.vs_scopes.specs.vs_widths.specs.declared.shape.Shape.{Shape}
+use Rattle.vs_scopes.specs.vs_widths.specs.declared.faults.WidthReason.{WidthReason}
+use Rattle.vs_scopes.specs.vs_widths.specs.declared.faults.WidthFault.{WidthFault}
+use Rattle.vs_scopes.specs.vs_widths.specs.declared.faults.WidthFault.TheVariants as fault
+use Rattle.vs_scopes.specs.vs_widths.specs.Environment.{Environment}
+use Rattle.vs_scopes.specs.vs_widths.specs.Findings.{Finding, Has, Lacks, stands, together, alike, Refuses as Found}
 use Rattle.vs_widths.specs.Expressions.{meant}
 use Rattle.vs_widths.specs.Typing.{IsTypedAs}
 use Rattle.vs_scopes.specs.declared.faults.Reason.{Reason}

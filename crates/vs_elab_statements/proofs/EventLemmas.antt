@@ -22,12 +22,12 @@ use Rattle.vs_design.specs.declared.statement.Aim.{Aim}
 use Rattle.vs_design.specs.declared.statement.Aim.TheVariants.{Fixed, Chosen}
 use Rattle.vs_design.specs.declared.statement.EventTerm.{EventTerm}
 use Rattle.vs_design.specs.declared.statement.Target.{Target}
-use Rattle.vs_scopes.specs.vs_width_selects.specs.Each.{Each, each_none, each_more}
-use Rattle.vs_scopes.specs.vs_width_selects.specs.declared.bindings.Binding.{Binding}
-use Rattle.vs_scopes.specs.vs_width_selects.specs.declared.faults.WidthReason.{WidthReason}
-use Rattle.vs_scopes.specs.vs_width_selects.specs.Environment.{Environment}
-use Rattle.vs_scopes.specs.vs_width_selects.specs.Findings.{stands}
-use Rattle.vs_scopes.specs.vs_width_selects.specs.Selects.{Select, Named}
+use Rattle.vs_scopes.specs.vs_widths.specs.Each.{Each, each_none, each_more}
+use Rattle.vs_scopes.specs.vs_widths.specs.declared.bindings.Binding.{Binding}
+use Rattle.vs_scopes.specs.vs_widths.specs.declared.faults.WidthReason.{WidthReason}
+use Rattle.vs_scopes.specs.vs_widths.specs.Environment.{Environment}
+use Rattle.vs_scopes.specs.vs_widths.specs.Findings.{stands}
+use Rattle.vs_scopes.specs.vs_widths.specs.Selects.{Select, Named}
 use Rattle.vs_widths.specs.declared.kinds.AssignmentKind.TheVariants.{Event}
 use Rattle.vs_widths.specs.Lefts.{Aimed, name_aimed, takes_reads}
 use Rattle.vs_widths.specs.Aiming.{IsPlace, IsTarget, is_none_read}

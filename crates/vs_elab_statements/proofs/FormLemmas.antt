@@ -15,7 +15,7 @@ use Rattle.vs_syntax.specs.declared.tree.Stmt.TheOpen as f
 use Rattle.vs_syntax.specs.declared.tree.CaseLabel.{CaseLabel}
 use Rattle.vs_syntax.specs.declared.tree.DelayValue.{DelayValue}
 use Rattle.vs_syntax.specs.declared.tree.EventControl.{EventControl}
-use Rattle.vs_syntax.specs.vs_lex_tokens.specs.declared.token.Literal.{Literal}
+use Rattle.vs_syntax.specs.vs_lexer.specs.declared.token.Literal.{Literal}
 use Rattle.vs_syntax.specs.declared.tree.PrintTask.{PrintTask}
 use Rattle.vs_syntax.specs.declared.tree.PrintArguments.{PrintArguments}
 use Rattle.vs_syntax.specs.declared.tree.DumpTask.{DumpTask}

@@ -6,7 +6,7 @@ use Rattle.std.specs.declared.alloc.Global.{Global}
 use Rattle.vs_syntax.specs.declared.tree.Stmt.TheVariants as s
 use Rattle.vs_syntax.specs.declared.tree.DumpTask.{DumpTask}
 use Rattle.vs_syntax.specs.declared.tree.DumpArgument.{DumpArgument}
-use Rattle.vs_syntax.specs.vs_lex_tokens.specs.declared.token.Literal.{Literal}
+use Rattle.vs_syntax.specs.vs_lexer.specs.declared.token.Literal.{Literal}
 use Rattle.vs_design.specs.declared.statement.Statement.{Statement}
 use Rattle.vs_design.specs.declared.statement.Statement.TheVariants as d
 use Rattle.vs_elab_statements.specs.vs_scopes.specs.Printed.{Path}

@@ -16,19 +16,19 @@ use Rattle.vs_syntax.specs.declared.tree.DelayValue.{DelayValue}
 use Rattle.vs_syntax.specs.declared.tree.EventControl.{EventControl}
 use Rattle.vs_design.specs.declared.expression.Typed.{Typed}
 use Rattle.vs_design.specs.vs_logic4.specs.declared.case.CaseKind.{CaseKind}
-use Rattle.vs_scopes.specs.vs_width_selects.specs.declared.shape.Shape.{Shape}
+use Rattle.vs_scopes.specs.vs_widths.specs.declared.shape.Shape.{Shape}
 use Rattle.vs_design.specs.declared.statement.Statement.{Statement}
 use Rattle.vs_widths.specs.declared.kinds.AssignmentKind.TheVariants.{Procedural}
 use Rattle.vs_scopes.specs.declared.faults.Reason.{Reason}
 use Rattle.vs_scopes.specs.declared.faults.Reason.TheVariants.{NoModule, Inside, PortMismatch, ParameterMismatch, DeclaredTwice, DrivenTwice, Limit, Width, Endless, Unnamed, Timescales, Format}
-use Rattle.vs_scopes.specs.vs_width_selects.specs.Environment.{Environment}
-use Rattle.vs_scopes.specs.vs_width_selects.specs.Findings.{stands}
+use Rattle.vs_scopes.specs.vs_widths.specs.Environment.{Environment}
+use Rattle.vs_scopes.specs.vs_widths.specs.Findings.{stands}
 use Rattle.vs_widths.specs.Expressions.{meant}
 use Rattle.vs_elab_statements.proofs.CaseLemmas.{exprs_in, exprs_of, stands_common}
 use Rattle.std.proofs.lemmas.List.Folds.{list_any-append}
-use Rattle.vs_elab_listed.specs.vs_elab_pieces.specs.Pieces.{NamedBlock, blocks_in, blocks_among}
-use Rattle.vs_elab_listed.specs.vs_elab_pieces.specs.passes.Parts.{blocks_behind}
-use Rattle.vs_elab_listed.specs.vs_elab_pieces.proofs.PiecesLemmas.{blocks_Block, blocks_If, blocks_Case}
+use Rattle.vs_elab_listed.specs.vs_scopes.specs.Pieces.{NamedBlock, blocks_in, blocks_among}
+use Rattle.vs_elab_listed.specs.vs_scopes.specs.pieces_passes.Parts.{blocks_behind}
+use Rattle.vs_elab_listed.specs.vs_scopes.proofs.PiecesLemmas.{blocks_Block, blocks_If, blocks_Case}
 use Rattle.vs_elab_statements.specs.Statements.{assign_fault, operand_fault, delay_fault, event_fault, case_fault, label_exprs, has_fault, count_of, total, is_overfull}
 use Rattle.vs_elab_statements.specs.Members.{places}
 use Rattle.vs_elab_statements.specs.Surroundings.{Surroundings}

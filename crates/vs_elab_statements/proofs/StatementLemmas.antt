@@ -16,7 +16,7 @@ use Rattle.vs_syntax.specs.declared.tree.Stmt.TheVariants as s
 use Rattle.vs_syntax.specs.declared.tree.CaseLabel.{CaseLabel}
 use Rattle.vs_syntax.specs.declared.tree.DelayValue.{DelayValue}
 use Rattle.vs_syntax.specs.declared.tree.EventControl.{EventControl}
-use Rattle.vs_syntax.specs.vs_lex_tokens.specs.declared.token.Literal.{Literal}
+use Rattle.vs_syntax.specs.vs_lexer.specs.declared.token.Literal.{Literal}
 use Rattle.vs_syntax.specs.declared.tree.PrintTask.{PrintTask}
 use Rattle.vs_syntax.specs.declared.tree.PrintArguments.{PrintArguments}
 use Rattle.vs_syntax.specs.declared.tree.DumpTask.{DumpTask}
@@ -29,7 +29,7 @@ use Rattle.vs_design.specs.declared.statement.EventTerm.{EventTerm}
 use Rattle.vs_design.specs.declared.statement.Ticks.{Ticks}
 use Rattle.vs_design.specs.declared.statement.Call.{Call}
 use Rattle.vs_design.specs.vs_logic4.specs.declared.case.CaseKind.{CaseKind}
-use Rattle.vs_scopes.specs.vs_width_selects.specs.declared.shape.Shape.{Shape}
+use Rattle.vs_scopes.specs.vs_widths.specs.declared.shape.Shape.{Shape}
 use Rattle.vs_design.specs.declared.statement.Statement.{Statement}
 use Rattle.vs_design.specs.declared.statement.Statement.TheVariants as d
 use Rattle.vs_widths.specs.declared.kinds.AssignmentKind.TheVariants.{Procedural}
@@ -38,8 +38,8 @@ use Rattle.vs_scopes.specs.declared.faults.Reason.TheVariants.{Limit}
 use Rattle.vs_scopes.specs.declared.faults.BodyFault.{BodyFault}
 use Rattle.vs_scopes.specs.declared.faults.BodyFault.TheVariants as b
 use Rattle.vs_elab_statements.proofs.CaseLemmas.{exprs_in}
-use Rattle.vs_elab_listed.specs.vs_elab_pieces.specs.Pieces.{NamedBlock, blocks_in, blocks_among}
-use Rattle.vs_elab_listed.specs.vs_elab_pieces.proofs.PiecesLemmas.{blocks_Block, blocks_Case}
+use Rattle.vs_elab_listed.specs.vs_scopes.specs.Pieces.{NamedBlock, blocks_in, blocks_among}
+use Rattle.vs_elab_listed.specs.vs_scopes.proofs.PiecesLemmas.{blocks_Block, blocks_Case}
 use Rattle.vs_elab_statements.specs.Statements.{IsAssignment, IsOperand, IsStatement, is_null, is_assign, is_later, is_block, is_named, is_if, is_case, is_for, is_while, is_repeat, is_forever, is_delay, is_event, is_print, is_finish, is_dump, IsElse, no_else, an_else, AreItems, no_items, more_items, AreTypedAt, AreEvents, AreStatements, are_none, are_more, assign_fault, operand_fault, delay_of, delay_fault, due_of, due_fault, IsCall, print_fault, event_fault, case_fault, label_exprs, has_fault, HasFaultAt, in_statement, in_block, count_of, total, is_overfull}
 use Rattle.vs_elab_statements.specs.Members.{Assignment, places, sets, runs, repeats}
 use Rattle.vs_elab_statements.specs.Surroundings.{Surroundings}

@@ -41,15 +41,15 @@ use Rattle.vs_design.specs.declared.statement.Statement.TheViews.{out-Statement}
 use Rattle.std.proofs.lemmas.Bool.{and_parts, le-leb, lt-ltb}
 use Rattle.std.proofs.lemmas.List.Folds.{list_all-append}
 use Rattle.std.proofs.lemmas.Option.{slice_get_within}
-use Rattle.vs_scopes.specs.vs_width_selects.specs.declared.bindings.Meaning.{Meaning}
-use Rattle.vs_scopes.specs.vs_width_selects.specs.declared.bindings.Binding.{Binding}
-use Rattle.vs_scopes.specs.vs_width_selects.specs.declared.bindings.Binding.TheVariants as b
+use Rattle.vs_scopes.specs.vs_widths.specs.declared.bindings.Meaning.{Meaning}
+use Rattle.vs_scopes.specs.vs_widths.specs.declared.bindings.Binding.{Binding}
+use Rattle.vs_scopes.specs.vs_widths.specs.declared.bindings.Binding.TheVariants as b
 use Rattle.vs_widths.specs.declared.kinds.AssignmentKind.{AssignmentKind}
 use Rattle.vs_widths.specs.declared.kinds.AssignmentKind.TheVariants.{Procedural, Continuous, Event}
-use Rattle.vs_scopes.specs.vs_width_selects.specs.Environment.{Environment}
-use Rattle.vs_scopes.specs.vs_width_selects.specs.Meants.{Meant}
-use Rattle.vs_scopes.specs.vs_width_selects.specs.Each.{Each, each_none, each_more}
-use Rattle.vs_scopes.specs.vs_width_selects.specs.Selects.{Named}
+use Rattle.vs_scopes.specs.vs_widths.specs.Environment.{Environment}
+use Rattle.vs_scopes.specs.vs_widths.specs.Meants.{Meant}
+use Rattle.vs_scopes.specs.vs_widths.specs.Each.{Each, each_none, each_more}
+use Rattle.vs_scopes.specs.vs_widths.specs.Selects.{Named}
 use Rattle.vs_widths.specs.Expressions.{meant, name_meant}
 use Rattle.vs_widths.specs.Typing.{HoldsOfSignals, IsTypedAs}
 use Rattle.vs_widths.specs.Lefts.{Aimed, name_aimed, takes_reads}

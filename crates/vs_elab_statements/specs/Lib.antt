@@ -7,6 +7,5 @@ pub mod passes
 pub use Rattle.vs_elab_listed
 pub use Rattle.vs_scopes
 pub use Rattle.vs_widths
-pub use Rattle.vs_scopes.specs.vs_width_selects
 pub mod forms_passes
 pub mod Blocks

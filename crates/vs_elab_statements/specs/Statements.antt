@@ -17,7 +17,7 @@ use Rattle.vs_syntax.specs.declared.tree.EventControl.{EventControl}
 use Rattle.vs_syntax.specs.declared.tree.EventControl.TheVariants as c
 use Rattle.vs_syntax.specs.declared.tree.EventExpr.{EventExpr}
 use Rattle.vs_syntax.specs.declared.tree.Separator.{Separator}
-use Rattle.vs_syntax.specs.vs_lex_tokens.specs.declared.token.Literal.{Literal}
+use Rattle.vs_syntax.specs.vs_lexer.specs.declared.token.Literal.{Literal}
 use Rattle.vs_syntax.specs.declared.tree.PrintTask.{PrintTask}
 use Rattle.vs_syntax.specs.declared.tree.PrintTask.TheVariants.{Display, Strobe}
 use Rattle.vs_syntax.specs.declared.tree.Argument.{Argument}
@@ -29,7 +29,7 @@ use Rattle.vs_syntax.specs.declared.tree.DumpArgument.{DumpArgument}
 use Rattle.vs_syntax.specs.declared.tree.LocalDeclaration.{LocalDeclaration}
 use Rattle.vs_syntax.specs.declared.tree.ForHeader.{ForHeader}
 use Rattle.vs_syntax.specs.declared.tree.Stmt.{Stmt}
-use Rattle.vs_elab_listed.specs.vs_elab_pieces.specs.Pieces.{NamedBlock, blocks_in}
+use Rattle.vs_elab_listed.specs.vs_scopes.specs.Pieces.{NamedBlock, blocks_in}
 use Rattle.vs_scopes.specs.Printed.{plainly, Path, printed}
 use Rattle.vs_syntax.specs.declared.tree.Stmt.TheVariants as h
 use Rattle.vs_syntax.specs.declared.tree.Stmt.TheOpen.{Stmt-F}
@@ -54,11 +54,11 @@ use Rattle.vs_scopes.specs.vs_strobe.specs.declared.fault.FormatReason.TheVarian
 use Rattle.vs_scopes.specs.vs_strobe.specs.Pieces.{format_fault}
 use Rattle.vs_design.specs.declared.statement.Statement.{Statement}
 use Rattle.vs_design.specs.declared.statement.Statement.TheVariants as d
-use Rattle.vs_scopes.specs.vs_width_selects.specs.declared.faults.WidthReason.{WidthReason}
-use Rattle.vs_scopes.specs.vs_width_selects.specs.Environment.{Environment}
-use Rattle.vs_scopes.specs.vs_width_selects.specs.Findings.{Finding, Has, Lacks, stands, not_constant, together, alike}
-use Rattle.vs_scopes.specs.vs_width_selects.specs.Meants.{Meant, own}
-use Rattle.vs_scopes.specs.vs_width_selects.specs.Constants.{constant_finding, natural_at}
+use Rattle.vs_scopes.specs.vs_widths.specs.declared.faults.WidthReason.{WidthReason}
+use Rattle.vs_scopes.specs.vs_widths.specs.Environment.{Environment}
+use Rattle.vs_scopes.specs.vs_widths.specs.Findings.{Finding, Has, Lacks, stands, not_constant, together, alike}
+use Rattle.vs_scopes.specs.vs_widths.specs.Meants.{Meant, own}
+use Rattle.vs_scopes.specs.vs_widths.specs.Constants.{constant_finding, natural_at}
 use Rattle.vs_widths.specs.Expressions.{meant, meant_selects, number_meant, name_meant}
 use Rattle.vs_widths.specs.Typing.{IsTypedAs}
 use Rattle.vs_widths.specs.declared.kinds.AssignmentKind.{AssignmentKind}

@@ -1,6 +1,6 @@
 -- What surrounds the statements of a scope.
 use Rattle.std.specs.Prelude.{ℕ, List}
-use Rattle.vs_scopes.specs.vs_width_selects.specs.Environment.{Environment}
+use Rattle.vs_scopes.specs.vs_widths.specs.Environment.{Environment}
 use Rattle.vs_scopes.specs.Printed.{Path}
 use Rattle.vs_scopes.specs.Scopes.{Scope, environment_at}
 

@@ -1,7 +1,7 @@
 //! Assignments with their targets as parts of a design.
 ghost use Rattle.std.specs.Prelude.{◌≤◌};
 ghost use Rattle.vs_widths.specs.Names.{meaning_of};
-ghost use Rattle.vs_scopes.specs.vs_width_selects.specs.Findings.{stands};
+ghost use Rattle.vs_scopes.specs.vs_widths.specs.Findings.{stands};
 ghost use Rattle.vs_widths.specs.Expressions.{meant, name_meant};
 ghost use Rattle.vs_elab_statements.specs.Members.{places, named_signal};
 ghost use Rattle.vs_elab_statements.specs.Statements.{assign_fault, IsSource, IsAssignment};
@@ -11,7 +11,7 @@ ghost use Rattle.vs_scopes.specs.scopes_passes.Sizes.{width_faults};
 use std::alloc::Global;
 use vs_design::{Target, Typed};
 use vs_scopes::BodyFault;
-use vs_scopes::vs_width_selects::Shape;
+use vs_scopes::vs_widths::Shape;
 use vs_syntax::{Expr, Left};
 use vs_widths::{
     AssignmentKind, Levels, name_target, shape_of, shape_of_name, target, typed, typed_name,

@@ -6,7 +6,7 @@ ghost use Rattle.vs_elab_statements.specs.Surroundings.{Surroundings};
 ghost use Rattle.vs_elab_statements.specs.passes.Faults.{IsBelow};
 ghost use Rattle.vs_elab_statements.specs.passes.Views.{IsView, IsPlaced};
 ghost use Rattle.vs_elab_statements.specs.passes.Bodies.{Embodies};
-ghost use Rattle.vs_elab_pieces.specs.Pieces.{blocks_in};
+ghost use Rattle.vs_scopes.specs.Pieces.{blocks_in};
 ghost use Rattle.vs_elab_statements.specs.Blocks.{HaveScopes};
 
 use crate::statements::statement;

@@ -1,7 +1,7 @@
 //! Calls of system tasks that print (IEEE 1364-2005, clause 17.1).
 ghost use Rattle.std.specs.Prelude.{◌≡◌, ◌<◌, ◌≤◌, ◌^◌, None, length, IfOk, MatchResult};
 ghost use Rattle.std.specs.List.{list_any, AllZip};
-ghost use Rattle.vs_scopes.specs.vs_width_selects.specs.Environment.{Environment};
+ghost use Rattle.vs_scopes.specs.vs_widths.specs.Environment.{Environment};
 ghost use Rattle.vs_scopes.specs.vs_strobe.specs.Pieces.{format_fault};
 ghost use Rattle.vs_widths.specs.Names.{meaning_of};
 ghost use Rattle.vs_scopes.specs.Printed.{Path, printed};

@@ -1,7 +1,7 @@
 //! The expressions of `case` statements (IEEE 1364-2005, clause 9.5).
 ghost use Rattle.std.specs.Prelude.{◌≡◌, ◌∷◌, map};
 ghost use Rattle.std.specs.List.{list_any};
-ghost use Rattle.vs_scopes.specs.vs_width_selects.specs.Findings.{Has, together, alike};
+ghost use Rattle.vs_scopes.specs.vs_widths.specs.Findings.{Has, together, alike};
 ghost use Rattle.vs_widths.specs.Expressions.{meant};
 ghost use Rattle.vs_widths.specs.Names.{meaning_of};
 ghost use Rattle.vs_scopes.specs.scopes_passes.Answers.{Elaborates};
@@ -10,7 +10,7 @@ ghost use Rattle.vs_elab_statements.specs.passes.Bodies.{Shapes, IsCase};
 
 use std::alloc::Global;
 use vs_design::Typed;
-use vs_scopes::vs_width_selects::{Shape, WidthFault};
+use vs_scopes::vs_widths::{Shape, WidthFault};
 use vs_scopes::{BodyFault, Reason};
 use vs_syntax::{CaseLabel, Expr, Stmt};
 use vs_widths::{Levels, shape_of, typed};

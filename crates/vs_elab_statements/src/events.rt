@@ -4,7 +4,7 @@ ghost use Rattle.vs_design.specs.declared.statement.Aim.TheVariants.{Fixed};
 ghost use Rattle.vs_design.specs.Statements.{statement_reads};
 ghost use Rattle.vs_design.specs.declared.expression.Slice.{Slice};
 ghost use Rattle.vs_design.specs.vs_logic4.specs.declared.edge.Edge.TheVariants.{Any};
-ghost use Rattle.vs_scopes.specs.vs_width_selects.specs.Findings.{stands};
+ghost use Rattle.vs_scopes.specs.vs_widths.specs.Findings.{stands};
 ghost use Rattle.vs_widths.specs.declared.kinds.AssignmentKind.TheVariants.{Event};
 ghost use Rattle.vs_widths.specs.Lefts.{name_aimed};
 ghost use Rattle.vs_widths.specs.Names.{meaning_of};

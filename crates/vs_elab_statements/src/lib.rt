@@ -30,5 +30,4 @@ pub use simple::{assign, finish, later, null, print};
 pub use views::{Ratio, View};
 pub use vs_elab_listed;
 pub use vs_scopes;
-pub use vs_scopes::vs_width_selects;
 pub use vs_widths;

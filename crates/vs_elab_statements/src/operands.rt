@@ -1,7 +1,7 @@
 //! Expressions of statements that stand alone, and delays.
 ghost use Rattle.std.specs.Prelude.{◌≡◌, ◌*◌, ◌^◌, ◌<◌, ◌≤◌, Some, IfOk, IfErr, MatchOption};
-ghost use Rattle.vs_scopes.specs.vs_width_selects.specs.Constants.{constant_finding};
-ghost use Rattle.vs_scopes.specs.vs_width_selects.specs.Findings.{Refuses};
+ghost use Rattle.vs_scopes.specs.vs_widths.specs.Constants.{constant_finding};
+ghost use Rattle.vs_scopes.specs.vs_widths.specs.Findings.{Refuses};
 ghost use Rattle.vs_widths.specs.Expressions.{name_meant};
 ghost use Rattle.vs_widths.specs.Names.{meaning_of};
 ghost use Rattle.vs_scopes.specs.scopes_passes.Answers.{Elaborates};
@@ -10,7 +10,7 @@ ghost use Rattle.vs_elab_statements.specs.passes.Bodies.{IsConstantAs};
 
 use std::alloc::Global;
 use vs_design::{Ticks, Typed};
-use vs_scopes::vs_width_selects::{Binding, Const, WidthFault, WidthReason};
+use vs_scopes::vs_widths::{Binding, Const, WidthFault, WidthReason};
 use vs_scopes::{BodyFault, Reason};
 use vs_syntax::{DelayValue, Expr};
 use vs_widths::{Levels, constant, shape_of, typed};

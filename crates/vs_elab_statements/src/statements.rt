@@ -10,14 +10,13 @@ ghost use Rattle.vs_elab_statements.specs.vs_scopes.specs.Printed.{plainly, Path
 ghost use Rattle.vs_elab_statements.specs.Surroundings.{Surroundings};
 ghost use Rattle.vs_elab_statements.specs.passes.Faults.{IsBelow};
 ghost use Rattle.vs_elab_statements.specs.passes.Views.{IsView, IsPlaced};
-ghost use Rattle.vs_elab_pieces.specs.Pieces.{blocks_among, blocks_in};
-ghost use Rattle.vs_elab_pieces.specs.passes.Parts.{blocks_in_items};
+ghost use Rattle.vs_scopes.specs.Pieces.{blocks_among, blocks_in};
+ghost use Rattle.vs_scopes.specs.pieces_passes.Parts.{blocks_in_items};
 ghost use Rattle.vs_elab_statements.specs.Blocks.{HasScope, HaveScopes};
 ghost use Rattle.vs_elab_statements.specs.passes.Bodies.{Answers, MeansStatement, MeansStatements, MeansElse, MeansItems, statement_burden, statements_burden, items_burden, named_burden, else_list};
 
 use crate::vs_elab_listed::names_around;
-use crate::vs_width_selects::Shape;
-use crate::vs_widths::Levels;
+use crate::vs_widths::{Levels, Shape};
 use crate::{
     StatementFault, View, assign, case_operand, deeper, delay_around, event_around, finish,
     for_around, forever_around, if_around, label_values, later, null, numbered, print,

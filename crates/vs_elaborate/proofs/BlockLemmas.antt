@@ -4,11 +4,11 @@ use Rattle.std.specs.List.{IsDistinct}
 use Rattle.std.proofs.lemmas.Option.{none-some, same_Some, slice_get-map, slice_get_within}
 use Rattle.vs_syntax.specs.declared.tree.Module.{Module}
 use Rattle.vs_syntax.specs.declared.tree.Source.{Source}
-use Rattle.vs_elab_statements.specs.vs_scopes.specs.vs_width_selects.specs.Environment.{Environment}
+use Rattle.vs_elab_statements.specs.vs_scopes.specs.vs_widths.specs.Environment.{Environment}
 use Rattle.vs_elab_statements.specs.vs_widths.specs.Names.{meaning_of}
-use Rattle.vs_elab_hierarchy.specs.vs_elab_pieces.specs.Pieces.{NamedBlock, Piece, plain, loop, choice, local, inside, net, block_pieces, blocks_among, blocks_of}
-use Rattle.vs_elab_hierarchy.specs.vs_elab_pieces.specs.Reads.{read_piece}
-use Rattle.vs_elab_hierarchy.specs.vs_elab_pieces.specs.Uses.{names_used}
+use Rattle.vs_elab_hierarchy.specs.vs_scopes.specs.Pieces.{NamedBlock, Piece, plain, loop, choice, local, inside, net, block_pieces, blocks_among, blocks_of}
+use Rattle.vs_elab_hierarchy.specs.vs_scopes.specs.Reads.{read_piece}
+use Rattle.vs_elab_hierarchy.specs.vs_scopes.specs.Uses.{names_used}
 use Rattle.vs_elab_statements.specs.vs_scopes.specs.Printed.{PathName, plainly, Path, same_part, same_path}
 use Rattle.vs_elab_statements.specs.vs_scopes.specs.Declarations.{Bindings, uses_by_item}
 use Rattle.vs_elab_statements.specs.vs_scopes.specs.Nets.{Sight, new_among, permits_nets, pieces_with_nets, is_known, with_nets}

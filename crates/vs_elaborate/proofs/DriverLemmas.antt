@@ -12,8 +12,8 @@ use Rattle.vs_design.specs.WellFormed.{width_at, is_of_net, share_a_bit, driven}
 use Rattle.vs_design.specs.declared.range.BitRange.{BitRange}
 use Rattle.vs_design.specs.declared.signal.Signal.{Signal}
 use Rattle.vs_design.specs.declared.design.Assign.{Assign}
-use Rattle.vs_elab_statements.specs.vs_scopes.specs.vs_width_selects.specs.Findings.{Has}
-use Rattle.vs_elab_statements.specs.vs_scopes.specs.vs_width_selects.specs.Selects.{named_range}
+use Rattle.vs_elab_statements.specs.vs_scopes.specs.vs_widths.specs.Findings.{Has}
+use Rattle.vs_elab_statements.specs.vs_scopes.specs.vs_widths.specs.Selects.{named_range}
 use Rattle.vs_elab_statements.specs.vs_widths.specs.Lefts.{Aimed}
 use Rattle.vs_elab_statements.specs.vs_scopes.specs.Printed.{Path, printed}
 use Rattle.vs_elab_statements.specs.vs_scopes.specs.Declarations.{DeclaredName}

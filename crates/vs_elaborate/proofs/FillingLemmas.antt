@@ -25,12 +25,12 @@ use Rattle.vs_elab_statements.specs.vs_scopes.specs.Printed.{Path, own_name, por
 use Rattle.std.specs.declared.vec.Vec.{Vec}
 use Rattle.std.specs.declared.alloc.Global.{Global}
 use Rattle.std.specs.Borrow.{Bor}
-use Rattle.vs_elab_statements.specs.vs_scopes.specs.vs_width_selects.specs.Environment.{Environment}
+use Rattle.vs_elab_statements.specs.vs_scopes.specs.vs_widths.specs.Environment.{Environment}
 use Rattle.vs_elab_statements.specs.vs_widths.specs.Names.{meaning_of, nested_names}
 use Rattle.vs_elab_statements.specs.vs_scopes.specs.Declarations.{Bindings}
-use Rattle.vs_elab_hierarchy.specs.vs_elab_pieces.specs.Reads.{read_piece}
-use Rattle.vs_elab_hierarchy.specs.vs_elab_pieces.specs.declared.scope.ScopePiece.{ScopePiece as FoundPiece}
-use Rattle.vs_elab_hierarchy.specs.vs_elab_pieces.specs.declared.scope.ScopePiece.TheVariants as p
+use Rattle.vs_elab_hierarchy.specs.vs_scopes.specs.Reads.{read_piece}
+use Rattle.vs_elab_hierarchy.specs.vs_scopes.specs.declared.scope.ScopePiece.{ScopePiece as FoundPiece}
+use Rattle.vs_elab_hierarchy.specs.vs_scopes.specs.declared.scope.ScopePiece.TheVariants as p
 use Rattle.vs_elab_statements.specs.vs_scopes.specs.declared.ports.ModulePort.{ModulePort as FoundPort}
 use Rattle.vs_elab_statements.specs.vs_scopes.specs.scopes_passes.Parts.{read_port, read_ends}
 use Rattle.vs_elab_statements.specs.vs_elab_listed.specs.declared.opened.ListedScope.{ListedScope as FoundScope}

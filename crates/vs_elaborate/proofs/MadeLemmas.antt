@@ -15,9 +15,9 @@ use Rattle.vs_design.specs.Parts.{Parts}
 use Rattle.vs_design.specs.WellFormed.{WellFormed, is_sound_assign, share_a_bit, driven, declared_in as declared_by_outline}
 use Rattle.vs_design.specs.declared.signal.Signal.{Signal}
 use Rattle.vs_design.specs.declared.design.Assign.{Assign}
-use Rattle.vs_elab_statements.specs.vs_scopes.specs.vs_width_selects.specs.declared.bindings.Binding.TheVariants as b
+use Rattle.vs_elab_statements.specs.vs_scopes.specs.vs_widths.specs.declared.bindings.Binding.TheVariants as b
 use Rattle.vs_elab_statements.specs.vs_widths.specs.Names.{meaning_of}
-use Rattle.vs_elab_hierarchy.specs.vs_elab_pieces.specs.Reads.{read_piece}
+use Rattle.vs_elab_hierarchy.specs.vs_scopes.specs.Reads.{read_piece}
 use Rattle.vs_elab_statements.specs.vs_scopes.specs.declared.faults.Reason.{Reason}
 use Rattle.vs_elab_statements.specs.vs_scopes.specs.declared.faults.Reason.TheVariants.{NoModule, Inside, PortMismatch, ParameterMismatch, DeclaredTwice, DrivenTwice, Limit, Width, Endless, Unnamed, Timescales, Format}
 use Rattle.vs_elab_statements.specs.vs_scopes.specs.declared.faults.ElabFault.{ElabFault}

@@ -14,7 +14,7 @@ use Rattle.vs_syntax.specs.declared.tree.Direction.{Direction}
 use Rattle.vs_syntax.specs.declared.tree.Direction.TheVariants.{Input, Output}
 use Rattle.vs_design.specs.declared.design.Assign.{Assign}
 use Rattle.vs_design.specs.declared.design.Process.{Process}
-use Rattle.vs_elab_statements.specs.vs_scopes.specs.vs_width_selects.specs.Environment.{Environment}
+use Rattle.vs_elab_statements.specs.vs_scopes.specs.vs_widths.specs.Environment.{Environment}
 use Rattle.vs_elab_statements.specs.vs_scopes.specs.Printed.{Path, same_path, printed_name, own_name, port_assign_name, part_name}
 use Rattle.vs_elab_statements.specs.vs_scopes.specs.Ports.{ModulePort, port_names, names_where, is_joined}
 use Rattle.vs_elab_statements.specs.vs_scopes.specs.Declarations.{DeclaredName, declared_by_port, declared_among, not_joined, names_in}

@@ -16,15 +16,15 @@ use Rattle.vs_design.specs.declared.signal.Signal.{Signal}
 use Rattle.vs_design.specs.declared.signal.SignalKind.{SignalKind}
 use Rattle.vs_design.specs.declared.design.ScopeKind.{ScopeKind}
 use Rattle.vs_design.specs.declared.design.ScopeKind.TheVariants as opened_by
-use Rattle.vs_elab_statements.specs.vs_scopes.specs.vs_width_selects.specs.declared.bindings.Meaning.{Meaning}
-use Rattle.vs_elab_statements.specs.vs_scopes.specs.vs_width_selects.specs.declared.bindings.Binding.{Binding}
-use Rattle.vs_elab_statements.specs.vs_scopes.specs.vs_width_selects.specs.declared.bindings.Binding.TheVariants as b
-use Rattle.vs_elab_statements.specs.vs_scopes.specs.vs_width_selects.specs.declared.constants.Const.{Const}
-use Rattle.vs_elab_statements.specs.vs_scopes.specs.vs_width_selects.specs.declared.faults.WidthReason.{WidthReason}
-use Rattle.vs_elab_statements.specs.vs_scopes.specs.vs_width_selects.specs.declared.faults.WidthReason.TheVariants.{WrongKind}
-use Rattle.vs_elab_statements.specs.vs_scopes.specs.vs_width_selects.specs.Environment.{Environment}
+use Rattle.vs_elab_statements.specs.vs_scopes.specs.vs_widths.specs.declared.bindings.Meaning.{Meaning}
+use Rattle.vs_elab_statements.specs.vs_scopes.specs.vs_widths.specs.declared.bindings.Binding.{Binding}
+use Rattle.vs_elab_statements.specs.vs_scopes.specs.vs_widths.specs.declared.bindings.Binding.TheVariants as b
+use Rattle.vs_elab_statements.specs.vs_scopes.specs.vs_widths.specs.declared.constants.Const.{Const}
+use Rattle.vs_elab_statements.specs.vs_scopes.specs.vs_widths.specs.declared.faults.WidthReason.{WidthReason}
+use Rattle.vs_elab_statements.specs.vs_scopes.specs.vs_widths.specs.declared.faults.WidthReason.TheVariants.{WrongKind}
+use Rattle.vs_elab_statements.specs.vs_scopes.specs.vs_widths.specs.Environment.{Environment}
 use Rattle.vs_elab_statements.specs.vs_widths.specs.Names.{meaning_of}
-use Rattle.vs_elab_hierarchy.specs.vs_elab_pieces.specs.Pieces.{Piece, plain, loop, choice, local, inside, net}
+use Rattle.vs_elab_hierarchy.specs.vs_scopes.specs.Pieces.{Piece, plain, loop, choice, local, inside, net}
 use Rattle.vs_elab_statements.specs.vs_scopes.specs.declared.faults.Reason.TheVariants.{Width}
 use Rattle.vs_elab_statements.specs.vs_scopes.specs.Ranges.{Sized, bounds_fault, Words, words_fault, words_as, word_count}
 use Rattle.vs_elab_statements.specs.vs_scopes.specs.Parameters.{said}

@@ -12,7 +12,7 @@ use Rattle.vs_syntax.specs.declared.tree.Source.{Source}
 use Rattle.vs_syntax.specs.declared.tree.Stmt.{Stmt, Stmt-F, roll-Stmt, ind-Stmt, map-Stmt}
 use Rattle.vs_syntax.specs.declared.tree.Stmt.TheFolds.{fold-roll-Stmt}
 use Rattle.vs_syntax.specs.declared.tree.Stmt.TheOpen as f
-use Rattle.vs_elab_statements.specs.vs_scopes.specs.vs_width_selects.specs.Environment.{Environment}
+use Rattle.vs_elab_statements.specs.vs_scopes.specs.vs_widths.specs.Environment.{Environment}
 use Rattle.vs_elab_statements.specs.vs_widths.specs.declared.kinds.AssignmentKind.{AssignmentKind}
 use Rattle.vs_elab_statements.specs.vs_widths.specs.declared.kinds.AssignmentKind.TheVariants.{Procedural, Continuous}
 use Rattle.vs_elab_statements.specs.vs_scopes.specs.declared.faults.Reason.{Reason}

@@ -13,7 +13,7 @@ use Rattle.std.proofs.lemmas.Bool.{and_parts}
 use Rattle.std.proofs.lemmas.Option.{slice_get_within}
 use Rattle.std.proofs.lemmas.List.Elements.{All-nil, All-cons, All-append}
 use Rattle.vs_elab_statements.specs.vs_widths.specs.declared.kinds.AssignmentKind.TheVariants.{Continuous}
-use Rattle.vs_elab_statements.specs.vs_scopes.specs.vs_width_selects.specs.Environment.{Environment}
+use Rattle.vs_elab_statements.specs.vs_scopes.specs.vs_widths.specs.Environment.{Environment}
 use Rattle.vs_elab_statements.specs.vs_widths.specs.Expressions.{meant, name_meant}
 use Rattle.vs_elab_statements.specs.vs_widths.proofs.ReadLemmas.{reads_within}
 use Rattle.vs_elab_statements.specs.Statements.{assigned_to}

@@ -2,9 +2,9 @@
 use Rattle.std.specs.Prelude.{Bool, false, ◌||◌, []}
 use Rattle.vs_design.specs.declared.expression.Typed.{Typed}
 use Rattle.vs_design.specs.declared.statement.Target.{Target}
-use Rattle.vs_elab_statements.specs.vs_scopes.specs.vs_width_selects.specs.Environment.{Environment}
-use Rattle.vs_elab_statements.specs.vs_scopes.specs.vs_width_selects.specs.Findings.{stands}
-use Rattle.vs_elab_statements.specs.vs_scopes.specs.vs_width_selects.specs.Meants.{Meant}
+use Rattle.vs_elab_statements.specs.vs_scopes.specs.vs_widths.specs.Environment.{Environment}
+use Rattle.vs_elab_statements.specs.vs_scopes.specs.vs_widths.specs.Findings.{stands}
+use Rattle.vs_elab_statements.specs.vs_scopes.specs.vs_widths.specs.Meants.{Meant}
 use Rattle.vs_elab_statements.specs.vs_widths.specs.Expressions.{meant, name_meant}
 use Rattle.vs_elab_statements.specs.vs_widths.specs.declared.kinds.AssignmentKind.TheVariants.{Continuous}
 use Rattle.vs_elab_statements.specs.vs_widths.specs.Lefts.{Aimed, name_aimed, expr_aimed}

@@ -6,8 +6,8 @@ use Rattle.vs_syntax.specs.declared.tree.Source.{Source}
 use Rattle.vs_design.specs.Kinds.{is_variable}
 use Rattle.vs_design.specs.WellFormed.{have_common, bits_or_all}
 use Rattle.vs_design.specs.declared.range.BitRange.{BitRange}
-use Rattle.vs_elab_statements.specs.vs_scopes.specs.vs_width_selects.specs.Findings.{Finding, Has, Lacks}
-use Rattle.vs_elab_statements.specs.vs_scopes.specs.vs_width_selects.specs.Selects.{Named, named_range}
+use Rattle.vs_elab_statements.specs.vs_scopes.specs.vs_widths.specs.Findings.{Finding, Has, Lacks}
+use Rattle.vs_elab_statements.specs.vs_scopes.specs.vs_widths.specs.Selects.{Named, named_range}
 use Rattle.vs_elab_statements.specs.vs_widths.specs.declared.kinds.AssignmentKind.TheVariants.{Continuous}
 use Rattle.vs_elab_statements.specs.vs_widths.specs.Lefts.{Aimed}
 use Rattle.vs_elab_statements.specs.vs_scopes.specs.declared.faults.Reason.{Reason}

@@ -18,3 +18,8 @@ pub mod DesignOf
 pub mod passes
 pub use Rattle.vs_elab_hierarchy
 pub use Rattle.vs_elab_statements.specs.vs_scopes
+pub mod PrintableNames
+pub mod Named
+pub mod OneLine
+pub mod Same
+pub use Rattle.vs_elab_statements.specs.vs_widths

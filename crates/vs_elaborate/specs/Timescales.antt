@@ -1,13 +1,13 @@
 -- Time scales of sources.
 use Rattle.std.specs.Prelude.{ℕ, ◌+◌, ◌-◌, ◌^◌, ◌==◌, Bool, ◌&&◌, not, List, [], ◌∷◌, ◌++◌}
 use Rattle.std.specs.List.{list_any, flat_map}
-use Rattle.vs_syntax.specs.vs_lex_tokens.specs.declared.token.Directive.{Directive}
-use Rattle.vs_syntax.specs.vs_lex_tokens.specs.declared.token.Directive.TheVariants as g
-use Rattle.vs_syntax.specs.vs_lex_tokens.specs.declared.token.Time.{Time}
-use Rattle.vs_syntax.specs.vs_lex_tokens.specs.declared.token.TextMagnitude.{TextMagnitude}
-use Rattle.vs_syntax.specs.vs_lex_tokens.specs.declared.token.TextMagnitude.TheVariants as n
-use Rattle.vs_syntax.specs.vs_lex_tokens.specs.declared.token.TextUnit.{TextUnit}
-use Rattle.vs_syntax.specs.vs_lex_tokens.specs.declared.token.TextUnit.TheVariants as u
+use Rattle.vs_syntax.specs.vs_lexer.specs.declared.token.Directive.{Directive}
+use Rattle.vs_syntax.specs.vs_lexer.specs.declared.token.Directive.TheVariants as g
+use Rattle.vs_syntax.specs.vs_lexer.specs.declared.token.Time.{Time}
+use Rattle.vs_syntax.specs.vs_lexer.specs.declared.token.TextMagnitude.{TextMagnitude}
+use Rattle.vs_syntax.specs.vs_lexer.specs.declared.token.TextMagnitude.TheVariants as n
+use Rattle.vs_syntax.specs.vs_lexer.specs.declared.token.TextUnit.{TextUnit}
+use Rattle.vs_syntax.specs.vs_lexer.specs.declared.token.TextUnit.TheVariants as u
 use Rattle.vs_syntax.specs.declared.tree.Module.{Module}
 use Rattle.vs_syntax.specs.declared.tree.Source.{Source}
 use Rattle.vs_design.specs.declared.timescale.Magnitude.{Magnitude}

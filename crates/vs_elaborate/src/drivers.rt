@@ -2,7 +2,7 @@
 ghost use Rattle.std.specs.Prelude.{◌≡◌, ◌∷◌, [], map};
 ghost use Rattle.std.specs.List.{flat_map};
 ghost use Rattle.vs_elab_statements.specs.vs_widths.specs.declared.kinds.AssignmentKind.TheVariants.{Continuous};
-ghost use Rattle.vs_elab_hierarchy.specs.vs_elab_pieces.specs.Reads.{read_piece};
+ghost use Rattle.vs_elab_hierarchy.specs.vs_scopes.specs.Reads.{read_piece};
 ghost use Rattle.vs_elab_statements.specs.vs_scopes.specs.Printed.{Path};
 ghost use Rattle.vs_elab_statements.specs.Surroundings.{Surroundings};
 ghost use Rattle.vs_elab_statements.specs.vs_scopes.specs.Scopes.{Scope, environment};
@@ -14,7 +14,7 @@ ghost use Rattle.vs_elaborate.specs.passes.Filling.{IsFrame, text_faults, Drives
 use crate::frames::{Frame, part_fault};
 use std::alloc::Global;
 use vs_design::{Assign, Target, Typed};
-use vs_elab_hierarchy::vs_elab_pieces::ScopePiece;
+use vs_elab_hierarchy::vs_scopes::ScopePiece;
 use vs_elab_statements::vs_scopes::{BodyFault, ElabFault, print_part};
 use vs_elab_statements::vs_widths::AssignmentKind;
 use vs_elab_statements::{assignment, declared_assignment};

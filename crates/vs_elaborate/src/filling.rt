@@ -20,7 +20,7 @@ use crate::processes::{run_pieces, run_ports};
 use std::alloc::{AllocError, Global};
 use vs_elab_statements::vs_elab_listed::{ListedScope, names_around, names_outward, path};
 use vs_elab_statements::vs_scopes::ElabFault;
-use vs_elab_statements::vs_scopes::vs_width_selects::Binding;
+use vs_elab_statements::vs_scopes::vs_widths::Binding;
 use vs_elab_statements::vs_widths::{Levels, Names};
 use vs_elab_statements::{Ratio, View};
 

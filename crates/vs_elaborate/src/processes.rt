@@ -1,8 +1,8 @@
 //! The processes of a scope, as parts of a design.
 ghost use Rattle.std.specs.Prelude.{◌≡◌, ◌∷◌, [], Some, length, IfErr};
 ghost use Rattle.std.specs.List.{flat_map};
-ghost use Rattle.vs_elab_hierarchy.specs.vs_elab_pieces.specs.Pieces.{blocks_of};
-ghost use Rattle.vs_elab_hierarchy.specs.vs_elab_pieces.specs.Reads.{read_piece};
+ghost use Rattle.vs_elab_hierarchy.specs.vs_scopes.specs.Pieces.{blocks_of};
+ghost use Rattle.vs_elab_hierarchy.specs.vs_scopes.specs.Reads.{read_piece};
 ghost use Rattle.vs_elab_statements.specs.vs_scopes.specs.Printed.{Path};
 ghost use Rattle.vs_elab_statements.specs.vs_scopes.specs.Scopes.{Scope};
 ghost use Rattle.vs_elab_statements.specs.vs_scopes.specs.scopes_passes.Answers.{Grows};
@@ -20,7 +20,7 @@ use crate::Contents;
 use crate::frames::{Frame, process_fault};
 use std::alloc::Global;
 use vs_design::{Process, ProcessKind, Statement};
-use vs_elab_hierarchy::vs_elab_pieces::ScopePiece;
+use vs_elab_hierarchy::vs_scopes::ScopePiece;
 use vs_elab_statements::vs_scopes::{ElabFault, ModulePort, print_part};
 use vs_elab_statements::{StatementFault, repeat_body, run_body, set_body};
 use vs_syntax::{Declarator, Expr, Item};

@@ -5,3 +5,17 @@ pub mod ReadsHold
 pub mod SizesHold
 pub mod ValueLemmas
 pub mod WritesHold
+pub mod DifferencesLemmas
+mod Edges
+pub mod MasksLemmas
+pub mod StoresLemmas
+pub mod WakingLemmas
+pub mod CopyLemmas
+pub mod ResolvedDepthLemmas
+pub mod IndexLemmas
+pub mod LayerLemmas
+pub mod MeantLemmas
+pub mod NodeLemmas
+pub mod OperandLemmas
+pub mod PlanesLemmas
+pub mod WordLemmas

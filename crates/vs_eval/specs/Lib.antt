@@ -2,3 +2,11 @@ pub mod Laws
 pub mod Places
 pub mod Targets
 pub mod Values
+pub mod Differences
+pub mod Masks
+pub mod Waking
+pub mod passes
+pub mod Copies
+pub mod Meant
+pub mod Nodes
+pub mod PlanesOf

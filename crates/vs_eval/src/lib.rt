@@ -1,4 +1,5 @@
-//! The values of expressions in a store (IEEE 1364-2005, clause 5), and the writes of assignments.
+//! The values of expressions in a store (IEEE 1364-2005, clause 5), also resolved for a run, where each signal is the number of its word; the writes
+//! of assignments; and when event controls wake, word by word (clause 9.7.2).
 #![tactic(auto)]
 
 ghost use Rattle.std.specs.Prelude.{◌≡◌, ◌<◌, ◌≤◌, map, true};
@@ -10,13 +11,31 @@ ghost use Rattle.vs_eval.specs.Laws.{ReadsHold, IndicesHold, WritesHold, SizesHo
 ghost use Rattle.vs_eval.specs.Values.{is_other, value_of, operand_value, bits_value, selection_value, excerpt_value, left_side, right_side, linked, chained, picked, chosen, concatenated};
 ghost use Rattle.vs_design.specs.Stores.{word_of};
 
+mod copy;
+mod differences;
+mod edge_bits;
+mod evaluate;
 mod indices;
+mod laws;
+mod masks;
+mod node;
+mod resolve;
+mod resolved;
+mod sensitivity;
 mod targets;
+mod waking;
 
+pub use differences::{difference, sees};
 pub use indices::{index_number, place_of, word_place};
+pub use laws::waking_by_words;
+pub use masks::{WordChange, WordMask};
+pub use node::Planes;
+pub use resolved::Resolved;
+pub use sensitivity::Sensitivity;
 pub use targets::{cut_value, write_of};
 use vs_design::vs_logic4::{Digit, Sizing, Vec4};
 use vs_design::{Excerpt, Link, Operand, Selection, Slice, Store, Typed};
+pub use waking::woken;
 
 /// The value of an expression in a store at a time in ticks, at the size and with the sign of its context.
 #[cycle(value)]

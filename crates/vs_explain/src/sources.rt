@@ -5,7 +5,7 @@ use crate::scopes::put_scope;
 use std::alloc::{AllocError, Global};
 use vs_explain_certificate::put_forgotten;
 use vs_explain_elaboration::explain_design;
-use vs_explain_elaboration::vs_scopes::vs_width_selects::WidthReason;
+use vs_explain_elaboration::vs_scopes::vs_widths::WidthReason;
 use vs_explain_elaboration::vs_scopes::{ElabFault, Reason};
 use vs_explain_outline::{Explanation, Page, SourceText};
 use vs_explain_text::vs_parser::ParseFault;

@@ -1,11 +1,11 @@
 //! The steps of a run, taken again and counted.
 ghost use Rattle.std.specs.Prelude.{◌≡◌, true, map};
-ghost use Rattle.vs_run_moves.specs.Standing.{IsStanding};
+ghost use Rattle.vs_kernel.specs.Standing.{IsStanding};
 
 use std::alloc::{AllocError, Global};
 use vs_design::Design;
-use vs_run_moves::vs_run_steps::Dropped;
-use vs_run_moves::{Event, Run, codes_of, scripts_of};
+use vs_kernel::vs_run_steps::Dropped;
+use vs_kernel::{Event, Run, codes_of, scripts_of};
 use vs_run_regions::vs_process::Code;
 use vs_run_regions::vs_time_wheel::{EventQueue, Wheel};
 use vs_run_regions::{Due, Lifo, Listed, Pick};

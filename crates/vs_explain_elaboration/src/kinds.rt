@@ -7,7 +7,7 @@ use crate::places::{constant_part, open_range, stands_in, wide_part};
 use vs_explain_outline::{
     DeclaredKind, Landmark, LandmarkKind, Page, Piece, SourceText, UseRole, is_marked,
 };
-use vs_scopes::vs_width_selects::WidthReason;
+use vs_scopes::vs_widths::WidthReason;
 use vs_syntax::vs_lexer::{Mark, Word};
 
 /// The most bits of a value.

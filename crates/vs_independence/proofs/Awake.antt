@@ -7,24 +7,24 @@ use Rattle.vs_process.specs.declared.gait.Gait.{Gait}
 use Rattle.vs_process.specs.declared.gait.Gait.TheVariants.{Fresh}
 use Rattle.vs_process.specs.Places.{Place, going, sleeping, inactive, waiting, ended, Todo}
 use Rattle.vs_process.specs.Steps.{Next, on, after, wait}
-use Rattle.vs_threads.specs.Blocks.{sources, Roles, NamesSources, IsSource, puts_out, home, control}
+use Rattle.vs_process.specs.BlockDrivers.{sources, Roles, NamesSources, IsSource, puts_out, home, control}
 use Rattle.vs_independence.specs.Discipline.{here}
 use Rattle.vs_independence.proofs.BlocksAt.{place_after}
-use Rattle.vs_threads.proofs.Fares.{Fares, fresh, unfed, fed, woken, inside, home_asleep, is_awake, or_last, or_some}
+use Rattle.vs_process.proofs.Fares.{Fares, fresh, unfed, fed, woken, inside, home_asleep, is_awake, or_last, or_some}
 use Rattle.vs_independence.proofs.BlocksAt.{Blocked, BlocksAt, IsFree, text_at}
 use Rattle.std.specs.List.{Contains, list_any}
 use Rattle.vs_independence.proofs.FirstQuiet.{FirstWrites}
 use Rattle.vs_independence.proofs.History.{History, Seen, alters, change_local, change_named, history_still, put_log}
 use Rattle.vs_process.specs.States.{State, place_behind, wakened}
-use Rattle.vs_threads.proofs.Texts.{Text, home_stays, home_wakes}
-use Rattle.vs_threads.specs.Threads.{Thread, log_behind, writes}
+use Rattle.vs_process.proofs.Texts.{Text, home_stays, home_wakes}
+use Rattle.vs_process.specs.Threads.{Thread, log_behind, writes}
 use Rattle.vs_design.specs.Writes.{Write, names}
 use Rattle.std.proofs.lemmas.Map.Keys.{any_passes_from_place as at_any}
 use Rattle.vs_design.specs.vs_logic4.proofs.Basics.{element_of as any_at}
-use Rattle.vs_threads.proofs.Lists.{at_each, at_same, contains_at, place_of, at}
+use Rattle.vs_process.proofs.ThreadLists.{at_each, at_same, contains_at, place_of, at}
 use Rattle.std.proofs.lemmas.Bool.{cases_Bool, cond_both, false≢true, or_cases, or_left, or_right, true≢false}
 use Rattle.vs_process.specs.Executions.{is_first}
-use Rattle.vs_threads.proofs.ThreadsNamed.{named}
+use Rattle.vs_process.proofs.ThreadsNamed.{named}
 
 pub awake_ran : (d : Parts) (inputs : List BitRange) (k : ℕ) (t : Text d k) (late ran : Bool) (time : ℕ) (store : Store) (place : Place) → Fares d inputs k t late ran time store place → is_awake place ≡ true → ran ≡ true
 awake_ran d inputs k t late ran time store place (fresh todo is way same none first) h = absurd (false≢true (sym (ap is_awake is) ∙ h))

@@ -5,35 +5,33 @@ use Rattle.vs_design.specs.Parts.{Parts}
 use Rattle.vs_design.specs.Stores.{Store, put, start_store, word_in}
 use Rattle.vs_process.specs.Places.{Todo, Place, going, waiting, ended}
 use Rattle.vs_independence.proofs.Moves.{OutputsUndriven, performed_is, length_behind, behind_sound, sources_other}
-use Rattle.vs_threads.proofs.Texts.{Text}
+use Rattle.vs_process.proofs.Texts.{Text}
 use Rattle.vs_design.specs.Writes.{Write, names}
-use Rattle.vs_threads.specs.Blocks.{puts_out, outputs, IsSource}
-use Rattle.vs_process.specs.States.{State, Update, Called, updates_behind, calls_behind, performed, place_behind}
+use Rattle.vs_process.specs.BlockDrivers.{puts_out, outputs, IsSource}
+use Rattle.vs_process.specs.States.{State, Update, Called, updates_behind, calls_behind, performed, place_behind, AssignState}
 use Rattle.vs_process.specs.vs_strobe.specs.Lines.{Format}
-use Rattle.vs_threads.specs.Threads.{Thread, store_behind}
-use Rattle.vs_threads.specs.Laws.{LiesIn}
+use Rattle.vs_process.specs.Threads.{Thread, store_behind}
+use Rattle.vs_process.specs.ThreadLaws.{LiesIn}
 use Rattle.vs_independence.proofs.Running.{Follow, AllStand, threads_of, Sources, Edges, Apart, BlockBare, IsAwake, IsRested, Rests, Running, Mades, Asks, Finishes}
 use Rattle.vs_process.specs.declared.gait.Gait.{Gait}
 use Rattle.std.proofs.lemmas.Option.{get_or_from_slice_get}
 use Rattle.std.specs.List.{list_any}
-use Rattle.vs_threads.proofs.Assigns.{assigns_behind, places_behind}
-use Rattle.vs_threads.specs.Edges.{itself, through}
-use Rattle.vs_threads.proofs.Links.{link_driven, link_state}
+use Rattle.vs_process.proofs.ThreadAssigns.{assigns_behind, places_behind}
+use Rattle.vs_process.specs.Edges.{itself, through}
+use Rattle.vs_process.proofs.ThreadLinks.{link_driven, link_state}
 use Rattle.vs_independence.proofs.Edges.{root_source, edges_touched}
 use Rattle.vs_independence.proofs.Still.{SameEdges, asleep, stands_still, still_advances}
 use Rattle.vs_process.specs.Steps.{Out}
-use Rattle.vs_process.specs.States.{AssignState}
 use Rattle.vs_process.proofs.Stores.{put_other, shape, shape-put}
-use Rattle.vs_process.proofs.Assigns.{AssignsSound}
-use Rattle.vs_threads.proofs.BlockRuns.{BlockStep}
+use Rattle.vs_process.proofs.Assigns.{AssignsSound, IsUndriven, sound_behind}
+use Rattle.vs_process.proofs.BlockRuns.{BlockStep}
 use Rattle.vs_design.specs.Uses.{covers}
 use Rattle.vs_independence.proofs.Nets.{rests_written, nets_behind}
-use Rattle.vs_threads.proofs.Held.{changed_puts}
+use Rattle.vs_process.proofs.Held.{changed_puts}
 use Rattle.vs_process.specs.vs_eval.specs.Laws.{digit_in}
 use Rattle.std.proofs.lemmas.List.{get_or-set_other, length-set}
-use Rattle.vs_process.proofs.Assigns.{IsUndriven, sound_behind}
-use Rattle.vs_threads.proofs.ThreadsNamed.{named}
-use Rattle.vs_process.specs.vs_edges.specs.Waking.{wakes}
+use Rattle.vs_process.proofs.ThreadsNamed.{named}
+use Rattle.vs_process.specs.vs_eval.specs.Waking.{wakes}
 use Rattle.vs_design.specs.vs_logic4.proofs.Basics.{or_false}
 
 pub updates_same : (i time : ℕ) (o : Option (ℕ × Write)) (us : List Update) → o ≡ None → updates_behind i time o us ≡ us

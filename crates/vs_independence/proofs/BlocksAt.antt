@@ -7,27 +7,27 @@ use Rattle.vs_process.specs.Steps.{Out, step, goes}
 use Rattle.vs_process.specs.Executions.{is_combinational, is_free, is_kept_out, is_step_of}
 use Rattle.vs_process.specs.declared.moves.Grain.TheVariants.{Block}
 use Rattle.vs_independence.proofs.Running.{BlockBare}
-use Rattle.vs_threads.proofs.BlockRuns.{BlockStep, view_sized}
+use Rattle.vs_process.proofs.BlockRuns.{BlockStep, view_sized}
 use Rattle.vs_design.specs.declared.statement.EventTerm.{EventTerm}
 use Rattle.vs_independence.proofs.BlockSteps.{Exclusive, bare_step, lies_other}
-use Rattle.vs_threads.proofs.Fares.{Fares, OwnStep, fares_still, fares_written, is_awake, own_step, fresh, unfed, fed, woken, inside}
+use Rattle.vs_process.proofs.Fares.{Fares, OwnStep, fares_still, fares_written, is_awake, own_step, fresh, unfed, fed, woken, inside}
 use Rattle.vs_process.specs.declared.gait.Gait.TheVariants.{Fresh, Inside, Woken}
 use Rattle.vs_process.specs.declared.gait.Gait.{Gait}
-use Rattle.vs_threads.specs.Blocks.{IsBlock, Roles, outputs, puts_out, sizes}
-use Rattle.vs_threads.specs.Laws.{LiesIn}
+use Rattle.vs_process.specs.BlockDrivers.{IsBlock, Roles, outputs, puts_out, sizes}
+use Rattle.vs_process.specs.ThreadLaws.{LiesIn}
 use Rattle.vs_process.specs.declared.moves.Move.{Move}
 use Rattle.vs_independence.proofs.Moves.{OutputsUndriven, bare_behind, length_behind, performed_is}
 use Rattle.vs_design.specs.declared.design.Process.{Process}
 use Rattle.vs_process.specs.States.{State, place_behind, wakened, performed}
-use Rattle.vs_threads.proofs.Texts.{Text, text_of}
+use Rattle.vs_process.proofs.Texts.{Text, text_of}
 use Rattle.vs_design.specs.Writes.{Write, names}
 use Rattle.std.proofs.lemmas.Bool.{cases_eq, false≢true, not-true, or_parts, true≢false, not-false}
 use Rattle.std.proofs.Math.ListN.{get_or-map}
 use Rattle.std.proofs.lemmas.List.{get_or-set_other, get_or-set_same}
 use Rattle.std.proofs.lemmas.Option.{get_or_from_slice_get, slice_get_within}
-use Rattle.vs_threads.proofs.Assigns.{places_behind}
+use Rattle.vs_process.proofs.ThreadAssigns.{places_behind}
 use Rattle.vs_process.proofs.Stores.{shape-put}
-use Rattle.vs_threads.specs.Threads.{store_behind}
+use Rattle.vs_process.specs.Threads.{store_behind}
 use Rattle.vs_design.specs.declared.range.BitRange.{BitRange}
 
 -- what the proof takes of blocks

@@ -4,28 +4,28 @@ use Rattle.vs_design.specs.Parts.{Parts}
 use Rattle.vs_design.specs.Stores.{Store, put, is_changed, is_driven, start_store}
 use Rattle.vs_design.specs.Uses.{covers, reads, writes}
 use Rattle.vs_design.specs.declared.range.BitRange.{BitRange}
-use Rattle.vs_threads.specs.Bits.{HasBit}
-use Rattle.vs_threads.specs.Blocks.{AgreeOn, IsSource, Roles, SameOutputs, outputs, puts_into, puts_out}
+use Rattle.vs_process.specs.Bits.{HasBit}
+use Rattle.vs_process.specs.BlockDrivers.{AgreeOn, IsSource, Roles, SameOutputs, outputs, puts_into, puts_out}
 use Rattle.vs_design.specs.declared.design.Assign.{Assign}
 use Rattle.vs_independence.proofs.BlocksAt.{Blocked}
 use Rattle.std.specs.List.{Contains, list_any}
-use Rattle.vs_threads.proofs.Assigns.{DrivesWell}
-use Rattle.vs_threads.proofs.Bits.{by_bit}
-use Rattle.vs_threads.proofs.Held.{HasBlock, held, puts_covered}
+use Rattle.vs_process.proofs.ThreadAssigns.{DrivesWell}
+use Rattle.vs_process.proofs.Bits.{by_bit}
+use Rattle.vs_process.proofs.Held.{HasBlock, held, puts_covered}
 use Rattle.vs_independence.specs.Discipline.{IsOrdered}
 use Rattle.vs_process.proofs.ProcessLists.{none_from}
 use Rattle.vs_design.specs.vs_logic4.proofs.Basics.{element_of as any_at}
 use Rattle.std.proofs.lemmas.Bool.{cases_Bool, cases_eq, false_from_ne_true, true≢false}
-use Rattle.vs_threads.proofs.Lists.{contains_at}
+use Rattle.vs_process.proofs.ThreadLists.{contains_at}
 use Rattle.vs_process.proofs.Ranges.{covered_fixes, fixed_write, same_content}
-use Rattle.vs_threads.proofs.Fares.{covered_puts}
+use Rattle.vs_process.proofs.Fares.{covered_puts}
 use Rattle.vs_process.specs.vs_eval.specs.Laws.{digit_of}
-use Rattle.vs_threads.proofs.Feeds.{into_covered}
-use Rattle.vs_threads.proofs.ThreadsNamed.{named}
-use Rattle.vs_threads.proofs.Settle.{same_fixed}
+use Rattle.vs_process.proofs.Feeds.{into_covered}
+use Rattle.vs_process.proofs.ThreadsNamed.{named}
+use Rattle.vs_process.proofs.Settle.{same_fixed}
 use Rattle.vs_process.proofs.Values.{same_unchanged, target_value_unchanged}
 use Rattle.vs_process.specs.vs_eval.specs.Values.{target_value}
-use Rattle.vs_threads.specs.Feeds.{writes_into}
+use Rattle.vs_process.specs.Feeds.{writes_into}
 use Rattle.vs_process.proofs.Assigns.{drives}
 use Rattle.vs_process.proofs.Stores.{shape}
 

@@ -13,12 +13,12 @@ use Rattle.vs_process.specs.States.{State, AssignState, touched, evaluated, sett
 use Rattle.vs_process.proofs.ProcessLists.{map_cases, set_cases}
 use Rattle.vs_process.proofs.Stores.{put_other, shape, shape-put}
 use Rattle.vs_process.proofs.Assigns.{AssignsSound, assign_driven, assigned_other}
-use Rattle.vs_threads.specs.Edges.{shown, one_more, IsLink, Copies, itself, through, inverses, IsRoot}
-use Rattle.vs_threads.specs.Threads.{Thread, IsThread, writes}
-use Rattle.vs_threads.specs.Blocks.{IsSource}
-use Rattle.vs_threads.proofs.Assigns.{DrivesWell}
-use Rattle.vs_threads.proofs.Threads.{timed_of}
-use Rattle.vs_threads.proofs.Links.{shown_more, shown_none, one_root, copies_bit, root_undriven, link_driven, link_state, link_alone, link_unread, link_unchanged, link_pending, Chain}
+use Rattle.vs_process.specs.Edges.{shown, one_more, IsLink, Copies, itself, through, inverses, IsRoot}
+use Rattle.vs_process.specs.Threads.{Thread, IsThread, writes}
+use Rattle.vs_process.specs.BlockDrivers.{IsSource}
+use Rattle.vs_process.proofs.ThreadAssigns.{DrivesWell}
+use Rattle.vs_process.proofs.Threads.{timed_of}
+use Rattle.vs_process.proofs.ThreadLinks.{shown_more, shown_none, one_root, copies_bit, root_undriven, link_driven, link_state, link_alone, link_unread, link_unchanged, link_pending, Chain}
 use Rattle.vs_independence.proofs.Running.{Apart, AllThreads, Sources, Written, Edges}
 use Rattle.vs_independence.proofs.Fire.{Advances, Change}
 

@@ -1,8 +1,7 @@
 -- Within a slot, and how it ends: in one state.
-use Rattle.vs_threads.specs.Blocks.{starter, StartsMoved, StartsAs}
+use Rattle.vs_process.specs.BlockDrivers.{starter, StartsMoved, StartsAs, cold, sources, SameOutputs, outputs, home, IsSource, Roles, Start}
 use Rattle.vs_independence.proofs.Starters.{SameBit, level_bit, shows_same}
 use Rattle.vs_independence.proofs.Inner.{AllStarted}
-use Rattle.vs_threads.specs.Blocks.{cold, sources, SameOutputs, outputs, home}
 use Rattle.std.proofs.Common.{◌≡◌, ℕ, ◌⊎◌, Bool, true, false, ◌&&◌, ◌||◌, not, cond, Some, List, [], ◌∷◌, ◌++◌, map, length, get_or, slice_get, ltb, refl, sym, ◌∙◌, ap, ap₂, subst, inl, inr}
 use Rattle.std.specs.List.{list_any, list_all}
 use Rattle.std.proofs.lemmas.Bool.{and_parts, and_from, or_parts, not_from_false, true≢false, cases_Bool}
@@ -14,13 +13,13 @@ use Rattle.vs_process.specs.declared.moves.Move.TheVariants.{EndSlot}
 use Rattle.vs_process.specs.Places.{Place, ended, is_going}
 use Rattle.vs_process.specs.States.{State, Update, is_due, activated, start}
 use Rattle.vs_process.specs.Executions.{is_enabled, ends, next_time, slot_behind, places_at, time_at}
-use Rattle.vs_threads.specs.Threads.{Thread, writes, any_names, IsThread}
-use Rattle.vs_threads.proofs.Assigns.{DrivesWell}
-use Rattle.vs_threads.proofs.Links.{copies_settled}
+use Rattle.vs_process.specs.Threads.{Thread, writes, any_names, IsThread}
+use Rattle.vs_process.proofs.ThreadAssigns.{DrivesWell}
+use Rattle.vs_process.proofs.ThreadLinks.{copies_settled}
 use Rattle.vs_independence.proofs.Inputs.{Stopped, one_thread, stopped_alike}
-use Rattle.vs_threads.proofs.Stores.{names_some, by, left, put_active, put_active_local, put_active_by, by-left, by-activated, filter_hit}
-use Rattle.vs_threads.proofs.Settle.{AllIdle, idle_unique, assign_leaves}
-use Rattle.vs_threads.proofs.Calls.{of, SameCalls}
+use Rattle.vs_process.proofs.ThreadStores.{names_some, by, left, put_active, put_active_local, put_active_by, by-left, by-activated, filter_hit}
+use Rattle.vs_process.proofs.Settle.{AllIdle, idle_unique, assign_leaves}
+use Rattle.vs_process.proofs.Calls.{of, SameCalls}
 use Rattle.vs_independence.proofs.Making.{Making, is_settled, none_makes, none_activated, none_get}
 use Rattle.vs_independence.proofs.Times.{is_future, same_next}
 use Rattle.vs_independence.proofs.Running.{Apart, same_made}
@@ -29,14 +28,13 @@ use Rattle.vs_process.proofs.Assigns.{drives}
 use Rattle.vs_independence.proofs.FirstQuiet.{Anything, agree_back, covers_all}
 use Rattle.vs_design.specs.declared.range.BitRange.{BitRange}
 use Rattle.vs_independence.proofs.BlocksAt.{BlocksAt, text_at}
-use Rattle.vs_threads.proofs.Fares.{Fares, fresh, unfed, fed, woken, inside, Follows, agree_then}
+use Rattle.vs_process.proofs.Fares.{Fares, fresh, unfed, fed, woken, inside, Follows, agree_then}
 use Rattle.vs_independence.proofs.History.{History, alters, Seen, altered, altered_by, altered_local, altered_none}
-use Rattle.vs_threads.specs.Blocks.{IsSource, Roles, Start, sources}
 use Rattle.vs_independence.proofs.Owed.{Owed, owed_begins, Due}
-use Rattle.vs_threads.proofs.Texts.{Text}
+use Rattle.vs_process.proofs.Texts.{Text}
 use Rattle.vs_process.specs.Steps.{assignment}
 use Rattle.vs_independence.proofs.Compare.{Comparing, Hangs, compared}
-use Rattle.vs_threads.proofs.Held.{HasBlock, held}
+use Rattle.vs_process.proofs.Held.{HasBlock, held}
 use Rattle.vs_design.specs.Uses.{all_words, covers}
 use Rattle.vs_process.specs.vs_eval.specs.Laws.{digit_in, digit_of}
 use Rattle.vs_process.proofs.Digits.{same_stores}

@@ -11,19 +11,19 @@ use Rattle.vs_design.specs.Parts.{Parts}
 use Rattle.vs_design.specs.Stores.{Store, content, chosen_bits, chosen_words, is_driven, words_in, same_words, start_store}
 use Rattle.vs_process.specs.declared.gait.Gait.TheVariants.{Woken}
 use Rattle.vs_process.specs.Places.{Todo, Place, going, waiting, sleeping, inactive, ended, active_at}
-use Rattle.vs_process.specs.vs_edges.specs.Waking.{lowest_digit, is_edge_of, wakes_by, wakes, wake_any}
+use Rattle.vs_process.specs.vs_eval.specs.Waking.{lowest_digit, is_edge_of, wakes_by, wakes, wake_any}
 use Rattle.vs_process.specs.States.{State, wakened, triggered}
 use Rattle.vs_process.proofs.ProcessLists.{none_at}
 use Rattle.vs_design.specs.vs_logic4.proofs.Basics.{element_of as any_at}
 use Rattle.vs_process.proofs.Stores.{shape}
 use Rattle.vs_design.proofs.Stores.{slice_get-changed_at as changed_same}
 use Rattle.vs_process.proofs.Values.{not_changed}
-use Rattle.vs_threads.specs.Edges.{one_bit, shown, Copies, itself, through, inverses, IsHeard, IsRoot}
-use Rattle.vs_threads.specs.Blocks.{IsSource}
-use Rattle.vs_threads.specs.Threads.{Thread, Fired, found, given, opening, is_timed, IsTimed, Fires, Awaits, MayOpen, IsThread, writes}
-use Rattle.vs_threads.proofs.Lists.{contains_at, place_of}
-use Rattle.vs_threads.proofs.Threads.{timed_of, unmoved, thread_opens}
-use Rattle.vs_threads.proofs.Links.{copies_bit, bit_in, link_driven, same_some, shown_none}
+use Rattle.vs_process.specs.Edges.{one_bit, shown, Copies, itself, through, inverses, IsHeard, IsRoot}
+use Rattle.vs_process.specs.BlockDrivers.{IsSource}
+use Rattle.vs_process.specs.Threads.{Thread, Fired, found, given, opening, is_timed, IsTimed, Fires, Awaits, MayOpen, IsThread, writes}
+use Rattle.vs_process.proofs.ThreadLists.{contains_at, place_of}
+use Rattle.vs_process.proofs.Threads.{timed_of, unmoved, thread_opens}
+use Rattle.vs_process.proofs.ThreadLinks.{copies_bit, bit_in, link_driven, same_some, shown_none}
 use Rattle.vs_independence.proofs.Running.{Apart, Stands, given_value}
 
 -- ---- waking

@@ -5,30 +5,30 @@ use Rattle.vs_design.specs.Stores.{Store, put, start_store, is_driven, word_in}
 use Rattle.vs_design.specs.Uses as uses
 use Rattle.vs_design.specs.Uses.{covers, reads, is_of, writes_signal, all_words}
 use Rattle.vs_design.specs.declared.range.BitRange.{BitRange}
-use Rattle.vs_threads.specs.Bits.{HasBit}
-use Rattle.vs_threads.specs.Blocks.{starter, Start, cold, sources, StartsAs, StartsCold, IsSettledStart, AgreeOn, IsSource, Roles, SameOutputs, outputs, puts_out, control, home, puts_into}
+use Rattle.vs_process.specs.Bits.{HasBit}
+use Rattle.vs_process.specs.BlockDrivers.{starter, Start, cold, sources, StartsAs, StartsCold, IsSettledStart, AgreeOn, IsSource, Roles, SameOutputs, outputs, puts_out, control, home, puts_into}
 use Rattle.vs_independence.specs.Discipline.{Leads, stays, goes_through, goes_past, past, Reaches, here, through, IsOrdered}
-use Rattle.vs_threads.proofs.Settle.{AllIdle, assign_leaves}
+use Rattle.vs_process.proofs.Settle.{AllIdle, assign_leaves}
 use Rattle.vs_design.specs.declared.design.Assign.{Assign}
 use Rattle.vs_process.specs.States.{AssignState, State}
 use Rattle.vs_process.proofs.Assigns.{AssignsSound, drives, nothing_changed}
 use Rattle.vs_independence.proofs.BlocksAt.{Blocked, BlocksAt, text_at}
 use Rattle.vs_independence.proofs.Compare.{Comparing, Hangs, compared, compared_inputs}
 use Rattle.std.specs.List.{Contains, list_any}
-use Rattle.vs_threads.proofs.Assigns.{DrivesWell}
-use Rattle.vs_threads.proofs.Fares.{Fares, Follows, agree_then, covered_puts, or_last, or_none, or_some, fed, fresh, unfed, woken, inside}
+use Rattle.vs_process.proofs.ThreadAssigns.{DrivesWell}
+use Rattle.vs_process.proofs.Fares.{Fares, Follows, agree_then, covered_puts, or_last, or_none, or_some, fed, fresh, unfed, woken, inside}
 use Rattle.vs_process.specs.declared.gait.Gait.TheVariants.{Fresh, Inside, Woken}
 use Rattle.vs_process.specs.declared.gait.Gait.{Gait}
-use Rattle.vs_threads.proofs.Held.{HasBlock, held}
+use Rattle.vs_process.proofs.Held.{HasBlock, held}
 use Rattle.vs_process.specs.Places.{Place, Todo, is_going, ended, going}
 use Rattle.vs_independence.proofs.Running.{Sources}
-use Rattle.vs_threads.specs.Threads.{Thread, writes}
+use Rattle.vs_process.specs.Threads.{Thread, writes}
 use Rattle.std.proofs.lemmas.Bool.{and_from, false_from_ne_true, true≢false}
 use Rattle.std.proofs.lemmas.Map.Keys.{any_passes_from_place as at_any}
 use Rattle.vs_design.specs.vs_logic4.proofs.Basics.{element_of as any_at}
 use Rattle.vs_process.proofs.Ranges.{assigned_fixed, covered_signal, covers_signal, fixed_write}
 use Rattle.vs_process.specs.Steps.{assignment}
-use Rattle.vs_threads.proofs.Lists.{contains_at}
+use Rattle.vs_process.proofs.ThreadLists.{contains_at}
 use Rattle.vs_process.specs.vs_eval.specs.Laws.{digit_in, digit_of}
 use Rattle.vs_process.proofs.Digits.{same_stores}
 use Rattle.vs_process.proofs.Values.{same_unchanged, unchanged}

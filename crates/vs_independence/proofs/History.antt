@@ -5,15 +5,15 @@ use Rattle.vs_design.specs.Stores.{Store, put, is_changed, chosen_bits, chosen_w
 use Rattle.vs_design.specs.declared.range.BitRange.{BitRange}
 use Rattle.vs_process.specs.Places.{Place, going, sleeping, inactive, waiting, ended}
 use Rattle.vs_process.specs.Steps.{step}
-use Rattle.vs_threads.specs.Blocks.{sources, Roles, puts_out, control}
+use Rattle.vs_process.specs.BlockDrivers.{sources, Roles, puts_out, control}
 use Rattle.std.specs.List.{Contains, list_any}
-use Rattle.vs_threads.specs.Threads.{IsThread, IsFiredBy, Fired, Thread, iterate, log_behind, opening, store_behind, turn_at, turn}
+use Rattle.vs_process.specs.Threads.{IsThread, IsFiredBy, Fired, Thread, iterate, log_behind, opening, store_behind, turn_at, turn}
 use Rattle.vs_process.specs.States.{State, Update, without}
 use Rattle.vs_design.specs.Writes.{Write, shares, names}
 use Rattle.std.proofs.lemmas.Bool.{cases_Bool, or_parts, true_from_ne_false, true≢false}
 use Rattle.vs_process.proofs.Values.{not_changed}
 use Rattle.vs_process.proofs.Stores.{put_local, put_other}
-use Rattle.vs_threads.proofs.Stores.{put_swap, by}
+use Rattle.vs_process.proofs.ThreadStores.{put_swap, by}
 use Rattle.vs_independence.proofs.Making.{unshared}
 use Rattle.vs_independence.proofs.Running.{other_opened}
 

@@ -1,5 +1,5 @@
 -- Each move within a slot keeps what holds there of processes, assignments and blocks.
-use Rattle.vs_threads.specs.Blocks.{starter, StartsMoved}
+use Rattle.vs_process.specs.BlockDrivers.{starter, StartsMoved, cold, sources, Roles, StartsAs, IsSource, control, puts_out}
 use Rattle.vs_independence.proofs.Starters.{Level, Shown, SameBit, level_behind, source_shown, block_shown, bit_behind, goes_ran}
 use Rattle.vs_independence.proofs.FirstQuiet.{Unstarted}
 use Rattle.vs_independence.proofs.Moves.{log_names}
@@ -13,29 +13,28 @@ use Rattle.vs_process.specs.States.{State, start, performed, activated}
 use Rattle.vs_process.specs.declared.gait.Gait.{Gait}
 use Rattle.vs_process.specs.Places.{active_at, flat, start_place, Todo, Place, going, ended, is_going, is_inside, todo_of}
 use Rattle.vs_process.specs.Steps.{Out, step, goes}
-use Rattle.vs_threads.specs.Threads.{Thread, found, is_timed, IsThread, IsEarly, early_turn, turn, writes}
-use Rattle.vs_threads.specs.Blocks.{cold, sources, Roles, StartsAs, IsSource, control, puts_out}
+use Rattle.vs_process.specs.Threads.{Thread, found, is_timed, IsThread, IsEarly, early_turn, turn, writes}
 use Rattle.vs_independence.specs.Discipline.{Reaches, IsOrdered}
 use Rattle.vs_independence.proofs.Running.{Apart, Running}
-use Rattle.vs_threads.proofs.BlockRuns.{BlockStep}
+use Rattle.vs_process.proofs.BlockRuns.{BlockStep}
 use Rattle.vs_independence.proofs.BlocksAt.{Blocked, BlocksAt, IsFree, NoneInside, block_made, blocks_own, blocks_stepped, performed_own, performed_place, place_after, text_at, woken_more}
 use Rattle.std.specs.List.{Contains, list_any}
-use Rattle.vs_threads.proofs.Assigns.{DrivesWell}
+use Rattle.vs_process.proofs.ThreadAssigns.{DrivesWell}
 use Rattle.vs_independence.proofs.FirstQuiet.{FirstWrites}
 use Rattle.vs_independence.proofs.History.{History, history_still}
 use Rattle.vs_independence.proofs.Making.{Making, block_makes, stopped_at, GoesOn}
 use Rattle.vs_independence.proofs.Owed.{Owed, StartSources, owed_still}
 use Rattle.vs_independence.proofs.ThreadSteps.{ThreadStep, thread_step}
 use Rattle.vs_design.specs.Writes.{Write, names}
-use Rattle.vs_threads.proofs.Lists.{at_each, at}
+use Rattle.vs_process.proofs.ThreadLists.{at_each, at}
 use Rattle.vs_independence.proofs.Awake.{awake_own, awake_ran, history_like, history_written, quiet_written}
 use Rattle.vs_independence.proofs.BlockSteps.{block_runs, lies_free, lies_other, source_behind, updates_same}
 use Rattle.std.proofs.lemmas.Bool.{cond_both, cases_eq, or_cases, true≢false, false_from_ne_true}
 use Rattle.std.proofs.lemmas.Option.{get_or_from_slice_get}
-use Rattle.vs_threads.proofs.ThreadsNamed.{named}
-use Rattle.vs_threads.proofs.Fares.{or_some, is_awake, Fares}
+use Rattle.vs_process.proofs.ThreadsNamed.{named}
+use Rattle.vs_process.proofs.Fares.{or_some, is_awake, Fares}
 use Rattle.vs_independence.proofs.Moves.{RunsOn, runs_as, performed_is, source_free, step_runs}
-use Rattle.vs_threads.proofs.Threads.{not_going}
+use Rattle.vs_process.proofs.Threads.{not_going}
 use Rattle.vs_process.specs.vs_eval.specs.Laws.{digit_of}
 
 -- what the proof takes of drivers

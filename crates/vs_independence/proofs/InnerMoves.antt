@@ -1,8 +1,7 @@
 -- The moves within a slot keep what holds there.
-use Rattle.vs_threads.specs.Blocks.{starter}
+use Rattle.vs_process.specs.BlockDrivers.{starter, cold, sources, IsSource, Roles, Start}
 use Rattle.vs_independence.proofs.Starters.{Stops, level_evaluated, level_written, level_settled, propagated_shown, bit_written, level_bit}
 use Rattle.vs_independence.proofs.Inner.{AllStarted}
-use Rattle.vs_threads.specs.Blocks.{cold, sources}
 use Rattle.std.proofs.Common.{◌≡◌, ℕ, ◌==◌, ◌<◌, ◌⊎◌, Bool, true, false, ◌&&◌, ◌||◌, not, Option, Some, None, is_some, List, [], ◌∷◌, map, get_or, slice_get, ltb, leb, ltb-true, eqb-true, arith, refl, sym, ◌∙◌, ap, subst, inl, inr, take, slice_set}
 use Rattle.std.specs.List.{list_any}
 use Rattle.std.proofs.lemmas.Bool.{and_parts, or_parts, or_cases, not-true, not_from_true, true≢false, false≢true, cases_Bool, false_from_ne_true, or_left, or_right}
@@ -17,10 +16,10 @@ use Rattle.vs_process.specs.Executions.{is_first, is_busy, has_inactive, has_due
 use Rattle.vs_process.proofs.ProcessLists.{none_at}
 use Rattle.std.proofs.lemmas.Map.Keys.{any_passes_from_place as at_any}
 use Rattle.vs_design.specs.vs_logic4.proofs.Basics.{element_of as any_at}
-use Rattle.vs_threads.specs.Threads.{Thread, IsThread}
-use Rattle.vs_threads.proofs.Stores.{names_some}
-use Rattle.vs_threads.proofs.Threads.{not_inactive, rouse_thread, is_stopped, not_going}
-use Rattle.vs_threads.proofs.Settle.{AllIdle}
+use Rattle.vs_process.specs.Threads.{Thread, IsThread}
+use Rattle.vs_process.proofs.ThreadStores.{names_some}
+use Rattle.vs_process.proofs.Threads.{not_inactive, rouse_thread, is_stopped, not_going}
+use Rattle.vs_process.proofs.Settle.{AllIdle}
 use Rattle.vs_independence.proofs.Making.{Making, is_settled, activate_makes, make_makes, evaluate_makes, propagate_makes, stopped_at, GoesFrom, GoesOn, none_get}
 use Rattle.vs_independence.proofs.Running.{Apart, is_waiting}
 use Rattle.vs_independence.proofs.Inner.{AllCold, Before, Behind, FirstEra, LateEra, Moment, Setting, block_moment, down_still, down_written, first_writes, late_more, more_up, only_sources, phase_kept, thread_moment}
@@ -28,12 +27,11 @@ use Rattle.vs_process.proofs.Assigns.{AssignsSound}
 use Rattle.vs_independence.proofs.FirstQuiet.{AtFirst, first_quiet, is_cold}
 use Rattle.vs_design.specs.declared.range.BitRange.{BitRange}
 use Rattle.vs_independence.proofs.BlocksAt.{BlocksAt, IsFree, NoneInside, blocks_behind, blocks_mapped, blocks_still, mapped_place, text_at, woken_more}
-use Rattle.vs_threads.proofs.Fares.{Fares, is_awake, or_last, or_some, fresh, unfed, fed, woken, inside}
+use Rattle.vs_process.proofs.Fares.{Fares, is_awake, or_last, or_some, fresh, unfed, fed, woken, inside}
 use Rattle.vs_process.specs.declared.gait.Gait.{Gait}
 use Rattle.vs_independence.proofs.History.{History, alters, change_named, history_still, put_log}
-use Rattle.vs_threads.specs.Blocks.{IsSource, Roles, Start, sources}
 use Rattle.vs_independence.proofs.Owed.{Owed, owed_begins, owed_like, owed_made, owed_still}
-use Rattle.vs_threads.proofs.Texts.{Text}
+use Rattle.vs_process.proofs.Texts.{Text}
 use Rattle.vs_design.specs.Writes.{Write, shares, names}
 use Rattle.vs_process.specs.vs_eval.specs.Targets.{assigned}
 use Rattle.vs_independence.proofs.Moves.{runs_as, evaluate_runs, propagate_runs, propagated_named, propagated_undriven, rouse_runs, source_free}

@@ -6,10 +6,10 @@ use Rattle.vs_design.specs.Parts.{Parts}
 use Rattle.vs_design.specs.Stores.{Store}
 use Rattle.vs_process.specs.Places.{Place}
 use Rattle.vs_process.specs.States.{State}
-use Rattle.vs_threads.specs.Edges.{shown, Copies, inverses, IsHeard, IsRoot}
-use Rattle.vs_threads.specs.Threads.{Thread, iterate, turn, Fired, found, given, opening, is_timed, IsTimed, Fires, Awaits, MayOpen, IsThread, writes}
-use Rattle.vs_threads.proofs.Threads.{is_stopped, stopped_unique, timed_of, timed_wrote, thread_opens}
-use Rattle.vs_threads.proofs.Links.{same_some}
+use Rattle.vs_process.specs.Edges.{shown, Copies, inverses, IsHeard, IsRoot}
+use Rattle.vs_process.specs.Threads.{Thread, iterate, turn, Fired, found, given, opening, is_timed, IsTimed, Fires, Awaits, MayOpen, IsThread, writes}
+use Rattle.vs_process.proofs.Threads.{is_stopped, stopped_unique, timed_of, timed_wrote, thread_opens}
+use Rattle.vs_process.proofs.ThreadLinks.{same_some}
 use Rattle.vs_independence.proofs.Running.{Apart, AllStand, given_value}
 use Rattle.vs_independence.proofs.Fire.{wakes_alike}
 

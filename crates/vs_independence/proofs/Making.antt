@@ -21,27 +21,27 @@ use Rattle.vs_design.specs.vs_logic4.proofs.Basics.{element_of as any_at}
 use Rattle.vs_process.proofs.Stores.{put_other}
 use Rattle.vs_process.proofs.Assigns.{assigned_other, AssignsSound, sound_written, sound_evaluated, sound_propagated, IsUndriven, sound_behind}
 use Rattle.vs_process.proofs.WellFormed.{any_activated}
-use Rattle.vs_threads.specs.Edges.{IsLink, itself, through, IsRoot}
-use Rattle.vs_threads.specs.Threads.{Thread, any_names, store_behind}
-use Rattle.vs_threads.proofs.Stores.{put_swap, names_some, put_active, put_active_local, by, left, filter_miss}
-use Rattle.vs_threads.proofs.Threads.{is_stopped, stopped_from}
-use Rattle.vs_threads.proofs.Assigns.{DrivesWell, assigns_behind, places_behind}
-use Rattle.vs_threads.proofs.Lists.{filter_none}
+use Rattle.vs_process.specs.Edges.{IsLink, itself, through, IsRoot}
+use Rattle.vs_process.specs.Threads.{Thread, any_names, store_behind}
+use Rattle.vs_process.proofs.ThreadStores.{put_swap, names_some, put_active, put_active_local, by, left, filter_miss}
+use Rattle.vs_process.proofs.Threads.{is_stopped, stopped_from}
+use Rattle.vs_process.proofs.ThreadAssigns.{DrivesWell, assigns_behind, places_behind}
+use Rattle.vs_process.proofs.ThreadLists.{filter_none}
 use Rattle.vs_design.specs.vs_logic4.proofs.Basics.{filter_some}
-use Rattle.vs_threads.proofs.Settle.{AllIdle}
-use Rattle.vs_threads.proofs.Links.{Chain, link_driven, link_state, link_alone, link_unread}
+use Rattle.vs_process.proofs.Settle.{AllIdle}
+use Rattle.vs_process.proofs.ThreadLinks.{Chain, link_driven, link_state, link_alone, link_unread}
 use Rattle.vs_independence.proofs.Still.{SameEdges, asleep}
-use Rattle.vs_threads.proofs.Events.{block_nowhere}
+use Rattle.vs_process.proofs.Events.{block_nowhere}
 use Rattle.vs_independence.proofs.Running.{WithinSlot, Apart, AllThreads, threads_of, is_waiting, Mades, Running}
 use Rattle.vs_independence.proofs.Moves.{propagated_undriven, OutputsUndriven, behind_sound, length_behind, performed_is, performed_at}
-use Rattle.vs_threads.proofs.BlockRuns.{BlockStep}
-use Rattle.vs_threads.specs.Blocks.{IsSource, outputs, puts_out}
-use Rattle.vs_threads.specs.Laws.{LiesIn}
+use Rattle.vs_process.proofs.BlockRuns.{BlockStep}
+use Rattle.vs_process.specs.BlockDrivers.{IsSource, outputs, puts_out}
+use Rattle.vs_process.specs.ThreadLaws.{LiesIn}
 use Rattle.vs_process.specs.Steps.{Out}
 use Rattle.vs_independence.proofs.BlockSteps.{calls_same, lies_edges, source_behind, updates_same}
 use Rattle.vs_design.specs.vs_logic4.proofs.Basics.{or_false}
 use Rattle.std.proofs.lemmas.List.{length-map, length-set, get_or-set_other}
-use Rattle.vs_threads.proofs.ThreadsNamed.{named}
+use Rattle.vs_process.proofs.ThreadsNamed.{named}
 
 -- an update that is activated, or is due later
 abbrev pub is_settled : ℕ → Update → Bool

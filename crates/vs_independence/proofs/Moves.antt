@@ -17,16 +17,16 @@ use Rattle.vs_process.specs.Steps.{Out, step}
 use Rattle.vs_process.specs.States.{State, AssignState, Update, Called, touched, wakened, place_behind, performed, written_behind, calls_behind, updates_behind, evaluate, propagate_value, settled, roused}
 use Rattle.vs_process.proofs.ProcessLists.{set_cases}
 use Rattle.vs_process.proofs.WellFormed.{is_sound_place, is_sound_todo}
-use Rattle.vs_threads.specs.Edges.{IsLink}
+use Rattle.vs_process.specs.Edges.{IsLink}
 use Rattle.vs_process.proofs.Assigns.{AssignsSound, IsUndriven, assign_driven, sound_behind, sound_evaluated, sound_propagated, assign_fixed}
-use Rattle.vs_threads.specs.Reads.{mute}
-use Rattle.vs_threads.specs.Threads.{store_behind, Thread, Fired, is_timed, MayOpen, IsThread, found, log_behind, moved, turn_at, turn, writes, any_names, place_reads, todo_reads}
-use Rattle.vs_threads.proofs.Lists.{at, at_same, at_each, at_some, at_both}
-use Rattle.vs_threads.proofs.Stores.{by}
-use Rattle.vs_threads.proofs.StepReads.{step_reads, IsPlain, step_plain}
-use Rattle.vs_threads.proofs.Threads.{rouse_thread, thread_rouses, unmoved}
-use Rattle.vs_threads.proofs.Links.{same_some, link_state}
-use Rattle.vs_threads.proofs.Assigns.{DrivesWell, assigns_behind, behind_is, places_behind}
+use Rattle.vs_process.specs.Reads.{mute}
+use Rattle.vs_process.specs.Threads.{store_behind, Thread, Fired, is_timed, MayOpen, IsThread, found, log_behind, moved, turn_at, turn, writes, any_names, place_reads, todo_reads}
+use Rattle.vs_process.proofs.ThreadLists.{at, at_same, at_each, at_some, at_both}
+use Rattle.vs_process.proofs.ThreadStores.{by}
+use Rattle.vs_process.proofs.StepReads.{step_reads, IsPlain, step_plain}
+use Rattle.vs_process.proofs.Threads.{rouse_thread, thread_rouses, unmoved}
+use Rattle.vs_process.proofs.ThreadLinks.{same_some, link_state}
+use Rattle.vs_process.proofs.ThreadAssigns.{DrivesWell, assigns_behind, behind_is, places_behind}
 use Rattle.vs_independence.proofs.Running.{Apart, AllThreads, Stands, threads_of, Sources, Mades, Finishes, Asks, Written, Running, reads_agree, Rests, BlockBare, Stirred, IsCalm, IsStirred}
 use Rattle.vs_independence.proofs.Fire.{Change, After, IsFiredNow, after_at, fired_kept}
 use Rattle.vs_independence.proofs.Edges.{Advancing, write_advances, propagate_advances, change_of, edges_touched, edges_grow, edges_settled, edges_evaluated}
@@ -34,12 +34,12 @@ use Rattle.vs_independence.proofs.Steps.{at_this, sources_step, mades_step, asks
 use Rattle.vs_independence.proofs.Nets.{all_stirred_more, nets_behind, nets_evaluated, nets_propagated, awake_more, stirred_written, rests_written}
 use Rattle.vs_process.proofs.Ranges.{assigned_names, fixed_write, assigned_fixed}
 use Rattle.vs_process.proofs.Stores.{put_other}
-use Rattle.vs_threads.specs.Blocks.{IsSource, puts_out}
-use Rattle.vs_threads.proofs.Texts.{Text}
+use Rattle.vs_process.specs.BlockDrivers.{IsSource, puts_out}
+use Rattle.vs_process.proofs.Texts.{Text}
 use Rattle.vs_design.specs.declared.range.BitRange.{BitRange}
 use Rattle.vs_process.specs.vs_eval.specs.Laws.{digit_in}
-use Rattle.vs_threads.specs.Feeds.{writes_into}
-use Rattle.vs_threads.proofs.Feeds.{changed_into}
+use Rattle.vs_process.specs.Feeds.{writes_into}
+use Rattle.vs_process.proofs.Feeds.{changed_into}
 
 -- threads with which a state of the slot runs, behind a move: those of processes that wait for no event where the slot begins are as given
 pub record RunsOn (d : Parts) (blocks : ℕ → Bool) (b s : State) (mid : ℕ → Thread) : Type 0 where

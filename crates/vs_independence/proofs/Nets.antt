@@ -21,16 +21,16 @@ use Rattle.vs_process.proofs.Ranges.{assigned_fixed, covered_signal, fixed_write
 use Rattle.vs_process.proofs.Stores.{put_other}
 use Rattle.vs_process.proofs.Values.{not_changed}
 use Rattle.vs_process.proofs.Assigns.{AssignsSound, link_of, assign_driven, assign_fixed, IsUndriven, misses, apart_targets}
-use Rattle.vs_threads.specs.Feeds.{writes_into}
-use Rattle.vs_threads.specs.Threads.{store_behind, Thread, writes}
+use Rattle.vs_process.specs.Feeds.{writes_into}
+use Rattle.vs_process.specs.Threads.{store_behind, Thread, writes}
 use Rattle.vs_independence.specs.Discipline.{here, through, past}
-use Rattle.vs_threads.proofs.Assigns.{DrivesWell, assigns_behind}
-use Rattle.vs_threads.proofs.Feeds.{changed_into}
-use Rattle.vs_threads.proofs.Lists.{contains_at}
+use Rattle.vs_process.proofs.ThreadAssigns.{DrivesWell, assigns_behind}
+use Rattle.vs_process.proofs.Feeds.{changed_into}
+use Rattle.vs_process.proofs.ThreadLists.{contains_at}
 use Rattle.vs_independence.proofs.Running.{Stirred, IsCalm, IsStirred, Nets, by_write, by_start, IsAwake, Rests, by_rest, IsRested}
-use Rattle.vs_threads.specs.Blocks.{control, puts_into, puts_out}
+use Rattle.vs_process.specs.BlockDrivers.{control, puts_into, puts_out}
 use Rattle.vs_process.specs.Places.{Place, ended}
-use Rattle.vs_threads.proofs.Texts.{Text, home_stays}
+use Rattle.vs_process.proofs.Texts.{Text, home_stays}
 use Rattle.std.proofs.Math.ListN.{get_or-map}
 
 -- more that threads have written stirs more

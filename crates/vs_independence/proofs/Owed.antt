@@ -4,14 +4,14 @@ use Rattle.vs_design.specs.Parts.{Parts}
 use Rattle.vs_design.specs.Stores.{Store, put, is_changed}
 use Rattle.vs_design.specs.declared.range.BitRange.{BitRange}
 use Rattle.vs_process.specs.States.{Update, without, wakened}
-use Rattle.vs_threads.specs.Blocks.{sources, Roles, NamesSources, IsSource, puts_out, control}
+use Rattle.vs_process.specs.BlockDrivers.{sources, Roles, NamesSources, IsSource, puts_out, control}
 use Rattle.vs_independence.proofs.BlocksAt.{Blocked, BlocksAt, IsFree, text_at}
 use Rattle.std.specs.List.{Contains, list_any}
 use Rattle.vs_process.specs.Places.{Place, ended}
 use Rattle.vs_independence.proofs.History.{altered, altered_first, altered_local, change_named}
 use Rattle.vs_independence.proofs.Awake.{awake_written, changed_awake}
 use Rattle.std.proofs.lemmas.Bool.{cases_Bool, or_cases, or_left, or_right, true≢false}
-use Rattle.vs_threads.proofs.Fares.{is_awake, or_some}
+use Rattle.vs_process.proofs.Fares.{is_awake, or_some}
 use Rattle.vs_design.specs.Writes.{shares}
 
 -- an activated update changes what the control of a block names

@@ -11,7 +11,7 @@ use Rattle.vs_design.specs.Stores.{Store, chosen_bits, chosen_words, is_changed,
 use Rattle.vs_design.specs.Uses.{covers, writes_signal}
 use Rattle.vs_design.specs.Uses as uses
 use Rattle.vs_process.specs.vs_eval.specs.Laws.{digit_of, digit_in}
-use Rattle.vs_process.specs.vs_edges.specs.Waking.{wakes}
+use Rattle.vs_process.specs.vs_eval.specs.Waking.{wakes}
 use Rattle.vs_process.specs.Places.{Todo, Place, waiting, ended, is_going}
 use Rattle.vs_process.specs.States.{State, AssignState, Update, Called}
 use Rattle.vs_process.proofs.ProcessLists.{none_from}
@@ -22,20 +22,20 @@ use Rattle.vs_process.proofs.Ranges.{same_content}
 use Rattle.vs_process.proofs.Stores.{changed_other}
 use Rattle.vs_design.proofs.Stores.{slice_get-changed_at as changed_same}
 use Rattle.vs_process.proofs.WellFormed.{is_sound_place}
-use Rattle.vs_threads.specs.Feeds.{writes_into}
-use Rattle.vs_threads.proofs.Bits.{by_bit}
-use Rattle.vs_threads.proofs.Feeds.{into_covered}
-use Rattle.vs_threads.specs.Edges.{shown, one_more, Copies, inverses, IsHeard, IsRoot}
-use Rattle.vs_threads.specs.Threads.{Thread, Fired, found, given, opening, MayOpen, IsThread, IsFiredBy, writes, any_names, place_reads}
+use Rattle.vs_process.specs.Feeds.{writes_into}
+use Rattle.vs_process.proofs.Bits.{by_bit}
+use Rattle.vs_process.proofs.Feeds.{into_covered}
+use Rattle.vs_process.specs.Edges.{shown, one_more, Copies, inverses, IsHeard, IsRoot}
+use Rattle.vs_process.specs.Threads.{Thread, Fired, found, given, opening, MayOpen, IsThread, IsFiredBy, writes, any_names, place_reads}
 use Rattle.vs_independence.specs.Discipline.{Reaches, here, KeepsApart}
 use Rattle.vs_independence.specs.Displays.{IsSteady}
-use Rattle.vs_threads.proofs.Calls.{of}
-use Rattle.vs_threads.proofs.Lists.{contains_at, filter_none}
-use Rattle.vs_threads.proofs.Stores.{by, names_some}
-use Rattle.vs_threads.proofs.Threads.{unwritten}
-use Rattle.vs_threads.proofs.Links.{copies_bit, bit_in, Chain}
-use Rattle.vs_threads.specs.Blocks.{puts_out, home, puts_into, IsSource, outputs}
-use Rattle.vs_threads.proofs.Held.{puts_covered, HasBlock, held}
+use Rattle.vs_process.proofs.Calls.{of}
+use Rattle.vs_process.proofs.ThreadLists.{contains_at, filter_none}
+use Rattle.vs_process.proofs.ThreadStores.{by, names_some}
+use Rattle.vs_process.proofs.Threads.{unwritten}
+use Rattle.vs_process.proofs.ThreadLinks.{copies_bit, bit_in, Chain}
+use Rattle.vs_process.specs.BlockDrivers.{puts_out, home, puts_into, IsSource, outputs}
+use Rattle.vs_process.proofs.Held.{puts_covered, HasBlock, held}
 
 -- bits of what blocks write that no block covers are as at the start
 abbrev pub BlockBare : Parts → (ℕ → Bool) → Store → Type 0

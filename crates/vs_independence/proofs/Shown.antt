@@ -10,8 +10,8 @@ use Rattle.vs_process.specs.declared.moves.Move.TheVariants.{Step, Evaluate, Pro
 use Rattle.vs_process.specs.States.{State, start}
 use Rattle.vs_process.specs.Executions.{allowed, apply, after, Legal, slot_behind}
 use Rattle.vs_process.proofs.Times.{enabled_of}
-use Rattle.vs_threads.specs.Threads.{opening}
-use Rattle.vs_threads.proofs.Assigns.{DrivesWell}
+use Rattle.vs_process.specs.Threads.{opening}
+use Rattle.vs_process.proofs.ThreadAssigns.{DrivesWell}
 use Rattle.vs_independence.specs.Discipline.{BeginsSlot}
 use Rattle.vs_independence.specs.Displays.{DisciplineMakesDisplaysAlike, DisplaySlot, SameDisplays, SameDisplaySlot, ShowsApart, display_slots, displayed, displays, ended_display, is_display_by, lines_of_process, lines_so_far}
 use Rattle.vs_independence.proofs.Running.{Apart}

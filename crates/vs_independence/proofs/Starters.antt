@@ -1,41 +1,38 @@
 -- Blocks that an update of the first slot wakes: what they are shown stays until the updates are activated.
-use Rattle.vs_threads.proofs.Fares.{fresh, unfed, fed, woken, inside}
-use Rattle.vs_process.specs.Places.{Todo, going, waiting, is_going, is_inactive}
+use Rattle.vs_process.proofs.Fares.{fresh, unfed, fed, woken, inside, Fares, is_awake}
+use Rattle.vs_process.specs.Places.{Todo, going, waiting, is_going, is_inactive, Place}
 use Rattle.vs_process.specs.declared.gait.Gait.{Gait}
 use Rattle.std.proofs.Common.{◌≡◌, ℕ, ◌||◌, ◌⊎◌, Bool, true, false, Option, Some, None, List, map, slice_get, slice_set, refl, sym, ◌∙◌, ap, subst, inl, inr, if◌then◌else◌}
 use Rattle.vs_design.specs.Parts.{Parts}
 use Rattle.vs_design.specs.Stores.{Store, put, start_store, is_changed, is_driven, changes_nothing, word_in}
-use Rattle.vs_threads.specs.Blocks.{starter, Roles, IsCopy, Shows, itself, copied, StartsMoved, IsSource, outputs, puts_out, sizes, control, SameShown}
+use Rattle.vs_process.specs.BlockDrivers.{starter, Roles, IsCopy, Shows, itself, copied, StartsMoved, IsSource, outputs, puts_out, sizes, control, SameShown}
 use Rattle.vs_design.specs.declared.design.Assign.{Assign}
-use Rattle.vs_process.specs.States.{AssignState, evaluated, start_assign, touched, wakened, settled}
+use Rattle.vs_process.specs.States.{AssignState, evaluated, start_assign, touched, wakened, settled, start}
 use Rattle.vs_process.proofs.Assigns.{driven, left_unchanged, AssignsSound, assign_driven, link_of}
 use Rattle.vs_design.specs.declared.range.BitRange.{BitRange}
 use Rattle.vs_design.specs.vs_logic4.specs.declared.digit.Digit.{Digit}
-use Rattle.vs_threads.proofs.Fares.{Fares, is_awake}
-use Rattle.vs_threads.specs.Laws.{LiesIn}
+use Rattle.vs_process.specs.ThreadLaws.{LiesIn}
 use Rattle.vs_independence.proofs.Moves.{OutputsUndriven}
-use Rattle.vs_process.specs.Places.{Place}
 use Rattle.vs_design.specs.declared.statement.Target.{Target}
-use Rattle.vs_threads.proofs.Texts.{Text}
+use Rattle.vs_process.proofs.Texts.{Text}
 use Rattle.vs_design.specs.Writes.{Write, names}
 use Rattle.vs_process.proofs.ProcessLists.{map_cases, none_at, set_cases}
 use Rattle.vs_design.specs.vs_logic4.proofs.Basics.{element_of as any_at, same_lists as same_gets}
 use Rattle.vs_process.specs.vs_eval.specs.Targets.{assigned}
 use Rattle.vs_process.proofs.Ranges.{assigned_names}
 use Rattle.vs_process.specs.Steps.{assignment}
-use Rattle.vs_threads.proofs.Assigns.{assigns_behind}
+use Rattle.vs_process.proofs.ThreadAssigns.{assigns_behind}
 use Rattle.std.proofs.lemmas.Bool.{cases_Bool, false_from_ne_true, true≢false}
 use Rattle.vs_independence.proofs.Awake.{changed_awake}
-use Rattle.vs_threads.proofs.Lists.{contains_at}
+use Rattle.vs_process.proofs.ThreadLists.{contains_at}
 use Rattle.vs_design.specs.Uses.{covers, writes_signal}
 use Rattle.vs_process.specs.vs_eval.specs.Laws.{digit_in}
 use Rattle.std.specs.List.{list_any}
 use Rattle.vs_process.proofs.Stores.{put_other}
 use Rattle.std.proofs.lemmas.Option.{same_Some}
-use Rattle.vs_threads.specs.Threads.{Thread, IsThread, store_behind}
-use Rattle.vs_process.specs.States.{start}
+use Rattle.vs_process.specs.Threads.{Thread, IsThread, store_behind}
 use Rattle.vs_process.specs.vs_eval.specs.Values.{target_value}
-use Rattle.vs_threads.proofs.Contents.{unchanged_covered}
+use Rattle.vs_process.proofs.Contents.{unchanged_covered}
 use Rattle.vs_independence.proofs.BlocksAt.{place_after}
 
 -- a process comes to a stop in the first slot

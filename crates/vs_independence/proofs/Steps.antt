@@ -11,10 +11,10 @@ use Rattle.vs_process.specs.vs_strobe.specs.Lines.{Format}
 use Rattle.vs_process.specs.Places.{Place}
 use Rattle.vs_process.specs.States.{State, Update, Called, updates_behind, calls_behind}
 use Rattle.vs_process.proofs.Stores.{put_other, put_local}
-use Rattle.vs_threads.specs.Threads.{store_behind, Thread, IsThread, log_behind, writes, any_names}
-use Rattle.vs_threads.proofs.Calls.{of, of_own, of_other}
-use Rattle.vs_threads.proofs.Lists.{at, at_same, at_each, at_some}
-use Rattle.vs_threads.proofs.Stores.{names_some, by}
+use Rattle.vs_process.specs.Threads.{store_behind, Thread, IsThread, log_behind, writes, any_names}
+use Rattle.vs_process.proofs.Calls.{of, of_own, of_other}
+use Rattle.vs_process.proofs.ThreadLists.{at, at_same, at_each, at_some}
+use Rattle.vs_process.proofs.ThreadStores.{names_some, by}
 use Rattle.vs_independence.proofs.Running.{Apart, Asks, Finishes, is_waiting, AllThreads, AllStand, Sources, Mades, agrees, same_made}
 
 -- what one of the functions has, where it is the changed one

@@ -3,17 +3,17 @@ use Rattle.std.proofs.Common.{◌≡◌, ℕ, Bool, false, Some, None, List, map
 use Rattle.std.proofs.Math.ListN.{get_or-map}
 use Rattle.vs_design.specs.Parts.{Parts}
 use Rattle.vs_design.specs.Stores.{Store, start_store}
-use Rattle.vs_process.specs.vs_edges.specs.Waking.{wakes}
+use Rattle.vs_process.specs.vs_eval.specs.Waking.{wakes}
 use Rattle.vs_process.specs.declared.gait.Gait.TheVariants.{Woken}
 use Rattle.vs_process.specs.Places.{Place, going, sleeping, inactive, waiting, ended, active_at}
 use Rattle.vs_process.specs.States.{State, wakened}
 use Rattle.vs_process.proofs.ProcessLists.{none_from}
 use Rattle.vs_process.proofs.Stores.{shape}
-use Rattle.vs_threads.specs.Edges.{Copies, through, IsHeard, IsRoot}
-use Rattle.vs_threads.specs.Threads.{Thread, Fired, is_timed, opening, MayOpen, IsThread}
-use Rattle.vs_threads.proofs.Lists.{contains_at}
-use Rattle.vs_threads.proofs.Threads.{thread_opens, unmoved}
-use Rattle.vs_threads.proofs.Links.{root_itself}
+use Rattle.vs_process.specs.Edges.{Copies, through, IsHeard, IsRoot}
+use Rattle.vs_process.specs.Threads.{Thread, Fired, is_timed, opening, MayOpen, IsThread}
+use Rattle.vs_process.proofs.ThreadLists.{contains_at}
+use Rattle.vs_process.proofs.Threads.{thread_opens, unmoved}
+use Rattle.vs_process.proofs.ThreadLinks.{root_itself}
 use Rattle.vs_independence.proofs.Running.{Apart, AllThreads, Stands, Follow, Sources}
 use Rattle.vs_independence.proofs.Fire.{no_wake, wakes_alike}
 use Rattle.vs_independence.proofs.Edges.{Advancing}

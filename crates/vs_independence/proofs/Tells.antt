@@ -8,9 +8,9 @@ use Rattle.vs_process.specs.Places.{Place, going, sleeping, inactive, waiting, e
 use Rattle.vs_process.specs.Steps.{step}
 use Rattle.vs_process.specs.States.{State, roused}
 use Rattle.vs_process.specs.Executions.{line_by}
-use Rattle.vs_threads.specs.Threads.{Thread, Fired, turn, turn_at, iterate, opening, is_timed, MayOpen, IsThread, writes}
-use Rattle.vs_threads.proofs.Links.{same_some}
-use Rattle.vs_threads.proofs.Threads.{is_stopped, stopped_stays, stays_from, rouse_thread, thread_opens, thread_turns, unmoved, unwritten}
+use Rattle.vs_process.specs.Threads.{Thread, Fired, turn, turn_at, iterate, opening, is_timed, MayOpen, IsThread, writes}
+use Rattle.vs_process.proofs.ThreadLinks.{same_some}
+use Rattle.vs_process.proofs.Threads.{is_stopped, stopped_stays, stays_from, rouse_thread, thread_opens, thread_turns, unmoved, unwritten}
 use Rattle.vs_independence.proofs.Running.{Apart, given_value}
 use Rattle.vs_independence.proofs.Fire.{IsFiredNow, fired_changed, fired_is}
 use Rattle.vs_independence.proofs.Inputs.{Stopped, begins_as, final_value, same_fired, same_opening, thread_from}

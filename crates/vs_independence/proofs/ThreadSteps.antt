@@ -4,22 +4,22 @@ use Rattle.vs_design.specs.Parts.{Parts}
 use Rattle.vs_design.specs.Stores.{is_changed}
 use Rattle.vs_process.specs.Places.{Place, going, sleeping, inactive, waiting, ended, is_going, todo_of}
 use Rattle.vs_process.specs.Steps.{step, Out}
-use Rattle.vs_threads.specs.Reads.{mute}
+use Rattle.vs_process.specs.Reads.{mute}
 use Rattle.vs_independence.proofs.Running.{Apart, Running, agrees, reads_agree}
-use Rattle.vs_threads.specs.Blocks.{IsSource}
-use Rattle.vs_threads.specs.Threads.{IsFiredBy, IsThread, MayOpen, opening, Thread, early_at, early_turn, log_behind, place_reads, todo_reads, turn_at, turn, writes}
+use Rattle.vs_process.specs.BlockDrivers.{IsSource}
+use Rattle.vs_process.specs.Threads.{IsFiredBy, IsThread, MayOpen, opening, Thread, early_at, early_turn, log_behind, place_reads, todo_reads, turn_at, turn, writes}
 use Rattle.vs_process.specs.States.{State}
 use Rattle.vs_design.specs.Writes.{Write, names}
 use Rattle.std.proofs.lemmas.Bool.{false≢true}
 use Rattle.std.proofs.lemmas.Option.{get_or_from_slice_get}
 use Rattle.std.specs.List.{list_any}
 use Rattle.vs_independence.proofs.Moves.{log_names}
-use Rattle.vs_threads.proofs.ThreadsNamed.{named}
-use Rattle.vs_threads.proofs.StepReads.{step_reads}
-use Rattle.vs_threads.proofs.Threads.{thread_opens, thread_turns, timed_input}
-use Rattle.vs_threads.proofs.Links.{undriven_root}
+use Rattle.vs_process.proofs.ThreadsNamed.{named}
+use Rattle.vs_process.proofs.StepReads.{step_reads}
+use Rattle.vs_process.proofs.Threads.{thread_opens, thread_turns, timed_input}
+use Rattle.vs_process.proofs.ThreadLinks.{undriven_root}
 use Rattle.vs_independence.proofs.History.{put_log, view_log}
-use Rattle.vs_threads.specs.Edges.{Copies, IsHeard, IsRoot}
+use Rattle.vs_process.specs.Edges.{Copies, IsHeard, IsRoot}
 
 pub record ThreadStep (d : Parts) (blocks : ℕ → Bool) (b s : State) (th : ℕ → Thread) (i : ℕ) (p : Place) : Type 0 where
   pub log : (turn b.time i (th i)).log ≡ log_behind (th i).log (step (todo_of p) s.store s.time).write

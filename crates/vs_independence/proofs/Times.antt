@@ -13,8 +13,8 @@ use Rattle.vs_process.specs.Steps.{Next, on, after, wait, step}
 use Rattle.vs_process.specs.States.{State, Update, place_behind, paused, triggered, woken_at}
 use Rattle.vs_process.specs.Executions.{earlier, next_wake, next_update, next_time, ends, slot_behind, places_at, time_at}
 use Rattle.vs_process.proofs.ProcessLists.{list_all_like}
-use Rattle.vs_threads.specs.Threads.{Thread, Fired, found, IsThread, turn_at, turn, iterate, opening}
-use Rattle.vs_threads.proofs.Stores.{names_some, by, filter_hit, filter_miss}
+use Rattle.vs_process.specs.Threads.{Thread, Fired, found, IsThread, turn_at, turn, iterate, opening}
+use Rattle.vs_process.proofs.ThreadStores.{names_some, by, filter_hit, filter_miss}
 use Rattle.vs_independence.proofs.Running.{is_waiting}
 
 -- a delay ends later than this time

@@ -16,12 +16,12 @@ use Rattle.vs_process.specs.declared.moves.Move.TheVariants.{Step, Evaluate, Pro
 use Rattle.vs_process.specs.States.{State, AssignState, Update, activated, evaluate, is_due, make, performed, propagate, propagate_value, roused, stepped}
 use Rattle.vs_process.specs.Executions.{apply, is_enabled, is_first, line_by, step_lines}
 use Rattle.vs_design.specs.vs_logic4.proofs.Basics.{element_of as any_at}
-use Rattle.vs_threads.specs.Blocks.{Roles}
-use Rattle.vs_threads.specs.Threads.{Thread, place_shows, todo_shows, turn}
-use Rattle.vs_threads.proofs.Lists.{at, at_each}
-use Rattle.vs_threads.proofs.ThreadsNamed.{line_shown}
-use Rattle.vs_threads.proofs.Stores.{filter_hit, filter_miss, names_some}
-use Rattle.vs_threads.proofs.Threads.{not_going, not_inactive, rouse_thread}
+use Rattle.vs_process.specs.BlockDrivers.{Roles}
+use Rattle.vs_process.specs.Threads.{Thread, place_shows, todo_shows, turn}
+use Rattle.vs_process.proofs.ThreadLists.{at, at_each}
+use Rattle.vs_process.proofs.ThreadsNamed.{line_shown}
+use Rattle.vs_process.proofs.ThreadStores.{filter_hit, filter_miss, names_some}
+use Rattle.vs_process.proofs.Threads.{not_going, not_inactive, rouse_thread}
 use Rattle.vs_independence.specs.Displays.{ShowsApart, displayed, is_line_of, lines_of_process}
 use Rattle.vs_independence.proofs.Running.{Apart, Running, is_waiting, steady_agree}
 use Rattle.vs_independence.proofs.Moves.{RunsOn, evaluate_runs, propagate_runs, rouse_runs, step_runs}

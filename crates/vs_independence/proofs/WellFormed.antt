@@ -11,8 +11,8 @@ use Rattle.vs_process.specs.Places.{Place, going, sleeping, inactive, waiting, e
 use Rattle.vs_process.specs.Steps.{step}
 use Rattle.vs_process.specs.States.{State, triggered}
 use Rattle.vs_process.proofs.WellFormed.{IsVariable, drives_apart, is_sound_place, sound_active, sound_next, sound_made, sound_place_behind, step_names}
-use Rattle.vs_threads.specs.Threads.{Thread, Fired, found, IsThread, log_behind, turn_at, turn, iterate, opening, writes, any_names}
-use Rattle.vs_threads.proofs.Assigns.{DrivesWell}
+use Rattle.vs_process.specs.Threads.{Thread, Fired, found, IsThread, log_behind, turn_at, turn, iterate, opening, writes, any_names}
+use Rattle.vs_process.proofs.ThreadAssigns.{DrivesWell}
 use Rattle.vs_independence.proofs.Times.{get_from_all}
 
 -- a well formed design

@@ -19,33 +19,33 @@ use Rattle.vs_process.proofs.ProcessLists.{map_cases, map_at}
 use Rattle.vs_process.proofs.Assigns.{sound_start}
 use Rattle.vs_process.proofs.WellFormed.{variable_undriven}
 use Rattle.vs_process.proofs.Idle.{IsSound, after_sound}
-use Rattle.vs_threads.specs.Threads.{any_names, found, opening}
+use Rattle.vs_process.specs.Threads.{any_names, found, opening}
 use Rattle.vs_independence.specs.Discipline.{here, IsAtStart, KeepsApart, Disciplined, DisciplineMakesIndependent}
-use Rattle.vs_threads.proofs.Threads.{thread_opens}
+use Rattle.vs_process.proofs.Threads.{thread_opens}
 use Rattle.vs_independence.proofs.Running.{WithinSlot, Apart, Stands, Running, BlockBare, is_waiting, by_start, by_rest}
-use Rattle.vs_threads.proofs.Calls.{SameCalls, same_lines}
+use Rattle.vs_process.proofs.Calls.{SameCalls, same_lines}
 use Rattle.vs_independence.proofs.Making.{Making, none_get}
 use Rattle.vs_independence.proofs.InnerMoves.{IsInner, inner_kept, late_behind, ran_behind, sure, KeepsOut}
 use Rattle.vs_independence.proofs.Ends.{Ends, slot_ends, all_future, Alike, SameRan, same_calls, ends_unique, behind_alike, ends_rested}
 use Rattle.vs_independence.proofs.Times.{is_later, all_from_get, later_thread, later_start, goes_on}
-use Rattle.vs_threads.proofs.Events.{after_heard, heard_at}
-use Rattle.vs_threads.proofs.Links.{copies_start, copies_settled}
-use Rattle.vs_threads.specs.Edges.{shown, Copies, inverses, IsRoot}
+use Rattle.vs_process.proofs.Events.{after_heard, heard_at}
+use Rattle.vs_process.proofs.ThreadLinks.{copies_start, copies_settled}
+use Rattle.vs_process.specs.Edges.{shown, Copies, inverses, IsRoot}
 use Rattle.vs_independence.proofs.Fire.{no_wake}
-use Rattle.vs_threads.proofs.Feeds.{into_named}
+use Rattle.vs_process.proofs.Feeds.{into_named}
 use Rattle.vs_independence.proofs.WellFormed.{drives_well, sound_thread}
 use Rattle.vs_independence.proofs.Inner.{Before, Behind, Moment, Setting}
 use Rattle.vs_design.specs.declared.range.BitRange.{BitRange}
 use Rattle.vs_independence.proofs.BlocksAt.{Blocked, BlocksAt, kept_out, mapped_place, text_at, woken_more}
-use Rattle.vs_threads.specs.Blocks.{Roles, puts_out}
-use Rattle.vs_threads.proofs.Fares.{Fares, fares_later, fares_still, home_asleep, is_awake, or_some, fresh}
+use Rattle.vs_process.specs.BlockDrivers.{Roles, puts_out}
+use Rattle.vs_process.proofs.Fares.{Fares, fares_later, fares_still, home_asleep, is_awake, or_some, fresh}
 use Rattle.vs_process.specs.declared.gait.Gait.TheVariants.{Fresh}
 use Rattle.vs_design.specs.declared.design.Process.{Process}
 use Rattle.vs_design.specs.Stores.{Store, start_store}
-use Rattle.vs_threads.proofs.Texts.{Text}
+use Rattle.vs_process.proofs.Texts.{Text}
 use Rattle.vs_process.specs.Steps.{goes}
-use Rattle.vs_threads.proofs.Held.{into_puts}
-use Rattle.vs_threads.proofs.Outputs.{outputs_undriven}
+use Rattle.vs_process.proofs.Held.{into_puts}
+use Rattle.vs_process.proofs.Outputs.{outputs_undriven}
 use Rattle.vs_design.specs.vs_logic4.proofs.Basics.{or_false}
 use Rattle.std.proofs.lemmas.Option.{get_or_from_slice_get}
 

@@ -14,11 +14,11 @@ use Rattle.vs_process.specs.declared.moves.Move.{Move}
 use Rattle.vs_process.specs.declared.moves.Move.TheVariants.{EndSlot}
 use Rattle.vs_process.specs.States.{State, AssignState, start}
 use Rattle.vs_process.specs.Executions.{after, Legal, is_complete, trace}
-use Rattle.vs_threads.specs.Bits.{SharesBit}
-use Rattle.vs_threads.specs.Feeds.{writes_into}
-use Rattle.vs_threads.specs.Edges.{Copies, IsHeard, IsRoot}
-use Rattle.vs_threads.specs.Threads.{Thread, Fired, found, is_timed, IsTimed, Awaits, IsThread, IsFiredBy, IsEarly, writes, any_names, place_reads}
-use Rattle.vs_threads.specs.Blocks.{cold, starter, control, outputs, puts_out, puts_into, IsSource, IsBlock, StartsAs, Roles}
+use Rattle.vs_process.specs.Bits.{SharesBit}
+use Rattle.vs_process.specs.Feeds.{writes_into}
+use Rattle.vs_process.specs.Edges.{Copies, IsHeard, IsRoot}
+use Rattle.vs_process.specs.Threads.{Thread, Fired, found, is_timed, IsTimed, Awaits, IsThread, IsFiredBy, IsEarly, writes, any_names, place_reads}
+use Rattle.vs_process.specs.BlockDrivers.{cold, starter, control, outputs, puts_out, puts_into, IsSource, IsBlock, StartsAs, Roles}
 
 -- two executions that are complete to a moment have the same trace to it, whatever they are
 abbrev pub Independent : Grain → Parts → Type 0

@@ -12,8 +12,8 @@ use Rattle.vs_process.specs.declared.moves.Move.{Move}
 use Rattle.vs_process.specs.declared.moves.Move.TheVariants.{Step, EndSlot}
 use Rattle.vs_process.specs.States.{State, AssignState}
 use Rattle.vs_process.specs.Executions.{after, is_complete, Legal, lines_of, slots, step_lines}
-use Rattle.vs_threads.specs.Blocks.{puts_out}
-use Rattle.vs_threads.specs.Threads.{Thread, IsThread, IsFiredBy, writes, place_shows}
+use Rattle.vs_process.specs.BlockDrivers.{puts_out}
+use Rattle.vs_process.specs.Threads.{Thread, IsThread, IsFiredBy, writes, place_shows}
 use Rattle.vs_independence.specs.Discipline.{BeginsSlot, Disciplined, Reaches}
 
 -- ---- lines

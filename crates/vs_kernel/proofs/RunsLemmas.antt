@@ -14,19 +14,19 @@ use Rattle.vs_run_regions.specs.vs_process.specs.declared.moves.Move.TheVariants
 use Rattle.vs_run_regions.specs.vs_process.specs.Executions.{after, Legal, slots, trace, is_by, is_combinational, is_enabled, is_free, allowed, apply, ended_slot, finish_time, lines_of, move_lines, is_complete, next_time, time_at}
 use Rattle.vs_run_regions.specs.vs_process.specs.Places.{Place}
 use Rattle.vs_run_regions.specs.vs_process.specs.Blocks.{BlocksExclude, InsideFollows, inside_behind, inside_block, is_inside_at, is_inside_number, is_step_of_any}
-use Rattle.vs_run_moves.specs.vs_run_steps.specs.Insides.{inside_told, is_told}
+use Rattle.vs_kernel.specs.vs_run_steps.specs.Insides.{inside_told, is_told}
 use Rattle.vs_run_regions.specs.vs_process.specs.States.{State, start}
 use Rattle.vs_vcd_writing.specs.Progress.{Progress}
 use Rattle.vs_vcd_writing.specs.Sinks.{AppendsPart}
 use Rattle.vs_vcd_writing.specs.Text.{vcd_header, vcd_slots, vcd_end, vcd_text}
 use Rattle.vs_kernel.specs.Ends.{end_in, outcome_in}
-use Rattle.vs_run_moves.specs.vs_run_steps.specs.Recording.{HasNoted}
-use Rattle.vs_run_moves.specs.vs_run_steps.specs.Prints.{lines_text}
-use Rattle.vs_run_moves.specs.vs_run_steps.proofs.Appending.{append_more, append_none, part_all, part_front, part_more}
-use Rattle.vs_run_moves.specs.vs_run_steps.proofs.MoveLemmas.{evaluate_over, make_over, propagate_over}
+use Rattle.vs_kernel.specs.vs_run_steps.specs.Recording.{HasNoted}
+use Rattle.vs_kernel.specs.vs_run_steps.specs.Prints.{lines_text}
+use Rattle.vs_kernel.specs.vs_run_steps.proofs.Appending.{append_more, append_none, part_all, part_front, part_more}
+use Rattle.vs_kernel.specs.vs_run_steps.proofs.MoveLemmas.{evaluate_over, make_over, propagate_over}
 use Rattle.vs_run_regions.specs.vs_process.proofs.Times.{stepped_over}
-use Rattle.vs_run_moves.specs.vs_run_steps.proofs.PrintsLemmas.{lines_behind}
-use Rattle.vs_run_moves.specs.vs_run_steps.specs.Slots.{AppendsSlots, AppendsSlotsPart}
+use Rattle.vs_kernel.specs.vs_run_steps.proofs.PrintsLemmas.{lines_behind}
+use Rattle.vs_kernel.specs.vs_run_steps.specs.Slots.{AppendsSlots, AppendsSlotsPart}
 use Rattle.vs_kernel.specs.Runs.{RanTo, HasBegun, EndsAs, StopsAt, text_so_far}
 use Rattle.vs_kernel.specs.declared.outcome.Outcome.{Outcome}
 use Rattle.vs_kernel.specs.declared.outcome.Outcome.TheVariants.{Reached, Quiet, Finished, StepLimit}

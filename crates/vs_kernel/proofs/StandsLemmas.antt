@@ -3,9 +3,9 @@ use Rattle.std.proofs.Common.{◌≡◌, ℕ, zero, suc, ◌+◌, ◌≤◌, Boo
 use Rattle.vs_design.specs.Parts.{Parts}
 use Rattle.vs_run_regions.specs.vs_process.specs.Executions.{is_combinational}
 use Rattle.vs_run_regions.specs.vs_process.specs.Blocks.{BlocksExclude, InsideFollows, inside_block}
-use Rattle.vs_run_moves.specs.vs_run_steps.specs.Points.{Point}
+use Rattle.vs_kernel.specs.vs_run_steps.specs.Points.{Point}
 use Rattle.vs_kernel.specs.Runs.{HasBegun}
-use Rattle.vs_run_moves.specs.vs_run_steps.specs.Turns.{AllTurned, AllTurnedPart, Turned}
+use Rattle.vs_kernel.specs.vs_run_steps.specs.Turns.{AllTurned, AllTurnedPart, Turned}
 use Rattle.vs_kernel.proofs.RunsLemmas.{HasRun, goes_on, incomplete, inside_next, move_failed, permitted, permitted_block}
 
 -- a run that stands at a point

@@ -1,6 +1,6 @@
 -- Faults of a run.
 use Rattle.std.specs.Prelude.{◌≡◌, ◌⊎◌, Bool, true, false, Result, Ok, Err}
-pub use Rattle.vs_run_moves.specs.vs_run_steps.specs.Failures.{OneFailed}
+pub use Rattle.vs_kernel.specs.vs_run_steps.specs.Failures.{OneFailed}
 use Rattle.vs_kernel.specs.declared.kernel.Status.{Status}
 use Rattle.vs_kernel.specs.declared.kernel.Status.TheVariants as statuses
 use Rattle.vs_kernel.specs.declared.outcome.RunFault.{RunFault}

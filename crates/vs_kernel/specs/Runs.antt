@@ -8,7 +8,7 @@ use Rattle.vs_run_regions.specs.vs_process.specs.Executions.{after, Legal, lines
 use Rattle.vs_run_regions.specs.vs_process.specs.States.{State}
 use Rattle.vs_vcd_writing.specs.Sinks.{AppendsPart}
 use Rattle.vs_vcd_writing.specs.Text.{vcd_header, vcd_slots, vcd_text}
-use Rattle.vs_run_moves.specs.vs_run_steps.specs.Prints.{lines_text}
+use Rattle.vs_kernel.specs.vs_run_steps.specs.Prints.{lines_text}
 use Rattle.vs_kernel.specs.declared.outcome.Outcome.{Outcome}
 use Rattle.vs_kernel.specs.declared.outcome.Outcome.TheVariants.{Reached, Quiet, Finished, StepLimit}
 

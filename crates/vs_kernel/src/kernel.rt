@@ -5,8 +5,8 @@ ghost use Rattle.vs_kernel.specs.Runs.{RanTo, HasBegun};
 ghost use Rattle.vs_kernel.specs.declared.kernel.Status.TheVariants as statuses;
 ghost use Rattle.vs_run_regions.specs.vs_process.specs.Permitted.{NeverStuck};
 
+use crate::kernel_run::launch;
 use crate::outcome::{Outcome, RunFault};
-use crate::run::launch;
 use std::alloc::{AllocError, Global};
 use std::marker::Model;
 use vs_design::Design;

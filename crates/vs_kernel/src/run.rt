@@ -1,108 +1,129 @@
-//! The run of a design, from its start to its end.
-ghost use Rattle.std.specs.Prelude.{◌≡◌, [], ◌<◌, ◌^◌, map, IfOk, OnErr};
-ghost use Rattle.vs_kernel.specs.Ends.{end_in, outcome_in};
-ghost use Rattle.vs_kernel.specs.Runs.{RanTo, HasBegun};
-ghost use Rattle.vs_run_moves.specs.vs_run_steps.specs.Runs.{state_of};
-ghost use Rattle.vs_run_moves.specs.vs_run_steps.specs.Failures.{OneFailed};
-ghost use Rattle.vs_vcd_writing.specs.Progress.{is_write_fault};
+//! A run of a design.
+ghost use Rattle.std.specs.Prelude.{◌≡◌, List};
+ghost use Rattle.vs_design.specs.Parts.{Parts};
+ghost use Rattle.vs_design.specs.Traces.{Slot};
+ghost use Rattle.vs_run_steps.specs.Runs.{state_of};
+ghost use Rattle.vs_run_steps.specs.Recording.{HasNoted};
+ghost use Rattle.vs_vcd_writing.specs.Progress.{is_write_fault, WritesPiece};
+ghost use Rattle.vs_vcd_writing.specs.Sinks.{failed_after};
+ghost use Rattle.vs_vcd_writing.specs.Text.{vcd_end};
 
-use crate::outcome::Outcome;
+use crate::vs_run_regions::vs_time_wheel::EventQueue;
+use crate::vs_run_regions::{Agenda, Due, Event};
+use crate::vs_run_steps::Forms;
 use std::alloc::Global;
-use vs_design::Design;
-use vs_run_moves::{Run, codes_of, scripts_of};
-use vs_run_regions::vs_process::{Code, blocks_exclude, inside_follows, none_inside_first};
-use vs_run_regions::vs_time_wheel::EventQueue;
-use vs_run_regions::{Due, Pick};
+use std::marker::Model;
+use vs_run_steps::{Recorder, RunState};
 use vs_vcd_writing::{Sink, WriterFault};
 
-/// How a run ends in a state in which its execution is complete.
-fn outcome_of<Q: EventQueue<Due>>(run: &Run<Q>) -> Outcome
-    ensures { result ≡ outcome_in (state_of run.now.running) }
-{
-    if !run.is_over() {
-        return Outcome::Reached;
-    }
-    if run.is_finishing() {
-        Outcome::Finished(run.time())
-    } else {
-        Outcome::Quiet
+/// A run: its state, what records its dump, and where a policy chooses, the combinational block that has taken a step since its control.
+pub struct Run<'a, Q: EventQueue<Due>> {
+    pub(crate) alloc: Global,
+    /// Of each process whether it is a combinational block.
+    pub(crate) blocks: Vec<bool>,
+    /// How its continuous assignments are evaluated.
+    pub(crate) forms: Forms<'a>,
+    pub(crate) running: RunState<'a, Q>,
+    pub(crate) inside: Option<usize>,
+    /// Whether a policy chooses; else the first event of the queue is always next.
+    pub(crate) chooses: bool,
+    /// The list of a policy that chooses, and the place of what was chosen in it.
+    pub(crate) agenda: Agenda,
+    pub(crate) picked: Option<usize>,
+    /// The event that it chose last; none where none was active.
+    pub(crate) chosen: Option<Event>,
+    pub(crate) recorder: Recorder,
+}
+
+impl<'a, Q: EventQueue<Due> + Drop> Drop for Run<'a, Q> {
+    fn drop(self) {
+        let Self {
+            alloc: _,
+            blocks: _,
+            forms: _,
+            running: _,
+            inside: _,
+            chooses: _,
+            agenda: _,
+            picked: _,
+            chosen: _,
+            recorder: _,
+        } = self;
     }
 }
 
-/// The time at which the value change dump of a complete execution ends, in ticks.
-fn end_of<Q: EventQueue<Due>>(run: &Run<Q>, until: u64) -> u64
-    ensures { result ≡ end_in until (state_of run.now.running) }
-{
-    if run.is_over() && run.is_finishing() {
-        run.time()
-    } else {
-        until
-    }
+impl<'a, Q: EventQueue<Due>> Model for Run<'a, Q> {
+    ghost use Rattle.std.specs.Coded.{codes};
+    ghost use Rattle.vs_design.specs.contracts.expression.Typed as expression;
+    ghost use Rattle.vs_design.specs.contracts.statement.Statement as statement;
+    ghost use Rattle.vs_kernel.specs.Standing.{Standing};
+
+    ghost Value = { Standing };
+
+    ghost coded = { Prim.hlevel (codes, statement.the_row.coded, expression.the_row.coded) };
+
+    ghost use Rattle.vs_run_steps.specs.Runs.{running_of};
+
+    ghost view = { λ r. record {
+      design = r.forms;
+      blocks = r.blocks.items;
+      running = running_of r.running;
+      inside = r.inside;
+      chooses = r.chooses;
+      writer = r.recorder;
+    } };
 }
 
-/// Runs a design from its start; these are the codes of its processes, one each in order.
-fn execute<Q: EventQueue<Due> + Drop, P: Pick, V: Sink, L: Sink>(
-    alloc: Global,
-    design: &Design,
-    codes: &[Code],
-    queue: Q,
-    policy: &mut P,
-    until: u64,
-    steps: u64,
-    vcd: &mut V,
-    lines: &mut L,
-) -> Result<Outcome, WriterFault>
-    requires empty { Q.bag queue ≡ [] }
-    requires at_zero { Q.clock queue ≡ 0 }
-    requires codes { codes.now ≡ map (λ p. p.body) design.now.processes }
-    requires early { until < 2 ^ 62 }
-    ensures ran { IfOk result (λ outcome. RanTo design.now until steps outcome
-        (V.bytes vcd.old) (V.bytes vcd.new) (L.bytes lines.old) (L.bytes lines.new)) }
-    ensures begun { OnErr result (HasBegun design.now until steps
-        (V.bytes vcd.old) (V.bytes vcd.new) (L.bytes lines.old) (L.bytes lines.new)) }
-    ensures failures { OneFailed (is_write_fault result) (V.failed vcd.old) (V.failed vcd.new) (L.failed lines.old) (L.failed lines.new) }
-{
-    blocks_exclude();
-    inside_follows();
-    none_inside_first();
-    let scripts = scripts_of(alloc, design, codes)?;
-    let mut run = Run::start(alloc, &*design, &scripts, queue, !P::FIRST, vcd)?;
-    let mut left = steps;
-    while !run.is_over() && run.time() <= until {
-        if left == 0 {
-            return Ok(Outcome::StepLimit(run.time()));
-        }
-        let rest = run.take_steps(policy, left, vcd, lines)?;
-        left = rest;
+impl<'a, Q: EventQueue<Due>> Run<'a, Q> {
+    /// The time of the slot, in ticks.
+    #[inline(always)]
+    pub fn time(&self) -> u64
+        ensures { result ≡ (state_of self.now.running).time }
+    {
+        self.running.regions.time()
     }
-    let outcome = outcome_of(&run);
-    let end = end_of(&run, until);
-    run.finish(vcd, end)?;
-    Ok(outcome)
-}
 
-/// Compiles the processes of a design, and runs it from its start.
-pub(crate) fn launch<Q: EventQueue<Due> + Drop, P: Pick, V: Sink, L: Sink>(
-    alloc: Global,
-    design: &Design,
-    queue: Q,
-    policy: &mut P,
-    until: u64,
-    steps: u64,
-    vcd: &mut V,
-    lines: &mut L,
-) -> Result<Outcome, WriterFault>
-    requires empty { Q.bag queue ≡ [] }
-    requires at_zero { Q.clock queue ≡ 0 }
-    requires early { until < 2 ^ 62 }
-    ensures ran { IfOk result (λ outcome. RanTo design.now until steps outcome
-        (V.bytes vcd.old) (V.bytes vcd.new) (L.bytes lines.old) (L.bytes lines.new)) }
-    ensures begun { OnErr result (HasBegun design.now until steps
-        (V.bytes vcd.old) (V.bytes vcd.new) (L.bytes lines.old) (L.bytes lines.new)) }
-    ensures failures { OneFailed (is_write_fault result) (V.failed vcd.old) (V.failed vcd.new) (L.failed lines.old) (L.failed lines.new) }
-{
-    let codes = codes_of(alloc, design.processes())?;
-    execute(
-        alloc, design, &codes, queue, policy, until, steps, vcd, lines,
-    )
+    /// Whether it is over.
+    #[inline(always)]
+    pub fn is_over(&self) -> bool
+        ensures { result ≡ (state_of self.now.running).over }
+    {
+        self.running.over
+    }
+
+    /// Whether a `$finish` was executed.
+    #[inline(always)]
+    pub fn is_finishing(&self) -> bool
+        ensures { result ≡ (state_of self.now.running).finishing }
+    {
+        self.running.finishing
+    }
+
+    /// The event that a policy chose for the last move; none where none was active.
+    pub fn chosen(&self) -> Option<Event> {
+        self.chosen
+    }
+
+    /// Writes the end of the dump, at a time in ticks.
+    pub fn finish<V: Sink>(self, vcd: &mut V, time: u64) -> Result<(), WriterFault>
+    where
+        Q: Drop,
+        ensures bytes { (d : Parts) (slots : List Slot) → HasNoted self.entry.writer (V.bytes vcd.old) d slots
+            → WritesPiece result (V.bytes vcd.old) (V.bytes vcd.new) (vcd_end d slots time) }
+        ensures failures { V.failed vcd.new ≡ failed_after (is_write_fault result) (V.failed vcd.old) }
+    {
+        let Run {
+            alloc: _,
+            blocks: _,
+            forms: _,
+            running: _,
+            inside: _,
+            chooses: _,
+            agenda: _,
+            picked: _,
+            chosen: _,
+            recorder,
+        } = self;
+        recorder.finish(vcd, time)
+    }
 }

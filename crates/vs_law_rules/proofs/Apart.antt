@@ -22,25 +22,24 @@ use Rattle.vs_independence.specs.vs_process.proofs.WellFormed.{net_of, variable_
 use Rattle.vs_design.specs.declared.signal.Signal.{Signal}
 use Rattle.vs_law_rules.proofs.Roots.{entry_root}
 use Rattle.vs_law_rules.proofs.Variables.{writes_variable}
-use Rattle.vs_rules.specs.vs_threads.specs.Threads.{Thread, turn, iterate, writes, any_names}
-use Rattle.vs_rules.specs.vs_threads.proofs.Feeds.{into_named}
-use Rattle.vs_rules.specs.vs_threads.proofs.Threads.{is_stopped, timed_wrote}
+use Rattle.vs_rules.specs.vs_process.specs.Threads.{Thread, turn, iterate, writes, any_names, Fired, found, opening, is_timed, IsTimed, Awaits, MayOpen, IsThread, IsFiredBy}
+use Rattle.vs_rules.specs.vs_process.proofs.Feeds.{into_named}
+use Rattle.vs_rules.specs.vs_process.proofs.Threads.{is_stopped, timed_wrote}
 use Rattle.vs_rules.specs.Claims.{Claims, blocks_of, IsBlock, IsWide, IsWriter, IsSecond, IsDelay, WaitsForEdges, IsSequential, HasKind, signal_name, is_wide, IsRootOf, IsRoot as IsRootClaimed}
 use Rattle.vs_rules.specs.Constants.{bit_of, Gives}
 use Rattle.vs_rules.specs.Paths.{IsPoint, IsSlot0, IsLate, IsHot, HasTerm, WritesNow, WritesLater, Writes}
 use Rattle.vs_rules.specs.Drivers.{IsSource}
 use Rattle.vs_rules.specs.Rules.{K2, K10_Process, IsSoundRoot, IsOwnEdge, Reads}
 use Rattle.vs_rules.specs.Slots.{HasSlot, HasWriteSlot}
-use Rattle.vs_rules.specs.vs_threads.specs.Edges.{one_bit, Copies, IsRoot}
-use Rattle.vs_rules.specs.vs_threads.specs.Threads.{Fired, found, opening, is_timed, IsTimed, Awaits, MayOpen, IsThread, IsFiredBy}
+use Rattle.vs_rules.specs.vs_process.specs.Edges.{one_bit, Copies, IsRoot}
 use Rattle.vs_independence.specs.Discipline.{Reaches, KeepsApart}
-use Rattle.vs_rules.specs.vs_threads.specs.Blocks.{puts_out}
+use Rattle.vs_rules.specs.vs_process.specs.BlockDrivers.{puts_out}
 use Rattle.vs_independence.specs.Discipline as a
 use Rattle.vs_law_rules.proofs.Beginning.{AllStopped, delay_timed}
 use Rattle.vs_law_rules.proofs.Cones.{ControlNames, clash, is_block, out_writes, into_writes, source_of, reach_cone, reach_root}
 use Rattle.vs_law_rules.specs.Laws.{ClockTurns}
 use Rattle.vs_law_rules.proofs.Fire.{Begun, Walking, not_block, zero_less, timed_walks, timed_writes, seq_found, sequential_of, closed, stands_found, bit_digit}
-use Rattle.vs_rules.specs.vs_threads.proofs.Links.{root_bit}
+use Rattle.vs_rules.specs.vs_process.proofs.ThreadLinks.{root_bit}
 use Rattle.vs_law_rules.proofs.Early.{found_waits, timed_hears}
 use Rattle.vs_law_rules.proofs.Firing.{one_writer, one_second, writes_as, Rooted, rooted, none_fires, fires_at, view_bit, same_digits}
 use Rattle.vs_law_rules.proofs.Lasts.{Last, Bitwise, bit_iterate}
@@ -290,7 +289,7 @@ root_once d c b g heard i root th later h is that w x = by_at (zero_or b.time)
     stands : Stands d c i b.time first.place
     stands = stands_found d c b g i seq
 
-    bit : Rattle.vs_rules.specs.vs_threads.specs.Edges.IsBit d root
+    bit : Rattle.vs_rules.specs.vs_process.specs.Edges.IsBit d root
     bit = root_bit d root h.signal h.copies
 
     old : (z : Digit) × (slice_get b.store root ≡ Some (one_bit z))

@@ -2,7 +2,7 @@
 use Rattle.std.proofs.Common.{◌≡◌, ℕ, zero, suc, ◌+◌, ◌%◌, ◌<◌, ◌≤◌, ◌==◌, ◌⊎◌, Bool, true, false, Option, Some, None, List, [], ◌∷◌, map, get_or, refl, sym, ◌∙◌, ap, subst, inl, inr, arith, leb-true}
 use Rattle.std.proofs.Math.ListN.{get_or-map}
 use Rattle.std.proofs.lemmas.Bool.{cond_both, eqb-true, eqb-false, false≢true}
-use Rattle.vs_independence.specs.vs_process.specs.vs_edges.specs.Waking.{wake_any}
+use Rattle.vs_independence.specs.vs_process.specs.vs_eval.specs.Waking.{wake_any}
 use Rattle.vs_design.specs.declared.design.Process.{Process}
 use Rattle.vs_design.specs.Parts.{Parts}
 use Rattle.vs_design.specs.Stores.{Store}
@@ -14,7 +14,7 @@ use Rattle.vs_process.specs.Places.{Todo, Place, going, sleeping, inactive, wait
 use Rattle.vs_process.specs.Steps.{Next, on, after, wait, step}
 use Rattle.vs_independence.specs.vs_process.specs.States.{State, start, place_behind, roused, woken_at, wakened}
 use Rattle.vs_independence.specs.vs_process.specs.Executions.{ends, next_time, slot_behind, places_at, time_at}
-use Rattle.vs_rules.specs.vs_threads.proofs.Threads.{is_stopped, stopped_from}
+use Rattle.vs_rules.specs.vs_process.proofs.Threads.{is_stopped, stopped_from}
 use Rattle.vs_independence.proofs.Making.{none_get}
 use Rattle.vs_independence.proofs.InnerMoves.{AtEnd}
 use Rattle.vs_independence.proofs.Times.{is_after, after_next, get_from_all}
@@ -24,7 +24,7 @@ use Rattle.vs_rules.specs.Claims.{kind_of, Claims, Kind, IsEdge, IsDelay, HasMix
 use Rattle.vs_rules.specs.Paths.{PathBy, begins, goes, is_zero_time, IsPoint, IsSlot0, RunsBehind}
 use Rattle.vs_rules.specs.Slots.{Ends, DelayEnds, EdgeEnds, RunsByDelays, RunsByEdges, HasSlot}
 use Rattle.vs_rules.specs.Rules.{K7, K8}
-use Rattle.vs_rules.specs.vs_threads.specs.Threads.{is_timed}
+use Rattle.vs_rules.specs.vs_process.specs.Threads.{is_timed}
 use Rattle.vs_law_rules.proofs.Boundary.{IsSteady}
 use Rattle.vs_law_rules.proofs.Walks.{point_on, at_zero, Heard, Delayed, delayed_here, Stands, Closed, stands_active, stands_step, stands_roused}
 

@@ -16,8 +16,8 @@ use Rattle.vs_independence.specs.vs_process.proofs.Idle.{after_sound}
 use Rattle.vs_independence.specs.vs_process.proofs.Times.{enabled_of}
 use Rattle.vs_independence.specs.Discipline.{IsAtStart}
 use Rattle.vs_independence.proofs.InnerMoves.{at_end, all_idle}
-use Rattle.vs_rules.specs.vs_threads.proofs.Settle.{AllIdle}
-use Rattle.vs_rules.specs.vs_threads.proofs.Threads.{is_stopped}
+use Rattle.vs_rules.specs.vs_process.proofs.Settle.{AllIdle}
+use Rattle.vs_rules.specs.vs_process.proofs.Threads.{is_stopped}
 use Rattle.vs_rules.specs.Claims.{Claims, blocks_of, IsBlock}
 use Rattle.vs_rules.specs.Verdict.{Keeping}
 use Rattle.vs_law_rules.proofs.Beginning.{Beginning, Placed, end_rests, first_beginning, placed_steady, start_placed}

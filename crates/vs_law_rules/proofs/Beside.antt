@@ -15,9 +15,9 @@ use Rattle.vs_independence.specs.vs_process.specs.declared.moves.Move.{Move}
 use Rattle.vs_independence.specs.vs_process.specs.States.{place_behind, paused, roused, start, wakened, woken_at}
 use Rattle.vs_independence.specs.vs_process.specs.Executions.{after as reached, Legal}
 use Rattle.vs_independence.specs.vs_process.proofs.WellFormed.{variable_undriven}
-use Rattle.vs_rules.specs.vs_threads.specs.Edges.{one_bit}
-use Rattle.vs_rules.specs.vs_threads.specs.Threads.{store_behind}
-use Rattle.vs_rules.specs.vs_threads.proofs.Threads.{is_stopped}
+use Rattle.vs_rules.specs.vs_process.specs.Edges.{one_bit}
+use Rattle.vs_rules.specs.vs_process.specs.Threads.{store_behind}
+use Rattle.vs_rules.specs.vs_process.proofs.Threads.{is_stopped}
 use Rattle.vs_rules.specs.Claims.{Claims, IsWriter}
 use Rattle.vs_rules.specs.Constants.{bit_of, Gives, SetsAlike}
 use Rattle.vs_rules.specs.Paths.{IsPoint, Writes, WritesNow}

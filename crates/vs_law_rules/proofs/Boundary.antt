@@ -18,7 +18,7 @@ use Rattle.vs_process.specs.Steps.{Out, step}
 use Rattle.vs_independence.specs.vs_process.specs.States.{State, AssignState, Update, start, written_behind, place_behind, performed, stepped, evaluate, propagate, propagate_value, make, without, roused, woken_at, wakened, settled}
 use Rattle.vs_independence.specs.vs_process.specs.Executions.{after, Legal, ends, next_time, slot_behind, places_at, time_at}
 use Rattle.vs_independence.specs.vs_process.proofs.Times.{enabled_of}
-use Rattle.vs_rules.specs.vs_threads.proofs.Threads.{is_stopped, stopped_from}
+use Rattle.vs_rules.specs.vs_process.proofs.Threads.{is_stopped, stopped_from}
 use Rattle.vs_independence.proofs.Making.{none_get}
 use Rattle.vs_independence.proofs.InnerMoves.{AtEnd, at_end}
 use Rattle.vs_independence.specs.vs_process.proofs.Permitted.{some_of}

@@ -14,11 +14,11 @@ use Rattle.vs_process.specs.Steps.{Next, on, after, wait, step}
 use Rattle.vs_independence.specs.vs_process.specs.States.{place_behind}
 use Rattle.vs_design.specs.vs_logic4.proofs.Basics.{element_of as any_at}
 use Rattle.vs_independence.specs.vs_process.proofs.Ranges.{covers_signal}
-use Rattle.vs_rules.specs.vs_threads.specs.Blocks.{home, woken_on, IsRun, StartsCold}
-use Rattle.vs_rules.specs.vs_threads.specs.Threads.{Thread, turn, turn_at, moved, store_behind}
-use Rattle.vs_rules.specs.vs_threads.proofs.Lists.{contains_at}
-use Rattle.vs_rules.specs.vs_threads.proofs.Texts.{Text, text_of, Stands, goes_on, arrives}
-use Rattle.vs_rules.specs.vs_threads.proofs.BlockRuns.{run_facts}
+use Rattle.vs_rules.specs.vs_process.specs.BlockDrivers.{home, woken_on, IsRun, StartsCold}
+use Rattle.vs_rules.specs.vs_process.specs.Threads.{Thread, turn, turn_at, moved, store_behind}
+use Rattle.vs_rules.specs.vs_process.proofs.ThreadLists.{contains_at}
+use Rattle.vs_rules.specs.vs_process.proofs.Texts.{Text, text_of, Stands, goes_on, arrives}
+use Rattle.vs_rules.specs.vs_process.proofs.BlockRuns.{run_facts}
 use Rattle.vs_rules.specs.Claims.{Claims, cold, HasStart}
 use Rattle.vs_rules.specs.Paths.{Writes, writes_of}
 use Rattle.vs_rules.specs.Blocks.{K5, K11, run_alone, arrived, StaysCold}

@@ -12,19 +12,18 @@ use Rattle.vs_design.specs.Parts.{Parts}
 use Rattle.vs_design.specs.Uses.{reads, writes, writes_signal}
 use Rattle.vs_independence.specs.vs_process.specs.States.{State}
 use Rattle.vs_design.specs.vs_logic4.proofs.Basics.{element_of as any_at}
-use Rattle.vs_rules.specs.vs_threads.specs.Bits.{meet_in}
-use Rattle.vs_rules.specs.vs_threads.proofs.Bits.{meets_of}
-use Rattle.vs_rules.specs.vs_threads.proofs.Feeds.{into_named}
-use Rattle.vs_rules.specs.vs_threads.proofs.Lists.{contains_at, place_of}
+use Rattle.vs_rules.specs.vs_process.specs.Bits.{meet_in}
+use Rattle.vs_rules.specs.vs_process.proofs.Bits.{meets_of}
+use Rattle.vs_rules.specs.vs_process.proofs.Feeds.{into_named}
+use Rattle.vs_rules.specs.vs_process.proofs.ThreadLists.{contains_at, place_of}
 use Rattle.vs_rules.specs.Claims.{Claims, Kind, Start, block, edges, delays, mixed, kind_of, is_block_kind, blocks_of, IsBlock, IsDelay, IsSequential, IsWriter, IsSecond, HasKind}
 use Rattle.vs_rules.specs.Paths.{writes_of, Writes}
 use Rattle.vs_rules.specs.Drivers.{assign, block as block_driver, IsSource, InCone, Names}
 use Rattle.vs_rules.specs.Drivers as v
 use Rattle.vs_rules.specs.Rules.{IsSoundRoot}
 use Rattle.vs_rules.specs.Copies.{IsCopyBy, CopiesRoot, itself, copy, inverse}
-use Rattle.vs_rules.specs.vs_threads.specs.Blocks.{control}
+use Rattle.vs_rules.specs.vs_process.specs.BlockDrivers.{control, puts_into, puts_out}
 use Rattle.vs_independence.specs.Discipline.{Reaches}
-use Rattle.vs_rules.specs.vs_threads.specs.Blocks.{puts_into, puts_out}
 use Rattle.vs_independence.specs.Discipline as a
 use Rattle.vs_law_rules.proofs.Fire.{Begun, not_block}
 use Rattle.vs_law_rules.proofs.Firing.{one_writer}

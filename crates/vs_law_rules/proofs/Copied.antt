@@ -7,7 +7,7 @@ use Rattle.std.proofs.lemmas.Option.{none-some, same_Some, slice_get-map}
 use Rattle.std.specs.List.{Contains, list_any}
 use Rattle.std.specs.Prelude.{sum}
 use Rattle.vs_law_rules.proofs.Links.{driven_start, only_of, same_signal, target_width, variable_start}
-use Rattle.vs_rules.specs.vs_threads.proofs.Copying.{start_at}
+use Rattle.vs_rules.specs.vs_process.proofs.Copying.{start_at}
 use Rattle.vs_law_rules.proofs.Roots.{selects_whole, whole_writes}
 use Rattle.vs_law_rules.proofs.Words.{lists_signal}
 use Rattle.vs_rules.specs.Blocks.{CopiesWhole, copy, itself}
@@ -35,8 +35,8 @@ use Rattle.vs_design.specs.declared.write.Part.{Part}
 use Rattle.vs_independence.specs.vs_process.specs.vs_eval.specs.Targets.{part_at, parts_from}
 use Rattle.vs_independence.specs.vs_process.specs.vs_eval.specs.Values.{bits_value, operand_value, target_value, value_of, value_step}
 use Rattle.vs_process.specs.Steps.{assignment}
-use Rattle.vs_rules.specs.vs_threads.proofs.Lists.{contains_at}
-use Rattle.vs_rules.specs.vs_threads.specs.Blocks.{Shows, copied, sizes}
+use Rattle.vs_rules.specs.vs_process.proofs.ThreadLists.{contains_at}
+use Rattle.vs_rules.specs.vs_process.specs.BlockDrivers.{Shows, copied, sizes}
 use Rattle.vs_design.specs.vs_logic4.proofs.Properties.{resized-own_width, selected-with_part}
 use Rattle.vs_design.specs.vs_logic4.specs.Lengths.{length-with_part}
 use Rattle.vs_design.specs.vs_logic4.specs.Parts.{selected, with_part}
@@ -44,10 +44,10 @@ use Rattle.vs_design.specs.vs_logic4.specs.Vectors.{resized}
 use Rattle.vs_design.specs.vs_logic4.specs.declared.digit.Digit.{Digit}
 use Rattle.vs_design.specs.vs_logic4.specs.declared.digit.Digit.TheVariants.{X}
 use Rattle.std.proofs.lemmas.Map.Keys.{any_passes_from_place as at_any}
-use Rattle.vs_rules.specs.vs_threads.proofs.Bits.{meets_bit}
+use Rattle.vs_rules.specs.vs_process.proofs.Bits.{meets_bit}
 use Rattle.vs_design.proofs.Stores.{slice_get-changed_at as changed_same}
 use Rattle.vs_rules.specs.Drivers as v
-use Rattle.vs_rules.specs.vs_threads.specs.Blocks as a
+use Rattle.vs_rules.specs.vs_process.specs.BlockDrivers as a
 use Rattle.vs_design.specs.declared.expression.Typed.TheOpen as t
 
 -- ---- a bit of a whole signal

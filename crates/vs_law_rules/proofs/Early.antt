@@ -10,7 +10,7 @@ use Rattle.vs_process.specs.Nexts.{erased, erased_next}
 use Rattle.vs_process.specs.Places.{Todo, Place, going, sleeping, inactive, waiting, ended, active_at, stepped_gait}
 use Rattle.vs_process.specs.Steps.{Next, on, after, wait, step}
 use Rattle.vs_independence.specs.vs_process.specs.States.{State, paused, place_behind, start}
-use Rattle.vs_rules.specs.vs_threads.specs.Threads.{Thread, IsTimed, found, opening, turn, turn_at, iterate}
+use Rattle.vs_rules.specs.vs_process.specs.Threads.{Thread, IsTimed, found, opening, turn, turn_at, iterate}
 use Rattle.vs_rules.specs.Points.{Among, Goes, first_todo, nexts_by}
 use Rattle.vs_rules.proofs.Points.{by_goes, step_goes}
 use Rattle.vs_rules.specs.Paths.{begins, goes, is_zero_time, PathBy, IsHeardAtStart}

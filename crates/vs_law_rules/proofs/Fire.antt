@@ -16,27 +16,25 @@ use Rattle.vs_design.specs.declared.statement.EventTerm.{EventTerm}
 use Rattle.vs_design.specs.Parts.{Parts}
 use Rattle.vs_design.specs.Stores.{Store, changed_at, chosen_bits, chosen_words, content, start_store, words_in}
 use Rattle.vs_design.specs.WellFormed.{WellFormed}
-use Rattle.vs_independence.specs.vs_process.specs.vs_edges.specs.Waking.{lowest_digit, is_edge_of, wakes, wakes_by}
+use Rattle.vs_independence.specs.vs_process.specs.vs_eval.specs.Waking.{lowest_digit, is_edge_of, wakes, wakes_by}
 use Rattle.vs_independence.specs.vs_process.specs.vs_eval.specs.Laws.{digit_of, digit_in}
 use Rattle.vs_process.specs.Places.{Place, ended, is_going}
 use Rattle.vs_independence.specs.vs_process.specs.Executions.{is_level}
 use Rattle.vs_independence.specs.vs_process.specs.States.{State}
 use Rattle.vs_independence.specs.vs_process.proofs.Assigns.{AssignsSound}
 use Rattle.vs_independence.specs.vs_process.proofs.Stores.{shape}
-use Rattle.vs_rules.specs.vs_threads.specs.Threads.{Thread, turn, iterate, writes}
-use Rattle.vs_rules.specs.vs_threads.proofs.Settle.{AllIdle}
-use Rattle.vs_rules.specs.vs_threads.proofs.Threads.{is_stopped}
+use Rattle.vs_rules.specs.vs_process.specs.Threads.{Thread, turn, iterate, writes, found, opening, IsTimed}
+use Rattle.vs_rules.specs.vs_process.proofs.Settle.{AllIdle}
+use Rattle.vs_rules.specs.vs_process.proofs.Threads.{is_stopped, stopped_stays as stopped_turn}
 use Rattle.vs_rules.specs.Claims.{Name, times_in}
 use Rattle.vs_rules.specs.Claims.{Claims, Kind, block, edges, delays, mixed, ProcessClaim, kind_in, kind_for, kind_of, is_block_kind, blocks_of, IsSequential}
 use Rattle.vs_rules.specs.Constants.{bit_of, Gives, IsKnown, IsClock}
 use Rattle.vs_rules.specs.Constants as k
 use Rattle.vs_rules.specs.Slots.{counts, phase}
-use Rattle.vs_rules.specs.vs_threads.specs.Edges.{one_bit}
-use Rattle.vs_rules.specs.vs_threads.specs.Threads.{found, opening, IsTimed}
+use Rattle.vs_rules.specs.vs_process.specs.Edges.{one_bit}
 use Rattle.vs_rules.specs.Verdict.{Keeping}
 use Rattle.vs_law_rules.proofs.Beginning.{Beginning, AllStopped, closed_of}
 use Rattle.vs_law_rules.proofs.Walks.{Stands, Closed, Walked, walked_iterate}
-use Rattle.vs_rules.specs.vs_threads.proofs.Threads.{stopped_stays as stopped_turn}
 
 -- ---- what is known where a slot begins
 

@@ -25,20 +25,19 @@ use Rattle.vs_independence.specs.vs_process.specs.States.{State, start}
 use Rattle.vs_independence.specs.vs_process.proofs.ProcessLists.{distinct_place, map_at}
 use Rattle.vs_independence.specs.vs_process.proofs.Stores.{shape, shape-put}
 use Rattle.vs_design.proofs.Stores.{slice_get-changed_at as changed_same}
-use Rattle.vs_rules.specs.vs_threads.specs.Threads.{Thread, store_behind, turn_at, turn, iterate, writes}
+use Rattle.vs_rules.specs.vs_process.specs.Threads.{Thread, store_behind, turn_at, turn, iterate, writes, Fired, given, opening, IsTimed, Fires as Wakes}
 use Rattle.vs_rules.specs.Claims.{Name, names_process, writer_in, second_in}
 use Rattle.vs_rules.specs.Claims.{Claims, Kind, blocks_of, claim_of, IsWriter, IsSecond, IsDelay, signal_name, IsRootOf, is_wide}
 use Rattle.vs_rules.specs.Paths.{WritesNow, HasTerm, IsHeardAtStart, RunsBehind}
 use Rattle.vs_rules.specs.Rules.{IsSoundRoot}
 use Rattle.vs_rules.specs.Slots.{InPhase, Fires, Ends}
 use Rattle.vs_rules.specs.Copies.{CopiesRoot, is_odd, SeenAs}
-use Rattle.vs_rules.specs.vs_threads.specs.Edges.{one_bit, IsBit, Copies, inverted, inverses, shown}
-use Rattle.vs_rules.specs.vs_threads.specs.Threads.{Fired, given, opening, IsTimed, Fires as Wakes}
+use Rattle.vs_rules.specs.vs_process.specs.Edges.{one_bit, IsBit, Copies, inverted, inverses, shown}
 use Rattle.vs_law_rules.proofs.Beginning.{AllStopped}
 use Rattle.vs_law_rules.specs.Laws.{ClockTurns, StaysUnset}
 use Rattle.vs_law_rules.proofs.Fire.{Begun, Walking, timed_writes, stopped_writes, closed, stands_found, bit_shape, bit_digit, edge_of, edge_counts, edge_phase, zero_less}
 use Rattle.vs_independence.proofs.WellFormed.{drives_well}
-use Rattle.vs_rules.specs.vs_threads.proofs.Links.{copies_bit, copies_settled, root_bit, inverted_x}
+use Rattle.vs_rules.specs.vs_process.proofs.ThreadLinks.{copies_bit, copies_settled, root_bit, inverted_x}
 use Rattle.vs_law_rules.proofs.Lasts.{Last, Bitwise, bit_iterate}
 use Rattle.vs_law_rules.proofs.Inverses.{odd, same_root, parity_of, seen_of, seen, seen_level, edge_seen}
 use Rattle.vs_law_rules.proofs.Roots.{entry_root, copies_signal}

@@ -26,7 +26,7 @@ use Rattle.vs_process.specs.Places.{Todo, Place, going, sleeping, inactive, wait
 use Rattle.vs_process.specs.Steps.{Next, on, after, wait, Out, assignment, called, step, statement_step}
 use Rattle.vs_independence.specs.vs_process.specs.States.{place_behind, terms_of, updates_behind, calls_behind}
 use Rattle.vs_design.specs.Statements.{event_terms_step}
-use Rattle.vs_rules.specs.vs_threads.proofs.Threads.{is_stopped}
+use Rattle.vs_rules.specs.vs_process.proofs.Threads.{is_stopped}
 use Rattle.vs_process.specs.vs_strobe.specs.Lines.{Format, format_of_call}
 use Rattle.vs_design.specs.declared.statement.CallKind.{CallKind}
 use Rattle.vs_design.specs.declared.statement.CallKind.TheVariants.{Display, Strobe}
@@ -37,10 +37,10 @@ use Rattle.vs_design.specs.vs_logic4.proofs.Basics.{element_of as any_at}
 use Rattle.vs_independence.specs.vs_process.proofs.Ranges.{covers_signal, same_content}
 use Rattle.vs_independence.specs.vs_process.proofs.Stores.{shape, shape-put, put_other}
 use Rattle.vs_independence.specs.vs_process.proofs.Values.{unchanged, same_unchanged}
-use Rattle.vs_rules.specs.vs_threads.specs.Reads.{mute}
-use Rattle.vs_rules.specs.vs_threads.specs.Threads.{Thread, store_behind, turn_at, turn, iterate, todo_reads}
-use Rattle.vs_rules.specs.vs_threads.proofs.Lists.{place_of, contains_at}
-use Rattle.vs_rules.specs.vs_threads.proofs.StepReads.{step_reads}
+use Rattle.vs_rules.specs.vs_process.specs.Reads.{mute}
+use Rattle.vs_rules.specs.vs_process.specs.Threads.{Thread, store_behind, turn_at, turn, iterate, todo_reads}
+use Rattle.vs_rules.specs.vs_process.proofs.ThreadLists.{place_of, contains_at}
+use Rattle.vs_rules.specs.vs_process.proofs.StepReads.{step_reads}
 use Rattle.vs_rules.specs.Controls.{controls_step}
 use Rattle.vs_rules.specs.Points.{Goes, first_todo}
 use Rattle.std.proofs.lemmas.List.{map-append}
@@ -51,13 +51,11 @@ use Rattle.vs_rules.specs.Paths.{Bit, IsBit, IsPoint, reads_of, writes_of, Write
 use Rattle.vs_rules.specs.Blocks.{K5, Unwritten, begins, goes_on, is_strobe, is_late_effect, has_late_effect, todo_surely}
 use Rattle.vs_law_rules.proofs.Fire.{stopped_iterate}
 use Rattle.vs_law_rules.proofs.Once.{iterate_later}
-use Rattle.vs_rules.specs.vs_threads.specs.Blocks.{home, control}
-use Rattle.vs_rules.specs.vs_threads.specs.Blocks.{puts_out}
+use Rattle.vs_rules.specs.vs_process.specs.BlockDrivers.{home, control, puts_out, woken_on, Arrives, AgreeOn, SameOutputs, IsBlock as Follows}
 use Rattle.vs_rules.specs.Paths.{HasTerm}
-use Rattle.vs_rules.specs.vs_threads.specs.Blocks.{woken_on, Arrives, AgreeOn, SameOutputs, IsBlock as Follows}
 use Rattle.vs_law_rules.proofs.Shapes.{Shape, first_is}
 use Rattle.vs_law_rules.proofs.Controls.{next_in, delays_collect, terms_collect}
-use Rattle.vs_rules.specs.vs_threads.proofs.Bits.{bit_there, missing}
+use Rattle.vs_rules.specs.vs_process.proofs.Bits.{bit_there, missing}
 use Rattle.vs_law_rules.proofs.Surely.{step_sure, sure_writes}
 use Rattle.vs_law_rules.proofs.Texts.{Sub, reads_text, now_text, none_in, todo_all, point_sub, all_there}
 use Rattle.vs_law_rules.proofs.Walks.{point_on}
@@ -315,7 +313,7 @@ lock_first d c k h a b sa sb = record {
     end : Todo
     end = flat h.shaped.body ++ perform h.shaped.process.body ∷ []
 
-    home : todo_of (Rattle.vs_rules.specs.vs_threads.specs.Blocks.home d k) ≡ end
+    home : todo_of (Rattle.vs_rules.specs.vs_process.specs.BlockDrivers.home d k) ≡ end
     home = ap todo_of h.shaped.home
 
     plain : erased end ≡ end

@@ -22,7 +22,7 @@ use Rattle.vs_process.specs.Places.{perform, turns, Todo, flat}
 use Rattle.vs_process.specs.Steps.{Next, on, wait}
 use Rattle.vs_process.proofs.Shapes.{flat-Block, flat-rolled}
 use Rattle.vs_design.specs.vs_logic4.proofs.Basics.{element_of as any_at}
-use Rattle.vs_rules.specs.vs_threads.proofs.Lists.{contains_at}
+use Rattle.vs_rules.specs.vs_process.proofs.ThreadLists.{contains_at}
 use Rattle.vs_rules.specs.Points.{Goes, Point, first_todo}
 use Rattle.vs_rules.specs.Points as r
 use Rattle.vs_law_rules.proofs.Apart.{HeardStands}

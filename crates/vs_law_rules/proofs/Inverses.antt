@@ -15,9 +15,9 @@ use Rattle.vs_independence.specs.vs_process.specs.Executions.{is_any}
 use Rattle.vs_independence.specs.vs_process.proofs.WellFormed.{variable_undriven}
 use Rattle.vs_rules.specs.Claims.{HasKind}
 use Rattle.vs_rules.specs.Copies.{IsOneBit, CopiesRoot, itself, copy, inverse, is_odd, opposite, SeenAs}
-use Rattle.vs_rules.specs.vs_threads.specs.Edges.{Copies, inverted, inverses, one_more}
-use Rattle.vs_rules.specs.vs_threads.specs.Edges as a
-use Rattle.vs_rules.specs.vs_threads.proofs.Links.{one_root, one_count}
+use Rattle.vs_rules.specs.vs_process.specs.Edges.{Copies, inverted, inverses, one_more}
+use Rattle.vs_rules.specs.vs_process.specs.Edges as a
+use Rattle.vs_rules.specs.vs_process.proofs.ThreadLinks.{one_root, one_count}
 use Rattle.vs_law_rules.proofs.Links.{inverts_value, link_by, net_bit, variable_bit, whole_value}
 use Rattle.vs_law_rules.proofs.Roots.{whole_reads, inverse_reads}
 

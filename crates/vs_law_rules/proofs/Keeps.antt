@@ -112,7 +112,7 @@ no_writes : (d : Parts) → WellFormed d → (i v : ℕ) → Past d.signals v �
 no_writes d formed i v none w = let there = writes_variable d formed i v w in none-some there.0 (sym none ∙ there.1)
 
 no_text : (d : Parts) (i v : ℕ) → Past d.processes i → Writes d i v → ⊥
-no_text d i v none w = none_in w.range (subst (λ (o : Option Process). Rattle.std.specs.List.Contains (Rattle.vs_rules.specs.vs_threads.specs.Blocks.outputs_for o) w.range) none w.listed.0)
+no_text d i v none w = none_in w.range (subst (λ (o : Option Process). Rattle.std.specs.List.Contains (Rattle.vs_rules.specs.vs_process.specs.BlockDrivers.outputs_for o) w.range) none w.listed.0)
 
 past_claim : (d : Parts) (c : Claims) (v : ℕ) → Past d.signals v → claim_of d c v ≡ None
 past_claim d c v none = ap (claim_for c) none

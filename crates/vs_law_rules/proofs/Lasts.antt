@@ -11,7 +11,7 @@ use Rattle.vs_process.specs.Nexts.{erased}
 use Rattle.vs_process.specs.Places.{Todo, Place, going, sleeping, inactive, waiting, ended}
 use Rattle.vs_process.specs.Steps.{step}
 use Rattle.vs_independence.specs.vs_process.proofs.Stores.{put_other}
-use Rattle.vs_rules.specs.vs_threads.specs.Threads.{Thread, store_behind, log_behind, turn_at, turn, iterate, writes}
+use Rattle.vs_rules.specs.vs_process.specs.Threads.{Thread, store_behind, log_behind, turn_at, turn, iterate, writes}
 use Rattle.vs_rules.specs.Claims.{Claims}
 use Rattle.vs_rules.specs.Constants.{bit_of, Gives}
 use Rattle.vs_rules.specs.Paths.{WritesNow}

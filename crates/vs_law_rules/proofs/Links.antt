@@ -40,10 +40,10 @@ use Rattle.vs_design.proofs.Stores.{slice_get-changed_at as changed_same}
 use Rattle.vs_rules.specs.Claims.{HasKind}
 use Rattle.vs_rules.specs.Constants.{IsWholeSlice, IsWholeLayer, IsWhole, IsNegationLayer, Inverts, InvertsLayer, IsWholeTarget}
 use Rattle.vs_rules.specs.Copies.{IsOneBit, IsCopyBy}
-use Rattle.vs_rules.specs.vs_threads.specs.Edges.{one_bit, IsBit, IsLink, inverted, one_more}
+use Rattle.vs_rules.specs.vs_process.specs.Edges.{one_bit, IsBit, IsLink, inverted, one_more}
 use Rattle.vs_law_rules.proofs.Roots.{selects_whole, whole_writes}
 use Rattle.vs_law_rules.proofs.Words.{lists_signal}
-use Rattle.vs_rules.specs.vs_threads.proofs.Copying.{start_at}
+use Rattle.vs_rules.specs.vs_process.proofs.Copying.{start_at}
 use Rattle.vs_design.specs.vs_logic4.proofs.Basics.{same_self}
 
 -- ---- the start of a signal of one bit

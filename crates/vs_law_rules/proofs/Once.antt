@@ -8,7 +8,7 @@ use Rattle.vs_process.specs.Nexts.{erased}
 use Rattle.vs_process.specs.Places.{Place, going, sleeping, inactive, waiting, ended}
 use Rattle.vs_process.specs.Steps.{step}
 use Rattle.vs_independence.specs.vs_process.proofs.Stores.{put_other}
-use Rattle.vs_rules.specs.vs_threads.specs.Threads.{Thread, store_behind, log_behind, turn_at, turn, iterate, writes}
+use Rattle.vs_rules.specs.vs_process.specs.Threads.{Thread, store_behind, log_behind, turn_at, turn, iterate, writes}
 use Rattle.vs_rules.specs.Claims.{Claims, IsWriter}
 use Rattle.vs_rules.specs.Rules.{IsSoundRoot}
 use Rattle.vs_law_rules.proofs.Walks.{HotAt, Stands, Closed, Walked, walked_iterate}

@@ -16,10 +16,10 @@ use Rattle.vs_independence.specs.vs_process.specs.States.{start, place_behind, p
 use Rattle.std.proofs.lemmas.Map.Keys.{any_passes_from_place as at_any}
 use Rattle.vs_design.specs.vs_logic4.proofs.Basics.{element_of as any_at}
 use Rattle.vs_independence.specs.vs_process.proofs.WellFormed.{variable_undriven}
-use Rattle.vs_rules.specs.vs_threads.specs.Bits.{SharesBit}
-use Rattle.vs_rules.specs.vs_threads.specs.Threads.{Thread, iterate, writes as wrote_by}
-use Rattle.vs_rules.specs.vs_threads.proofs.Held.{puts_covered}
-use Rattle.vs_rules.specs.vs_threads.proofs.Lists.{contains_at}
+use Rattle.vs_rules.specs.vs_process.specs.Bits.{SharesBit}
+use Rattle.vs_rules.specs.vs_process.specs.Threads.{Thread, iterate, writes as wrote_by, found, opening, early_at, early_turn, IsEarly}
+use Rattle.vs_rules.specs.vs_process.proofs.Held.{puts_covered}
+use Rattle.vs_rules.specs.vs_process.proofs.ThreadLists.{contains_at}
 use Rattle.vs_rules.specs.Claims.{Name, place_of}
 use Rattle.vs_rules.specs.Points.{Point, first_todo, nexts_by}
 use Rattle.vs_rules.proofs.Points.{step_goes}
@@ -29,12 +29,8 @@ use Rattle.vs_rules.specs.Drivers.{Driver, assign, block, driver_name, StandsBef
 use Rattle.vs_rules.specs.Rules.{K2, K4, needs}
 use Rattle.vs_rules.specs.Blocks.{K11}
 use Rattle.vs_independence.specs.Discipline.{Reaches}
-use Rattle.vs_rules.specs.vs_threads.specs.Threads.{found, opening}
-use Rattle.vs_rules.specs.vs_threads.specs.Blocks.{puts_into, puts_out}
+use Rattle.vs_rules.specs.vs_process.specs.BlockDrivers.{puts_into, puts_out, IsSource as IsFree, NamesSources, control}
 use Rattle.vs_independence.specs.Discipline.{IsOrdered}
-use Rattle.vs_rules.specs.vs_threads.specs.Threads.{early_at, early_turn, IsEarly}
-use Rattle.vs_rules.specs.vs_threads.specs.Blocks.{IsSource as IsFree, NamesSources}
-use Rattle.vs_rules.specs.vs_threads.specs.Blocks.{control}
 use Rattle.vs_law_rules.proofs.Beginning.{path_point, start_first}
 use Rattle.vs_law_rules.proofs.Cones.{ControlNames, is_block, out_writes, into_writes, source_of, reach_cone}
 use Rattle.vs_law_rules.proofs.Fire.{Begun, role}
@@ -103,7 +99,7 @@ ordered d c r = record {
 
     out_of : (d : Parts) (k v : ℕ) → Writes d k v → puts_out d k v ≡ true
     out_of d k v w =
-        let there = Rattle.vs_rules.specs.vs_threads.proofs.Lists.place_of (writes_of d k) w.range w.listed.0 in
+        let there = Rattle.vs_rules.specs.vs_process.proofs.ThreadLists.place_of (writes_of d k) w.range w.listed.0 in
         at_any (is_of v) (writes_of d k) there.0 w.range there.1 (Rattle.vs_design.specs.vs_logic4.proofs.Basics.same_self w.range.signal v w.of)
 
 -- no two blocks write one signal
@@ -210,7 +206,7 @@ names_sources d c formed names k r start_is q con out = by_source (r sources sta
   where
     by_source : IsSource d c q.signal ⊎ Writes d k q.signal → IsFree d (blocks_of d c) q.signal
     by_source (inr own) =
-        let there = Rattle.vs_rules.specs.vs_threads.proofs.Lists.place_of (writes_of d k) own.range own.listed.0 in
+        let there = Rattle.vs_rules.specs.vs_process.proofs.ThreadLists.place_of (writes_of d k) own.range own.listed.0 in
         absurd (true≢false (sym (at_any (is_of q.signal) (writes_of d k) there.0 own.range there.1 (Rattle.vs_design.specs.vs_logic4.proofs.Basics.same_self own.range.signal q.signal own.of)) ∙ out))
     by_source (inl src) = record {
       undriven = variable_undriven d formed q.signal src.variable;

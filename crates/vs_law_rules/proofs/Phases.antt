@@ -27,8 +27,8 @@ use Rattle.vs_independence.specs.vs_process.specs.declared.moves.Move.{Move}
 use Rattle.vs_independence.specs.vs_process.specs.States.{State, start, roused, wakened, woken_at, place_behind}
 use Rattle.vs_independence.specs.vs_process.specs.Executions.{after as reached, Legal}
 use Rattle.vs_independence.specs.vs_process.proofs.WellFormed.{variable_undriven}
-use Rattle.vs_rules.specs.vs_threads.specs.Threads.{store_behind, Thread, opening, writes, IsTimed}
-use Rattle.vs_rules.specs.vs_threads.proofs.Threads.{is_stopped}
+use Rattle.vs_rules.specs.vs_process.specs.Threads.{store_behind, Thread, opening, writes, IsTimed}
+use Rattle.vs_rules.specs.vs_process.proofs.Threads.{is_stopped}
 use Rattle.vs_independence.proofs.Times.{is_after}
 use Rattle.vs_rules.specs.Claims.{Claims, IsWriter, IsSecond, IsDelay, IsRoot, IsWide, blocks_of, is_wide}
 use Rattle.vs_rules.specs.Constants.{IsBare, itself, inside, IsKnown, Sets, IsClock, alone, two, HasBody, SetsAfter, SetsAlike, SetsAndTurns, SetsFirst, TurnsForever}
@@ -41,7 +41,7 @@ use Rattle.vs_law_rules.proofs.Beginning.{delay_steady, closed_of, start_stands,
 use Rattle.vs_law_rules.proofs.Boundary.{holds_after}
 use Rattle.vs_law_rules.proofs.Clocks.{Bared, bare_flat, flat_inside, not_both, Loop, loop_of}
 use Rattle.vs_law_rules.proofs.Fire.{zero_less, bit_digit, seq_found}
-use Rattle.vs_rules.specs.vs_threads.proofs.Links.{root_bit}
+use Rattle.vs_rules.specs.vs_process.proofs.ThreadLinks.{root_bit}
 use Rattle.vs_law_rules.proofs.Firing.{one_writer, one_second}
 use Rattle.vs_law_rules.proofs.Walks.{At, at_zero, at_later, Here, Stands}
 use Rattle.vs_law_rules.proofs.Seconds.{LedAt, RootOf, led_at, alone_now, role_now, updates_miss}
@@ -55,14 +55,14 @@ use Rattle.vs_design.specs.declared.design.ProcessKind.{ProcessKind}
 use Rattle.vs_design.specs.declared.design.ProcessKind.TheVariants.{Initial}
 use Rattle.vs_design.specs.Uses.{is_of}
 use Rattle.vs_independence.specs.Discipline.{BeginsSlot}
-use Rattle.vs_rules.specs.vs_threads.specs.Edges.{one_bit, IsBit}
+use Rattle.vs_rules.specs.vs_process.specs.Edges.{one_bit, IsBit}
 use Rattle.vs_rules.specs.Points.{Among, Point, first_todo, nexts_by}
 use Rattle.vs_rules.proofs.Points.{step_goes}
 use Rattle.vs_rules.specs.Verdict.{Keeping}
 use Rattle.vs_law_rules.proofs.Inverses.{copies_root}
 use Rattle.vs_law_rules.proofs.Roots.{whole_writes}
 use Rattle.vs_law_rules.proofs.Texts.{writes_now}
-use Rattle.vs_rules.specs.vs_threads.proofs.Filled.{body_sound as process_sound}
+use Rattle.vs_rules.specs.vs_process.proofs.Filled.{body_sound as process_sound}
 
 -- ---- texts
 

@@ -8,8 +8,8 @@ use Rattle.vs_process.specs.Nexts.{erased}
 use Rattle.vs_process.specs.Places.{Todo, Place, going, sleeping, inactive, waiting, ended}
 use Rattle.vs_process.specs.Steps.{Next, on, after, wait}
 use Rattle.vs_independence.specs.vs_process.specs.States.{State, start}
-use Rattle.vs_rules.specs.vs_threads.specs.Threads.{Thread, opening, turn, iterate}
-use Rattle.vs_rules.specs.vs_threads.proofs.Threads.{is_stopped}
+use Rattle.vs_rules.specs.vs_process.specs.Threads.{Thread, opening, turn, iterate}
+use Rattle.vs_rules.specs.vs_process.proofs.Threads.{is_stopped}
 use Rattle.vs_rules.specs.Points.{Among, Goes, nexts_by}
 use Rattle.vs_rules.proofs.Points.{by_goes, mod_sum}
 use Rattle.vs_rules.specs.Claims.{Claims, Kind, blocks_of, HasMixedLists, IsMixed, WaitsForEdges, IsSequential, is_wide}

@@ -27,8 +27,8 @@ use Rattle.vs_rules.specs.Claims.{Name, times_in}
 use Rattle.vs_rules.specs.Claims.{Claims, EdgeClaim, IsSignalNamed, edge_names, names_of_edge, signal_names, process_names, HasKind, IsRootOf}
 use Rattle.vs_rules.specs.Constants.{IsWhole, IsWholeLayer, IsWholeSelect, IsWholeSlice, IsWholeTarget, IsNegationLayer, Inverts, InvertsLayer}
 use Rattle.vs_rules.specs.Rules.{K1_Name, IsEdgeSignal}
-use Rattle.vs_rules.specs.vs_threads.specs.Edges.{IsBit, Copies}
-use Rattle.vs_rules.specs.vs_threads.specs.Edges as a
+use Rattle.vs_rules.specs.vs_process.specs.Edges.{IsBit, Copies}
+use Rattle.vs_rules.specs.vs_process.specs.Edges as a
 use Rattle.vs_rules.specs.Verdict.{Keeping}
 
 -- ---- names in lists

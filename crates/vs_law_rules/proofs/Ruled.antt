@@ -15,12 +15,12 @@ use Rattle.vs_independence.specs.vs_process.proofs.WellFormed.{variable_undriven
 use Rattle.vs_independence.specs.Discipline.{Disciplined as IsDisciplined, Leads, stays, goes_through, goes_past}
 use Rattle.vs_independence.proofs.WellFormed.{drives_well}
 use Rattle.vs_independence.proofs.Whole.{independent}
-use Rattle.vs_rules.specs.vs_threads.specs.Bits.{meet_in}
-use Rattle.vs_rules.specs.vs_threads.specs.Blocks.{IsSource as IsFree, StartsAs, control, puts_into, puts_out}
-use Rattle.vs_rules.specs.vs_threads.specs.Blocks as a
-use Rattle.vs_rules.specs.vs_threads.specs.Edges.{Copies, IsHeard}
-use Rattle.vs_rules.specs.vs_threads.proofs.Lists.{contains_at}
-use Rattle.vs_rules.specs.vs_threads.proofs.Outputs.{outputs_undriven}
+use Rattle.vs_rules.specs.vs_process.specs.Bits.{meet_in}
+use Rattle.vs_rules.specs.vs_process.specs.BlockDrivers.{IsSource as IsFree, StartsAs, control, puts_into, puts_out}
+use Rattle.vs_rules.specs.vs_process.specs.BlockDrivers as a
+use Rattle.vs_rules.specs.vs_process.specs.Edges.{Copies, IsHeard}
+use Rattle.vs_rules.specs.vs_process.proofs.ThreadLists.{contains_at}
+use Rattle.vs_rules.specs.vs_process.proofs.Outputs.{outputs_undriven}
 use Rattle.vs_rules.specs.Claims.{Claims, Kind, Start, block, edges, delays, mixed, cold, sources, starter, blocks_of, is_block_kind, kind_of, HasStart, is_wide, signal_name}
 use Rattle.vs_rules.specs.Drivers.{Driver, Passes}
 use Rattle.vs_rules.specs.Drivers as v

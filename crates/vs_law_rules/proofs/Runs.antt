@@ -19,12 +19,12 @@ use Rattle.vs_independence.specs.vs_process.proofs.Idle.{IsSound, after_sound}
 use Rattle.vs_independence.specs.vs_process.proofs.ProcessLists.{map_at}
 use Rattle.vs_independence.specs.vs_process.proofs.Times.{enabled_of}
 use Rattle.vs_independence.specs.vs_process.proofs.WellFormed.{variable_undriven}
-use Rattle.vs_rules.specs.vs_threads.specs.Blocks.{IsSource as IsFree, puts_out}
-use Rattle.vs_rules.specs.vs_threads.specs.Edges.{Copies, IsHeard, IsRoot, inverses, shown}
-use Rattle.vs_rules.specs.vs_threads.specs.Threads.{Thread, any_names, opening}
-use Rattle.vs_rules.specs.vs_threads.proofs.Events.{after_heard, heard_at}
-use Rattle.vs_rules.specs.vs_threads.proofs.Fares.{fares_later, fresh, is_awake, or_some}
-use Rattle.vs_rules.specs.vs_threads.proofs.Links.{copies_settled, copies_start}
+use Rattle.vs_rules.specs.vs_process.specs.BlockDrivers.{IsSource as IsFree, puts_out}
+use Rattle.vs_rules.specs.vs_process.specs.Edges.{Copies, IsHeard, IsRoot, inverses, shown}
+use Rattle.vs_rules.specs.vs_process.specs.Threads.{Thread, any_names, opening}
+use Rattle.vs_rules.specs.vs_process.proofs.Events.{after_heard, heard_at}
+use Rattle.vs_rules.specs.vs_process.proofs.Fares.{fares_later, fresh, is_awake, or_some}
+use Rattle.vs_rules.specs.vs_process.proofs.ThreadLinks.{copies_settled, copies_start}
 use Rattle.vs_independence.specs.Discipline.{IsAtStart, BeginsSlot, KeepsApart}
 use Rattle.vs_independence.proofs.BlocksAt.{BlocksAt, blocks_mapped, blocks_still, kept_out, text_at, woken_more}
 use Rattle.vs_independence.proofs.Ends.{Ends, all_future, all_started, slot_ends}

@@ -2,7 +2,7 @@
 use Rattle.std.proofs.Common.{◌≡◌, ℕ, zero, suc, ◌+◌, ◌<◌, ◌==◌, ◌⊎◌, true, false, Option, Some, None, List, [], ◌∷◌, map, get_or, slice_get, refl, sym, ◌∙◌, ap, subst, inl, inr}
 use Rattle.std.proofs.lemmas.Bool.{cond_both, false≢true, false_from_ne_true, or_cases, or_right}
 use Rattle.std.proofs.lemmas.Option.{get_or_from_slice_get}
-use Rattle.vs_independence.specs.vs_process.specs.vs_edges.specs.Waking.{wake_any}
+use Rattle.vs_independence.specs.vs_process.specs.vs_eval.specs.Waking.{wake_any}
 use Rattle.vs_design.specs.Parts.{Parts}
 use Rattle.vs_design.specs.Stores.{Store}
 use Rattle.vs_design.specs.WellFormed.{WellFormed}
@@ -19,9 +19,9 @@ use Rattle.vs_independence.specs.vs_process.specs.States.{AssignState, Update, s
 use Rattle.vs_independence.specs.vs_process.specs.Executions.{after as reached, Legal}
 use Rattle.std.proofs.lemmas.Map.Keys.{any_passes_from_place as at_any}
 use Rattle.vs_independence.specs.vs_process.proofs.Times.{enabled_of}
-use Rattle.vs_rules.specs.vs_threads.specs.Threads.{any_names}
+use Rattle.vs_rules.specs.vs_process.specs.Threads.{any_names}
 use Rattle.vs_independence.specs.vs_process.proofs.Permitted.{some_of}
-use Rattle.vs_rules.specs.vs_threads.proofs.Threads.{is_stopped}
+use Rattle.vs_rules.specs.vs_process.proofs.Threads.{is_stopped}
 use Rattle.vs_rules.specs.Points.{Point, first_todo, nexts_by}
 use Rattle.vs_rules.proofs.Points.{by_goes, step_goes}
 use Rattle.vs_rules.specs.Claims.{Claims, IsWriter, IsSecond, IsRoot, is_wide}

@@ -17,20 +17,19 @@ use Rattle.vs_process.specs.Places.{Todo, Place, perform, waiting, ended, active
 use Rattle.vs_process.specs.Steps.{on, wait}
 use Rattle.vs_process.proofs.Shapes.{flat-single}
 use Rattle.vs_independence.specs.vs_process.specs.States.{terms_of}
-use Rattle.vs_independence.specs.vs_process.specs.Executions.{is_block_body, is_always, waits_for_levels}
+use Rattle.vs_independence.specs.vs_process.specs.Executions.{is_block_body, is_always, waits_for_levels, is_level}
 use Rattle.vs_independence.specs.vs_process.proofs.ProcessLists.{map_cases}
-use Rattle.vs_rules.specs.vs_threads.proofs.Lists.{place_of, contains_at}
+use Rattle.vs_rules.specs.vs_process.proofs.ThreadLists.{place_of, contains_at}
 use Rattle.vs_rules.specs.Points.{Goes, Point, first_todo}
 use Rattle.vs_rules.specs.Points as r
 use Rattle.vs_rules.specs.Claims.{Claims, IsBlock}
 use Rattle.vs_rules.specs.Paths.{IsPoint}
 use Rattle.vs_rules.specs.Drivers.{Names}
 use Rattle.vs_rules.specs.Blocks.{K5}
-use Rattle.vs_rules.specs.vs_threads.specs.Blocks.{control_place, text_place, place_for, home}
+use Rattle.vs_rules.specs.vs_process.specs.BlockDrivers.{control_place, text_place, place_for, home}
 use Rattle.vs_law_rules.proofs.Cones.{ControlNames, is_block as kind_block}
 use Rattle.vs_design.specs.declared.statement.Statement.TheFolds.{map-Statement}
 use Rattle.vs_design.specs.Statements.{event_terms, event_terms_step, has_control}
-use Rattle.vs_independence.specs.vs_process.specs.Executions.{is_level}
 use Rattle.vs_rules.specs.Controls.{controls_in, controls_step}
 use Rattle.std.proofs.lemmas.List.{append-nil}
 use Rattle.vs_law_rules.proofs.Controls.{no_controls}

@@ -39,8 +39,8 @@ use Rattle.vs_process.specs.Places.{Place, Todo, active_at, ended, going, inacti
 use Rattle.vs_process.specs.Steps.{Next, after, assignment, statement_step, step, wait, on}
 use Rattle.vs_process.specs.declared.gait.Gait.{Gait}
 use Rattle.vs_process.specs.declared.gait.Gait.TheVariants.{Woken}
-use Rattle.vs_rules.specs.vs_threads.specs.Blocks.{StartsMoved, put_active, puts_out}
-use Rattle.vs_rules.specs.vs_threads.specs.Threads.{Fired, IsThread, MayOpen, Thread, iterate, opening, turn, turn_at, writes}
+use Rattle.vs_rules.specs.vs_process.specs.BlockDrivers.{StartsMoved, put_active, puts_out}
+use Rattle.vs_rules.specs.vs_process.specs.Threads.{Fired, IsThread, MayOpen, Thread, iterate, opening, turn, turn_at, writes}
 use Rattle.vs_design.specs.vs_logic4.specs.declared.digit.Digit.{Digit}
 use Rattle.vs_design.specs.vs_logic4.specs.declared.digit.Digit.TheVariants.{X}
 use Rattle.vs_independence.specs.vs_process.proofs.Digits.{digit-put, laid}

@@ -15,7 +15,7 @@ use Rattle.vs_design.specs.Uses.{joined}
 use Rattle.vs_process.specs.Drafts.{flat_all, is_block}
 use Rattle.vs_process.specs.Landings.{todo_behind}
 use Rattle.vs_process.specs.Nexts.{past, statement_nexts, nexts}
-use Rattle.vs_process.specs.Places.{Item, perform, turns, Todo, flat}
+use Rattle.vs_process.specs.Places.{Item, perform, turns, Todo, flat, ended, active_at, start_place, todo_of}
 use Rattle.vs_process.specs.Steps.{Next, on, after, wait, is_default}
 use Rattle.vs_process.proofs.Shapes.{flat-Block, flat-rolled}
 use Rattle.vs_rules.specs.Points.{Goes, Point, first_todo}
@@ -27,12 +27,11 @@ use Rattle.vs_design.specs.Statements.{all_reads, assignment_reads}
 use Rattle.vs_design.specs.Uses.{reads}
 use Rattle.vs_process.specs.declared.gait.Gait.{Gait}
 use Rattle.vs_process.specs.declared.gait.Gait.TheVariants.{Fresh}
-use Rattle.vs_process.specs.Places.{ended, active_at, start_place, todo_of}
 use Rattle.std.proofs.Common.{get_or}
-use Rattle.vs_rules.specs.vs_threads.specs.Writes.{statement_writes, statement_writes_step}
-use Rattle.vs_rules.specs.vs_threads.specs.Threads.{own_reads, item_reads, todo_reads}
+use Rattle.vs_rules.specs.vs_process.specs.Writes.{statement_writes, statement_writes_step}
+use Rattle.vs_rules.specs.vs_process.specs.Threads.{own_reads, item_reads, todo_reads}
 use Rattle.vs_rules.specs.Paths.{inner_step, own_step_reads, text_reads, text_reads_step, statement_now, statement_later, todo_now, todo_later, reads_for, reads_of, writes_of, IsPoint, WritesNow, WritesLater, Writes}
-use Rattle.vs_rules.specs.vs_threads.specs.Blocks.{outputs_for as writes_for}
+use Rattle.vs_rules.specs.vs_process.specs.BlockDrivers.{outputs_for as writes_for}
 
 -- all elements of a list are in another one
 abbrev pub Sub : {A : Type 0} → List A → List A → Type 0

@@ -12,9 +12,9 @@ use Rattle.vs_process.specs.Steps.{Next, wait}
 use Rattle.vs_independence.specs.vs_process.specs.Executions.{is_level}
 use Rattle.vs_independence.specs.vs_process.specs.States.{State, start, triggered}
 use Rattle.vs_independence.specs.vs_process.proofs.ProcessLists.{none_at}
-use Rattle.vs_rules.specs.vs_threads.specs.Threads.{Thread, turn, iterate, writes, any_names, place_reads, place_shows, todo_shows}
-use Rattle.vs_rules.specs.vs_threads.proofs.Lists.{place_of}
-use Rattle.vs_rules.specs.vs_threads.proofs.Threads.{is_stopped}
+use Rattle.vs_rules.specs.vs_process.specs.Threads.{Thread, turn, iterate, writes, any_names, place_reads, place_shows, todo_shows, Fired, found, opening, is_timed, Fires as Wakes, MayOpen, IsThread}
+use Rattle.vs_rules.specs.vs_process.proofs.ThreadLists.{place_of}
+use Rattle.vs_rules.specs.vs_process.proofs.Threads.{is_stopped}
 use Rattle.vs_rules.proofs.Points.{erased_reads}
 use Rattle.vs_rules.specs.Claims.{Claims, blocks_of, WaitsForEdges, IsSequential, is_wide}
 use Rattle.vs_rules.specs.Verdict.{Keeping}
@@ -22,7 +22,6 @@ use Rattle.vs_rules.specs.Paths.{PathBy, is_zero_time, IsHot, HasTerm}
 use Rattle.vs_rules.specs.Points.{nexts_by}
 use Rattle.vs_rules.specs.Rules.{Reads}
 use Rattle.vs_rules.specs.Slots.{Fires}
-use Rattle.vs_rules.specs.vs_threads.specs.Threads.{Fired, found, opening, is_timed, Fires as Wakes, MayOpen, IsThread}
 use Rattle.vs_law_rules.specs.Laws.{ClockTurns}
 use Rattle.vs_law_rules.proofs.Beginning.{edge_ends}
 use Rattle.vs_law_rules.proofs.Fire.{Begun, Walking, role, closed, stands_found, stopped_iterate}

@@ -27,7 +27,7 @@ use Rattle.vs_design.specs.WellFormed.{aim_width, is_sound_statement, is_sound_t
 use Rattle.vs_independence.specs.vs_process.specs.vs_eval.specs.Targets.{part_at, parts_from}
 use Rattle.vs_independence.specs.vs_process.specs.vs_eval.specs.Values.{target_value}
 use Rattle.vs_process.specs.Steps.{assignment}
-use Rattle.vs_rules.specs.vs_threads.specs.Edges.{one_bit}
+use Rattle.vs_rules.specs.vs_process.specs.Edges.{one_bit}
 use Rattle.vs_rules.proofs.Points.{mod_sum}
 use Rattle.vs_rules.specs.Constants.{IsBare, itself, inside, IsKnown, IsInverse, IsInverseLayer, Inverts, InvertsLayer, IsTurn, IsWholeTarget, TurnsForever}
 use Rattle.vs_rules.specs.Constants as k

@@ -16,14 +16,13 @@ use Rattle.vs_process.specs.declared.gait.Gait.TheVariants.{Woken}
 use Rattle.vs_process.specs.Places.{perform, Todo, Place, going, sleeping, inactive, waiting, ended, active_at}
 use Rattle.vs_process.specs.Steps.{goes, on, after, assignment, Out, step}
 use Rattle.vs_independence.specs.vs_process.specs.States.{place_behind, paused, roused, woken_at, wakened}
-use Rattle.vs_independence.specs.vs_process.proofs.Digits.{digit-put}
+use Rattle.vs_independence.specs.vs_process.proofs.Digits.{digit-put, laid}
 use Rattle.vs_independence.specs.vs_process.proofs.Stores.{shape-put}
 use Rattle.vs_independence.specs.vs_process.specs.vs_eval.specs.Laws.{digit_of}
 use Rattle.std.specs.Prelude.{option_map}
-use Rattle.vs_independence.specs.vs_process.proofs.Digits.{laid}
-use Rattle.vs_rules.specs.vs_threads.specs.Edges.{one_bit}
-use Rattle.vs_rules.specs.vs_threads.specs.Threads.{Thread, store_behind, log_behind, turn_at, turn, iterate, writes}
-use Rattle.vs_rules.specs.vs_threads.proofs.Threads.{is_stopped}
+use Rattle.vs_rules.specs.vs_process.specs.Edges.{one_bit}
+use Rattle.vs_rules.specs.vs_process.specs.Threads.{Thread, store_behind, log_behind, turn_at, turn, iterate, writes}
+use Rattle.vs_rules.specs.vs_process.proofs.Threads.{is_stopped}
 use Rattle.vs_independence.proofs.Times.{is_after}
 use Rattle.vs_rules.specs.Constants.{bit_of, GivesDigit, IsKnown}
 use Rattle.vs_rules.specs.Paths.{IsSlot0, WritesNow}

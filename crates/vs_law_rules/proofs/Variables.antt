@@ -22,14 +22,13 @@ use Rattle.vs_design.specs.Uses.{aim_range, joined, writes}
 use Rattle.vs_design.specs.WellFormed.{WellFormed, aim_width, is_of_variable, is_variable_aim, is_source, is_within, is_sound_target, is_sound_assignment, is_sound_operand, is_sound_process, is_sound_statement, sound_step, are_sound_terms, are_sound_labels, numbers, counts_from, is_body_of}
 use Rattle.vs_independence.specs.vs_process.proofs.ProcessLists.{map_cases, all_slice}
 use Rattle.vs_design.specs.vs_logic4.proofs.Basics.{all_at}
-use Rattle.vs_independence.specs.vs_process.proofs.WellFormed.{IsVariable}
-use Rattle.vs_rules.specs.vs_threads.specs.Writes.{statement_writes, statement_writes_step}
-use Rattle.vs_rules.specs.vs_threads.proofs.Lists.{place_of}
+use Rattle.vs_independence.specs.vs_process.proofs.WellFormed.{IsVariable, variable_at as variable_signal}
+use Rattle.vs_rules.specs.vs_process.specs.Writes.{statement_writes, statement_writes_step}
+use Rattle.vs_rules.specs.vs_process.proofs.ThreadLists.{place_of}
 use Rattle.vs_rules.specs.Claims.{HasKind}
 use Rattle.vs_rules.specs.Paths.{Writes}
-use Rattle.vs_rules.specs.vs_threads.specs.Blocks.{outputs_for as writes_for}
+use Rattle.vs_rules.specs.vs_process.specs.BlockDrivers.{outputs_for as writes_for}
 use Rattle.vs_law_rules.proofs.Texts.{none_in}
-use Rattle.vs_independence.specs.vs_process.proofs.WellFormed.{variable_at as variable_signal}
 
 aim_variable : (ss : List Signal) (x : Aim) → is_variable_aim ss x ≡ true → IsVariable ss (aim_range x).signal
 aim_variable ss (Fixed s) h = variable_signal (slice_get ss s.signal) h

@@ -20,7 +20,7 @@ use Rattle.vs_design.specs.Uses.{is_of, joined}
 use Rattle.vs_design.specs.WellFormed.{WellFormed, is_sound_operand, is_sound_process, is_sound_statement, sound_step, are_sound_terms, are_sound_labels, numbers, counts_from, is_body_of}
 use Rattle.vs_independence.specs.vs_process.proofs.ProcessLists.{map_at, all_slice}
 use Rattle.vs_design.specs.vs_logic4.proofs.Basics.{all_at, element_of as any_at}
-use Rattle.vs_rules.specs.vs_threads.proofs.Lists.{place_of}
+use Rattle.vs_rules.specs.vs_process.proofs.ThreadLists.{place_of}
 use Rattle.vs_law_rules.proofs.Texts.{none_in}
 use Rattle.vs_design.specs.vs_logic4.proofs.Basics.{there as got_within}
 
@@ -102,5 +102,5 @@ heard_signal d formed i v p is h =
     let found = any_at (λ (t : EventTerm). is_of v t.range) (event_terms p.body) h in
     let sound = all_slice (λ (p : Process). is_sound_process d.signals p ≡ true) d.processes i p is formed.processes in
     let text = (and_parts (is_sound_statement d.signals p.body) (counts_from 0 (numbers p.body)) (and_parts (is_sound_statement d.signals p.body && counts_from 0 (numbers p.body)) (is_body_of p.kind p.body) sound).0).0 in
-    let less = sound_waits d.signals p.body text found.1 (Rattle.vs_rules.specs.vs_threads.proofs.Lists.contains_at (event_terms p.body) found.0 found.1 found.2) in
+    let less = sound_waits d.signals p.body text found.1 (Rattle.vs_rules.specs.vs_process.proofs.ThreadLists.contains_at (event_terms p.body) found.0 found.1 found.2) in
     got_within d.signals v (subst (λ n. n < length d.signals) (eqb-true found.1.range.signal v found.3) less)

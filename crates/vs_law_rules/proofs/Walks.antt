@@ -14,7 +14,7 @@ use Rattle.vs_process.specs.Nexts.{erased, erased_next}
 use Rattle.vs_process.specs.Places.{Todo, Place, going, sleeping, inactive, waiting, ended, active_at, stepped_gait}
 use Rattle.vs_process.specs.Steps.{Next, on, after, wait, Out, step}
 use Rattle.vs_independence.specs.vs_process.specs.States.{Update, place_behind, paused, updates_behind, roused}
-use Rattle.vs_rules.specs.vs_threads.specs.Threads.{Thread, log_behind, turn_at, turn, iterate, writes, any_names}
+use Rattle.vs_rules.specs.vs_process.specs.Threads.{Thread, log_behind, turn_at, turn, iterate, writes, any_names}
 use Rattle.vs_rules.specs.Points.{Among, Goes, nexts_by, Point}
 use Rattle.vs_rules.proofs.Points.{by_goes, by_path, step_goes, mod_sum}
 use Rattle.vs_rules.specs.Claims.{Claims, kind_of, is_wide}

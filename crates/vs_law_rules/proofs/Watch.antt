@@ -22,15 +22,14 @@ use Rattle.vs_independence.specs.vs_process.specs.Executions.{after, Legal, ends
 use Rattle.vs_independence.specs.vs_process.proofs.Assigns.{assign_driven, assigned_other}
 use Rattle.vs_independence.specs.vs_process.proofs.Idle.{after_sound}
 use Rattle.vs_independence.specs.vs_process.proofs.Stores.{put_other}
-use Rattle.vs_independence.specs.vs_process.proofs.Times.{enabled_of}
-use Rattle.vs_rules.specs.vs_threads.specs.Threads.{Thread, store_behind, turn_at, turn, iterate}
+use Rattle.vs_independence.specs.vs_process.proofs.Times.{enabled_of, behind_time as same_time}
+use Rattle.vs_rules.specs.vs_process.specs.Threads.{Thread, store_behind, turn_at, turn, iterate}
 use Rattle.vs_law_rules.specs.Laws.{TimeRises}
-use Rattle.vs_rules.specs.vs_threads.proofs.Threads.{is_stopped, stopped_from}
+use Rattle.vs_rules.specs.vs_process.proofs.Threads.{is_stopped, stopped_from}
 use Rattle.vs_independence.proofs.Making.{none_get}
 use Rattle.vs_independence.proofs.InnerMoves.{AtEnd, at_end}
 use Rattle.vs_independence.specs.vs_process.proofs.Permitted.{some_of}
 use Rattle.vs_independence.proofs.Times.{is_after, after_next, get_from_all}
-use Rattle.vs_independence.specs.vs_process.proofs.Times.{behind_time as same_time}
 
 -- a property of a process's place and of the store at a time is kept by all that the process does, and by what leaves the signal as it is; where a
 -- slot ends, another one is known of the store

@@ -14,7 +14,7 @@ use Rattle.vs_process.specs.Nexts.{erased}
 use Rattle.vs_process.specs.Places.{perform, turns, Todo}
 use Rattle.vs_process.specs.Steps.{step}
 use Rattle.vs_design.specs.vs_logic4.proofs.Basics.{element_of as any_at}
-use Rattle.vs_rules.specs.vs_threads.proofs.Lists.{contains_at}
+use Rattle.vs_rules.specs.vs_process.proofs.ThreadLists.{contains_at}
 use Rattle.vs_rules.specs.Points as r
 use Rattle.vs_rules.proofs.Points.{write_follows, update_follows}
 use Rattle.vs_rules.specs.Paths.{ListsSignal, statement_now, statement_later, WritesNow, WritesLater}

@@ -15,23 +15,17 @@ use Rattle.vs_independence.specs.vs_process.specs.declared.moves.Move.TheVariant
 use Rattle.vs_independence.specs.vs_process.specs.Executions.{after, Legal, next_time}
 use Rattle.vs_independence.specs.vs_process.specs.States.{State, start}
 use Rattle.vs_independence.specs.Discipline.{BeginsSlot}
-use Rattle.vs_rules.specs.vs_threads.specs.Threads.{Thread, writes}
+use Rattle.vs_rules.specs.vs_process.specs.Threads.{Thread, writes, IsTimed, IsEarly}
 use Rattle.vs_rules.specs.Claims.{Claims, Kind, block, cold, sources, starter, HasStart, IsWide, IsWriter, IsRoot, kind_of, blocks_of}
-use Rattle.vs_rules.specs.vs_threads.specs.Blocks as r
-use Rattle.vs_rules.specs.vs_threads.specs.Blocks.{Roles, StartsCold}
+use Rattle.vs_rules.specs.vs_process.specs.BlockDrivers as r
+use Rattle.vs_rules.specs.vs_process.specs.BlockDrivers.{Roles, StartsCold, control, puts_into, puts_out, IsBlock as Follows, IsSource as IsFree, NamesSources, StartsMoved}
 use Rattle.vs_independence.specs.Discipline.{Independent}
 use Rattle.vs_independence.specs.Displays.{DisplaysAlike}
 use Rattle.vs_rules.specs.Constants.{IsKnown, IsClock}
 use Rattle.vs_rules.specs.Paths.{reads_of}
-use Rattle.vs_rules.specs.vs_threads.specs.Blocks.{control}
-use Rattle.vs_rules.specs.vs_threads.specs.Edges.{Copies, IsHeard}
-use Rattle.vs_rules.specs.vs_threads.specs.Threads.{IsTimed}
+use Rattle.vs_rules.specs.vs_process.specs.Edges.{Copies, IsHeard}
 use Rattle.vs_independence.specs.Discipline.{Leads, Reaches, KeepsApart}
-use Rattle.vs_rules.specs.vs_threads.specs.Blocks.{puts_into, puts_out}
-use Rattle.vs_rules.specs.vs_threads.specs.Blocks.{IsBlock as Follows}
 use Rattle.vs_independence.specs.Discipline.{IsOrdered}
-use Rattle.vs_rules.specs.vs_threads.specs.Threads.{IsEarly}
-use Rattle.vs_rules.specs.vs_threads.specs.Blocks.{IsSource as IsFree, NamesSources, StartsMoved}
 use Rattle.vs_rules.specs.Verdict.{Disciplined}
 
 -- ---- times

@@ -18,8 +18,8 @@ use Rattle.vs_design.specs.declared.statement.Ticks.{Ticks}
 use Rattle.vs_design.specs.Uses.{joined}
 use Rattle.vs_design.specs.WellFormed.{numbers}
 use Rattle.vs_elab_statements.proofs.FormLemmas.{numbers_Null, numbers_Assign, numbers_Later, numbers_Block, numbers_Delay, numbers_Event, numbers_If, numbers_Case, numbers_While, numbers_Repeat, numbers_Forever, numbers_Call, numbers_Finish, item_numbers}
-use Rattle.vs_elab_laws.specs.Same.{SameTyped, SameSides, SameCall, SameStatement, null_same, assign_same, later_same, call_same, finish_same, block_same, delay_same, event_same, if_same, case_same, while_same, repeat_same, forever_same, SameItems, items_end, item_same, SameStatements, statements_end, statement_same}
-use Rattle.vs_elab_laws.proofs.SameStatementLemmas.{same_count}
+use Rattle.vs_elaborate.specs.Same.{SameTyped, SameSides, SameCall, SameStatement, null_same, assign_same, later_same, call_same, finish_same, block_same, delay_same, event_same, if_same, case_same, while_same, repeat_same, forever_same, SameItems, items_end, item_same, SameStatements, statements_end, statement_same}
+use Rattle.vs_elaborate.proofs.SameStatementLemmas.{same_count}
 
 -- an item of a `case`
 abbrev pub Choice : Type 0

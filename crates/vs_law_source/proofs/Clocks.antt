@@ -15,7 +15,7 @@ use Rattle.vs_design.specs.declared.statement.Target.{Target}
 use Rattle.vs_design.specs.declared.statement.Ticks.{Ticks}
 use Rattle.vs_design.specs.Parts.{Parts}
 use Rattle.vs_elab_statements.specs.vs_elab_listed.specs.Outlines.{Declared}
-use Rattle.vs_elab_laws.specs.Same.{SameSides}
+use Rattle.vs_elaborate.specs.Same.{SameSides}
 use Rattle.vs_rules.specs.Claims.{Claims, is_wide}
 use Rattle.vs_rules.specs.Constants.{bit_of, IsBare, itself, inside, Sets, Turns, SetsAfter, TurnsForever, SetsAndTurns, HasBody, SetsAlike, SetsFirst, IsClock}
 use Rattle.vs_law_source.proofs.Alike.{Alike, alike, AlikeLayer, of_assign, of_delay, of_block, of_forever, AlikeAll, all_end, all_more}

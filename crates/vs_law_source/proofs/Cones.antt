@@ -6,7 +6,7 @@ use Rattle.vs_design.specs.declared.range.BitRange.{BitRange}
 use Rattle.vs_design.specs.Parts.{Parts}
 use Rattle.vs_design.specs.Uses.{reads, writes}
 use Rattle.vs_elab_statements.specs.vs_elab_listed.specs.Outlines.{Declared}
-use Rattle.vs_threads.specs.Blocks.{outputs_for}
+use Rattle.vs_process.specs.BlockDrivers.{outputs_for}
 use Rattle.vs_rules.specs.Claims.{Claims}
 use Rattle.vs_rules.specs.Controls.{controls_at, controls_of}
 use Rattle.vs_rules.specs.Drivers.{Driver, assign, block, IsDriver, DriverWrites, DriverReads, Names, DriverNeeds, driver_name, StandsBefore, IsSource, IsBlocking, InCone, Passes, WritesBit}

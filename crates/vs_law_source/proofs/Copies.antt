@@ -6,7 +6,7 @@ use Rattle.vs_design.specs.declared.statement.EventTerm.{EventTerm}
 use Rattle.vs_design.specs.Parts.{Parts}
 use Rattle.vs_design.specs.Uses.{writes}
 use Rattle.vs_elab_statements.specs.vs_elab_listed.specs.Outlines.{Declared}
-use Rattle.vs_elab_laws.specs.vs_width_selects.specs.Layers.{layer_of}
+use Rattle.vs_elaborate.specs.vs_widths.specs.Layers.{layer_of}
 use Rattle.vs_rules.specs.Constants.{IsWhole, Inverts}
 use Rattle.vs_rules.specs.Copies.{IsOneBit, IsCopyBy, IsCopy, IsInverseCopy, CopiesRoot, itself, copy, inverse, is_odd, IsInverted, SeenAs}
 use Rattle.vs_law_source.proofs.Clocks.{sizes}

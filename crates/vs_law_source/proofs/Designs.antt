@@ -14,8 +14,8 @@ use Rattle.vs_design.specs.Stores.{start_digits, start_words, start_store, drive
 use Rattle.vs_design.specs.Uses.{covers}
 use Rattle.vs_design.specs.WellFormed.{numbers, counts_from, width_at}
 use Rattle.vs_elab_statements.specs.vs_elab_listed.specs.Outlines.{Declared, declared}
-use Rattle.vs_elab_laws.specs.Same.{SameAssign, SameProcess, SameDesign}
-use Rattle.vs_threads.specs.Bits.{common_word, common_place, meet_in}
+use Rattle.vs_elaborate.specs.Same.{SameAssign, SameProcess, SameDesign}
+use Rattle.vs_process.specs.Bits.{common_word, common_place, meet_in}
 use Rattle.vs_law_source.proofs.Alike.{Alike, alike_of}
 use Rattle.vs_law_source.proofs.Turned.{zip_turned, turned, sides_turned}
 

@@ -14,11 +14,11 @@ use Rattle.vs_design.specs.declared.statement.Statement.TheViews.{out-Statement}
 use Rattle.vs_design.specs.Parts.{Parts}
 use Rattle.vs_design.specs.Statements.{call_reads}
 use Rattle.vs_design.specs.Uses.{reads}
-use Rattle.vs_threads.specs.vs_process.specs.Drafts.{is_block}
-use Rattle.vs_threads.specs.vs_process.specs.Numbers.{number_of, number_next}
-use Rattle.vs_threads.specs.vs_process.specs.Places.{perform, turns, Todo}
-use Rattle.vs_threads.specs.Threads.{own_reads, own_shows, shown_by, todo_reads, todo_shows}
-use Rattle.vs_elab_laws.specs.Same.{SameCall}
+use Rattle.vs_process.specs.Drafts.{is_block}
+use Rattle.vs_process.specs.Numbers.{number_of, number_next}
+use Rattle.vs_process.specs.Places.{perform, turns, Todo}
+use Rattle.vs_process.specs.Threads.{own_reads, own_shows, shown_by, todo_reads, todo_shows}
+use Rattle.vs_elaborate.specs.Same.{SameCall}
 use Rattle.vs_rules.specs.Blocks.{is_late_effect, has_late_effect, is_strobe, statement_surely, todo_surely}
 use Rattle.vs_rules.specs.Claims.{Claims}
 use Rattle.vs_rules.specs.Constants.{statement_assigns, todo_assigns, given_by, Gives}

@@ -3,9 +3,9 @@ use Rattle.std.proofs.Common.{◌≡◌, ℕ, ◌%◌, ◌+◌, ◌⊎◌, Bool,
 use Rattle.vs_design.specs.declared.range.BitRange.{BitRange}
 use Rattle.vs_design.specs.Parts.{Parts}
 use Rattle.vs_design.specs.Uses.{reads}
-use Rattle.vs_threads.specs.vs_process.specs.Numbers.{number_next}
-use Rattle.vs_threads.specs.vs_process.specs.Places.{Todo}
-use Rattle.vs_threads.specs.vs_process.specs.Steps.{Next, after}
+use Rattle.vs_process.specs.Numbers.{number_next}
+use Rattle.vs_process.specs.Places.{Todo}
+use Rattle.vs_process.specs.Steps.{Next, after}
 use Rattle.vs_rules.specs.Claims.{Name, Mode, net, unwritten, combinational, nonblocking, blocking, private, both, Claims, writer_in, second_in, IsBlock, IsDelay, IsSequential, is_wide}
 use Rattle.vs_rules.specs.Constants.{bit_of}
 use Rattle.vs_rules.specs.Drivers.{Driver, block}

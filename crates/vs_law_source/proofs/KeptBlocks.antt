@@ -15,11 +15,11 @@ use Rattle.vs_design.specs.declared.statement.Target.{Target}
 use Rattle.vs_design.specs.Parts.{Parts}
 use Rattle.vs_design.specs.Stores.{Store, changes_nothing}
 use Rattle.vs_design.specs.Uses.{covers, writes}
-use Rattle.vs_threads.specs.vs_eval.specs.Laws.{digit_of}
-use Rattle.vs_threads.specs.vs_process.specs.Places.{Todo}
-use Rattle.vs_threads.specs.vs_process.specs.Executions.{is_level, waits_for_levels, is_block_body, is_always, is_combinational}
-use Rattle.vs_threads.specs.Blocks.{sizes, IsSettledStart}
-use Rattle.vs_elab_laws.specs.Same.{SameSides, SameAssign}
+use Rattle.vs_process.specs.vs_eval.specs.Laws.{digit_of}
+use Rattle.vs_process.specs.Places.{Todo}
+use Rattle.vs_process.specs.Executions.{is_level, waits_for_levels, is_block_body, is_always, is_combinational}
+use Rattle.vs_process.specs.BlockDrivers.{sizes, IsSettledStart}
+use Rattle.vs_elaborate.specs.Same.{SameSides, SameAssign}
 use Rattle.vs_rules.specs.Blocks.{Unwritten, K5, run_alone, StaysCold, IsCold, WaitsForSources, CopiesWhole, NamesBit, statement_update, todo_update, Begins, Missing, MayStart, IsStarted, Starts, K11}
 use Rattle.vs_rules.specs.Claims.{Claims, Start, cold, sources, starter, nonblocking, both}
 use Rattle.vs_rules.specs.Drivers.{block}

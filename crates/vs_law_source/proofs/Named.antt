@@ -8,7 +8,7 @@ use Rattle.vs_design.specs.declared.signal.Signal.{Signal}
 use Rattle.vs_design.specs.Kinds.{is_variable}
 use Rattle.vs_design.specs.Parts.{Parts}
 use Rattle.vs_elab_statements.specs.vs_elab_listed.specs.Outlines.{Declared}
-use Rattle.vs_elab_laws.specs.Same.{SameAssign}
+use Rattle.vs_elaborate.specs.Same.{SameAssign}
 use Rattle.vs_rules.specs.Claims.{Name, Mode, Start, Claims, SignalClaim, signal_name, process_name, assign_name, IsSignalNamed, IsProcessNamed, IsAssignNamed, names_process, signal_claim, claim_for, claim_of, writer_in, second_in, mode_in, IsWriter, IsSecond, HasMode, HasKind, kind_in, kind_for, kind_of, HasStart, IsBlock, IsEdge, HasLists, IsDelay, HasMixedLists, IsMixed, WaitsForEdges, WaitsForTimes, IsSequential, IsRootOf, IsRoot}
 use Rattle.vs_law_source.proofs.Designs.{SameSignal, AlikeProcess, Twins, signals_alike, assigns_alike, processes_alike, signal_there}
 

@@ -20,13 +20,13 @@ use Rattle.vs_design.specs.declared.statement.Statement.TheViews.{out-Statement,
 use Rattle.vs_design.specs.declared.statement.Ticks.{Ticks}
 use Rattle.vs_design.specs.Uses.{joined}
 use Rattle.vs_design.specs.WellFormed.{numbers, numbers_step, counts_from}
-use Rattle.vs_threads.specs.vs_process.specs.Drafts.{flat_all, numbers_all, numbers_in, numbers_inside}
-use Rattle.vs_threads.specs.vs_process.specs.Landings.{todo_behind}
-use Rattle.vs_threads.specs.vs_process.specs.Nexts.{past, statement_nexts}
-use Rattle.vs_threads.specs.vs_process.specs.Numbers.{number_of, number_next, once_where, times_here, times_in}
-use Rattle.vs_threads.specs.vs_process.specs.Places.{Item, perform, turns, Todo, flat}
-use Rattle.vs_threads.specs.vs_process.specs.Steps.{Next, on, after, wait, is_default}
-use Rattle.vs_threads.proofs.ThreadsTodos.{flat_each}
+use Rattle.vs_process.specs.Drafts.{flat_all, numbers_all, numbers_in, numbers_inside}
+use Rattle.vs_process.specs.Landings.{todo_behind}
+use Rattle.vs_process.specs.Nexts.{past, statement_nexts}
+use Rattle.vs_process.specs.Numbers.{number_of, number_next, once_where, times_here, times_in}
+use Rattle.vs_process.specs.Places.{Item, perform, turns, Todo, flat}
+use Rattle.vs_process.specs.Steps.{Next, on, after, wait, is_default}
+use Rattle.vs_process.proofs.ThreadsTodos.{flat_each}
 use Rattle.vs_rules.specs.Points.{Among, Goes, Point}
 use Rattle.vs_law_source.proofs.Alike.{Choice}
 

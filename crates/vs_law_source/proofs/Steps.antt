@@ -15,13 +15,13 @@ use Rattle.vs_design.specs.declared.statement.Statement.TheOpen.{Statement-F}
 use Rattle.vs_design.specs.declared.statement.Statement.TheViews.{out-Statement}
 use Rattle.vs_design.specs.declared.statement.Target.{Target}
 use Rattle.vs_design.specs.Stores.{Store}
-use Rattle.vs_threads.specs.vs_eval.specs.Targets.{assigned}
-use Rattle.vs_threads.specs.vs_eval.specs.Values.{target_value, value_of}
-use Rattle.vs_threads.specs.vs_process.specs.Places.{Item, perform, turns, Todo, flat}
-use Rattle.vs_threads.specs.vs_process.specs.Steps.{Next, on, after, wait, Out, assignment, branch, item_matches, is_default, first_of, flat_item, taken, turns_for, repeated, statement_step, step}
-use Rattle.vs_threads.specs.Threads.{store_behind}
-use Rattle.vs_elab_laws.specs.Same.{SameTyped, SameSides}
-use Rattle.vs_elab_laws.proofs.PairLemmas.{pair_append}
+use Rattle.vs_process.specs.vs_eval.specs.Targets.{assigned}
+use Rattle.vs_process.specs.vs_eval.specs.Values.{target_value, value_of}
+use Rattle.vs_process.specs.Places.{Item, perform, turns, Todo, flat}
+use Rattle.vs_process.specs.Steps.{Next, on, after, wait, Out, assignment, branch, item_matches, is_default, first_of, flat_item, taken, turns_for, repeated, statement_step, step}
+use Rattle.vs_process.specs.Threads.{store_behind}
+use Rattle.vs_elaborate.specs.Same.{SameTyped, SameSides}
+use Rattle.vs_elaborate.proofs.PairLemmas.{pair_append}
 use Rattle.vs_rules.specs.Blocks.{arrived, run_alone}
 use Rattle.vs_law_source.proofs.Alike.{Choice, Alike, alike, AlikeLayer, of_null, of_assign, of_later, of_call, of_finish, of_block, of_delay, of_event, of_if, of_case, of_while, of_repeat, of_forever, AlikeChoices, choices_end, choices_more}
 use Rattle.vs_law_source.proofs.Todos.{AlikeItem, performs, turning, AlikeTodo, AlikeNext, both_on, both_after, both_wait, flat_alike, in_front}

@@ -20,9 +20,9 @@ use Rattle.vs_design.specs.declared.statement.Target.{Target}
 use Rattle.vs_design.specs.declared.statement.Ticks.{Ticks}
 use Rattle.vs_design.specs.Statements.{all_reads, assignment_reads, arg_reads, has_control, has_control_step}
 use Rattle.vs_design.specs.Uses.{joined, reads, target_reads}
-use Rattle.vs_threads.specs.Threads.{item_reads}
-use Rattle.vs_threads.specs.Writes.{statement_writes, statement_writes_step}
-use Rattle.vs_elab_laws.specs.Same.{SameTyped, SameSides, SameFormatArg, SameCall}
+use Rattle.vs_process.specs.Threads.{item_reads}
+use Rattle.vs_process.specs.Writes.{statement_writes, statement_writes_step}
+use Rattle.vs_elaborate.specs.Same.{SameTyped, SameSides, SameFormatArg, SameCall}
 use Rattle.vs_rules.specs.Controls.{controls_in, controls_step}
 use Rattle.vs_rules.specs.Paths.{text_reads, text_reads_step}
 use Rattle.vs_law_source.proofs.Alike.{Choice, Alike, alike, AlikeLayer, of_null, of_assign, of_later, of_call, of_finish, of_block, of_delay, of_event, of_if, of_case, of_while, of_repeat, of_forever, AlikeAll, all_end, all_more, AlikeChoices, choices_end, choices_more}

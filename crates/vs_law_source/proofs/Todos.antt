@@ -11,16 +11,15 @@ use Rattle.vs_design.specs.declared.statement.Statement.TheOpen.{Statement-F}
 use Rattle.vs_design.specs.declared.statement.Statement.TheOpen as f
 use Rattle.vs_design.specs.declared.statement.Statement.TheVariants as d
 use Rattle.vs_design.specs.declared.statement.Statement.TheViews.{out-Statement, roll-Statement, roll-out-Statement}
-use Rattle.vs_threads.specs.vs_process.specs.Drafts.{flat_all, is_block}
-use Rattle.vs_threads.specs.vs_process.specs.Nexts.{past, case_nexts, statement_nexts, nexts}
-use Rattle.vs_threads.specs.vs_process.specs.Places.{Item, perform, turns, Todo, flat}
-use Rattle.vs_threads.specs.vs_process.specs.Steps.{Next, on, after, wait, has_nothing, is_default}
-use Rattle.vs_threads.specs.vs_process.proofs.Shapes.{flat-Block, flat-single}
-use Rattle.vs_elab_laws.specs.Same.{SameTyped}
-use Rattle.vs_elab_laws.proofs.PairLemmas.{pair_append}
+use Rattle.vs_process.specs.Drafts.{flat_all, is_block}
+use Rattle.vs_process.specs.Nexts.{past, case_nexts, statement_nexts, nexts}
+use Rattle.vs_process.specs.Places.{Item, perform, turns, Todo, flat}
+use Rattle.vs_process.specs.Steps.{Next, on, after, wait, has_nothing, is_default, turns_for}
+use Rattle.vs_process.proofs.Shapes.{flat-Block, flat-single}
+use Rattle.vs_elaborate.specs.Same.{SameTyped}
+use Rattle.vs_elaborate.proofs.PairLemmas.{pair_append}
 use Rattle.vs_design.specs.Uses.{reads}
-use Rattle.vs_threads.specs.vs_process.specs.Steps.{turns_for}
-use Rattle.vs_threads.specs.vs_eval.specs.Values.{value_of}
+use Rattle.vs_process.specs.vs_eval.specs.Values.{value_of}
 use Rattle.vs_rules.specs.Points.{Among, Goes, first_alone, has_turn, nexts_by, surely_turns, todo_turns}
 use Rattle.vs_law_source.proofs.Alike.{Choice, Alike, alike, AlikeLayer, of_null, of_assign, of_later, of_call, of_finish, of_block, of_delay, of_event, of_if, of_case, of_while, of_repeat, of_forever, AlikeAll, all_end, all_more, AlikeChoices, choices_end, choices_more}
 use Rattle.vs_law_source.proofs.Turned.{turned}

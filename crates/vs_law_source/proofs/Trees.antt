@@ -18,9 +18,9 @@ use Rattle.vs_design.specs.declared.statement.Target.{Target}
 use Rattle.vs_design.specs.Parts.{Parts}
 use Rattle.vs_design.specs.Uses.{aim_range, covers, is_of, reads}
 use Rattle.vs_design.specs.WellFormed.{aim_width}
-use Rattle.vs_threads.specs.vs_eval.specs.Values.{target_value}
-use Rattle.vs_elab_laws.specs.vs_width_selects.specs.Layers.{FixedBits, slice_bits, Layer, name, select, inverse, negation, negated, bits, brought, operator_layer, layer_step, layer_of}
-use Rattle.vs_elab_laws.specs.Same.{SameAim, SameTarget, SameSides}
+use Rattle.vs_process.specs.vs_eval.specs.Values.{target_value}
+use Rattle.vs_elaborate.specs.vs_widths.specs.Layers.{FixedBits, slice_bits, Layer, name, select, inverse, negation, negated, bits, brought, operator_layer, layer_step, layer_of}
+use Rattle.vs_elaborate.specs.Same.{SameAim, SameTarget, SameSides}
 use Rattle.vs_rules.specs.Blocks.{is_sure}
 use Rattle.vs_rules.specs.Constants.{IsWholeSlice, IsWholeTarget, IsWholeSelect, IsWholeLayer, IsWhole, IsInverseLayer, IsInverse, IsNegationLayer, InvertsLayer, Inverts, IsTurn, digit_there, place_gives, any_aims, places_give, is_nothing, given}
 use Rattle.vs_rules.specs.Paths.{Bit}

@@ -10,7 +10,7 @@ use Rattle.vs_design.specs.declared.statement.Statement.{Statement}
 use Rattle.vs_design.specs.declared.statement.Statement.TheOpen.{Statement-F}
 use Rattle.vs_design.specs.declared.statement.Statement.TheViews.{out-Statement}
 use Rattle.vs_design.specs.declared.statement.Target.{Target}
-use Rattle.vs_elab_laws.specs.Same.{SameTyped, SameAim, SameTarget, SameSides, SameFormatArg, SameCall}
+use Rattle.vs_elaborate.specs.Same.{SameTyped, SameAim, SameTarget, SameSides, SameFormatArg, SameCall}
 use Rattle.vs_law_source.proofs.Alike.{Choice, Alike, alike, AlikeLayer, of_null, of_assign, of_later, of_call, of_finish, of_block, of_delay, of_event, of_if, of_case, of_while, of_repeat, of_forever, AlikeAll, all_end, all_more, AlikeChoices, choices_end, choices_more}
 
 pub zip_turned : {A : Type 0} (R : A → A → Type 0) → ((x x' : A) → R x x' → R x' x) → (xs xs' : List A) → AllZip R xs xs' → AllZip R xs' xs

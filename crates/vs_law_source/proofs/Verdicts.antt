@@ -9,11 +9,11 @@ use Rattle.vs_design.specs.WellFormed.{counts_from}
 use Rattle.vs_design.specs.WellFormed as w
 use Rattle.vs_elab_statements.specs.Members.{Behavior}
 use Rattle.vs_elab_statements.specs.Surroundings.{Surroundings, surroundings_at}
-use Rattle.vs_elab_laws.specs.vs_elaborate.specs.vs_scopes.specs.Printed.{Path}
-use Rattle.vs_elab_laws.specs.vs_elaborate.specs.vs_scopes.specs.Scopes.{scopes_of}
-use Rattle.vs_elab_laws.specs.vs_elaborate.specs.DesignOf.{PartOf, processes_of, IsProcess, DesignOf}
-use Rattle.vs_elab_laws.specs.vs_elaborate.specs.Timescales.{timescale_of, ratio_of}
-use Rattle.vs_elab_laws.specs.Same.{SameDesign}
+use Rattle.vs_elaborate.specs.vs_scopes.specs.Printed.{Path}
+use Rattle.vs_elaborate.specs.vs_scopes.specs.Scopes.{scopes_of}
+use Rattle.vs_elaborate.specs.DesignOf.{PartOf, processes_of, IsProcess, DesignOf}
+use Rattle.vs_elaborate.specs.Timescales.{timescale_of, ratio_of}
+use Rattle.vs_elaborate.specs.Same.{SameDesign}
 use Rattle.vs_rules.specs.Claims.{Name, Claims, all_names}
 use Rattle.vs_rules.specs.Drivers.{Driver}
 use Rattle.vs_rules.specs.Drivers as x

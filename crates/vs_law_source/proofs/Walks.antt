@@ -7,12 +7,12 @@ use Rattle.vs_design.specs.declared.design.Process.{Process}
 use Rattle.vs_design.specs.declared.statement.EventTerm.{EventTerm}
 use Rattle.vs_design.specs.Parts.{Parts}
 use Rattle.vs_design.specs.WellFormed.{numbers}
-use Rattle.vs_threads.specs.vs_process.specs.declared.gait.Gait.{Gait}
-use Rattle.vs_threads.specs.vs_process.specs.declared.gait.Gait.TheVariants.{Fresh}
-use Rattle.vs_threads.specs.vs_process.specs.Landings.{todo_behind}
-use Rattle.vs_threads.specs.vs_process.specs.Numbers.{number_next}
-use Rattle.vs_threads.specs.vs_process.specs.Places.{Item, Todo, ended, active_at, flat, start_place, todo_of}
-use Rattle.vs_threads.specs.vs_process.specs.Steps.{Next, on, after, wait}
+use Rattle.vs_process.specs.declared.gait.Gait.{Gait}
+use Rattle.vs_process.specs.declared.gait.Gait.TheVariants.{Fresh}
+use Rattle.vs_process.specs.Landings.{todo_behind}
+use Rattle.vs_process.specs.Numbers.{number_next}
+use Rattle.vs_process.specs.Places.{Item, Todo, ended, active_at, flat, start_place, todo_of}
+use Rattle.vs_process.specs.Steps.{Next, on, after, wait}
 use Rattle.vs_rules.proofs.Past.{past_points}
 use Rattle.vs_rules.specs.Points.{Goes, Point, first_todo, nexts_by}
 use Rattle.vs_rules.proofs.Points.{by_path}

@@ -2,7 +2,7 @@
 use Rattle.std.specs.Prelude.{ℕ, List}
 use Rattle.vs_syntax.specs.declared.tree.Source.{Source}
 use Rattle.vs_design.specs.Parts.{Parts}
-use Rattle.vs_elab_laws.specs.vs_elaborate.specs.DesignOf.{DesignOf}
+use Rattle.vs_elaborate.specs.DesignOf.{DesignOf}
 use Rattle.vs_rules.specs.Claims.{Claims}
 use Rattle.vs_rules.specs.Verdict.{Verdict, IsVerdict}
 

@@ -1,7 +1,7 @@
 //! The law that a source decides verdicts.
 ghost use Rattle.vs_law_source.specs.Decided.{SourceDecides};
 
-use vs_elab_laws::one_design;
+use vs_elaborate::one_design;
 
 /// Two designs that a source and a top define have the same verdict under each certificate.
 pub fn source_decides()

@@ -21,7 +21,7 @@ use Rattle.vs_law_rules.specs.vs_process.specs.Executions.{is_combinational, is_
 use Rattle.vs_process.specs.Landings.{todo_behind}
 use Rattle.vs_process.specs.Places.{perform, Todo}
 use Rattle.vs_process.specs.Steps.{Next, on, after, wait}
-use Rattle.vs_rules.specs.vs_threads.specs.Blocks.{outputs}
+use Rattle.vs_rules.specs.vs_process.specs.BlockDrivers.{outputs}
 use Rattle.vs_law_witnesses.specs.Race.{bit, operand, target, the_bit}
 use Rattle.vs_law_witnesses.specs.Mirror.{one_of}
 use Rattle.vs_law_witnesses.proofs.Certificates.{none_mixed}

@@ -20,18 +20,18 @@ use Rattle.vs_independence.specs.vs_process.specs.Places.{Place, ended, waiting}
 use Rattle.vs_independence.specs.vs_process.specs.States.{AssignState, State, Update, evaluate, make, propagate, propagate_value, roused, stepped, triggered, wakened}
 use Rattle.vs_design.specs.Stores.{put}
 use Rattle.vs_design.specs.Writes.{names}
-use Rattle.vs_threads.specs.vs_eval.specs.Targets.{assigned}
+use Rattle.vs_process.specs.vs_eval.specs.Targets.{assigned}
 use Rattle.vs_independence.specs.vs_process.specs.Executions.{after, ends, next_time, places_at}
 use Rattle.vs_law_witnesses.specs.Carry.{ACarryIsDisciplined, carried, carrying, first_assign, low_bit, second_assign}
 use Rattle.vs_independence.specs.Discipline.{BeginsSlot, IsOrdered, KeepsApart}
-use Rattle.vs_threads.specs.Bits.{SharesBit}
-use Rattle.vs_threads.specs.Feeds.{writes_into}
-use Rattle.vs_threads.specs.Blocks.{IsSource, no_blocks}
-use Rattle.vs_threads.specs.Edges.{Copies, IsHeard}
-use Rattle.vs_threads.specs.Threads.{Awaits, Fired, IsThread, Thread, any_names, iterate, opening, place_reads, turn, turn_at, writes}
-use Rattle.vs_threads.proofs.Feeds.{into_covered}
-use Rattle.vs_threads.proofs.Lists.{place_of}
-use Rattle.vs_threads.proofs.Threads.{timed_thread}
+use Rattle.vs_process.specs.Bits.{SharesBit}
+use Rattle.vs_process.specs.Feeds.{writes_into}
+use Rattle.vs_process.specs.BlockDrivers.{IsSource, no_blocks}
+use Rattle.vs_process.specs.Edges.{Copies, IsHeard}
+use Rattle.vs_process.specs.Threads.{Awaits, Fired, IsThread, Thread, any_names, iterate, opening, place_reads, turn, turn_at, writes}
+use Rattle.vs_process.proofs.Feeds.{into_covered}
+use Rattle.vs_process.proofs.ThreadLists.{place_of}
+use Rattle.vs_process.proofs.Threads.{timed_thread}
 use Rattle.std.proofs.lemmas.Map.Keys.{any_passes_from_place as at_any}
 use Rattle.vs_law_witnesses.proofs.Race.{reads_operand, size_operand}
 use Rattle.vs_design.specs.vs_logic4.proofs.Basics.{declared_at}

@@ -6,7 +6,7 @@ use Rattle.std.specs.List.{Contains, list_any}
 use Rattle.std.specs.Str.{bytes_eq}
 use Rattle.vs_design.specs.declared.design.Process.{Process}
 use Rattle.vs_design.specs.Parts.{Parts}
-use Rattle.vs_rules.specs.vs_threads.proofs.Lists.{place_of}
+use Rattle.vs_rules.specs.vs_process.proofs.ThreadLists.{place_of}
 use Rattle.vs_rules.specs.Claims.{Claims, Name, Kind, ProcessClaim, Start, is_mixed, has_mixed, kind_in as kind_named, kind_for, HasLists, HasMixedLists, IsEdge, WaitsForEdges, WaitsForTimes}
 use Rattle.vs_rules.specs.Limits.{AreLists, AreResidues}
 use Rattle.vs_law_rules.proofs.Texts.{none_in}

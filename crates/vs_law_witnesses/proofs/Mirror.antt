@@ -1,6 +1,6 @@
 -- A design with a combinational block is disciplined.
-use Rattle.vs_threads.specs.Edges.{Copies, IsHeard}
-use Rattle.vs_threads.proofs.Threads.{timed_thread}
+use Rattle.vs_process.specs.Edges.{Copies, IsHeard}
+use Rattle.vs_process.proofs.Threads.{timed_thread, is_stopped, stopped_stays, stays_from}
 use Rattle.std.proofs.Common.{◌≡◌, ℕ, zero, suc, ◌<◌, ◌≤◌, ◌⊎◌, Bool, true, false, Option, Some, None, List, [], ◌∷◌, length, get_or, slice_get, eqb, refl, sym, ◌∙◌, ap, subst, inl, inr, lit<, arith, nat_lt, eqb-true, ◌&&◌, not}
 use Rattle.std.specs.declared.alloc.Global.{Global}
 use Rattle.std.specs.declared.boxed.Box.{Box}
@@ -12,8 +12,8 @@ use Rattle.std.proofs.lemmas.List.Elements.{All-nil, All-cons}
 use Rattle.vs_design.specs.declared.design.Process.{Process}
 use Rattle.vs_design.specs.declared.design.ProcessKind.TheVariants.{Always}
 use Rattle.vs_independence.specs.vs_process.specs.declared.moves.Move.TheVariants.{Step, Evaluate, Propagate, Make, Rouse, Activate, EndSlot}
-use Rattle.vs_independence.specs.vs_process.specs.States.{start, evaluate, propagate, make, stepped, AssignState, Update, place_behind, propagate_value, roused, woken_at, triggered}
-use Rattle.vs_independence.specs.vs_process.specs.Steps.{step}
+use Rattle.vs_independence.specs.vs_process.specs.States.{start, evaluate, propagate, make, stepped, AssignState, Update, place_behind, propagate_value, roused, woken_at, triggered, State}
+use Rattle.vs_independence.specs.vs_process.specs.Steps.{step, assignment}
 use Rattle.vs_design.specs.declared.range.BitRange.{BitRange}
 use Rattle.vs_design.specs.declared.signal.Signal.{Signal}
 use Rattle.vs_design.specs.declared.statement.EventTerm.{EventTerm}
@@ -24,37 +24,34 @@ use Rattle.vs_design.specs.declared.statement.Statement.TheFolds.{fold-roll-Stat
 use Rattle.vs_design.specs.Statements.{has_control, has_control_step}
 use Rattle.vs_design.specs.Stores.{Store, put, is_changed, start_store}
 use Rattle.vs_design.specs.Uses.{covers, reads, whole, is_of}
-use Rattle.vs_threads.specs.Bits.{meet_in}
+use Rattle.vs_process.specs.Bits.{meet_in}
 use Rattle.vs_design.specs.Uses as uses
 use Rattle.vs_design.specs.WellFormed.{WellFormed, are_sound_terms, is_sound_process, is_sound_statement, numbers, numbers_step, sound_step, counts_from, is_forever}
 use Rattle.vs_independence.specs.vs_process.specs.Places.{ended, Place, todo_of, waiting}
-use Rattle.vs_independence.specs.vs_process.specs.Steps.{assignment}
 use Rattle.vs_independence.specs.vs_process.specs.declared.moves.Grain.TheVariants.{Block}
 use Rattle.vs_independence.specs.vs_process.specs.Executions.{after, ends, is_combinational, next_time, places_at}
-use Rattle.vs_independence.specs.vs_process.specs.States.{State}
-use Rattle.vs_threads.specs.Writes.{statement_writes, statement_writes_step}
-use Rattle.vs_threads.specs.Blocks.{Start, cold, starter, Roles, sources, control, home, outputs, puts_out, puts_into, woken_on, sizes, AgreeOn, Arrives, IsBlock, SameOutputs, IsSource}
+use Rattle.vs_process.specs.Writes.{statement_writes, statement_writes_step}
+use Rattle.vs_process.specs.BlockDrivers.{Start, cold, starter, Roles, sources, control, home, outputs, puts_out, puts_into, woken_on, sizes, AgreeOn, Arrives, IsBlock, SameOutputs, IsSource}
 use Rattle.vs_law_witnesses.specs.Mirror.{ABlockIsDisciplined, change, copied, mirroring, one_of, watching}
 use Rattle.vs_law_witnesses.specs.Race.{name, operand, target}
-use Rattle.vs_threads.specs.Threads.{Awaits, Fired, found, IsThread, Thread, any_names, early_at, early_turn, iterate, opening, place_reads, turn, turn_at, writes}
+use Rattle.vs_process.specs.Threads.{Awaits, Fired, found, IsThread, Thread, any_names, early_at, early_turn, iterate, opening, place_reads, turn, turn_at, writes}
 use Rattle.vs_law_witnesses.proofs.Race.{numbers_assign, reads_operand, size_operand, sound_assign}
 use Rattle.vs_independence.specs.vs_process.proofs.Ranges.{IsFixed, assigned_fixed, covered_fixes, fixed_write}
 use Rattle.vs_independence.specs.vs_process.specs.declared.moves.Move.{Move}
 use Rattle.vs_design.specs.Writes.{Write, names}
-use Rattle.vs_threads.proofs.Threads.{is_stopped, stopped_stays, stays_from}
-use Rattle.vs_threads.proofs.Held.{puts_covered}
-use Rattle.vs_threads.proofs.ThreadsNamed.{named}
-use Rattle.vs_threads.proofs.Settle.{same_fixed}
+use Rattle.vs_process.proofs.Held.{puts_covered}
+use Rattle.vs_process.proofs.ThreadsNamed.{named}
+use Rattle.vs_process.proofs.Settle.{same_fixed}
 use Rattle.vs_independence.specs.vs_process.proofs.Stores.{shape-put}
-use Rattle.vs_threads.specs.vs_eval.specs.Values.{target_value}
+use Rattle.vs_process.specs.vs_eval.specs.Values.{target_value}
 use Rattle.vs_independence.specs.vs_process.proofs.Values.{target_value_unchanged}
 use Rattle.vs_independence.specs.vs_process.proofs.Digits.{put_again}
 use Rattle.vs_independence.specs.Discipline.{BeginsSlot, Disciplined, KeepsApart}
-use Rattle.vs_threads.specs.vs_eval.specs.Targets.{assigned}
+use Rattle.vs_process.specs.vs_eval.specs.Targets.{assigned}
 use Rattle.vs_independence.proofs.Whole.{independent}
 use Rattle.vs_independence.proofs.Moves.{length_behind, performed_is}
 use Rattle.std.proofs.lemmas.Option.{none-some}
-use Rattle.vs_threads.proofs.Assigns.{places_behind}
+use Rattle.vs_process.proofs.ThreadAssigns.{places_behind}
 use Rattle.vs_law_witnesses.specs.Rise.{terms}
 use Rattle.vs_design.specs.vs_logic4.proofs.Basics.{declared_at}
 

@@ -31,7 +31,7 @@ use Rattle.vs_process.specs.Landings.{todo_behind}
 use Rattle.vs_process.specs.Places.{active_at, flat, perform, todo_of, Todo}
 use Rattle.vs_process.specs.Steps.{Next, on, after, wait}
 use Rattle.vs_process.proofs.Shapes.{flat-Block}
-use Rattle.vs_rules.specs.vs_threads.specs.Blocks.{outputs}
+use Rattle.vs_rules.specs.vs_process.specs.BlockDrivers.{outputs}
 use Rattle.vs_law_witnesses.specs.Race.{the_bit}
 use Rattle.vs_law_witnesses.proofs.Certificates.{none_mixed}
 use Rattle.vs_law_witnesses.proofs.Race.{reads_number}

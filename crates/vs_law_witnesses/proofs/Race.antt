@@ -22,7 +22,7 @@ use Rattle.vs_design.specs.Stores.{Store, word_of}
 use Rattle.vs_design.specs.Traces.{Slot, SameSlots}
 use Rattle.vs_design.specs.Uses.{reads, reads_step, whole}
 use Rattle.vs_design.specs.WellFormed.{WellFormed, size_step, size_of, is_sound_assignment, sound_step, is_sound_statement, numbers_step, numbers, is_sound_process}
-use Rattle.vs_threads.specs.vs_eval.specs.Values.{value_of, value_step}
+use Rattle.vs_process.specs.vs_eval.specs.Values.{value_of, value_step}
 use Rattle.vs_independence.specs.vs_process.specs.declared.moves.Grain.{Grain}
 use Rattle.vs_independence.specs.vs_process.specs.declared.moves.Grain.TheVariants as grain
 use Rattle.vs_independence.specs.vs_process.specs.declared.moves.Move.{Move}

@@ -25,7 +25,7 @@ use Rattle.vs_law_rules.specs.vs_process.specs.declared.moves.Grain.{Grain}
 use Rattle.vs_process.specs.Landings.{todo_behind}
 use Rattle.vs_process.specs.Places.{Todo}
 use Rattle.vs_process.specs.Steps.{Next, on, after, wait}
-use Rattle.vs_rules.specs.vs_threads.proofs.Bits.{meets_of}
+use Rattle.vs_rules.specs.vs_process.proofs.Bits.{meets_of}
 use Rattle.vs_law_rules.specs.vs_process.proofs.Ranges.{covers_signal}
 use Rattle.vs_rules.specs.Claims.{Name, edges, delays, mixed, blocking, nonblocking, net, all_names, claim_of, edge_names, edge_signals, process_names, second_in, signal_names, times_in, writer_in, IsProcessNamed, IsRootOf, IsSecond, IsWriter}
 use Rattle.vs_rules.specs.Constants.{zero as known_zero}

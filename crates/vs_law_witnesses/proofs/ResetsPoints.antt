@@ -17,7 +17,7 @@ use Rattle.vs_process.specs.Landings.{todo_behind}
 use Rattle.vs_process.specs.Places.{active_at, perform, todo_of, Todo}
 use Rattle.vs_process.specs.Steps.{Next, on, after, wait}
 use Rattle.vs_process.proofs.Shapes.{flat-Block}
-use Rattle.vs_rules.specs.vs_threads.specs.Threads.{todo_reads}
+use Rattle.vs_rules.specs.vs_process.specs.Threads.{todo_reads}
 use Rattle.vs_rules.specs.Paths.{HasTerm, IsPoint, IsSlot0, ListsSignal, Path, PathBy, ReadsNow, RunsBehind, WritesAny, WritesLater, WritesNow, is_plain, is_zero_time, todo_later, todo_now}
 use Rattle.vs_rules.specs.Points.{Among, Goes, Point, first_todo, nexts_by}
 use Rattle.vs_rules.proofs.Points.{by_path}

@@ -24,7 +24,7 @@ use Rattle.vs_design.specs.Uses.{slice_range}
 use Rattle.vs_law_rules.specs.vs_process.specs.declared.moves.Grain.{Grain}
 use Rattle.vs_process.specs.Places.{perform, Todo}
 use Rattle.vs_process.specs.Steps.{Next, on}
-use Rattle.vs_rules.specs.vs_threads.specs.Blocks.{outputs}
+use Rattle.vs_rules.specs.vs_process.specs.BlockDrivers.{outputs}
 use Rattle.vs_rules.specs.Claims.{Name, EdgeClaim, Kind, Start, block, edges, delays, mixed, kind_of, names_process, HasLists, IsBlock, IsRootOf, IsSecond, IsSignalNamed, IsWriter, WaitsForTimes}
 use Rattle.vs_rules.specs.Constants.{Gives, IsClock, IsWholeName, IsWholeTarget, SetsAlike, TurnsForever, bit_of, itself as bare, two, zero as known_zero}
 use Rattle.vs_rules.specs.Controls.{controls_of, list_of}

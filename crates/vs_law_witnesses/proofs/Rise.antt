@@ -21,7 +21,7 @@ use Rattle.vs_design.specs.Statements.{event_terms, event_terms_step, listens}
 use Rattle.vs_design.specs.Uses.{is_of, reads}
 use Rattle.vs_design.specs.WellFormed.{WellFormed, sound_step, is_sound_statement, numbers_step, numbers, is_sound_process}
 use Rattle.vs_design.specs.Stores.{Store, put, word_of}
-use Rattle.vs_threads.specs.vs_eval.specs.Values.{operand_value, value_of, value_step}
+use Rattle.vs_process.specs.vs_eval.specs.Values.{operand_value, value_of, value_step}
 use Rattle.vs_independence.specs.vs_process.specs.declared.moves.Grain.{Grain}
 use Rattle.vs_independence.specs.vs_process.specs.declared.moves.Grain.TheVariants as grain
 use Rattle.vs_independence.specs.vs_process.specs.declared.moves.Move.{Move}
@@ -30,11 +30,11 @@ use Rattle.vs_independence.specs.vs_process.specs.Executions.{after as state_aft
 use Rattle.vs_independence.specs.vs_process.specs.States.{State}
 use Rattle.vs_independence.specs.vs_process.specs.Places.{ended}
 use Rattle.vs_independence.specs.Discipline.{BeginsSlot, IsOrdered, KeepsApart, Reaches, here, through as reaches_through, past}
-use Rattle.vs_threads.specs.Threads.{any_names, is_timed, Awaits, Fired, IsFiredBy, IsThread, IsTimed, MayOpen, Thread, opening}
-use Rattle.vs_threads.specs.Edges.{one_bit, Copies, itself, through, IsHeard, IsRoot}
-use Rattle.vs_threads.proofs.Threads.{thread_opens}
+use Rattle.vs_process.specs.Threads.{any_names, is_timed, Awaits, Fired, IsFiredBy, IsThread, IsTimed, MayOpen, Thread, opening}
+use Rattle.vs_process.specs.Edges.{one_bit, Copies, itself, through, IsHeard, IsRoot}
+use Rattle.vs_process.proofs.Threads.{thread_opens}
 use Rattle.vs_law_witnesses.specs.Race.{operand, initially, set_to, target}
-use Rattle.vs_threads.specs.Blocks.{IsSource, no_blocks}
+use Rattle.vs_process.specs.BlockDrivers.{IsSource, no_blocks}
 use Rattle.vs_law_witnesses.specs.Rise.{ARiseIsDisciplined, rise, sets_late, copies_bit, copies_then, rising, Fires}
 use Rattle.vs_law_witnesses.proofs.Race.{value_number, size_number, reads_number, reads_operand, size_operand, sound_assign, numbers_assign, terms_assign}
 use Rattle.vs_design.specs.vs_logic4.proofs.Basics.{declared_at}

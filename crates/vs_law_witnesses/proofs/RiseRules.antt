@@ -14,7 +14,7 @@ use Rattle.vs_law_rules.specs.vs_process.specs.declared.moves.Grain.{Grain}
 use Rattle.vs_process.specs.Landings.{todo_behind}
 use Rattle.vs_process.specs.Places.{perform, Todo}
 use Rattle.vs_process.specs.Steps.{Next, on, after, wait}
-use Rattle.vs_rules.specs.vs_threads.specs.Blocks.{outputs}
+use Rattle.vs_rules.specs.vs_process.specs.BlockDrivers.{outputs}
 use Rattle.vs_design.specs.declared.signal.SignalKind.TheVariants.{Reg}
 use Rattle.vs_law_witnesses.specs.Race.{bit, operand, set_to, target, the_bit}
 use Rattle.vs_law_witnesses.specs.Rise.{copies_bit, copies_then, one_tick, rise, rising, sets_late, terms}

@@ -17,18 +17,18 @@ use Rattle.vs_independence.specs.vs_process.specs.declared.moves.Move.TheVariant
 use Rattle.vs_independence.specs.vs_process.specs.Executions.{after as state_after, Legal, is_enabled, apply, ends, next_time, places_at}
 use Rattle.vs_independence.specs.vs_process.specs.States.{start, touched, performed, updates_behind, State, wakened, written_behind, place_behind, stepped, evaluate, propagate, make, roused, activated, woken_at, triggered}
 use Rattle.vs_design.specs.Writes.{Write, names}
-use Rattle.vs_independence.specs.vs_process.specs.vs_edges.specs.Waking.{wake_any}
+use Rattle.vs_independence.specs.vs_process.specs.vs_eval.specs.Waking.{wake_any}
 use Rattle.vs_independence.specs.vs_process.specs.declared.gait.Gait.TheVariants.{Fresh, Woken}
 use Rattle.vs_independence.specs.vs_process.specs.Places.{perform, Todo, Place, going, sleeping, waiting, ended, todo_of, is_going}
 use Rattle.vs_independence.specs.vs_process.specs.Steps.{Out, goes, on, after, wait, step, assignment}
 use Rattle.vs_independence.specs.vs_process.proofs.Times.{enabled_of}
 use Rattle.vs_independence.specs.vs_process.specs.declared.gait.Gait.{Gait}
 use Rattle.vs_independence.specs.Discipline.{IsAtStart}
-use Rattle.vs_threads.specs.Threads.{Fired, IsThread, IsTimed, MayOpen, Thread, iterate, place_reads, moved, opening, todo_reads, turn, turn_at, writes}
+use Rattle.vs_process.specs.Threads.{Fired, IsThread, IsTimed, MayOpen, Thread, iterate, place_reads, moved, opening, todo_reads, turn, turn_at, writes}
 use Rattle.vs_independence.proofs.InnerMoves.{at_end}
-use Rattle.vs_threads.proofs.Lists.{place_of}
+use Rattle.vs_process.proofs.ThreadLists.{place_of}
 use Rattle.vs_law_witnesses.specs.Race.{operand, set_to, target}
-use Rattle.vs_threads.specs.Blocks.{no_blocks}
+use Rattle.vs_process.specs.BlockDrivers.{no_blocks}
 use Rattle.vs_law_witnesses.specs.Rise.{rise, sets_late, copies_bit, copies_then, rising}
 use Rattle.vs_law_witnesses.proofs.Race.{value_number, reads_number, reads_operand}
 use Rattle.vs_independence.proofs.Fire.{same_terms as same_waiting}

@@ -16,8 +16,8 @@ use Rattle.vs_design.specs.Uses.{slice_range, whole}
 use Rattle.vs_process.specs.Landings.{todo_behind}
 use Rattle.vs_process.specs.Places.{perform, Todo}
 use Rattle.vs_process.specs.Steps.{Next, on, after, wait}
-use Rattle.vs_law_witnesses.specs.vs_threads.specs.Writes.{statement_writes, statement_writes_step}
-use Rattle.vs_rules.specs.vs_threads.specs.Blocks.{outputs}
+use Rattle.vs_law_witnesses.specs.vs_process.specs.Writes.{statement_writes, statement_writes_step}
+use Rattle.vs_rules.specs.vs_process.specs.BlockDrivers.{outputs}
 use Rattle.vs_law_witnesses.specs.Race.{operand, target, the_bit}
 use Rattle.vs_law_witnesses.proofs.Race.{reads_number, reads_operand}
 use Rattle.vs_rules.specs.Controls.{controls_of, list_of}

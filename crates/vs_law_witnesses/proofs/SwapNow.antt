@@ -19,7 +19,7 @@ use Rattle.vs_law_rules.specs.vs_process.specs.States.{State, start}
 use Rattle.vs_process.specs.declared.gait.Gait.TheVariants.{Fresh, Inside, Woken}
 use Rattle.vs_process.specs.Places.{perform, Place, Todo, ended, going, sleeping, waiting}
 use Rattle.vs_law_rules.specs.vs_independence.specs.Discipline.{Independent}
-use Rattle.vs_rules.specs.vs_threads.specs.Edges.{one_bit}
+use Rattle.vs_rules.specs.vs_process.specs.Edges.{one_bit}
 use Rattle.vs_law_witnesses.specs.Race.{operand, target}
 use Rattle.vs_law_witnesses.specs.Rise.{rise}
 use Rattle.vs_law_witnesses.proofs.Race.{numbers_assign, reads_operand, size_operand, sound_assign, value_number}

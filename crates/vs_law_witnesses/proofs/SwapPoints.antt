@@ -16,8 +16,8 @@ use Rattle.vs_law_rules.specs.vs_process.specs.declared.moves.Grain.{Grain}
 use Rattle.vs_process.specs.Landings.{todo_behind}
 use Rattle.vs_process.specs.Places.{perform, Todo}
 use Rattle.vs_process.specs.Steps.{Next, on, after, wait}
-use Rattle.vs_threads.specs.Writes.{statement_writes}
-use Rattle.vs_rules.specs.vs_threads.specs.Blocks.{outputs}
+use Rattle.vs_process.specs.Writes.{statement_writes}
+use Rattle.vs_rules.specs.vs_process.specs.BlockDrivers.{outputs}
 use Rattle.vs_law_witnesses.specs.Mirror.{one_of}
 use Rattle.vs_law_witnesses.specs.Race.{operand, target, the_bit}
 use Rattle.vs_law_witnesses.specs.Rise.{rise}

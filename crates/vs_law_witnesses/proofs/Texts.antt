@@ -34,7 +34,7 @@ use Rattle.vs_law_rules.specs.vs_process.specs.Examples.{between}
 use Rattle.vs_process.specs.Landings.{todo_behind}
 use Rattle.vs_process.specs.Places.{Todo}
 use Rattle.vs_process.specs.Steps.{Next, on, after, wait}
-use Rattle.vs_threads.specs.Writes.{statement_writes, statement_writes_step}
+use Rattle.vs_process.specs.Writes.{statement_writes, statement_writes_step}
 use Rattle.vs_law_witnesses.specs.Race.{boxed, operand}
 use Rattle.vs_law_witnesses.proofs.Race.{reads_operand, size_operand}
 use Rattle.vs_law_witnesses.specs.Swap.{inverse}

@@ -13,7 +13,7 @@ pub mod RaceRules
 pub mod Swap
 pub mod Mixer
 pub use Rattle.vs_law_rules
-pub use Rattle.vs_threads
+pub use Rattle.vs_process
 pub mod Roots
 pub mod Late
 pub mod Resets

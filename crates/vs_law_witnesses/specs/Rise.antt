@@ -19,7 +19,7 @@ use Rattle.vs_independence.specs.vs_process.specs.declared.moves.Grain.{Grain}
 use Rattle.vs_independence.specs.vs_process.specs.declared.moves.Move.{Move}
 use Rattle.vs_independence.specs.vs_process.specs.Executions.{after, Legal}
 use Rattle.vs_independence.specs.Discipline.{Disciplined}
-use Rattle.vs_threads.specs.Edges.{one_bit}
+use Rattle.vs_process.specs.Edges.{one_bit}
 use Rattle.vs_law_witnesses.specs.Race.{bit, boxed, initially, letter, nanosecond, operand, set_to, target}
 
 abbrev pub one_tick : Ticks

@@ -2,11 +2,11 @@
 use Rattle.std.proofs.Common.{◌≡◌, ◌⊎◌, inl, inr, ℕ, ◌-◌, ◌<◌, ◌≤◌, ◌==◌, ◌&&◌, Bool, true, false, true≢false, nat_lt, if◌then◌else◌, List, [], ◌∷◌, length, get_or, take, drop, refl, sym, ap, ◌∙◌, arith}
 use Rattle.std.proofs.lemmas.Bool.{eqb-true, lt-ltb}
 use Rattle.std.proofs.lemmas.List.{take_all}
-use Rattle.vs_lex_tokens.specs.declared.refusal.Refusal.TheVariants as r
-use Rattle.vs_lex_tokens.specs.declared.piece.Piece.{Piece}
-use Rattle.vs_lex_tokens.specs.declared.piece.Piece.TheVariants.{Refused}
-use Rattle.vs_lex_tokens.specs.declared.token.Kind.TheVariants as k
-use Rattle.vs_lex_tokens.specs.Bytes.{is_white}
+use Rattle.vs_lexer.specs.declared.refusal.Refusal.TheVariants as r
+use Rattle.vs_lexer.specs.declared.piece.Piece.{Piece}
+use Rattle.vs_lexer.specs.declared.piece.Piece.TheVariants.{Refused}
+use Rattle.vs_lexer.specs.declared.token.Kind.TheVariants as k
+use Rattle.vs_lexer.specs.Bytes.{is_white}
 use Rattle.vs_lexer.specs.Pieces.{limited, escaped_piece}
 
 -- what stands behind the backslash

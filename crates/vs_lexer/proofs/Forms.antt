@@ -2,14 +2,14 @@
 use Rattle.std.proofs.Common.{◌≡◌, ℕ, Bool, true, false, if◌then◌else◌, ◌==◌, nat_eq, List, [], ◌∷◌, ◌++◌, Some, None, refl, sym, subst, eq-eqb, arith}
 use Rattle.std.specs.Char.{is_ascii_digit}
 use borrow.Author.Tests.{eqb-true}
-use Rattle.vs_lex_tokens.specs.declared.piece.Piece.{Piece}
-use Rattle.vs_lex_tokens.specs.declared.piece.Lexed.{Lexed}
-use Rattle.vs_lex_tokens.specs.Bytes.{is_white, starts_name, in_name, in_escaped, in_decimal, begins}
-use Rattle.vs_lex_tokens.specs.Forms.{Form, run_of, Begins}
-use Rattle.vs_lex_tokens.specs.Texts.{text_form}
-use Rattle.vs_lex_tokens.specs.Literals.{number_form, apostrophe_form, quote_form, decimal_piece}
+use Rattle.vs_lexer.specs.declared.piece.Piece.{Piece}
+use Rattle.vs_lexer.specs.declared.piece.Lexed.{Lexed}
+use Rattle.vs_lexer.specs.Bytes.{is_white, starts_name, in_name, in_escaped, in_decimal, begins}
+use Rattle.vs_lexer.specs.Forms.{Form, run_of, Begins}
+use Rattle.vs_lexer.specs.Texts.{text_form}
+use Rattle.vs_lexer.specs.Literals.{number_form, apostrophe_form, quote_form, decimal_piece}
 use Rattle.vs_lexer.specs.Pieces.{white_piece, name_piece, system_piece, escaped_piece, slash_form, parenthesis_form, mark_form, directive_form, form_of, piece_of}
-use Rattle.vs_lex_tokens.specs.Reading.{Reads}
+use Rattle.vs_lexer.specs.Reading.{Reads}
 use Rattle.std.proofs.lemmas.Bool.{ne_eqb}
 
 module _ (b : ℕ) where

@@ -1,3 +1,8 @@
+pub mod BasedNumbers
+pub mod CollectedDigits
+pub mod DecimalValues
+pub mod LongestRuns
+pub mod TextEnds
 pub mod Escaped
 pub mod Forms
 pub mod NameLines

@@ -4,21 +4,21 @@ use Rattle.std.proofs.lemmas.Bool.{and_parts, ne_eqb}
 use Rattle.std.specs.Prelude.{◌==◌}
 use Rattle.std.specs.List.{list_all}
 use Rattle.std.specs.Str.{bytes_eq}
-use Rattle.vs_lex_tokens.specs.declared.base.Base.{Base}
-use Rattle.vs_lex_tokens.specs.declared.piece.Piece.{Piece}
-use Rattle.vs_lex_tokens.specs.declared.piece.Piece.TheVariants.{Skipped, Token, Refused}
-use Rattle.vs_lex_tokens.specs.declared.refusal.Refusal.{Refusal}
-use Rattle.vs_lex_tokens.specs.declared.refusal.Refusal.TheVariants as r
-use Rattle.vs_lex_tokens.specs.declared.token.Directive.{Directive}
-use Rattle.vs_lex_tokens.specs.declared.token.Kind.{Kind}
-use Rattle.vs_lex_tokens.specs.declared.token.Kind.TheVariants as k
-use Rattle.vs_lex_tokens.specs.declared.token.Literal.{Literal}
-use Rattle.vs_lex_tokens.specs.Bytes.{is_white, in_name, in_escaped, in_decimal, in_line, in_comment, in_attribute, front_run, after_run}
-use Rattle.vs_lex_tokens.specs.Forms.{run_of}
-use Rattle.vs_lex_tokens.specs.Literals.{number_form, behind_size, quote_form, base_form, digits_form, literal_piece, decimal_piece, continues_number, apostrophe_form}
-use Rattle.vs_lex_tokens.specs.Numbers.{base_of, is_sign, starts_digits, in_digits, is_well_formed, fits_unsized, value_after, plain_literal, based_literal}
-use Rattle.vs_lex_tokens.specs.Texts.{TextEnd, ended, open_yet, behind_octal, is_escape, is_octal, is_above_377, text_end, text_piece, text_form}
-use Rattle.vs_lex_tokens.specs.Tokens.{Lexeme, name_of}
+use Rattle.vs_lexer.specs.declared.base.Base.{Base}
+use Rattle.vs_lexer.specs.declared.piece.Piece.{Piece}
+use Rattle.vs_lexer.specs.declared.piece.Piece.TheVariants.{Skipped, Token, Refused}
+use Rattle.vs_lexer.specs.declared.refusal.Refusal.{Refusal}
+use Rattle.vs_lexer.specs.declared.refusal.Refusal.TheVariants as r
+use Rattle.vs_lexer.specs.declared.token.Directive.{Directive}
+use Rattle.vs_lexer.specs.declared.token.Kind.{Kind}
+use Rattle.vs_lexer.specs.declared.token.Kind.TheVariants as k
+use Rattle.vs_lexer.specs.declared.token.Literal.{Literal}
+use Rattle.vs_lexer.specs.Bytes.{is_white, in_name, in_escaped, in_decimal, in_line, in_comment, in_attribute, front_run, after_run}
+use Rattle.vs_lexer.specs.Forms.{run_of}
+use Rattle.vs_lexer.specs.Literals.{number_form, behind_size, quote_form, base_form, digits_form, literal_piece, decimal_piece, continues_number, apostrophe_form}
+use Rattle.vs_lexer.specs.Numbers.{base_of, is_sign, starts_digits, in_digits, is_well_formed, fits_unsized, value_after, plain_literal, based_literal}
+use Rattle.vs_lexer.specs.Texts.{TextEnd, ended, open_yet, behind_octal, is_escape, is_octal, is_above_377, text_end, text_piece, text_form}
+use Rattle.vs_lexer.specs.Tokens.{Lexeme, name_of}
 use Rattle.vs_lexer.specs.Directives.{directive_at}
 use Rattle.vs_lexer.specs.NameLines.{is_one_line, has_one_line_name, is_one_line_token}
 use Rattle.vs_lexer.specs.Pieces.{white_piece, name_piece, system_piece, escaped_piece, among, after_pair, closed_piece, slash_form, opens_attribute, parenthesis_form, token_of, one_byte_piece, mark_form, directive_piece, directive_form, piece_of}

@@ -2,17 +2,17 @@
 use Rattle.std.proofs.Common.{◌≡◌, ℕ, ◌+◌, ◌<◌, ◌&&◌, Bool, true, false, not, nat_eq, List, [], ◌∷◌, ◌++◌, length, get_or, drop, Some, None, refl, sym, ap, ◌∙◌, append_assoc}
 use Rattle.std.proofs.lemmas.Bool.{ne_eqb}
 use Rattle.std.proofs.lemmas.List.{append-nil, drop_more}
-use Rattle.vs_lex_tokens.specs.declared.refusal.Refusal.TheVariants as r
-use Rattle.vs_lex_tokens.specs.declared.piece.Piece.TheVariants.{Skipped, Token, Refused}
-use Rattle.vs_lex_tokens.specs.declared.piece.Lexed.{Lexed}
-use Rattle.vs_lex_tokens.specs.declared.token.Kind.{Kind}
-use Rattle.vs_lex_tokens.specs.declared.token.Kind.TheVariants as k
-use Rattle.vs_lex_tokens.specs.declared.token.Mark.TheVariants as m
-use Rattle.vs_lex_tokens.specs.Bytes.{is_white, in_line, in_comment, in_attribute}
-use Rattle.vs_lex_tokens.specs.Forms.{Form, run_of}
+use Rattle.vs_lexer.specs.declared.refusal.Refusal.TheVariants as r
+use Rattle.vs_lexer.specs.declared.piece.Piece.TheVariants.{Skipped, Token, Refused}
+use Rattle.vs_lexer.specs.declared.piece.Lexed.{Lexed}
+use Rattle.vs_lexer.specs.declared.token.Kind.{Kind}
+use Rattle.vs_lexer.specs.declared.token.Kind.TheVariants as k
+use Rattle.vs_lexer.specs.declared.token.Mark.TheVariants as m
+use Rattle.vs_lexer.specs.Bytes.{is_white, in_line, in_comment, in_attribute}
+use Rattle.vs_lexer.specs.Forms.{Form, run_of}
 use Rattle.vs_lexer.specs.Pieces.{line_piece, among, after_pair, closed_by, slash_form, opens_attribute, parenthesis_form, mark_form, token_of, one_byte_piece}
 use Rattle.vs_lexer.specs.Reserved.{kind_in, one_byte_marks, two_byte_marks, three_byte_marks}
-use Rattle.vs_lex_tokens.specs.Reading.{Reads}
+use Rattle.vs_lexer.specs.Reading.{Reads}
 use Rattle.vs_lexer.specs.Taking.{HasNoMarkOfTwo, HasNoMarkOfThree}
 use Rattle.vs_lexer.proofs.Pairs.{after_pair-append}
 

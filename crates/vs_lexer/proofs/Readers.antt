@@ -4,25 +4,25 @@ use Rattle.std.specs.List.{list_all}
 use Rattle.std.specs.Prelude.{codes}
 use Rattle.std.proofs.lemmas.List.{append-nil}
 use borrow.Author.Tests.{eqb-true}
-use Rattle.vs_lex_tokens.specs.declared.token.Directive.{Directive}
-use Rattle.vs_lex_tokens.specs.declared.token.Directive.TheVariants as d
-use Rattle.vs_lex_tokens.specs.declared.token.ImplicitNet.TheVariants as i
-use Rattle.vs_lex_tokens.specs.declared.token.TextMagnitude.{TextMagnitude}
-use Rattle.vs_lex_tokens.specs.declared.token.TextMagnitude.TheVariants as m
-use Rattle.vs_lex_tokens.specs.declared.token.Time.{Time}
-use Rattle.vs_lex_tokens.specs.declared.token.TextUnit.{TextUnit}
-use Rattle.vs_lex_tokens.specs.declared.token.TextUnit.TheVariants as t
-use Rattle.vs_lex_tokens.specs.declared.refusal.Refusal.TheVariants as r
-use Rattle.vs_lex_tokens.specs.declared.piece.Piece.TheVariants.{Token, Refused}
-use Rattle.vs_lex_tokens.specs.declared.piece.Lexed.{Lexed}
-use Rattle.vs_lex_tokens.specs.declared.token.Kind.TheVariants as k
-use Rattle.vs_lex_tokens.specs.Bytes.{is_white, after_run}
+use Rattle.vs_lexer.specs.declared.token.Directive.{Directive}
+use Rattle.vs_lexer.specs.declared.token.Directive.TheVariants as d
+use Rattle.vs_lexer.specs.declared.token.ImplicitNet.TheVariants as i
+use Rattle.vs_lexer.specs.declared.token.TextMagnitude.{TextMagnitude}
+use Rattle.vs_lexer.specs.declared.token.TextMagnitude.TheVariants as m
+use Rattle.vs_lexer.specs.declared.token.Time.{Time}
+use Rattle.vs_lexer.specs.declared.token.TextUnit.{TextUnit}
+use Rattle.vs_lexer.specs.declared.token.TextUnit.TheVariants as t
+use Rattle.vs_lexer.specs.declared.refusal.Refusal.TheVariants as r
+use Rattle.vs_lexer.specs.declared.piece.Piece.TheVariants.{Token, Refused}
+use Rattle.vs_lexer.specs.declared.piece.Lexed.{Lexed}
+use Rattle.vs_lexer.specs.declared.token.Kind.TheVariants as k
+use Rattle.vs_lexer.specs.Bytes.{is_white, after_run}
 use Rattle.vs_lexer.specs.Directives.{Reader, done, nowhere, with_rest, behind, text, behind_white, white, next_is, next_is_white, by_next, some_white, follow, ◌then◌, number_at, unit_at, time_at, timescale_of, timescale_at, nettype_at, directive_at}
-use Rattle.vs_lex_tokens.specs.Times.{exponent}
+use Rattle.vs_lexer.specs.Times.{exponent}
 use Rattle.vs_lexer.specs.Pieces.{directive_piece, directive_form}
-use Rattle.vs_lex_tokens.specs.Forms.{Longest}
-use Rattle.vs_lex_tokens.specs.Reading.{Reads}
-use Rattle.vs_lex_tokens.proofs.LongestRuns.{after_all}
+use Rattle.vs_lexer.specs.Forms.{Longest}
+use Rattle.vs_lexer.specs.Reading.{Reads}
+use Rattle.vs_lexer.proofs.LongestRuns.{after_all}
 use Rattle.vs_lexer.proofs.Openings.{alone_reads}
 
 -- the bytes that were read, which are read so whatever follows them

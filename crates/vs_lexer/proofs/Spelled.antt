@@ -3,15 +3,15 @@ use Rattle.std.proofs.Common.{◌≡◌, ℕ, ◌+◌, ◌-◌, ◌≤◌, ◌<�
 use Rattle.std.proofs.lemmas.List.{append-nil, take_at}
 use Rattle.vs_lexer.specs.declared.fault.LexFault.{LexFault}
 use Rattle.vs_lexer.specs.declared.fault.LexFault.TheVariants as f
-use Rattle.vs_lex_tokens.specs.declared.refusal.Refusal.TheVariants as r
-use Rattle.vs_lex_tokens.specs.declared.piece.Piece.{Piece}
-use Rattle.vs_lex_tokens.specs.declared.piece.Piece.TheVariants.{Skipped, Token}
-use Rattle.vs_lex_tokens.specs.declared.token.Kind.{Kind}
+use Rattle.vs_lexer.specs.declared.refusal.Refusal.TheVariants as r
+use Rattle.vs_lexer.specs.declared.piece.Piece.{Piece}
+use Rattle.vs_lexer.specs.declared.piece.Piece.TheVariants.{Skipped, Token}
+use Rattle.vs_lexer.specs.declared.token.Kind.{Kind}
 use Rattle.vs_lexer.specs.Pieces.{piece_of}
-use Rattle.vs_lex_tokens.specs.Forms.{Begins}
+use Rattle.vs_lexer.specs.Forms.{Begins}
 use Rattle.vs_lexer.specs.Spelling.{Spells, Reaches, ends, skips, reads, stays, passes, takes, source_limit, IsSpelled, IsRefused, at_piece, at_limit, Fails}
 use Rattle.vs_lexer.specs.Taking.{Takes, nothing, one, Stops}
-use Rattle.vs_lex_tokens.specs.Tokens.{Lexeme}
+use Rattle.vs_lexer.specs.Tokens.{Lexeme}
 
 -- These tokens have been read of the source, and this remains.
 pub record ReadSoFar (source : List ℕ) (tokens : List Lexeme) (rest : List ℕ) : Type 0 where

@@ -2,7 +2,7 @@
 use Rattle.std.proofs.Common.{◌≡◌, ℕ, ◌+◌, ◌<◌, true, false, Some, List, map, length, get_or, drop, refl, sym}
 use Rattle.std.specs.Str.{bytes_eq}
 use Rattle.std.proofs.lemmas.List.{drop_more}
-use Rattle.vs_lex_tokens.specs.declared.token.Kind.{Kind}
+use Rattle.vs_lexer.specs.declared.token.Kind.{Kind}
 use Rattle.vs_lexer.specs.Reserved.{kind_in}
 
 module _ {A : Type 0} (of : A → List ℕ × Kind) (table : List A) (i : ℕ) (default : A) (text : List ℕ) (within : i < length table) where

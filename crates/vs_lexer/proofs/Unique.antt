@@ -1,13 +1,13 @@
 -- The tokens of a source, or its first refusal, are the only ones.
 use Rattle.std.proofs.Common.{◌≡◌, ℕ, ◌≤◌, List, [], ◌∷◌, ◌++◌, Some, None, refl, sym, ap, ◌∙◌, subst, arith}
-use Rattle.vs_lex_tokens.specs.declared.refusal.Refusal.{Refusal}
-use Rattle.vs_lex_tokens.specs.declared.piece.Piece.{Piece}
-use Rattle.vs_lex_tokens.specs.declared.piece.Piece.TheVariants.{Skipped, Token, Refused}
-use Rattle.vs_lex_tokens.specs.declared.token.Kind.{Kind}
-use Rattle.vs_lex_tokens.specs.Forms.{Form, Begins}
+use Rattle.vs_lexer.specs.declared.refusal.Refusal.{Refusal}
+use Rattle.vs_lexer.specs.declared.piece.Piece.{Piece}
+use Rattle.vs_lexer.specs.declared.piece.Piece.TheVariants.{Skipped, Token, Refused}
+use Rattle.vs_lexer.specs.declared.token.Kind.{Kind}
+use Rattle.vs_lexer.specs.Forms.{Form, Begins}
 use Rattle.vs_lexer.specs.Pieces.{piece_of}
 use Rattle.vs_lexer.specs.Spelling.{Spells, ends, skips, reads, Reaches, stays, passes, takes, IsSpelled, IsRefused, at_piece, at_limit}
-use Rattle.vs_lex_tokens.specs.Tokens.{Lexeme}
+use Rattle.vs_lexer.specs.Tokens.{Lexeme}
 
 -- two ways to cut one list
 data Cuts : List ℕ → List ℕ → List ℕ → List ℕ → Type 0 where

@@ -1,15 +1,15 @@
 -- Directives (IEEE 1364-2005, clause 19).
 use Rattle.std.specs.Prelude.{ℕ, ◌==◌, Bool, List, [], ◌∷◌, Option, None, Some, if◌then◌else◌, codes, nat_lt}
-use Rattle.vs_lex_tokens.specs.declared.token.Directive.{Directive}
-use Rattle.vs_lex_tokens.specs.declared.token.Directive.TheVariants as d
-use Rattle.vs_lex_tokens.specs.declared.token.ImplicitNet.TheVariants as i
-use Rattle.vs_lex_tokens.specs.declared.token.TextMagnitude.{TextMagnitude}
-use Rattle.vs_lex_tokens.specs.declared.token.TextMagnitude.TheVariants as m
-use Rattle.vs_lex_tokens.specs.declared.token.Time.{Time}
-use Rattle.vs_lex_tokens.specs.declared.token.TextUnit.{TextUnit}
-use Rattle.vs_lex_tokens.specs.declared.token.TextUnit.TheVariants as t
-use Rattle.vs_lex_tokens.specs.Bytes.{is_white, begins, after_run}
-use Rattle.vs_lex_tokens.specs.Times.{exponent}
+use Rattle.vs_lexer.specs.declared.token.Directive.{Directive}
+use Rattle.vs_lexer.specs.declared.token.Directive.TheVariants as d
+use Rattle.vs_lexer.specs.declared.token.ImplicitNet.TheVariants as i
+use Rattle.vs_lexer.specs.declared.token.TextMagnitude.{TextMagnitude}
+use Rattle.vs_lexer.specs.declared.token.TextMagnitude.TheVariants as m
+use Rattle.vs_lexer.specs.declared.token.Time.{Time}
+use Rattle.vs_lexer.specs.declared.token.TextUnit.{TextUnit}
+use Rattle.vs_lexer.specs.declared.token.TextUnit.TheVariants as t
+use Rattle.vs_lexer.specs.Bytes.{is_white, begins, after_run}
+use Rattle.vs_lexer.specs.Times.{exponent}
 
 -- what the bytes begin with, and the bytes behind it; or they don't begin so
 abbrev pub Reader : Type 0 → Type 0

@@ -2,7 +2,7 @@
 use Rattle.std.specs.Prelude.{ℕ, List, ◌++◌, codes, decimal}
 use Rattle.vs_lexer.specs.declared.fault.LexFault.{LexFault}
 use Rattle.vs_lexer.specs.declared.fault.LexFault.TheVariants as f
-use Rattle.vs_lex_tokens.specs.Tokens.{refusal_text}
+use Rattle.vs_lexer.specs.Tokens.{refusal_text}
 
 -- the text of a fault: the number of its refusal and its place (profile)
 abbrev pub fault_text : LexFault → List ℕ

@@ -1,11 +1,12 @@
-pub use Rattle.vs_lex_tokens.specs.Bytes
-pub use Rattle.vs_lex_tokens.specs.Forms
-pub use Rattle.vs_lex_tokens.specs.Literals
-pub use Rattle.vs_lex_tokens.specs.Numbers
-pub use Rattle.vs_lex_tokens.specs.Reading
-pub use Rattle.vs_lex_tokens.specs.Texts
-pub use Rattle.vs_lex_tokens.specs.Times
-pub use Rattle.vs_lex_tokens.specs.Tokens
+pub mod Bytes
+pub mod Collecting
+pub mod Forms
+pub mod Literals
+pub mod Numbers
+pub mod Reading
+pub mod Texts
+pub mod Times
+pub mod Tokens
 pub mod Directives
 pub mod Faults
 pub mod NameLines
@@ -13,4 +14,3 @@ pub mod Pieces
 pub mod Reserved
 pub mod Spelling
 pub mod Taking
-pub use Rattle.vs_lex_tokens

@@ -1,9 +1,9 @@
 -- Names hold no line feed (IEEE 1364-2005, clauses 3.7 and 3.7.1).
 use Rattle.std.specs.Prelude.{ℕ, ◌==◌, Bool, true, not, List}
 use Rattle.std.specs.List.{list_all}
-use Rattle.vs_lex_tokens.specs.declared.token.Kind.{Kind}
-use Rattle.vs_lex_tokens.specs.declared.token.Kind.TheVariants as k
-use Rattle.vs_lex_tokens.specs.Tokens.{Lexeme, name_of}
+use Rattle.vs_lexer.specs.declared.token.Kind.{Kind}
+use Rattle.vs_lexer.specs.declared.token.Kind.TheVariants as k
+use Rattle.vs_lexer.specs.Tokens.{Lexeme, name_of}
 
 -- whether no byte is a line feed
 abbrev pub is_one_line : List ℕ → Bool

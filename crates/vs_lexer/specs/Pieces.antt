@@ -2,17 +2,17 @@
 use Rattle.std.specs.Prelude.{ℕ, ◌==◌, ◌&&◌, Bool, true, not, List, [], ◌∷◌, ◌++◌, length, Option, None, Some, if◌then◌else◌, nat_lt}
 use Rattle.std.specs.Char.{is_ascii_digit}
 use Rattle.std.specs.List.{list_all}
-use Rattle.vs_lex_tokens.specs.declared.refusal.Refusal.TheVariants as r
-use Rattle.vs_lex_tokens.specs.declared.piece.Piece.{Piece}
-use Rattle.vs_lex_tokens.specs.declared.piece.Piece.TheVariants.{Skipped, Token, Refused}
-use Rattle.vs_lex_tokens.specs.declared.token.Kind.{Kind}
-use Rattle.vs_lex_tokens.specs.declared.token.Kind.TheVariants as k
-use Rattle.vs_lex_tokens.specs.declared.token.Directive.{Directive}
-use Rattle.vs_lex_tokens.specs.declared.token.Mark.TheVariants as m
-use Rattle.vs_lex_tokens.specs.Bytes.{is_white, starts_name, in_name, in_escaped, in_line, in_comment, in_attribute}
-use Rattle.vs_lex_tokens.specs.Forms.{Form, run_of}
-use Rattle.vs_lex_tokens.specs.Literals.{number_form, apostrophe_form}
-use Rattle.vs_lex_tokens.specs.Texts.{text_form}
+use Rattle.vs_lexer.specs.declared.refusal.Refusal.TheVariants as r
+use Rattle.vs_lexer.specs.declared.piece.Piece.{Piece}
+use Rattle.vs_lexer.specs.declared.piece.Piece.TheVariants.{Skipped, Token, Refused}
+use Rattle.vs_lexer.specs.declared.token.Kind.{Kind}
+use Rattle.vs_lexer.specs.declared.token.Kind.TheVariants as k
+use Rattle.vs_lexer.specs.declared.token.Directive.{Directive}
+use Rattle.vs_lexer.specs.declared.token.Mark.TheVariants as m
+use Rattle.vs_lexer.specs.Bytes.{is_white, starts_name, in_name, in_escaped, in_line, in_comment, in_attribute}
+use Rattle.vs_lexer.specs.Forms.{Form, run_of}
+use Rattle.vs_lexer.specs.Literals.{number_form, apostrophe_form}
+use Rattle.vs_lexer.specs.Texts.{text_form}
 use Rattle.vs_lexer.specs.Directives.{directive_at}
 use Rattle.vs_lexer.specs.Reserved.{kind_in, words, left_out_words_to_h, left_out_words_to_r, left_out_words_to_x, one_byte_marks, two_byte_marks, three_byte_marks}
 

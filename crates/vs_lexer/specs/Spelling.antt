@@ -2,13 +2,13 @@
 use Rattle.std.specs.Prelude.{ℕ, ◌+◌, ◌<◌, ◌≤◌, List, [], ◌∷◌, length}
 use Rattle.vs_lexer.specs.declared.fault.LexFault.{LexFault}
 use Rattle.vs_lexer.specs.declared.fault.LexFault.TheVariants as f
-use Rattle.vs_lex_tokens.specs.declared.refusal.Refusal.{Refusal}
-use Rattle.vs_lex_tokens.specs.declared.refusal.Refusal.TheVariants as r
-use Rattle.vs_lex_tokens.specs.declared.piece.Piece.TheVariants.{Skipped, Token, Refused}
-use Rattle.vs_lex_tokens.specs.declared.token.Kind.{Kind}
-use Rattle.vs_lex_tokens.specs.Forms.{Begins}
+use Rattle.vs_lexer.specs.declared.refusal.Refusal.{Refusal}
+use Rattle.vs_lexer.specs.declared.refusal.Refusal.TheVariants as r
+use Rattle.vs_lexer.specs.declared.piece.Piece.TheVariants.{Skipped, Token, Refused}
+use Rattle.vs_lexer.specs.declared.token.Kind.{Kind}
+use Rattle.vs_lexer.specs.Forms.{Begins}
 use Rattle.vs_lexer.specs.Pieces.{piece_of}
-use Rattle.vs_lex_tokens.specs.Tokens.{Lexeme}
+use Rattle.vs_lexer.specs.Tokens.{Lexeme}
 
 -- The bytes from this place on are these tokens in order, with white space, comments and attributes between them.
 pub data Spells : ℕ → List ℕ → List Lexeme → Type 0 where

@@ -2,14 +2,14 @@
 use Rattle.std.specs.Prelude.{ℕ, ◌≡◌, List, [], ◌∷◌, ◌++◌, Option, None, Some}
 use Rattle.vs_lexer.specs.declared.fault.LexFault.{LexFault}
 use Rattle.vs_lexer.specs.declared.fault.LexFault.TheVariants as f
-use Rattle.vs_lex_tokens.specs.declared.piece.Piece.TheVariants.{Skipped, Token, Refused}
-use Rattle.vs_lex_tokens.specs.declared.token.Kind.{Kind}
+use Rattle.vs_lexer.specs.declared.piece.Piece.TheVariants.{Skipped, Token, Refused}
+use Rattle.vs_lexer.specs.declared.token.Kind.{Kind}
 use Rattle.vs_lexer.specs.Pieces.{piece_of}
 use Rattle.std.specs.Borrow.{Bor}
 use Rattle.vs_lexer.specs.Directives.{Reader}
 use Rattle.vs_lexer.specs.Reserved.{kind_in, two_byte_marks, three_byte_marks}
-use Rattle.vs_lex_tokens.specs.Forms.{Begins}
-use Rattle.vs_lex_tokens.specs.Tokens.{Lexeme}
+use Rattle.vs_lexer.specs.Forms.{Begins}
+use Rattle.vs_lexer.specs.Tokens.{Lexeme}
 
 -- no mark of three bytes stands at the front
 abbrev pub HasNoMarkOfThree : List ℕ → Type 0

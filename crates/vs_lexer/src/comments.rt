@@ -1,11 +1,9 @@
 //! Comments and attributes (IEEE 1364-2005, clauses 3.3 and 3.8).
 ghost use Rattle.std.specs.Prelude.{◌≡◌, ◌++◌, ◌∷◌, [], MatchOption, Some, None};
 ghost use Rattle.vs_lexer.specs.Pieces.{among, after_pair, closed_by, slash_form, parenthesis_form, opens_attribute};
-ghost use Rattle.vs_lex_tokens.specs.Reading.{Reads, in_class};
+ghost use Rattle.vs_lexer.specs.Reading.{Reads, in_class};
 
-use vs_lex_tokens::{
-    ByteClass, Kind, Lexed, Mark, Piece, Refusal, first_and_rest, is_white, split_run,
-};
+use crate::{ByteClass, Kind, Lexed, Mark, Piece, Refusal, first_and_rest, is_white, split_run};
 
 /// The bytes up to the first place where the two bytes stand side by side, both included, and the
 /// bytes behind it.

@@ -2,11 +2,11 @@
 ghost use Rattle.std.specs.Prelude.{◌≡◌, ◌∷◌, MatchOption, None, Some, nat_lt};
 ghost use Rattle.vs_lexer.specs.Directives.{behind, behind_white, done, text, next_is, next_is_white, number_at, unit_at, time_at, timescale_at, nettype_at, directive_at};
 ghost use Rattle.vs_lexer.specs.Pieces.{directive_form};
-ghost use Rattle.vs_lex_tokens.specs.Reading.{Reads};
-ghost use Rattle.vs_lex_tokens.specs.Times.{exponent};
+ghost use Rattle.vs_lexer.specs.Reading.{Reads};
+ghost use Rattle.vs_lexer.specs.Times.{exponent};
 ghost use Rattle.vs_lexer.specs.Taking.{Gives};
 
-use vs_lex_tokens::{
+use crate::{
     ByteClass, Directive, ImplicitNet, Kind, Lexed, Piece, Refusal, TextMagnitude, TextUnit, Time,
     first_and_rest, is_white, split_run,
 };

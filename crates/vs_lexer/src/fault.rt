@@ -3,9 +3,9 @@ ghost use Rattle.vs_lexer.specs.declared.fault.LexFault.TheVariants.{Memory};
 ghost use Rattle.vs_lexer.specs.Faults.{fault_text};
 ghost use Rattle.std.specs.Prelude.{◌≡◌, IfOk};
 
+use crate::Refusal;
 use std::alloc::{AllocError, AllocFailed, Global};
 use thiserror::Error;
-use vs_lex_tokens::Refusal;
 
 /// Why there are no tokens.
 #[derive(Clone, Copy, PartialEq, Eq, Debug, Error)]

@@ -1,10 +1,10 @@
 //! Laws of the token language.
 ghost use Rattle.std.specs.Prelude.{ℕ, ◌≡◌, true, List};
 ghost use Rattle.std.specs.List.{list_all};
-ghost use Rattle.vs_lex_tokens.specs.declared.refusal.Refusal.{Refusal};
+ghost use Rattle.vs_lexer.specs.declared.refusal.Refusal.{Refusal};
 ghost use Rattle.vs_lexer.specs.NameLines.{is_one_line_token};
 ghost use Rattle.vs_lexer.specs.Spelling.{IsSpelled, IsRefused};
-ghost use Rattle.vs_lex_tokens.specs.Tokens.{Lexeme};
+ghost use Rattle.vs_lexer.specs.Tokens.{Lexeme};
 
 /// The tokens that a source spells are the only ones.
 pub fn one_spelling()

@@ -2,12 +2,12 @@
 ghost use Rattle.std.specs.Prelude.{◌≡◌, ◌<◌, ◌≤◌, [], ◌∷◌, ◌++◌, length, MatchResult, OnOk};
 ghost use Rattle.vs_lexer.specs.Spelling.{IsSpelled, Fails};
 ghost use Rattle.vs_lexer.specs.Taking.{Takes, Stops};
-ghost use Rattle.vs_lex_tokens.specs.Tokens.{lexemes};
+ghost use Rattle.vs_lexer.specs.Tokens.{lexemes};
 
 use crate::fault::LexFault;
 use crate::scan::read_piece;
+use crate::{Kind, Lexed, Piece, Refusal, Token};
 use std::alloc::{AllocError, Global};
-use vs_lex_tokens::{Kind, Lexed, Piece, Refusal, Token};
 
 /// The most bytes that a source has: 4 MiB.
 const SOURCE_LIMIT: usize = 4194304;

@@ -1,11 +1,11 @@
 //! Marks and operators (IEEE 1364-2005, clauses 3.4 and 5).
 ghost use Rattle.std.specs.Prelude.{◌≡◌, ◌<◌, ◌∷◌, length, MatchOption};
 ghost use Rattle.vs_lexer.specs.Pieces.{mark_form};
-ghost use Rattle.vs_lex_tokens.specs.Reading.{Reads};
+ghost use Rattle.vs_lexer.specs.Reading.{Reads};
 ghost use Rattle.vs_lexer.specs.Taking.{HasNoMarkOfTwo, HasNoMarkOfThree};
 
 use crate::reserved::{one_byte_mark, three_byte_mark, two_byte_mark};
-use vs_lex_tokens::{Lexed, Piece, Refusal, first_and_rest, first_two_and_rest};
+use crate::{Lexed, Piece, Refusal, first_and_rest, first_two_and_rest};
 
 /// The first three bytes, and those after them.
 fn first_three_and_rest(bytes: &[u8]) -> Option<(u8, u8, u8, &[u8])>

@@ -1,12 +1,12 @@
 //! White space, names and reserved words.
 ghost use Rattle.std.specs.Prelude.{◌≡◌, []};
-ghost use Rattle.vs_lex_tokens.specs.Bytes.{is_white, in_name, in_escaped};
-ghost use Rattle.vs_lex_tokens.specs.Forms.{run_of};
+ghost use Rattle.vs_lexer.specs.Bytes.{is_white, in_name, in_escaped};
+ghost use Rattle.vs_lexer.specs.Forms.{run_of};
 ghost use Rattle.vs_lexer.specs.Pieces.{limited, word_or_name, white_piece, name_piece, system_piece, escaped_piece};
-ghost use Rattle.vs_lex_tokens.specs.Reading.{Reads};
+ghost use Rattle.vs_lexer.specs.Reading.{Reads};
 
 use crate::reserved::{left_out_to_h, left_out_to_r, left_out_to_x, word};
-use vs_lex_tokens::{ByteClass, Kind, Lexed, Piece, Refusal, is_white, split_run};
+use crate::{ByteClass, Kind, Lexed, Piece, Refusal, is_white, split_run};
 
 /// The most bytes that a name has.
 const NAME_LIMIT: usize = 1024;

@@ -2,7 +2,7 @@
 ghost use Rattle.std.specs.Prelude.{◌≡◌, map};
 ghost use Rattle.vs_lexer.specs.Reserved.{kind_in, words, left_out_words_to_h, left_out_words_to_r, left_out_words_to_x, one_byte_marks, two_byte_marks, three_byte_marks};
 
-use vs_lex_tokens::{Kind, Mark, Word};
+use crate::{Kind, Mark, Word};
 
 /// The reserved words of the subset (IEEE 1364-2005, annex B).
 static WORDS: [(&[u8], Word); 32] = [

@@ -1,13 +1,13 @@
 //! Reading one piece of a source.
 ghost use Rattle.std.specs.Prelude.{◌≡◌, ◌<◌, ◌∷◌, length};
 ghost use Rattle.vs_lexer.specs.Pieces.{form_of, piece_of};
-ghost use Rattle.vs_lex_tokens.specs.Reading.{Reads};
+ghost use Rattle.vs_lexer.specs.Reading.{Reads};
 
 use crate::comments::{read_parenthesis, read_slash};
 use crate::directives::read_directive;
 use crate::marks::read_mark;
 use crate::names::{read_escaped, read_name, read_system, read_white};
-use vs_lex_tokens::{
+use crate::{
     Lexed, first_and_rest, is_white, read_apostrophe, read_number, read_text, starts_name,
 };
 

@@ -10,7 +10,7 @@ use Rattle.vs_design.specs.Parts.{Parts}
 use Rattle.vs_process.specs.Places.{perform, turns, Todo}
 use Rattle.vs_process.specs.Numbers.{number_next, number_of}
 use Rattle.vs_process.specs.Stops.{Stop, stop_at, stop_statement, next_statement, IsText}
-use Rattle.vs_rules.specs.vs_threads.specs.Threads.{todo_reads, own_reads, own_shows, todo_shows}
+use Rattle.vs_rules.specs.vs_process.specs.Threads.{todo_reads, own_reads, own_shows, todo_shows}
 use Rattle.vs_rules.specs.Paths.{IsPoint, todo_now, todo_later, statement_now, statement_later}
 use Rattle.vs_maps.specs.Ranges.{ranges_of}
 use Rattle.vs_maps.specs.Reaches.{IsPlace}

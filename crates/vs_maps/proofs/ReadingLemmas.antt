@@ -18,7 +18,7 @@ use Rattle.vs_design.specs.Uses.{reads, joined}
 use Rattle.vs_design.specs.Statements.{all_reads, assignment_reads, statement_reads}
 use Rattle.vs_design.proofs.UsesLemmas.{joined_each}
 use Rattle.vs_design.proofs.StatementLemmas.{Items, fold_layer, reads_assignment}
-use Rattle.vs_rules.specs.vs_threads.specs.Threads.{item_reads}
+use Rattle.vs_rules.specs.vs_process.specs.Threads.{item_reads}
 use Rattle.vs_rules.specs.Paths.{text_reads, text_reads_step}
 
 -- an assignment

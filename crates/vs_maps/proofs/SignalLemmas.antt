@@ -7,8 +7,8 @@ use Rattle.vs_design.specs.declared.design.Process.{Process}
 use Rattle.vs_design.specs.declared.range.BitRange.{BitRange}
 use Rattle.vs_design.specs.declared.statement.EventTerm.{EventTerm}
 use Rattle.vs_design.specs.Parts.{Parts}
-use Rattle.vs_rules.specs.vs_threads.specs.Blocks.{outputs_for}
-use Rattle.vs_threads.specs.Writes.{statement_writes}
+use Rattle.vs_rules.specs.vs_process.specs.BlockDrivers.{outputs_for}
+use Rattle.vs_process.specs.Writes.{statement_writes}
 use Rattle.vs_rules.specs.Paths.{ListsSignal, reads_for, reads_of, text_reads, writes_of}
 use Rattle.vs_maps.specs.Ranges.{HasSignal, HasTermAt}
 use Rattle.vs_maps.specs.Reaches.{Chart}

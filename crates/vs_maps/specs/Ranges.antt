@@ -8,7 +8,7 @@ use Rattle.vs_design.specs.declared.statement.Statement.TheOpen.{Statement-F}
 use Rattle.vs_design.specs.declared.statement.Statement.TheViews.{out-Statement}
 use Rattle.vs_process.specs.Stops.{stop_at, stop_statement}
 use Rattle.vs_process.specs.Ways.{Pause, event}
-use Rattle.vs_rules.specs.vs_threads.specs.Threads.{own_reads, own_shows}
+use Rattle.vs_rules.specs.vs_process.specs.Threads.{own_reads, own_shows}
 use Rattle.vs_rules.specs.Paths.{statement_now, statement_later}
 use Rattle.vs_maps.specs.Reaches.{Chart, IsPlace, pause_at}
 

@@ -10,7 +10,7 @@ use crate::vs_graph::Family;
 use crate::{Tables, terms, text_reads};
 use std::alloc::{AllocError, Global};
 use vs_design::{BitRange, Design, EventTerm};
-use vs_threads::statement_writes;
+use vs_process::statement_writes;
 
 /// Puts the signals of ranges at a list's end.
 pub fn push_signals(out: &mut Vec<usize>, ranges: &[BitRange]) -> Result<(), AllocError>

@@ -28,5 +28,5 @@ pub use tables::Tables;
 pub use turns::{surely_turns, turns_of};
 pub use uses::Uses;
 pub use vs_graph;
-pub use vs_threads;
+pub use vs_process;
 pub use walks::{controls_before, delays_before, hot, late, marks_of, terms, walks_from};

@@ -5,7 +5,7 @@ ghost use Rattle.vs_design.specs.Uses.{aim_range, is_of, joined, reads, writes_s
 ghost use Rattle.vs_design.specs.Statements.{all_reads};
 ghost use Rattle.vs_design.specs.declared.statement.Statement.TheViews.{out-Statement};
 ghost use Rattle.vs_process.specs.Stops.{statement_view};
-ghost use Rattle.vs_rules.specs.vs_threads.specs.Threads.{item_reads, own_reads, own_shows};
+ghost use Rattle.vs_rules.specs.vs_process.specs.Threads.{item_reads, own_reads, own_shows};
 ghost use Rattle.vs_rules.specs.Paths.{statement_now, statement_later};
 ghost use Rattle.vs_maps.specs.Ranges.{ranges_of, HasSignal};
 ghost use Rattle.vs_maps.specs.Ranges as ranges;

@@ -2,7 +2,7 @@
 ghost use Rattle.std.specs.Prelude.{◌≡◌, ◌++◌, IfOk, OnOk, map};
 ghost use Rattle.vs_design.specs.Uses.{joined, reads};
 ghost use Rattle.vs_design.specs.Statements.{statement_reads};
-ghost use Rattle.vs_rules.specs.vs_threads.specs.Threads.{item_reads};
+ghost use Rattle.vs_rules.specs.vs_process.specs.Threads.{item_reads};
 ghost use Rattle.vs_rules.specs.Paths.{text_reads};
 
 use crate::ranges::case_reads;

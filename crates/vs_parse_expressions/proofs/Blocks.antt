@@ -1,8 +1,8 @@
 -- How what stands behind the `begin` of a block is made, and where it stops.
 use Rattle.std.specs.Prelude.{◌≡◌, ℕ, ◌≤◌, Bool, true, List, ◌∷◌, Result, Ok, Err, refl}
 use Rattle.std.proofs.Common.{ap, subst, arith}
-use Rattle.vs_syntax.specs.vs_lex_tokens.specs.declared.token.Token.{Token}
-use Rattle.vs_syntax.specs.vs_lex_tokens.specs.declared.token.Word.TheVariants as w
+use Rattle.vs_syntax.specs.vs_lexer.specs.declared.token.Token.{Token}
+use Rattle.vs_syntax.specs.vs_lexer.specs.declared.token.Word.TheVariants as w
 use Rattle.vs_syntax.specs.Symbols.{Symbol, a_word}
 use Rattle.vs_syntax.specs.Grammar.{Grammar, ◌·◌, many, word, name, form, listed, local_declaration, a_local}
 use Rattle.vs_syntax.specs.Tables.{goes}

@@ -5,9 +5,9 @@ use Rattle.std.proofs.lemmas.List.{map-append}
 use Rattle.vs_syntax.specs.vs_logic4.specs.declared.operators.Unary.{Unary}
 use Rattle.vs_syntax.specs.vs_logic4.specs.declared.operators.Unary.TheVariants as u
 use Rattle.vs_syntax.specs.vs_logic4.specs.declared.operators.Binary.{Binary}
-use Rattle.vs_syntax.specs.vs_lex_tokens.specs.declared.token.Token.{Token}
-use Rattle.vs_syntax.specs.vs_lex_tokens.specs.declared.token.Mark.{Mark}
-use Rattle.vs_syntax.specs.vs_lex_tokens.specs.declared.token.Mark.TheVariants as m
+use Rattle.vs_syntax.specs.vs_lexer.specs.declared.token.Token.{Token}
+use Rattle.vs_syntax.specs.vs_lexer.specs.declared.token.Mark.{Mark}
+use Rattle.vs_syntax.specs.vs_lexer.specs.declared.token.Mark.TheVariants as m
 use Rattle.vs_syntax.specs.Symbols.{Symbol, a_mark, a_cast, the_mark, any_number, class_of, same_class, first}
 use Rattle.vs_syntax.specs.Grammar.{Grammar, nothing, ◌·◌, ◌or◌, part, mark, name, number, a_level, a_condition, an_expr, an_operand, arm, chain, other_parts, select, compounds, one_or_more, one_mark, operands, levels, level_at}
 use Rattle.vs_syntax.specs.Tables.{low, mark_fronts, operand_fronts, among, need, goes}

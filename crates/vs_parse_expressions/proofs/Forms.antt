@@ -1,7 +1,7 @@
 -- How what declarations say of their names is made, and where it stops.
 use Rattle.std.specs.Prelude.{◌≡◌, ℕ, max, ◌≤◌, Bool, true, false, List, ◌∷◌, refl}
 use Rattle.std.proofs.Common.{arith}
-use Rattle.vs_syntax.specs.vs_lex_tokens.specs.declared.token.Word.TheVariants as w
+use Rattle.vs_syntax.specs.vs_lexer.specs.declared.token.Word.TheVariants as w
 use Rattle.vs_syntax.specs.Symbols.{Symbol, a_word, Class, class_of, same_class}
 use Rattle.vs_syntax.specs.Grammar.{Grammar, nothing, token, ◌·◌, ◌or◌, word}
 use Rattle.vs_syntax.specs.Tables.{low, goes}

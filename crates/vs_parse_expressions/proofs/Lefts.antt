@@ -1,7 +1,7 @@
 -- How the parts of the left side of an assignment make it, and where it stops.
 use Rattle.std.specs.Prelude.{◌≡◌, ℕ, ◌-◌, ◌<◌, ◌≤◌, Bool, true, List, ◌∷◌, map, refl}
 use Rattle.std.proofs.Common.{sym, ◌∙◌, ap, arith}
-use Rattle.vs_syntax.specs.vs_lex_tokens.specs.declared.token.Mark.TheVariants as m
+use Rattle.vs_syntax.specs.vs_lexer.specs.declared.token.Mark.TheVariants as m
 use Rattle.vs_syntax.specs.Symbols.{Symbol, a_mark, any_name, first}
 use Rattle.vs_syntax.specs.Grammar.{Grammar, ◌·◌, part, name, many, select, other_parts, a_target}
 use Rattle.vs_syntax.specs.Derivation.{Tree, leaf, both, down}

@@ -2,7 +2,7 @@
 use Rattle.std.specs.Prelude.{◌≡◌, ℕ, ◌<◌, ◌≤◌, Bool, true, false, List, [], ◌∷◌, ◌++◌, length, map, drop, refl}
 use Rattle.std.proofs.Common.{sym, ◌∙◌, ap, subst, append_assoc, arith}
 use Rattle.std.proofs.lemmas.List.{append-nil, length-append, map-append}
-use Rattle.vs_syntax.specs.vs_lex_tokens.specs.declared.token.Mark.TheVariants as m
+use Rattle.vs_syntax.specs.vs_lexer.specs.declared.token.Mark.TheVariants as m
 use Rattle.vs_syntax.specs.Symbols.{Symbol, a_mark, class_of}
 use Rattle.vs_syntax.specs.Grammar.{Grammar, ◌·◌, mark}
 use Rattle.vs_syntax.specs.Tables.{low, goes}
@@ -12,7 +12,7 @@ use Rattle.vs_syntax.specs.Views.{commas_tree, listed_tree}
 use Rattle.vs_syntax.proofs.Fronts.{same_class-refl}
 use Rattle.std.proofs.lemmas.Bool.{or_left}
 use Rattle.vs_syntax.proofs.Gets.{gets_token, gets_seq, gets_stop}
-use Rattle.vs_syntax.specs.vs_lex_tokens.specs.declared.token.Token.{Token}
+use Rattle.vs_syntax.specs.vs_lexer.specs.declared.token.Token.{Token}
 use Rattle.vs_parse_expressions.specs.Answers.{seen}
 use Rattle.vs_parse_expressions.proofs.Rows.{Along, along_none, along_push, all_read}
 use Rattle.vs_parse_expressions.specs.Lists.{behind_commas, Grown}

@@ -3,8 +3,8 @@ use Rattle.std.specs.Prelude.{◌≡◌, List, [], ◌∷◌, Option, None, Some
 use Rattle.std.proofs.Common.{ap, sym, ◌∙◌}
 use Rattle.std.specs.declared.boxed.Box.{Box}
 use Rattle.std.specs.declared.alloc.Global.{Global}
-use Rattle.vs_syntax.specs.vs_lex_tokens.specs.declared.token.Mark.TheVariants as m
-use Rattle.vs_syntax.specs.vs_lex_tokens.specs.declared.token.Word.TheVariants as w
+use Rattle.vs_syntax.specs.vs_lexer.specs.declared.token.Mark.TheVariants as m
+use Rattle.vs_syntax.specs.vs_lexer.specs.declared.token.Word.TheVariants as w
 use Rattle.vs_syntax.specs.Symbols.{a_mark, a_word, a_print, a_finish, a_dump}
 use Rattle.vs_syntax.specs.Derivation.{Tree, empty, leaf, both}
 use Rattle.vs_syntax.specs.Views.{row_of, block_head_tree, some_tree, expr_tree, assigned_tree, guarded_tree, else_tree, case_word, case_item_tree, for_tree, delay_tree, event_tree, later_tree, print_tree, finish_tree, dump_tree, stmt_step, stmt_tree}

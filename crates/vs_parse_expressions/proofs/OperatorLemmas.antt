@@ -4,8 +4,8 @@ use Rattle.std.proofs.Common.{sym, ◌∙◌, ap}
 use Rattle.std.proofs.lemmas.Bool.{eqb-true}
 use Rattle.vs_syntax.specs.vs_logic4.specs.declared.operators.Unary.{Unary}
 use Rattle.vs_syntax.specs.vs_logic4.specs.declared.operators.Binary.{Binary}
-use Rattle.vs_syntax.specs.vs_lex_tokens.specs.declared.token.Mark.{Mark}
-use Rattle.vs_syntax.specs.vs_lex_tokens.specs.declared.token.Mark.TheVariants as m
+use Rattle.vs_syntax.specs.vs_lexer.specs.declared.token.Mark.{Mark}
+use Rattle.vs_syntax.specs.vs_lexer.specs.declared.token.Mark.TheVariants as m
 use Rattle.vs_syntax.specs.Symbols.{Symbol, a_mark, the_mark, same_class, first}
 use Rattle.vs_syntax.specs.Grammar.{mark, levels, level_at}
 use Rattle.vs_syntax.specs.Tables.{mark_fronts, operand_fronts, among, goes}

@@ -1,7 +1,7 @@
 -- How the parts of a select make it, and where it stops.
 use Rattle.std.specs.Prelude.{◌≡◌, ℕ, max, ◌++◌, ◌-◌, ◌<◌, ◌≤◌, Bool, true, false, List, [], ◌∷◌, refl}
 use Rattle.std.proofs.Common.{◌∙◌, ap, append_assoc, arith}
-use Rattle.vs_syntax.specs.vs_lex_tokens.specs.declared.token.Mark.TheVariants as m
+use Rattle.vs_syntax.specs.vs_lexer.specs.declared.token.Mark.TheVariants as m
 use Rattle.vs_syntax.specs.Symbols.{Symbol, a_mark, any_name, first}
 use Rattle.vs_syntax.specs.Grammar.{Grammar, ◌·◌, part, mark, name, number, many, chain, one_or_more, part_marks, second, select, a_condition, an_expr, an_operand}
 use Rattle.vs_syntax.specs.Tables.{goes}

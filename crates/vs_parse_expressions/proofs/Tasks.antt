@@ -1,12 +1,12 @@
 -- How what stands behind system tasks is made, and where it stops.
 use Rattle.std.specs.Prelude.{◌≡◌, ℕ, Bool, true, false, ◌||◌, List, ◌∷◌, Option, Result, Ok, Err, refl}
 use Rattle.std.proofs.Common.{arith, ap, sym, ◌∙◌}
-use Rattle.vs_syntax.specs.vs_lex_tokens.specs.Texts.{text_value}
-use Rattle.vs_syntax.specs.vs_lex_tokens.specs.declared.token.Kind.{Kind}
-use Rattle.vs_syntax.specs.vs_lex_tokens.specs.declared.token.Kind.TheVariants as k
-use Rattle.vs_syntax.specs.vs_lex_tokens.specs.declared.token.Literal.{Literal}
-use Rattle.vs_syntax.specs.vs_lex_tokens.specs.declared.token.Mark.TheVariants as m
-use Rattle.vs_syntax.specs.vs_lex_tokens.specs.declared.token.Token.{Token}
+use Rattle.vs_syntax.specs.vs_lexer.specs.Texts.{text_value}
+use Rattle.vs_syntax.specs.vs_lexer.specs.declared.token.Kind.{Kind}
+use Rattle.vs_syntax.specs.vs_lexer.specs.declared.token.Kind.TheVariants as k
+use Rattle.vs_syntax.specs.vs_lexer.specs.declared.token.Literal.{Literal}
+use Rattle.vs_syntax.specs.vs_lexer.specs.declared.token.Mark.TheVariants as m
+use Rattle.vs_syntax.specs.vs_lexer.specs.declared.token.Token.{Token}
 use Rattle.vs_syntax.specs.Symbols.{Symbol, a_mark, a_number, a_text, a_finish, a_time, the_mark, any_text, the_time, class_of, symbol_of, same_class}
 use Rattle.vs_syntax.specs.Grammar.{Grammar, ◌·◌, token, seq, part, mark, number, late, finish_argument, an_argument, a_dump_argument, an_expr}
 use Rattle.vs_syntax.specs.Tables.{goes}

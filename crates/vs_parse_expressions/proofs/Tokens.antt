@@ -2,12 +2,12 @@
 use Rattle.std.specs.Prelude.{◌≡◌, ℕ, Bool, true, false, not, ◌&&◌, ◌∷◌, if◌then◌else◌, List, [], refl}
 use Rattle.std.proofs.Common.{sym, ◌∙◌, ap}
 use Rattle.std.specs.Str.{bytes_eq}
-use Rattle.vs_syntax.specs.vs_lex_tokens.specs.declared.token.Kind.{Kind}
-use Rattle.vs_syntax.specs.vs_lex_tokens.specs.declared.token.Kind.TheVariants as k
-use Rattle.vs_syntax.specs.vs_lex_tokens.specs.declared.token.Literal.{Literal}
-use Rattle.vs_syntax.specs.vs_lex_tokens.specs.declared.token.Mark.{Mark}
-use Rattle.vs_syntax.specs.vs_lex_tokens.specs.declared.token.Token.{Token}
-use Rattle.vs_syntax.specs.vs_lex_tokens.specs.declared.token.Word.{Word}
+use Rattle.vs_syntax.specs.vs_lexer.specs.declared.token.Kind.{Kind}
+use Rattle.vs_syntax.specs.vs_lexer.specs.declared.token.Kind.TheVariants as k
+use Rattle.vs_syntax.specs.vs_lexer.specs.declared.token.Literal.{Literal}
+use Rattle.vs_syntax.specs.vs_lexer.specs.declared.token.Mark.{Mark}
+use Rattle.vs_syntax.specs.vs_lexer.specs.declared.token.Token.{Token}
+use Rattle.vs_syntax.specs.vs_lexer.specs.declared.token.Word.{Word}
 use Rattle.vs_syntax.specs.vs_lexer.specs.Tokens.{name_of}
 use Rattle.vs_syntax.specs.Symbols.{Symbol, a_name, a_number, Class, the_mark, the_word, any_name, any_number, any_other, class_of, system_names, symbol_named, system_symbol, symbol_of, same_class}
 use Rattle.vs_syntax.specs.Grammar.{token, name, number}

@@ -1,7 +1,7 @@
 -- The tree of each expression.
 use Rattle.std.specs.Prelude.{◌≡◌, List, [], ◌∷◌, Option, None, Some, map, refl}
 use Rattle.std.proofs.Common.{ap, sym, ◌∙◌}
-use Rattle.vs_syntax.specs.vs_lex_tokens.specs.declared.token.Mark.TheVariants as m
+use Rattle.vs_syntax.specs.vs_lexer.specs.declared.token.Mark.TheVariants as m
 use Rattle.vs_syntax.specs.Symbols.{a_mark, a_number, a_cast}
 use Rattle.vs_syntax.specs.Derivation.{Tree, leaf, both, down}
 use Rattle.vs_syntax.specs.Views.{row_of, name_tree, unary_mark, link_tree, choice_tree, others_tree, repeated_tree, closed_tree, select_tree, some_tree, chosen_tree, expr_step, expr_tree}

@@ -1,6 +1,6 @@
 -- What a function that reads a part of a source answers.
 use Rattle.std.specs.Prelude.{◌≡◌, ℕ, true, false, List, Result, Ok, Err}
-use Rattle.vs_syntax.specs.vs_lex_tokens.specs.declared.token.Token.{Token}
+use Rattle.vs_syntax.specs.vs_lexer.specs.declared.token.Token.{Token}
 use Rattle.vs_syntax.specs.vs_lexer.specs.Tokens.{lexemes}
 use Rattle.vs_syntax.specs.Symbols.{Symbol, symbols}
 use Rattle.vs_syntax.specs.Grammar.{Grammar}

@@ -2,9 +2,9 @@
 use Rattle.std.specs.Prelude.{List, map, Option, None, Some}
 use Rattle.std.specs.declared.vec.Vec.{Vec}
 use Rattle.std.specs.declared.alloc.Global.{Global}
-use Rattle.vs_syntax.specs.vs_lex_tokens.specs.declared.token.Mark.TheVariants as m
-use Rattle.vs_syntax.specs.vs_lex_tokens.specs.declared.token.Word.{Word}
-use Rattle.vs_syntax.specs.vs_lex_tokens.specs.declared.token.Word.TheVariants as w
+use Rattle.vs_syntax.specs.vs_lexer.specs.declared.token.Mark.TheVariants as m
+use Rattle.vs_syntax.specs.vs_lexer.specs.declared.token.Word.{Word}
+use Rattle.vs_syntax.specs.vs_lexer.specs.declared.token.Word.TheVariants as w
 use Rattle.vs_syntax.specs.Derivation.{Tree, empty, both}
 use Rattle.vs_syntax.specs.Views.{row_of, name_tree, local_declaration_tree}
 use Rattle.vs_parse_expressions.specs.declared.local.LocalWord.{LocalWord}

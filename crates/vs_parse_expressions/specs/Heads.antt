@@ -1,7 +1,7 @@
 -- How operands and left sides begin.
 use Rattle.std.specs.Prelude.{◌≡◌, ℕ, false, List, ◌∷◌, Option, Some, None}
-use Rattle.vs_syntax.specs.vs_lex_tokens.specs.declared.token.Kind.{Kind}
-use Rattle.vs_syntax.specs.vs_lex_tokens.specs.declared.token.Mark.TheVariants as m
+use Rattle.vs_syntax.specs.vs_lexer.specs.declared.token.Kind.{Kind}
+use Rattle.vs_syntax.specs.vs_lexer.specs.declared.token.Mark.TheVariants as m
 use Rattle.vs_syntax.specs.Symbols.{Symbol, a_mark, a_cast, a_print, a_finish, a_dump, a_time, another, any_name, any_number, class_of, same_class, symbol_of, first}
 use Rattle.vs_syntax.specs.Views.{unary_mark}
 use Rattle.vs_parse_expressions.specs.declared.head.OperandHead.{OperandHead}

@@ -1,6 +1,6 @@
 -- Lists with commas.
 use Rattle.std.specs.Prelude.{◌≡◌, ℕ, List, ◌++◌, map}
-use Rattle.vs_syntax.specs.vs_lex_tokens.specs.declared.token.Mark.TheVariants as m
+use Rattle.vs_syntax.specs.vs_lexer.specs.declared.token.Mark.TheVariants as m
 use Rattle.vs_syntax.specs.Symbols.{Symbol}
 use Rattle.vs_syntax.specs.Grammar.{Grammar, ◌·◌, many, mark}
 use Rattle.vs_syntax.specs.Derivation.{Tree}

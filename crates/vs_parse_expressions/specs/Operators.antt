@@ -4,8 +4,8 @@ use Rattle.vs_syntax.specs.vs_logic4.specs.declared.operators.Unary.{Unary}
 use Rattle.vs_syntax.specs.vs_logic4.specs.declared.operators.Unary.TheVariants as u
 use Rattle.vs_syntax.specs.vs_logic4.specs.declared.operators.Binary.{Binary}
 use Rattle.vs_syntax.specs.vs_logic4.specs.declared.operators.Binary.TheVariants as b
-use Rattle.vs_syntax.specs.vs_lex_tokens.specs.declared.token.Mark.{Mark}
-use Rattle.vs_syntax.specs.vs_lex_tokens.specs.declared.token.Mark.TheVariants as m
+use Rattle.vs_syntax.specs.vs_lexer.specs.declared.token.Mark.{Mark}
+use Rattle.vs_syntax.specs.vs_lexer.specs.declared.token.Mark.TheVariants as m
 use Rattle.vs_syntax.specs.Symbols.{Symbol, a_mark, the_mark, first}
 use Rattle.vs_syntax.specs.Grammar.{levels, level_at}
 use Rattle.vs_syntax.specs.Tables.{mark_fronts, among}

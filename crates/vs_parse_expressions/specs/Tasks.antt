@@ -1,5 +1,5 @@
 -- What stands behind system tasks (clause A.6.9).
-use Rattle.vs_syntax.specs.vs_lex_tokens.specs.declared.token.Mark.TheVariants as m
+use Rattle.vs_syntax.specs.vs_lexer.specs.declared.token.Mark.TheVariants as m
 use Rattle.vs_syntax.specs.Symbols.{any_text}
 use Rattle.vs_syntax.specs.Grammar.{Grammar, nothing, ◌·◌, ◌or◌, token, part, mark, number, an_argument, a_dump_argument}
 use Rattle.vs_parse_expressions.specs.Lists.{behind_commas}

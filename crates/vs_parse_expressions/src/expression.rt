@@ -1,6 +1,6 @@
 //! Reading expressions.
 ghost use Rattle.std.specs.Prelude.{◌≡◌, [], ℕ, suc, ◌∷◌, map, IfOk};
-ghost use Rattle.vs_syntax.specs.vs_lex_tokens.specs.declared.token.Mark.TheVariants as m;
+ghost use Rattle.vs_syntax.specs.vs_lexer.specs.declared.token.Mark.TheVariants as m;
 ghost use Rattle.vs_syntax.specs.Symbols.{a_mark, a_cast, any_name, any_number, first};
 ghost use Rattle.vs_syntax.specs.Grammar.{◌·◌, part, many, mark, a_level, a_condition, an_expr, an_operand, other_parts, select};
 ghost use Rattle.vs_syntax.specs.Derivation.{leaf, both, height};

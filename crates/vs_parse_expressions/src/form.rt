@@ -1,7 +1,7 @@
 //! Reading what declarations say of their names.
 ghost use Rattle.std.specs.Prelude.{ℕ, ◌≤◌, map};
-ghost use Rattle.vs_syntax.specs.vs_lex_tokens.specs.declared.token.Mark.TheVariants as m;
-ghost use Rattle.vs_syntax.specs.vs_lex_tokens.specs.declared.token.Word.TheVariants as w;
+ghost use Rattle.vs_syntax.specs.vs_lexer.specs.declared.token.Mark.TheVariants as m;
+ghost use Rattle.vs_syntax.specs.vs_lexer.specs.declared.token.Word.TheVariants as w;
 ghost use Rattle.vs_syntax.specs.Grammar.{nothing, mark, word, ◌·◌, ◌or◌, form, range};
 ghost use Rattle.vs_syntax.specs.Tables.{low};
 ghost use Rattle.vs_syntax.specs.Derivation.{both};

@@ -1,6 +1,6 @@
 //! Reading the left sides of assignments.
 ghost use Rattle.std.specs.Prelude.{◌≡◌, ◌∷◌, map};
-ghost use Rattle.vs_syntax.specs.vs_lex_tokens.specs.declared.token.Mark.TheVariants as m;
+ghost use Rattle.vs_syntax.specs.vs_lexer.specs.declared.token.Mark.TheVariants as m;
 ghost use Rattle.vs_syntax.specs.Symbols.{a_mark, any_name, first};
 ghost use Rattle.vs_syntax.specs.Grammar.{part, many, select, a_target};
 ghost use Rattle.vs_syntax.specs.Views.{row_of, chosen_tree, left_tree};

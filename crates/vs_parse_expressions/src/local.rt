@@ -1,6 +1,6 @@
 //! Reading the names of blocks, and the declarations behind them.
 ghost use Rattle.std.specs.Prelude.{◌≡◌, ◌∷◌, ℕ, false, map, MatchOption};
-ghost use Rattle.vs_syntax.specs.vs_lex_tokens.specs.declared.token.Mark.TheVariants as m;
+ghost use Rattle.vs_syntax.specs.vs_lexer.specs.declared.token.Mark.TheVariants as m;
 ghost use Rattle.vs_syntax.specs.Symbols.{a_mark, a_word};
 ghost use Rattle.vs_syntax.specs.Grammar.{◌·◌, many, part, name, local_declaration, block_head, a_local};
 ghost use Rattle.vs_syntax.specs.Tables.{goes};

@@ -1,6 +1,6 @@
 //! Reading what stands behind system tasks (IEEE 1364-2005, clause A.6.9).
 ghost use Rattle.std.specs.Prelude.{◌≡◌, ◌∷◌, ℕ, false, MatchOption};
-ghost use Rattle.vs_syntax.specs.vs_lex_tokens.specs.declared.token.Mark.TheVariants as m;
+ghost use Rattle.vs_syntax.specs.vs_lexer.specs.declared.token.Mark.TheVariants as m;
 ghost use Rattle.vs_syntax.specs.Symbols.{a_number, a_mark, a_text, a_print, a_finish, a_dump, a_time, any_text, the_time};
 ghost use Rattle.vs_syntax.specs.Grammar.{Grammar, ◌·◌, token, part, mark, number, print_arguments, finish_argument, dump_arguments, an_argument, a_dump_argument};
 ghost use Rattle.vs_syntax.specs.Tables.{goes};

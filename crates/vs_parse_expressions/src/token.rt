@@ -1,7 +1,7 @@
 //! Reading single tokens.
 ghost use Rattle.std.specs.Prelude.{◌≡◌, ℕ, List, [], ◌∷◌, false, MatchOption};
-ghost use Rattle.vs_syntax.specs.vs_lex_tokens.specs.declared.token.Kind.TheVariants as k;
-ghost use Rattle.vs_syntax.specs.vs_lex_tokens.specs.declared.token.Mark.{Mark};
+ghost use Rattle.vs_syntax.specs.vs_lexer.specs.declared.token.Kind.TheVariants as k;
+ghost use Rattle.vs_syntax.specs.vs_lexer.specs.declared.token.Mark.{Mark};
 ghost use Rattle.vs_syntax.specs.Symbols.{a_mark, a_word, spelled, system_symbol};
 ghost use Rattle.vs_syntax.specs.Grammar.{mark, word, name, part_marks};
 ghost use Rattle.vs_syntax.specs.Tables.{goes};

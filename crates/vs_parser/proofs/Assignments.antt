@@ -1,5 +1,5 @@
 -- How the parts in the parentheses of a `for` statement follow one another.
-use Rattle.vs_syntax.specs.vs_lex_tokens.specs.declared.token.Mark.TheVariants as m
+use Rattle.vs_syntax.specs.vs_lexer.specs.declared.token.Mark.TheVariants as m
 use Rattle.vs_syntax.specs.Grammar.{Grammar, ◌·◌, part, mark, assignment, a_stmt, an_expr}
 
 -- from the second assignment on

@@ -1,9 +1,9 @@
 -- How the parts of declarations and net assignments make them, and where they stop.
 use Rattle.std.specs.Prelude.{◌≡◌, ℕ, ◌≤◌, Bool, false, List, ◌∷◌, Option, None, Some, Result, Ok, Err, refl}
 use Rattle.std.proofs.Common.{sym, subst, arith}
-use Rattle.vs_syntax.specs.vs_lex_tokens.specs.declared.token.Token.{Token}
-use Rattle.vs_syntax.specs.vs_lex_tokens.specs.declared.token.Mark.TheVariants as m
-use Rattle.vs_syntax.specs.vs_lex_tokens.specs.declared.token.Word.TheVariants as w
+use Rattle.vs_syntax.specs.vs_lexer.specs.declared.token.Token.{Token}
+use Rattle.vs_syntax.specs.vs_lexer.specs.declared.token.Mark.TheVariants as m
+use Rattle.vs_syntax.specs.vs_lexer.specs.declared.token.Word.TheVariants as w
 use Rattle.vs_syntax.specs.Symbols.{Symbol, a_mark, a_word, class_of}
 use Rattle.vs_syntax.specs.Grammar.{Nonterminal, Grammar, nothing, token, ◌·◌, ◌or◌, part, mark, word, range, form, parameter_form, an_expr, rule}
 use Rattle.vs_syntax.specs.Tables.{low, goes}

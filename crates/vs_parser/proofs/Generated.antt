@@ -1,9 +1,9 @@
 -- How the parts of generate constructs make them, and where they stop.
 use Rattle.std.specs.Prelude.{◌≡◌, ℕ, ◌≤◌, Bool, true, false, List, ◌∷◌, Result, Ok, Err, refl}
 use Rattle.std.proofs.Common.{subst, sym, ◌∙◌, arith}
-use Rattle.vs_syntax.specs.vs_lex_tokens.specs.declared.token.Mark.TheVariants as m
-use Rattle.vs_syntax.specs.vs_lex_tokens.specs.declared.token.Token.{Token}
-use Rattle.vs_syntax.specs.vs_lex_tokens.specs.declared.token.Word.TheVariants as w
+use Rattle.vs_syntax.specs.vs_lexer.specs.declared.token.Mark.TheVariants as m
+use Rattle.vs_syntax.specs.vs_lexer.specs.declared.token.Token.{Token}
+use Rattle.vs_syntax.specs.vs_lexer.specs.declared.token.Word.TheVariants as w
 use Rattle.vs_syntax.specs.Symbols.{Symbol, a_mark, a_word, Class, the_mark, the_word, same_class, first}
 use Rattle.vs_syntax.specs.Grammar.{Grammar, ◌·◌, many, part, mark, word, optional, named_value, a_generate_block, an_item, an_expr}
 use Rattle.vs_syntax.specs.Tables.{among, need, fronts_of, goes}

@@ -1,7 +1,7 @@
 -- How statements and their parts begin.
 use Rattle.std.specs.Prelude.{◌≡◌, ℕ, ◌<◌, suc, ◌||◌, Bool, true, false, List, ◌∷◌, Some, refl}
 use Rattle.std.proofs.Common.{ap, sym}
-use Rattle.vs_syntax.specs.vs_lex_tokens.specs.declared.token.Word.TheVariants as w
+use Rattle.vs_syntax.specs.vs_lexer.specs.declared.token.Word.TheVariants as w
 use Rattle.vs_syntax.specs.Symbols.{Symbol, a_word, class_of, first}
 use Rattle.vs_syntax.specs.Grammar.{part, word, statements, a_stmt, a_case_item, an_expr}
 use Rattle.vs_syntax.specs.Tables.{low, among, need, fronts_of, operand_fronts, goes}

@@ -1,8 +1,8 @@
 -- How the parts of instances make them, and where they stop.
 use Rattle.std.specs.Prelude.{◌≡◌, ℕ, ◌≤◌, Bool, true, false, List, ◌∷◌, Result, Ok, Err, refl}
 use Rattle.std.proofs.Common.{ap, arith}
-use Rattle.vs_syntax.specs.vs_lex_tokens.specs.declared.token.Mark.TheVariants as m
-use Rattle.vs_syntax.specs.vs_lex_tokens.specs.declared.token.Token.{Token}
+use Rattle.vs_syntax.specs.vs_lexer.specs.declared.token.Mark.TheVariants as m
+use Rattle.vs_syntax.specs.vs_lexer.specs.declared.token.Token.{Token}
 use Rattle.vs_syntax.specs.Symbols.{Symbol, a_mark, the_mark, first}
 use Rattle.vs_syntax.specs.Grammar.{Grammar, ◌·◌, part, mark, an_end, connections, a_connection, an_expr}
 use Rattle.vs_syntax.specs.Tables.{goes}

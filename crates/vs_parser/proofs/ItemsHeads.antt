@@ -1,9 +1,9 @@
 -- How items are made of what they begin with and what stands behind it, and where they stop.
 use Rattle.std.specs.Prelude.{◌≡◌, ℕ, suc, ◌-◌, ◌<◌, ◌≤◌, Bool, true, List, ◌∷◌, Some, Result, Ok, Err, refl}
 use Rattle.std.proofs.Common.{ap, sym, subst, ◌∙◌, arith}
-use Rattle.vs_syntax.specs.vs_lex_tokens.specs.declared.token.Word.{Word}
-use Rattle.vs_syntax.specs.vs_lex_tokens.specs.declared.token.Word.TheVariants as w
-use Rattle.vs_syntax.specs.vs_lex_tokens.specs.declared.token.Token.{Token}
+use Rattle.vs_syntax.specs.vs_lexer.specs.declared.token.Word.{Word}
+use Rattle.vs_syntax.specs.vs_lexer.specs.declared.token.Word.TheVariants as w
+use Rattle.vs_syntax.specs.vs_lexer.specs.declared.token.Token.{Token}
 use Rattle.vs_syntax.specs.Symbols.{Symbol, a_word, class_of, the_word, first}
 use Rattle.vs_syntax.specs.Grammar.{Grammar, part, items, an_item}
 use Rattle.vs_syntax.specs.Tables.{low, among, need, fronts_of, goes}

@@ -1,9 +1,9 @@
 -- How the parts of a statement make it, and where it stops.
 use Rattle.std.specs.Prelude.{◌≡◌, ℕ, ◌-◌, ◌<◌, ◌≤◌, Bool, true, false, List, [], ◌∷◌, Result, Ok, Err, refl}
 use Rattle.std.proofs.Common.{◌∙◌, ap, sym, subst, arith}
-use Rattle.vs_syntax.specs.vs_lex_tokens.specs.declared.token.Mark.TheVariants as m
-use Rattle.vs_syntax.specs.vs_lex_tokens.specs.declared.token.Token.{Token}
-use Rattle.vs_syntax.specs.vs_lex_tokens.specs.declared.token.Word.TheVariants as w
+use Rattle.vs_syntax.specs.vs_lexer.specs.declared.token.Mark.TheVariants as m
+use Rattle.vs_syntax.specs.vs_lexer.specs.declared.token.Token.{Token}
+use Rattle.vs_syntax.specs.vs_lexer.specs.declared.token.Word.TheVariants as w
 use Rattle.vs_syntax.specs.Symbols.{Symbol, a_word, the_word}
 use Rattle.vs_syntax.specs.Grammar.{Grammar, ◌·◌, ◌or◌, many, one_or_more, optional, part, mark, word, block_head, case_items, statements, a_stmt, a_case_item, a_target, an_expr}
 use Rattle.vs_syntax.specs.Tables.{low, need, fronts_of, goes}

@@ -1,7 +1,7 @@
 -- How the signs of assignments are read, and where they stop.
 use Rattle.std.specs.Prelude.{◌≡◌, ℕ, Bool, false, List, ◌∷◌, refl}
 use Rattle.std.proofs.Common.{arith}
-use Rattle.vs_syntax.specs.vs_lex_tokens.specs.declared.token.Mark.TheVariants as m
+use Rattle.vs_syntax.specs.vs_lexer.specs.declared.token.Mark.TheVariants as m
 use Rattle.vs_syntax.specs.Symbols.{Symbol, a_mark}
 use Rattle.vs_syntax.specs.Grammar.{seq, mark, late}
 use Rattle.vs_syntax.specs.Tables.{goes}

@@ -3,8 +3,8 @@ use Rattle.std.specs.Prelude.{◌≡◌, Option, None, Some, map, refl}
 use Rattle.std.proofs.Common.{ap, sym, ◌∙◌}
 use Rattle.std.specs.declared.boxed.Box.{Box}
 use Rattle.std.specs.declared.alloc.Global.{Global}
-use Rattle.vs_syntax.specs.vs_lex_tokens.specs.declared.token.Mark.TheVariants as m
-use Rattle.vs_syntax.specs.vs_lex_tokens.specs.declared.token.Word.TheVariants as w
+use Rattle.vs_syntax.specs.vs_lexer.specs.declared.token.Mark.TheVariants as m
+use Rattle.vs_syntax.specs.vs_lexer.specs.declared.token.Word.TheVariants as w
 use Rattle.vs_syntax.specs.Symbols.{a_mark, a_word}
 use Rattle.vs_syntax.specs.Derivation.{Tree, leaf, both}
 use Rattle.vs_syntax.specs.Views.{row_of, expr_tree, guarded_tree, else_tree, item_tree, loop_tree, block_name_tree, module_item_step, module_item_tree}

@@ -1,7 +1,7 @@
 -- How items begin.
 use Rattle.std.specs.Prelude.{◌≡◌, List, ◌∷◌}
-use Rattle.vs_syntax.specs.vs_lex_tokens.specs.declared.token.Word.{Word}
-use Rattle.vs_syntax.specs.vs_lex_tokens.specs.declared.token.Word.TheVariants as w
+use Rattle.vs_syntax.specs.vs_lexer.specs.declared.token.Word.{Word}
+use Rattle.vs_syntax.specs.vs_lexer.specs.declared.token.Word.TheVariants as w
 use Rattle.vs_syntax.specs.Symbols.{Symbol, a_word, a_name}
 use Rattle.vs_syntax.specs.Grammar.{Grammar, ◌·◌, part, many, word, form, listed, instances, parameter_form, generate_loop, generate_branches, guarded, a_constant, a_net, a_bare_name, a_variable, an_assignment, an_item, a_stmt}
 use Rattle.vs_syntax.specs.Views.{direction_word}

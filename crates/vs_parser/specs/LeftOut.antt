@@ -1,8 +1,8 @@
 -- Tokens that the subset of the language leaves out (profile).
 use Rattle.std.specs.Prelude.{ℕ, Bool, true, false, not, ◌&&◌, List, [], ◌∷◌}
 use Rattle.std.specs.Str.{bytes_eq}
-use Rattle.vs_syntax.specs.vs_lex_tokens.specs.declared.token.Kind.{Kind}
-use Rattle.vs_syntax.specs.vs_lex_tokens.specs.declared.token.Kind.TheVariants as k
+use Rattle.vs_syntax.specs.vs_lexer.specs.declared.token.Kind.{Kind}
+use Rattle.vs_syntax.specs.vs_lexer.specs.declared.token.Kind.TheVariants as k
 use Rattle.vs_syntax.specs.vs_lexer.specs.Tokens as tokens
 use Rattle.vs_syntax.specs.Symbols.{Symbol, system_names}
 

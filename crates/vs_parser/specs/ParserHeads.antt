@@ -1,5 +1,5 @@
 -- What stands between modules, and how it begins.
-use Rattle.vs_syntax.specs.vs_lex_tokens.specs.declared.token.Word.TheVariants as w
+use Rattle.vs_syntax.specs.vs_lexer.specs.declared.token.Word.TheVariants as w
 use Rattle.vs_syntax.specs.Symbols.{Symbol, a_word, a_directive, the_directive}
 use Rattle.vs_syntax.specs.Grammar.{Grammar, token, ◌or◌, part, a_module}
 use Rattle.vs_parser.specs.declared.parser_head.SourceHead.{SourceHead}

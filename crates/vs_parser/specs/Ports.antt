@@ -1,9 +1,9 @@
 -- Ports in the header of a module and in items.
 use Rattle.std.specs.Prelude.{◌≡◌, ℕ, false, List, ◌∷◌, Option, None, Some, Result, Ok, Err}
-use Rattle.vs_syntax.specs.vs_lex_tokens.specs.declared.token.Token.{Token}
-use Rattle.vs_syntax.specs.vs_lex_tokens.specs.declared.token.Mark.TheVariants as m
-use Rattle.vs_syntax.specs.vs_lex_tokens.specs.declared.token.Word.{Word}
-use Rattle.vs_syntax.specs.vs_lex_tokens.specs.declared.token.Word.TheVariants as w
+use Rattle.vs_syntax.specs.vs_lexer.specs.declared.token.Token.{Token}
+use Rattle.vs_syntax.specs.vs_lexer.specs.declared.token.Mark.TheVariants as m
+use Rattle.vs_syntax.specs.vs_lexer.specs.declared.token.Word.{Word}
+use Rattle.vs_syntax.specs.vs_lexer.specs.declared.token.Word.TheVariants as w
 use Rattle.vs_syntax.specs.Symbols.{Symbol, a_word}
 use Rattle.vs_syntax.specs.Grammar.{Nonterminal, Grammar, nothing, ◌·◌, ◌or◌, part, mark, word, form, listed, may_value, told_ports, net_ports, variable_ports, port_names, a_bare_name}
 use Rattle.vs_syntax.specs.Tables.{goes}

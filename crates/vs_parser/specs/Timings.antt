@@ -1,5 +1,5 @@
 -- The signs of assignments.
-use Rattle.vs_syntax.specs.vs_lex_tokens.specs.declared.token.Mark.TheVariants as m
+use Rattle.vs_syntax.specs.vs_lexer.specs.declared.token.Mark.TheVariants as m
 use Rattle.vs_syntax.specs.Symbols.{a_mark}
 use Rattle.vs_syntax.specs.Grammar.{Grammar, ◌·◌, ◌or◌, mark, late}
 use Rattle.vs_syntax.specs.Derivation.{Tree, leaf}

@@ -1,7 +1,7 @@
 //! Reading delays, and what event controls wait for.
 ghost use Rattle.std.specs.Prelude.{◌≡◌, ℕ, map};
-ghost use Rattle.vs_syntax.specs.vs_lex_tokens.specs.declared.token.Mark.TheVariants as m;
-ghost use Rattle.vs_syntax.specs.vs_lex_tokens.specs.declared.token.Word.TheVariants as w;
+ghost use Rattle.vs_syntax.specs.vs_lexer.specs.declared.token.Mark.TheVariants as m;
+ghost use Rattle.vs_syntax.specs.vs_lexer.specs.declared.token.Word.TheVariants as w;
 ghost use Rattle.vs_syntax.specs.Symbols.{any_number, first};
 ghost use Rattle.vs_syntax.specs.Grammar.{◌·◌, ◌or◌, many, part, mark, word, delay, event, event_exprs, an_event_expr};
 ghost use Rattle.vs_syntax.specs.Views.{row_of, delay_tree, event_expr_tree, other_event_tree, event_tree};

@@ -1,5 +1,5 @@
 //! Reading declarations and net assignments.
-ghost use Rattle.vs_syntax.specs.vs_lex_tokens.specs.declared.token.Mark.TheVariants as m;
+ghost use Rattle.vs_syntax.specs.vs_lexer.specs.declared.token.Mark.TheVariants as m;
 ghost use Rattle.vs_syntax.specs.Symbols.{a_mark};
 ghost use Rattle.vs_syntax.specs.Grammar.{part, a_net, a_variable, a_bare_name, an_assignment, an_expr};
 ghost use Rattle.vs_syntax.specs.Derivation.{leaf, both};

@@ -1,8 +1,8 @@
 //! Reading generate constructs and the items in them. What one form of them needs is never inlined, so that a level of nesting takes little
 //! stack.
 ghost use Rattle.std.specs.Prelude.{ℕ, map};
-ghost use Rattle.vs_syntax.specs.vs_lex_tokens.specs.declared.token.Mark.TheVariants as m;
-ghost use Rattle.vs_syntax.specs.vs_lex_tokens.specs.declared.token.Word.TheVariants as w;
+ghost use Rattle.vs_syntax.specs.vs_lexer.specs.declared.token.Mark.TheVariants as m;
+ghost use Rattle.vs_syntax.specs.vs_lexer.specs.declared.token.Word.TheVariants as w;
 ghost use Rattle.vs_syntax.specs.Symbols.{a_word, the_word};
 ghost use Rattle.vs_syntax.specs.Grammar.{Grammar, ◌·◌, many, part, mark, word, optional, guarded, named_value, generate_loop, generate_branches, block_name, a_generate_block, an_item};
 ghost use Rattle.vs_syntax.specs.Derivation.{both};

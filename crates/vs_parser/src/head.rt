@@ -1,7 +1,7 @@
 //! How statements and their parts begin.
 ghost use Rattle.std.specs.Prelude.{◌≡◌, ◌<◌, ◌∷◌, ℕ, false, MatchOption};
-ghost use Rattle.vs_syntax.specs.vs_lex_tokens.specs.declared.token.Mark.TheVariants as m;
-ghost use Rattle.vs_syntax.specs.vs_lex_tokens.specs.declared.token.Word.TheVariants as w;
+ghost use Rattle.vs_syntax.specs.vs_lexer.specs.declared.token.Mark.TheVariants as m;
+ghost use Rattle.vs_syntax.specs.vs_lexer.specs.declared.token.Word.TheVariants as w;
 ghost use Rattle.vs_syntax.specs.Symbols.{a_mark, class_of};
 ghost use Rattle.vs_syntax.specs.Grammar.{◌or◌, mark, word, part, delay, event, a_stmt, a_case_item};
 ghost use Rattle.vs_syntax.specs.Tables.{need, fronts_of, goes};

@@ -1,6 +1,6 @@
 //! What is next in the header of a module.
 ghost use Rattle.std.specs.Prelude.{◌≡◌, ◌∷◌, false, MatchOption};
-ghost use Rattle.vs_syntax.specs.vs_lex_tokens.specs.declared.token.Word.TheVariants as w;
+ghost use Rattle.vs_syntax.specs.vs_lexer.specs.declared.token.Word.TheVariants as w;
 ghost use Rattle.vs_syntax.specs.Symbols.{a_word};
 ghost use Rattle.vs_syntax.specs.Grammar.{◌or◌, word, name};
 ghost use Rattle.vs_syntax.specs.Tables.{goes};

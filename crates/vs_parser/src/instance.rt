@@ -1,6 +1,6 @@
 //! Reading instances of modules.
 ghost use Rattle.std.specs.Prelude.{◌≤◌, map};
-ghost use Rattle.vs_syntax.specs.vs_lex_tokens.specs.declared.token.Mark.TheVariants as m;
+ghost use Rattle.vs_syntax.specs.vs_lexer.specs.declared.token.Mark.TheVariants as m;
 ghost use Rattle.vs_syntax.specs.Symbols.{a_mark};
 ghost use Rattle.vs_syntax.specs.Grammar.{◌·◌, ◌or◌, nothing, part, mark, an_end, connections, a_connection, an_instance};
 ghost use Rattle.vs_syntax.specs.Grammar as g;

@@ -1,6 +1,6 @@
 //! Reading modules and sources.
 ghost use Rattle.std.specs.Prelude.{◌≡◌, ◌∷◌, IfOk};
-ghost use Rattle.vs_syntax.specs.vs_lex_tokens.specs.declared.token.Word.TheVariants as w;
+ghost use Rattle.vs_syntax.specs.vs_lexer.specs.declared.token.Word.TheVariants as w;
 ghost use Rattle.vs_syntax.specs.Symbols.{a_word};
 ghost use Rattle.vs_syntax.specs.Grammar.{part, a_source, a_module};
 ghost use Rattle.vs_syntax.specs.Views.{module_tree, source_tree};

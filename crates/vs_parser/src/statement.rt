@@ -1,7 +1,7 @@
 //! Reading statements. What one form of them needs is never inlined, so that a level of nesting takes little stack.
 ghost use Rattle.std.specs.Prelude.{◌≡◌, ◌≤◌, map};
-ghost use Rattle.vs_syntax.specs.vs_lex_tokens.specs.declared.token.Mark.TheVariants as m;
-ghost use Rattle.vs_syntax.specs.vs_lex_tokens.specs.declared.token.Word.TheVariants as w;
+ghost use Rattle.vs_syntax.specs.vs_lexer.specs.declared.token.Mark.TheVariants as m;
+ghost use Rattle.vs_syntax.specs.vs_lexer.specs.declared.token.Word.TheVariants as w;
 ghost use Rattle.vs_syntax.specs.Symbols.{a_mark, a_word};
 ghost use Rattle.vs_syntax.specs.Grammar.{◌·◌, part, many, word, block_head, guarded, branches, case_items, for_parts, delay, event, a_stmt};
 ghost use Rattle.vs_syntax.specs.Tables.{low};

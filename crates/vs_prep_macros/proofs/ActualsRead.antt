@@ -4,9 +4,9 @@ use Rattle.std.specs.Borrow.{Bor}
 use Rattle.std.specs.Prelude.{map, if◌then◌else◌, ◌==◌, ◌&&◌, ◌||◌}
 use Rattle.std.proofs.lemmas.List.{map-append}
 use Rattle.std.proofs.Math.Seq.{take-append_seam}
-use Rattle.vs_prep_pieces.specs.Parts.{Part, parts_of, bytes_from}
-use Rattle.vs_prep_pieces.specs.declared.piece.Form.{Form}
-use Rattle.vs_prep_pieces.specs.declared.piece.Form.TheVariants as f
+use Rattle.vs_prep_macros.specs.Parts.{Part, parts_of, bytes_from}
+use Rattle.vs_prep_macros.specs.declared.piece.Form.{Form}
+use Rattle.vs_prep_macros.specs.declared.piece.Form.TheVariants as f
 use Rattle.vs_prep_macros.specs.declared.actuals.Move.{Move}
 use Rattle.vs_prep_macros.specs.declared.actuals.Move.TheVariants as m
 use Rattle.vs_prep_macros.specs.declared.fault.Fault.TheVariants as d

@@ -1,6 +1,6 @@
 -- Reading the text of a macro piece by piece.
 use Rattle.std.proofs.Common.{ℕ, ◌≡◌, List, [], None, Ok, Err, ap, subst, sym, ◌∙◌}
-use Rattle.vs_prep_pieces.specs.Parts.{parts_of}
+use Rattle.vs_prep_macros.specs.Parts.{parts_of}
 use Rattle.vs_prep_macros.specs.declared.fault.Halt.{Halt}
 use Rattle.vs_prep_macros.specs.declared.fault.Halt.TheVariants as h
 use Rattle.vs_prep_macros.specs.Answers.{Stops}

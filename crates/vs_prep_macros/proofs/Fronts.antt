@@ -2,7 +2,7 @@
 use Rattle.std.proofs.Common.{ℕ, ◌≡◌, ◌+◌, Bool, true, List, [], ◌∷◌, ◌++◌, append_assoc, length, reverse, take, drop, refl, ap, sym, ◌∙◌}
 use Rattle.std.proofs.lemmas.List.{length_push, reverse-append, take-append-drop}
 use Rattle.std.proofs.Math.Seq.{take-append_seam}
-use Rattle.vs_prep_pieces.specs.Bytes.{after_run}
+use Rattle.vs_lexer.specs.Bytes.{after_run}
 
 -- there is one byte less before the last one
 pub length_before : (rest before : List ℕ) (last : ℕ) → rest ≡ before ++ last ∷ [] → length rest ≡ length before + 1

@@ -1,3 +1,6 @@
+pub mod Behind
+pub mod Cuttings
+pub mod Parts
 pub mod ActualsRead
 pub mod BodiesRead
 pub mod DefinitionsRead

@@ -1,8 +1,8 @@
 -- Going over the pieces of bytes.
 use Rattle.std.proofs.Common.{ℕ, ◌≡◌, Bool, true, false, List, [], ◌∷◌, refl, ap, sym, ◌∙◌}
 use Rattle.std.specs.Prelude.{Option, Some, None, MatchOption}
-use Rattle.vs_prep_pieces.specs.Parts.{Part, parts_of, bytes_from, seen}
-use Rattle.vs_prep_pieces.specs.declared.piece.Piece.{Piece}
+use Rattle.vs_prep_macros.specs.Parts.{Part, parts_of, bytes_from, seen}
+use Rattle.vs_prep_macros.specs.declared.piece.Piece.{Piece}
 use Rattle.vs_prep_macros.specs.Folds.{Turn, Goes, Ends, over}
 use Rattle.vs_prep_macros.specs.Spaces.{behind_those}
 

@@ -1,8 +1,8 @@
 -- The actual arguments of a macro's use (IEEE 1364-2005, clause 19.3.1).
 use Rattle.std.specs.Prelude.{ℕ, ◌==◌, ◌&&◌, ◌||◌, ◌+◌, ◌-◌, List, [], ◌∷◌, ◌++◌, Option, None, Some, Result, Ok, Err, length, if◌then◌else◌}
-use Rattle.vs_prep_pieces.specs.Parts.{Part, parts_of, bytes_from}
-use Rattle.vs_prep_pieces.specs.declared.piece.Form.{Form}
-use Rattle.vs_prep_pieces.specs.declared.piece.Form.TheVariants as f
+use Rattle.vs_prep_macros.specs.Parts.{Part, parts_of, bytes_from}
+use Rattle.vs_prep_macros.specs.declared.piece.Form.{Form}
+use Rattle.vs_prep_macros.specs.declared.piece.Form.TheVariants as f
 use Rattle.vs_prep_macros.specs.declared.actuals.Move.{Move}
 use Rattle.vs_prep_macros.specs.declared.actuals.Move.TheVariants as m
 use Rattle.vs_prep_macros.specs.declared.fault.Fault.{Fault}

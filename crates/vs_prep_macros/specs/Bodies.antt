@@ -1,11 +1,11 @@
 -- The texts of macros, as definitions give them (IEEE 1364-2005, clause 19.3.1).
 use Rattle.std.specs.Borrow.{Bor}
 use Rattle.std.specs.Prelude.{ℕ, ◌≡◌, ◌==◌, ◌&&◌, ◌||◌, ◌-◌, Bool, not, List, [], ◌∷◌, ◌++◌, Option, None, Some, Result, Ok, Err, length, take, if◌then◌else◌, reverse}
-use Rattle.vs_prep_pieces.specs.Bytes.{after_run, begins}
-use Rattle.vs_prep_pieces.specs.Classes.{is_return}
-use Rattle.vs_prep_pieces.specs.Parts.{Part, parts_of, bytes_from}
-use Rattle.vs_prep_pieces.specs.declared.piece.Form.{Form}
-use Rattle.vs_prep_pieces.specs.declared.piece.Form.TheVariants as f
+use Rattle.vs_lexer.specs.Bytes.{after_run, begins}
+use Rattle.vs_prep_macros.specs.Classes.{is_return}
+use Rattle.vs_prep_macros.specs.Parts.{Part, parts_of, bytes_from}
+use Rattle.vs_prep_macros.specs.declared.piece.Form.{Form}
+use Rattle.vs_prep_macros.specs.declared.piece.Form.TheVariants as f
 use Rattle.vs_prep_macros.specs.declared.fault.Fault.{Fault}
 use Rattle.vs_prep_macros.specs.declared.fault.Fault.TheVariants as d
 use Rattle.vs_prep_macros.specs.declared.fault.Halt.{Halt}

@@ -1,6 +1,6 @@
 -- Going over pieces one by one, and over bytes step by step.
 use Rattle.std.specs.Prelude.{ℕ, List, [], ◌∷◌}
-use Rattle.vs_prep_pieces.specs.Parts.{Part}
+use Rattle.vs_prep_macros.specs.Parts.{Part}
 
 -- what is known behind a piece or a step, or what is found there
 pub data Turn (S A : Type 0) : Type 0 where

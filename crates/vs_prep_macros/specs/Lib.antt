@@ -1,5 +1,7 @@
-pub use Rattle.vs_prep_pieces.specs.Bytes
-pub use Rattle.vs_prep_pieces.specs.Parts
+pub use Rattle.vs_lexer.specs.Bytes
+pub mod Classes
+pub mod Parts
+pub mod Pieces
 pub mod Actuals
 pub mod Answers
 pub mod Bodies

@@ -1,8 +1,8 @@
 -- Names that directives and uses want (IEEE 1364-2005, clause 19).
 use Rattle.std.specs.Prelude.{ℕ, List, [], ◌∷◌, Option, None, Some, Result, Ok, Err, length, nat_lt, if◌then◌else◌}
-use Rattle.vs_prep_pieces.specs.Parts.{Part, parts_of}
-use Rattle.vs_prep_pieces.specs.declared.piece.Form.{Form}
-use Rattle.vs_prep_pieces.specs.declared.piece.Form.TheVariants as f
+use Rattle.vs_prep_macros.specs.Parts.{Part, parts_of}
+use Rattle.vs_prep_macros.specs.declared.piece.Form.{Form}
+use Rattle.vs_prep_macros.specs.declared.piece.Form.TheVariants as f
 use Rattle.vs_prep_macros.specs.declared.fault.Fault.TheVariants as d
 use Rattle.vs_prep_macros.specs.declared.fault.Halt.{Halt}
 use Rattle.vs_prep_macros.specs.declared.fault.Halt.TheVariants as h

@@ -1,9 +1,9 @@
 -- What stands between the parts of a directive or of a use (IEEE 1364-2005, clause 19).
 use Rattle.std.specs.Prelude.{ℕ, ◌==◌, Bool, true, false, not, List, [], ◌∷◌, Option, None, Some, is_some, length, if◌then◌else◌, reverse}
-use Rattle.vs_prep_pieces.specs.Bytes.{is_white, in_line, after_run}
-use Rattle.vs_prep_pieces.specs.Parts.{Part, parts_of, bytes_from}
-use Rattle.vs_prep_pieces.specs.declared.piece.Form.{Form}
-use Rattle.vs_prep_pieces.specs.declared.piece.Form.TheVariants as f
+use Rattle.vs_lexer.specs.Bytes.{is_white, in_line, after_run}
+use Rattle.vs_prep_macros.specs.Parts.{Part, parts_of, bytes_from}
+use Rattle.vs_prep_macros.specs.declared.piece.Form.{Form}
+use Rattle.vs_prep_macros.specs.declared.piece.Form.TheVariants as f
 use Rattle.vs_prep_macros.specs.Folds.{Turn, Goes, Ends, over}
 
 -- bytes hold a line feed

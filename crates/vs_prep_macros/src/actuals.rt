@@ -1,6 +1,6 @@
 //! The actual arguments of a macro's use (IEEE 1364-2005, clause 19.3.1).
 ghost use Rattle.std.specs.Prelude.{◌≡◌, ◌≤◌, ◌<◌, ◌-◌, IfOk, length, map, take};
-ghost use Rattle.vs_prep_pieces.specs.Parts.{seen};
+ghost use Rattle.vs_prep_macros.specs.Parts.{seen};
 ghost use Rattle.vs_prep_macros.specs.Actuals.{nameless, used, closed, byte_move, first_move, move_by, actuals_in, actuals_of};
 ghost use Rattle.vs_prep_macros.specs.Answers.{Answers};
 ghost use Rattle.vs_prep_macros.specs.Names.{name_at};
@@ -8,8 +8,8 @@ ghost use Rattle.vs_prep_macros.specs.Names.{name_at};
 use crate::directive::Directive;
 use crate::fault::{Fault, Halt};
 use crate::scan::{behind_space, name_at};
+use crate::{Form, Piece, first_and_rest, first_piece};
 use std::alloc::Global;
-use vs_prep_pieces::{Form, Piece, first_and_rest, first_piece};
 
 /// What a piece does to the actuals around it.
 #[derive(Clone, Copy)]

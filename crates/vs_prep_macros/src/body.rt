@@ -1,14 +1,14 @@
 //! The texts of macros, as definitions give them (IEEE 1364-2005, clause 19.3.1).
 ghost use Rattle.std.specs.Prelude.{◌≡◌, ◌≤◌, ◌<◌, ◌++◌, ◌∷◌, IfOk, IfSome, OnOk, length};
-ghost use Rattle.vs_prep_pieces.specs.Parts.{seen, bytes_from};
+ghost use Rattle.vs_prep_macros.specs.Parts.{seen, bytes_from};
 ghost use Rattle.vs_prep_macros.specs.Answers.{Answers};
 ghost use Rattle.vs_prep_macros.specs.Bodies.{behind_used, front_used, goes_on, spaced, refused_if, refused_form, put_part, put_form, put_next, PutsSo, Puts, IsBody};
 ghost use Rattle.vs_prep_macros.specs.Spaces.{without_end};
 
 use crate::fault::{Fault, Halt};
 use crate::scan::{before_run, behind_joint, ends_in_backslash, has_line_feed, split_name};
+use crate::{Class, Form, Piece, first_and_rest, first_piece};
 use std::alloc::{AllocError, Global};
-use vs_prep_pieces::{Class, Form, Piece, first_and_rest, first_piece};
 
 /// Puts white space behind the text of a macro, but none at its front.
 fn put_space(body: &mut Vec<u8>, space: &[u8]) -> Result<(), AllocError>

@@ -8,9 +8,8 @@ use crate::fault::{Fault, Halt};
 use crate::formals::Formals;
 use crate::scan::{split_name, trimmed};
 use crate::table::Macros;
-use crate::{NESTING, TEXT_LIMIT};
+use crate::{Class, Form, NESTING, Piece, TEXT_LIMIT, cut};
 use std::alloc::{AllocError, Global};
-use vs_prep_pieces::{Class, Form, Piece, cut};
 
 /// Where the use stands that is being read in a file.
 #[derive(Clone, Copy)]

@@ -5,10 +5,10 @@ ghost use Rattle.vs_prep_macros.specs.Formals.{Numbers, Marks, Reads, marked, ne
 ghost use Rattle.vs_prep_macros.specs.Spaces.{behind_joined};
 
 use crate::fault::{Fault, Halt};
+use crate::first_and_rest;
 use crate::scan::{behind_joined, name_at};
 use std::alloc::Global;
 use std::collections::BTreeMap;
-use vs_prep_pieces::first_and_rest;
 
 /// The formals of a macro, each with its number.
 pub type Formals = BTreeMap<Vec<u8>, usize>;

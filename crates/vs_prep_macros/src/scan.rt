@@ -1,15 +1,14 @@
 //! Names and white space between the parts of a directive or a use.
 ghost use Rattle.std.specs.Prelude.{◌≡◌, ◌==◌, ◌≤◌, ◌<◌, ◌++◌, ◌∷◌, [], None, Some, IfOk, IfSome, MatchOption, length, reverse, take};
-ghost use Rattle.vs_prep_pieces.specs.Bytes.{after_run, begins};
-ghost use Rattle.vs_prep_pieces.specs.Classes.{in_class};
-ghost use Rattle.vs_prep_pieces.specs.Parts.{seen, bytes_from};
+ghost use Rattle.vs_lexer.specs.Bytes.{after_run, begins};
+ghost use Rattle.vs_prep_macros.specs.Classes.{in_class};
+ghost use Rattle.vs_prep_macros.specs.Parts.{seen, bytes_from};
 ghost use Rattle.vs_prep_macros.specs.Answers.{Answers};
 ghost use Rattle.vs_prep_macros.specs.Spaces.{has_line_feed, is_blank, is_space, behind_blank, behind_space, behind_feed, behind_end, behind_joint, joins_by, behind_joined, trimmed};
 ghost use Rattle.vs_prep_macros.specs.Names.{name_at, split_name, wanted_name};
 
-use crate::NAME_LIMIT;
 use crate::fault::{Fault, Halt};
-use vs_prep_pieces::{Class, Form, Piece, behind_run, first_and_rest, first_piece};
+use crate::{Class, Form, NAME_LIMIT, Piece, behind_run, first_and_rest, first_piece};
 
 /// The name at the front, if there is one, and what stands behind it.
 #[tactic(auto, unfolding(crate::specs::Names::name_at))]

@@ -4,10 +4,9 @@ ghost use Rattle.std.specs.Prelude.{◌≡◌, ◌≤◌, length, IfOk, IfSome};
 use crate::frame::Frame;
 use crate::places::LineMark;
 use crate::run::{Run, Stop};
-use vs_prep_macros::vs_prep_pieces::{Class, Form as PieceForm, behind_run, cut};
 use vs_prep_macros::{
-    Directive, Fault, Halt, NAME_LIMIT, behind_blank, read_definition, split_name, trimmed,
-    wanted_name,
+    Class, Directive, Fault, Form as PieceForm, Halt, NAME_LIMIT, behind_blank, behind_run, cut,
+    read_definition, split_name, trimmed, wanted_name,
 };
 
 /// What comes next in a file.

@@ -7,8 +7,7 @@ ghost use Rattle.vs_preprocess.specs.passes.Segments.{AreInLine, BeginsBehind, I
 
 use std::marker::Model;
 use std::rc::RcSlice;
-use vs_prep_macros::vs_prep_pieces::{Class, behind_run};
-use vs_prep_macros::{Macros, Spot};
+use vs_prep_macros::{Class, Macros, Spot, behind_run};
 
 /// From where on a `line` directive holds, and what it says.
 #[derive(Drop)]

@@ -9,8 +9,7 @@ use crate::paths::{folder_of, joined};
 use crate::places::{LineMark, SourceFile, told_line};
 use std::alloc::{AllocError, AllocFailed, Global};
 use std::rc::RcSlice;
-use vs_prep_macros::vs_prep_pieces::{Form as PieceForm, Piece, cut};
-use vs_prep_macros::{Expander, Fault, Halt, Macros, Site, Spot};
+use vs_prep_macros::{Expander, Fault, Form as PieceForm, Halt, Macros, Piece, Site, Spot, cut};
 
 /// Why reading stops.
 #[derive(Clone, Copy)]

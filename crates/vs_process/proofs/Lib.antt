@@ -29,3 +29,29 @@ pub mod Times
 pub mod Values
 pub mod Waking
 pub mod WellFormed
+pub mod Among
+pub mod Filled
+pub mod Named
+mod Todos
+mod Writes
+pub mod Calls
+pub mod ThreadLists
+pub mod Bits
+pub mod ThreadStores
+pub mod StepReads
+pub mod ThreadsNamed
+pub mod Threads
+pub mod ThreadAssigns
+pub mod ThreadsTodos
+pub mod Events
+pub mod Feeds
+pub mod Held
+pub mod Free
+pub mod Texts
+pub mod BlockRuns
+pub mod Contents
+pub mod Fares
+pub mod Settle
+pub mod Copying
+pub mod ThreadLinks
+pub mod Outputs

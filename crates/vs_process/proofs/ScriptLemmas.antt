@@ -39,7 +39,7 @@ use Rattle.vs_process.specs.Instructions.{IsActionOf, IsAssign, IsBranch, IsCall
 use Rattle.vs_process.specs.Landings.{Landing, landing, layer_lands, lands, start_taken, todo_behind, turned}
 use Rattle.vs_process.specs.Links.{Link, item_of, todo_at, todo_within}
 use Rattle.vs_process.specs.Links.{todo_from}
-use Rattle.vs_eval_resolved.specs.Meant.{Meaning}
+use Rattle.vs_eval.specs.Meant.{Meaning}
 use Rattle.vs_process.specs.Places.{Todo}
 use Rattle.vs_process.specs.Scripts.{Does, IsStep, Steps, index_in, todo_landed, todo_on, spot_value, AreSwitchesOf, led_by}
 use Rattle.vs_process.specs.Spots.{spot_write}

@@ -22,7 +22,7 @@ use Rattle.vs_design.specs.declared.expression.Typed.TheVariants as t
 use Rattle.vs_design.specs.declared.signal.Signal.{Signal}
 use Rattle.vs_design.specs.declared.statement.Statement.{Statement}
 use Rattle.vs_design.specs.Stores.{Store}
-use Rattle.vs_eval_resolved.specs.Meant.{Meaning}
+use Rattle.vs_eval.specs.Meant.{Meaning}
 use Rattle.vs_strobe.specs.vs_eval.specs.Values.{value_of}
 use Rattle.vs_eval.proofs.ValueLemmas.{value_layer}
 use Rattle.vs_process.specs.declared.choice.Case.{Case}

@@ -12,7 +12,7 @@ use Rattle.vs_design.specs.Parts.{Parts}
 use Rattle.vs_design.specs.Traces.{Slot, AreRising, AreRisingAfter}
 use Rattle.vs_design.specs.Stores.{Store, put}
 use Rattle.vs_design.specs.Writes.{Write}
-use Rattle.vs_edges.specs.Waking.{wake_any}
+use Rattle.vs_eval.specs.Waking.{wake_any}
 use Rattle.vs_eval.specs.Targets.{assigned}
 use Rattle.vs_process.specs.declared.gait.Gait.{Gait}
 use Rattle.vs_process.specs.declared.gait.Gait.TheVariants.{Fresh, Woken}

@@ -1,7 +1,7 @@
 -- Which processes a change of the store wakes, by what they wait for.
 use Rattle.std.proofs.Common.{◌≡◌, if◌then◌else◌, refl}
 use Rattle.vs_design.specs.Stores.{Store}
-use Rattle.vs_edges.specs.Waking.{wake_any}
+use Rattle.vs_eval.specs.Waking.{wake_any}
 use Rattle.vs_process.specs.Places.{Place, going, sleeping, inactive, waiting, ended}
 use Rattle.vs_process.specs.States.{terms_of, triggered, wakened}
 

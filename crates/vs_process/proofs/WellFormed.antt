@@ -32,7 +32,7 @@ use Rattle.vs_process.specs.declared.gait.Gait.{Gait}
 use Rattle.vs_process.specs.declared.gait.Gait.TheVariants.{Fresh, Woken}
 use Rattle.vs_process.specs.Places.{Item, perform, turns, Todo, Place, going, sleeping, inactive, waiting, ended, active_at, stepped_gait, start_place, flat}
 use Rattle.vs_process.specs.Drafts.{flat_all}
-use Rattle.vs_edges.specs.Waking.{wake_any}
+use Rattle.vs_eval.specs.Waking.{wake_any}
 use Rattle.vs_process.specs.Steps.{Next, on, after, wait, Out, step, statement_step, assignment, branch, item_matches, is_default, first_of, flat_item, taken, turns_for, repeated}
 use Rattle.vs_process.specs.States.{Update, activated, roused, place_behind, paused, updates_behind, wakened, woken_at}
 use Rattle.vs_process.specs.Places.{todo_of}

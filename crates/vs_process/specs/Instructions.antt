@@ -24,7 +24,7 @@ use Rattle.vs_process.specs.declared.script.Instruction.{Instruction}
 use Rattle.vs_process.specs.declared.switch.Switch.{Switch}
 use Rattle.vs_process.specs.Choices.{index_of}
 use Rattle.vs_process.specs.Extras.{format_in}
-use Rattle.vs_eval_resolved.specs.Meant.{Meaning}
+use Rattle.vs_eval.specs.Meant.{Meaning}
 use Rattle.vs_process.specs.Spots.{IsSpotOf}
 
 -- an expression with the signals of its design

@@ -26,5 +26,13 @@ pub mod Idle
 pub mod Laws
 pub mod Permitted
 pub mod States
-pub use Rattle.vs_edges
 pub use Rattle.vs_eval
+pub mod Writes
+pub mod ThreadLaws
+pub mod Bits
+pub mod Feeds
+pub mod Edges
+pub mod Copying
+pub mod Threads
+pub mod BlockDrivers
+pub mod Reads

@@ -17,7 +17,7 @@ use Rattle.vs_process.specs.declared.switch.Switch.{Switch}
 use Rattle.vs_process.specs.Choices.{index_of, case_index, repeat_lands, turns_lands}
 use Rattle.vs_process.specs.Landings.{Landing}
 use Rattle.vs_process.specs.Links.{todo_at}
-use Rattle.vs_eval_resolved.specs.Meant.{Meaning}
+use Rattle.vs_eval.specs.Meant.{Meaning}
 use Rattle.vs_process.specs.Places.{Todo, flat}
 use Rattle.vs_process.specs.Spots.{IsSpotIn, spot_write}
 use Rattle.vs_process.specs.Steps.{on, after, wait, Out, goes, step, assignment, branch, has_nothing}

@@ -15,7 +15,7 @@ use Rattle.vs_eval.specs.Targets.{assigned}
 use Rattle.vs_eval.specs.Values.{target_value}
 use Rattle.vs_process.specs.vs_strobe.specs.Lines.{Format}
 use Rattle.vs_process.specs.declared.gait.Gait.TheVariants.{Woken}
-use Rattle.vs_edges.specs.Waking.{wake_any}
+use Rattle.vs_eval.specs.Waking.{wake_any}
 use Rattle.vs_process.specs.Places.{Todo, Place, going, sleeping, inactive, waiting, ended, active_at, stepped_gait, start_place, todo_of}
 use Rattle.vs_process.specs.Steps.{Next, on, after, wait, Out, step}
 

@@ -14,7 +14,7 @@ use Rattle.vs_design.specs.declared.expression.Typed.{Typed}
 use Rattle.vs_design.specs.declared.expression.Typed.TheVariants as t
 use Rattle.vs_design.specs.declared.signal.Signal.{Signal}
 use Rattle.vs_design.specs.Stores.{Store}
-use Rattle.vs_eval_resolved.specs.Meant.{Meaning}
+use Rattle.vs_eval.specs.Meant.{Meaning}
 use Rattle.vs_strobe.specs.vs_eval.specs.Values.{value_of}
 use Rattle.vs_process.specs.declared.choice.Case.{Case}
 use Rattle.vs_process.specs.declared.switch.Label.{Label}

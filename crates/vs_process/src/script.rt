@@ -20,7 +20,7 @@ use std::alloc::{AllocError, Global};
 use std::marker::Model;
 use vs_design::vs_logic4::CaseKind;
 use vs_design::{Call, CallKind, Design, EventTerm, Statement, Store, Target, Ticks, Typed};
-use vs_eval_resolved::Resolved;
+use vs_eval::Resolved;
 use vs_strobe::Format;
 
 /// What an instruction does.

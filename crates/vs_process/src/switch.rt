@@ -8,7 +8,7 @@ ghost use Rattle.vs_design.specs.vs_logic4.specs.declared.digit.Digit.{Digit};
 ghost use Rattle.vs_design.specs.vs_logic4.specs.Cases.{matches};
 ghost use Rattle.vs_design.specs.InOrder.{IsStoreOf};
 ghost use Rattle.vs_design.specs.Stores.{Store};
-ghost use Rattle.vs_eval_resolved.specs.Meant.{Meaning};
+ghost use Rattle.vs_eval.specs.Meant.{Meaning};
 ghost use Rattle.vs_strobe.specs.vs_eval.specs.Values.{value_of};
 ghost use Rattle.vs_process.specs.Choices.{case_index, index_of};
 ghost use Rattle.vs_process.specs.Landings.{place_or, start_where};
@@ -20,7 +20,7 @@ use crate::choices::{start_default, starts_of};
 use std::alloc::{AllocError, Global};
 use vs_design::vs_logic4::{CaseKind, Vec4};
 use vs_design::{Design, Statement, Store, Typed};
-use vs_eval_resolved::Resolved;
+use vs_eval::Resolved;
 
 /// A label, and the index to which it leads.
 #[derive(Clone, Copy)]

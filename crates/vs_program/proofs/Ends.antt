@@ -29,7 +29,7 @@ use Rattle.vs_program.specs.Ends.{HasBegunCertifiedText, HasBegunText, HasBegunW
 use Rattle.vs_program.specs.Ends.{CallFails, CanBegin, Ends, EndsBy, EndsCall, EndsFiles, EndsWith, Held, IsFinished, IsProposed, KeepsAll, MakingFails, OnShown}
 use Rattle.vs_program.specs.Ends.{by_device, by_doing, by_fault, by_target, by_text, by_write, done_status, file_of}
 use Rattle.vs_preprocess.specs.Limits.{text_limit}
-use Rattle.vs_targets.specs.Targets.{IsAt, IsMeant, by_none, by_source, by_words}
+use Rattle.vs_program_words.specs.Targets.{IsAt, IsMeant, by_none, by_source, by_words}
 use Rattle.vs_program_words.specs.declared.words.Call as asked
 use Rattle.vs_program.specs.Inputs.{AreOfFiles, IsCertificateFor}
 use Rattle.vs_program.specs.passes.Kept.{EndsHere, EndsKept, EndsMaking, EndsMeant, done_here, failed_here, kept_here, makes_certificate, with_line, without_line, written_here}

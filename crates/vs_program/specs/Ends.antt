@@ -28,8 +28,8 @@ use Rattle.vs_program_words.specs.declared.words.Subcommand.{Subcommand}
 use Rattle.vs_program_words.specs.declared.words.Subcommand.TheVariants.{Run, RunCertified, Check, Certify, Race, Elab, Preprocess}
 use Rattle.vs_program_words.specs.declared.words.Outputs.{Outputs}
 use Rattle.vs_program_words.specs.declared.words.WordsFault.TheVariants.{OrderOfCertified, TwoDumps}
-use Rattle.vs_targets.specs.Targets.{Fails, IsMeant}
-use Rattle.vs_targets.specs.declared.target.TargetFault.{TargetFault}
+use Rattle.vs_program_words.specs.Targets.{Fails, IsMeant}
+use Rattle.vs_program_words.specs.declared.target.TargetFault.{TargetFault}
 use Rattle.vs_program_words.specs.declared.words.OutputText.{OutputText}
 use Rattle.vs_program_words.specs.declared.words.OutputText.TheVariants.{Lines, Dump}
 use Rattle.vs_program.specs.declared.command.Writers.{Writers}

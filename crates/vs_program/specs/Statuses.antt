@@ -20,8 +20,8 @@ use Rattle.vs_certified.specs.declared.fault.CertifiedFault.{CertifiedFault}
 use Rattle.vs_certified.specs.declared.fault.CertifiedFault.TheVariants.{Simulation, Certificate, Rejected}
 use Rattle.vs_certified.specs.vs_cert_check.specs.declared.verdict.Verdict.{Verdict}
 use Rattle.vs_certified.specs.vs_cert_check.specs.declared.verdict.Verdict.TheVariants.{Yes, No}
-use Rattle.vs_targets.specs.declared.target.TargetFault.{TargetFault}
-use Rattle.vs_targets.specs.declared.target.TargetFault.TheVariants as target
+use Rattle.vs_program_words.specs.declared.target.TargetFault.{TargetFault}
+use Rattle.vs_program_words.specs.declared.target.TargetFault.TheVariants as target
 use Rattle.vs_race.specs.vs_propose.specs.declared.proposal.Proposal.{Proposal}
 use Rattle.vs_race.specs.vs_propose.specs.declared.proposal.Proposal.TheVariants.{Made, NotMade}
 

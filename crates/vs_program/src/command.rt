@@ -25,9 +25,8 @@ use vs_certified::vs_simulate::SimFault;
 use vs_outputs::{Late, OutputFile, ROOM, Sheet};
 use vs_preprocess::{Library, Shelf};
 use vs_program_words::vs_certificate::{ClaimedGrain, Rules};
-use vs_program_words::{Call, Subcommand, read_words};
+use vs_program_words::{Call, Subcommand, read_words, target_of, with_target};
 use vs_race::{Unwatched, Watch};
-use vs_targets::{target_of, with_target};
 
 /// What a call writes to, but for standard error.
 #[derive(Drop)]

@@ -5,8 +5,7 @@ use crate::input::Kept;
 use std::alloc::Global;
 use std::io::Write;
 use vs_certified::vs_kernel::Outcome;
-use vs_program_words::{Call, Subcommand};
-use vs_targets::told_tick;
+use vs_program_words::{Call, Subcommand, told_tick};
 
 // The moment up to which a call runs a design.
 fn until_of(call: &Call) -> u64 {

@@ -5,7 +5,7 @@ ghost use Rattle.vs_program.specs.Statuses.{target_status};
 use crate::telling::tell;
 use crate::texts::{FAILED, MISUSED};
 use std::io::Write;
-use vs_targets::{TargetFault, Tick};
+use vs_program_words::{TargetFault, Tick};
 
 // Writes the names of modules.
 fn write_names<E: Write>(err: &mut E, names: &[Vec<u8>]) {

@@ -20,17 +20,16 @@ use vs_certified::CertifiedFault;
 use vs_certified::vs_cert_check::Verdict;
 use vs_certified::vs_kernel::Outcome;
 use vs_certified::vs_vcd_writing::{Counted, WriteFault, write_all};
-use vs_messages::vs_explain::{Further, Offender};
-use vs_messages::{
+use vs_outputs::vs_explain::{Further, Offender};
+use vs_outputs::{
     Extent, Given, push_sources, tell_broken, tell_certificate, tell_files, tell_limit, tell_line,
     tell_long_certificate, tell_rejected, tell_source, tell_unproved,
 };
 use vs_preprocess::{Places, Refusal, STANDARD_INPUT};
 use vs_program_words::vs_certificate::{Rules, to_json};
-use vs_program_words::{Call, Order, Request, Sources, Subcommand, WordsFault};
+use vs_program_words::{Call, Order, Request, Sources, Subcommand, WordsFault, top_of};
 use vs_race::vs_propose::{Proposal, Refusal as Unproved};
 use vs_race::{Race, Unwatched};
-use vs_targets::top_of;
 
 /// One line on standard error, and the exit status that goes with it.
 pub(crate) fn tell<E: Write>(err: &mut E, text: &[u8], status: u8) -> u8

@@ -4,3 +4,8 @@ mod MomentLemmas
 mod Rows
 mod Tables
 pub mod VainLemmas
+mod Indexed
+mod TopsLemmas
+mod UsesLemmas
+mod TargetLemmas
+mod TickLemmas

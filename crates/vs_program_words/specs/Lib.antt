@@ -6,3 +6,8 @@ pub mod Moments
 pub mod Options
 pub mod passes
 pub use Rattle.vs_certificate
+pub mod Tops
+pub mod targets_passes
+pub mod FromSource
+pub mod Targets
+pub mod Ticks

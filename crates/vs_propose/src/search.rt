@@ -3,18 +3,18 @@ ghost use Rattle.std.specs.Prelude.{◌≡◌, [], IfOk, IfSome, IsSome};
 ghost use Rattle.vs_cert_check.specs.Answers.{verdict_view, HasNumber};
 ghost use Rattle.vs_certificate.specs.JsonValue.{value_of};
 ghost use Rattle.vs_certificate.specs.Reading.{IsSoundBy, other_by};
-ghost use Rattle.vs_propose_plan.specs.Settling.{CanSettle};
+ghost use Rattle.vs_propose.specs.Settling.{CanSettle};
 ghost use Rattle.vs_cert_check.specs.vs_rules.specs.Certificates.{claims_of};
 ghost use Rattle.vs_cert_check.specs.vs_rules.specs.Verdict.{Disciplined, IsVerdict};
 ghost use Rattle.vs_propose.specs.Proposals.{IsMadeBy, IsProposal, IsProposalBy, MayBeProposalBy, AnswersMade, HasMade};
 
 use crate::proposal::{Proposal, Refusal};
+use crate::{Plan, certificate_of, certificate_of_assigns, moduli_of, plan_of};
 use std::alloc::{AllocError, Global};
 use vs_cert_check::vs_rules::tested_are_certificates;
 use vs_cert_check::{Verdict, check_by};
 use vs_certificate::{Certificate, ClaimedGrain, Rules, Version};
 use vs_design::Design;
-use vs_propose_plan::{Plan, certificate_of, certificate_of_assigns, moduli_of, plan_of};
 
 // What the verdict on a certificate comes to.
 fn proposal_of(

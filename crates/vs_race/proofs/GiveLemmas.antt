@@ -23,13 +23,13 @@ use Rattle.vs_vcd_reader.specs.Layout.{IsDump}
 use Rattle.vs_vcd_reader.specs.Plain.{PlainDump, plain_dump}
 use Rattle.vs_vcd_reader.specs.Conditions.{IsOutlined}
 use Rattle.vs_vcd_reader.specs.Values.{values_at}
-use Rattle.vs_read_back.specs.ReadBack.{CompleteRunsEndSlots, DumpsReadBack, ReadsBack, dump_so_far}
-use Rattle.vs_read_back.proofs.ClockLemmas.{BeginsAtZero, clocked}
+use Rattle.vs_vcd_reader.specs.ReadBack.{CompleteRunsEndSlots, DumpsReadBack, ReadsBack, dump_so_far}
+use Rattle.vs_vcd_reader.proofs.ClockLemmas.{BeginsAtZero, clocked}
 use Rattle.vs_kernel.specs.Runs.{RanTo, text_so_far}
 use Rattle.vs_kernel.specs.Shows.{DumpsShow}
 use Rattle.vs_kernel.specs.declared.outcome.Outcome.{Outcome}
-use Rattle.vs_read_back.specs.BackReadBack.{is_whole}
-use Rattle.vs_read_back.proofs.BackEndLemmas.{whole_complete}
+use Rattle.vs_vcd_reader.specs.BackReadBack.{is_whole}
+use Rattle.vs_vcd_reader.proofs.BackEndLemmas.{whole_complete}
 use Rattle.vs_race.specs.passes.Unequal.{Give}
 use Rattle.vs_race.specs.Witnesses.{Gives}
 

@@ -8,8 +8,8 @@ use Rattle.vs_kernel.specs.Prints.{lines_text}
 use Rattle.vs_kernel.specs.Runs.{RanTo}
 use Rattle.vs_kernel.specs.declared.outcome.Outcome.{Outcome}
 use Rattle.vs_kernel.proofs.RunsLemmas.{all_kept}
-use Rattle.vs_read_back.specs.BackReadBack.{is_whole}
-use Rattle.vs_read_back.proofs.BackEndLemmas.{whole_complete}
+use Rattle.vs_vcd_reader.specs.BackReadBack.{is_whole}
+use Rattle.vs_vcd_reader.proofs.BackEndLemmas.{whole_complete}
 use Rattle.vs_race.specs.Displays.{prints_at_once}
 use Rattle.vs_race.specs.Rows.{rows, times}
 use Rattle.vs_race.specs.Strobes.{AllLinesAreStrobed, bytes_of, strobed}

@@ -19,7 +19,7 @@ use Rattle.vs_design.specs.declared.statement.Statement.TheFolds.{fold_out-State
 use Rattle.vs_design.specs.Parts.{Parts}
 use Rattle.vs_design.specs.Stores.{Store}
 use Rattle.vs_design.specs.Writes.{Write}
-use Rattle.vs_process.specs.vs_edges.specs.Waking.{wake_any}
+use Rattle.vs_process.specs.vs_eval.specs.Waking.{wake_any}
 use Rattle.vs_process.specs.vs_eval.specs.Values.{value_of}
 use Rattle.vs_process.specs.vs_strobe.specs.Lines.{Format, format_of_call}
 use Rattle.vs_process.specs.declared.gait.Gait.{Gait}
@@ -33,7 +33,7 @@ use Rattle.vs_process.specs.States.{AssignState, State, Update, evaluate, make, 
 use Rattle.vs_process.specs.Executions.{after, apply, ends, next_time, line_by, places_at, step_lines}
 use Rattle.vs_process.proofs.ProcessLists.{all_set, list_all_like, none_at}
 use Rattle.vs_process.proofs.WellFormed.{branch_each, taken_each}
-use Rattle.vs_threads.proofs.ThreadsTodos.{flat_each}
+use Rattle.vs_process.proofs.ThreadsTodos.{flat_each}
 use Rattle.vs_race.specs.Displays.{has_display, has_display_step, is_display, prints_at_once}
 use Rattle.vs_race.proofs.DisplayLemmas.{display_Block}
 

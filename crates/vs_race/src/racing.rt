@@ -19,7 +19,7 @@ use vs_law_rules::rules_make_independent;
 use vs_propose::vs_certificate::{ClaimedGrain, Rules};
 use vs_propose::{Proposal, propose_by};
 use vs_race_orders::{Difference, Search, Sought, Watch, find};
-use vs_read_back::outline_is_in_order;
+use vs_vcd_reader::outline_is_in_order;
 use vs_vcd_reader::vs_vcd_writing::shows_one_value;
 
 /// What the orders of a search show.

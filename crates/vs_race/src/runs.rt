@@ -3,7 +3,7 @@ ghost use Rattle.std.specs.Prelude.{◌≡◌, ◌<◌, ◌^◌, IfErr, IfOk};
 ghost use Rattle.vs_kernel.specs.Faults.{FaultAt};
 ghost use Rattle.vs_kernel.specs.Runs.{RanTo};
 ghost use Rattle.vs_kernel.specs.declared.kernel.Status.TheVariants.{Ready};
-ghost use Rattle.vs_read_back.specs.BackReadBack.{is_whole};
+ghost use Rattle.vs_vcd_reader.specs.BackReadBack.{is_whole};
 
 use std::alloc::{AllocError, Global};
 use vs_design::Design;

@@ -16,8 +16,7 @@ use vs_kernel::vs_run_steps::Dropped;
 use vs_kernel::vs_vcd_writing::Counted;
 use vs_kernel::{Fifo, Pick, dumps_show_slot_ends};
 use vs_race_orders::{Difference, Planned};
-use vs_read_back::{complete_runs_end_slots, run_dumps_are_read};
-use vs_vcd_reader::read;
+use vs_vcd_reader::{complete_runs_end_slots, read, run_dumps_are_read};
 
 // The values of all signals that are no arrays at a moment, in design order, in the dump of a run under a policy; none where the steps don't suffice.
 fn shown_under<P: Pick + Drop>(

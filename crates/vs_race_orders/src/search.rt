@@ -1,6 +1,6 @@
 //! The search for an order under which the dump differs.
 ghost use Rattle.std.specs.Prelude.{◌≡◌, map};
-ghost use Rattle.vs_run_moves.specs.Scripts.{AreScripts};
+ghost use Rattle.vs_kernel.specs.Scripts.{AreScripts};
 
 use crate::chooser::Chooser;
 use crate::comparing::Comparing;
@@ -10,8 +10,8 @@ use crate::trial::{Bounds, Ended, Reference, reference_of, run_trial};
 use crate::watch::Watch;
 use std::alloc::{AllocError, Global};
 use vs_design::Design;
+use vs_kernel::{codes_of, scripts_of};
 use vs_process::Script;
-use vs_run_moves::{codes_of, scripts_of};
 use vs_run_regions::vs_process::Code;
 use vs_vcd_writing::WriterFault;
 

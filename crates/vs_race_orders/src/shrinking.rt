@@ -1,5 +1,5 @@
 //! Orders made short: which few choices of another item than the first are enough for the dump, or the lines, to differ.
-ghost use Rattle.vs_run_moves.specs.Scripts.{AreScripts};
+ghost use Rattle.vs_kernel.specs.Scripts.{AreScripts};
 
 use crate::chooser::Chooser;
 use crate::comparing::Comparing;

@@ -1,15 +1,15 @@
 //! Runs of a design under an order, whose dump is compared with that of the first order.
 ghost use Rattle.std.specs.Prelude.{◌<◌, IfOk, OnOk};
-ghost use Rattle.vs_run_moves.specs.Scripts.{AreScripts};
-ghost use Rattle.vs_run_moves.specs.Standing.{IsStanding};
+ghost use Rattle.vs_kernel.specs.Scripts.{AreScripts};
+ghost use Rattle.vs_kernel.specs.Standing.{IsStanding};
 
 use crate::chooser::Chooser;
 use crate::comparing::Comparing;
 use crate::sums::{LineSum, Meeting, Sums};
 use std::alloc::Global;
 use vs_design::Design;
+use vs_kernel::Run;
 use vs_process::Script;
-use vs_run_moves::Run;
 use vs_run_regions::vs_time_wheel::{EventQueue, Wheel};
 use vs_run_regions::{Due, Fifo, Pick};
 use vs_vcd_writing::{Counted, Sink, WriterFault};

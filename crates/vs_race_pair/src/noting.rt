@@ -6,10 +6,10 @@ use crate::reads::{push_index_reads, push_reads};
 use crate::tracks::{Tracks, number_at, put};
 use std::alloc::{AllocError, Global};
 use vs_design::{Design, Statement, Store, Target, Typed};
-use vs_eval_resolved::vs_eval::{cut_value, write_of};
+use vs_eval::{cut_value, write_of};
+use vs_kernel::vs_run_regions::vs_time_wheel::EventQueue;
+use vs_kernel::vs_run_regions::{Due, Event};
 use vs_process::TextMap;
-use vs_run_moves::vs_run_regions::vs_time_wheel::EventQueue;
-use vs_run_moves::vs_run_regions::{Due, Event};
 use vs_run_steps::RunState;
 
 /// The most bits of a word.

@@ -1,18 +1,18 @@
 //! The moves of a run under a policy that chooses each event (IEEE 1364-2005, clause 11).
 ghost use Rattle.std.specs.Prelude.{◌≡◌, ◌<◌, ◌^◌, false, IfNone, IfSome, OnOk};
 ghost use Rattle.vs_run_active.specs.vs_process.specs.Executions as executions;
-ghost use Rattle.vs_run_moves.specs.Running.{IsChoice};
+ghost use Rattle.vs_kernel.specs.Running.{IsChoice};
 ghost use Rattle.vs_run_steps.specs.Runs.{IsRunOf, state_of};
 
 use std::alloc::{AllocError, Global};
 use vs_design::Design;
-use vs_run_active::vs_process::is_combinational;
-use vs_run_moves::vs_run_regions::vs_time_wheel::EventQueue;
-use vs_run_moves::vs_run_regions::{Agenda, Due, Event};
-use vs_run_moves::vs_run_steps::Forms;
-use vs_run_moves::{
+use vs_kernel::vs_run_regions::vs_time_wheel::EventQueue;
+use vs_kernel::vs_run_regions::{Agenda, Due, Event};
+use vs_kernel::vs_run_steps::Forms;
+use vs_kernel::{
     Region, is_active, is_going, is_inside, leave, lost_event, next_region, run_event,
 };
+use vs_run_active::vs_process::is_combinational;
 use vs_run_regions::Pick;
 use vs_run_steps::{Dropped, RunState};
 use vs_vcd_writing::WriterFault;

@@ -4,7 +4,7 @@ use crate::entry::Read;
 use std::alloc::AllocError;
 use vs_design::vs_logic4::Digit;
 use vs_design::{Aim, Axis, Selection, Store, Target, Typed, bits_from};
-use vs_eval_resolved::vs_eval::{place_of, value, word_place};
+use vs_eval::{place_of, value, word_place};
 
 /// The most bits of a word.
 const WIDEST: u32 = 64;

@@ -1,10 +1,10 @@
 //! Which event made which other one active.
 
 use std::alloc::{AllocError, Global};
+use vs_kernel::vs_run_regions::Due;
+use vs_kernel::vs_run_regions::vs_time_wheel::EventQueue;
+use vs_kernel::vs_run_steps::needs;
 use vs_run_active::Wait;
-use vs_run_moves::vs_run_regions::Due;
-use vs_run_moves::vs_run_regions::vs_time_wheel::EventQueue;
-use vs_run_moves::vs_run_steps::needs;
 use vs_run_steps::RunState;
 
 /// What is kept of the events of a slot so far, by their numbers.

@@ -3,9 +3,9 @@ use Rattle.std.proofs.Common.{◌≡◌, ℕ, ◌≤◌, Bool, [], ◌∷◌, le
 use Rattle.std.proofs.lemmas.List.{get_or_past, length-map}
 use Rattle.vs_design.specs.declared.design.Process.{Process}
 use Rattle.vs_design.specs.Parts.{Parts}
-use Rattle.vs_threads.specs.vs_process.specs.Landings.{todo_behind}
-use Rattle.vs_threads.specs.vs_process.specs.Places.{Todo, ended, start_place, todo_of}
-use Rattle.vs_threads.specs.vs_process.specs.Steps.{Next, on, after, wait}
+use Rattle.vs_process.specs.Landings.{todo_behind}
+use Rattle.vs_process.specs.Places.{Todo, ended, start_place, todo_of}
+use Rattle.vs_process.specs.Steps.{Next, on, after, wait}
 use Rattle.vs_rules.specs.Points.{Among, Goes, Point, first_todo, nexts_by}
 use Rattle.vs_rules.specs.Points as r
 use Rattle.vs_rules.specs.Paths.{Path, PathBy, IsPoint}

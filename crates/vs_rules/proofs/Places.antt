@@ -1,15 +1,15 @@
 -- Paths of a text are ways of its flat code.
 use Rattle.std.proofs.Common.{true, ◌≡◌, ℕ, zero, suc, Bool, Option, Some, None, List, [], ◌∷◌, map, slice_get, refl, sym, ◌∙◌, ap, subst}
 use Rattle.vs_design.specs.declared.statement.Statement.{Statement}
-use Rattle.vs_threads.specs.vs_process.specs.declared.draft.Op.{Op}
-use Rattle.vs_threads.specs.vs_process.specs.Codes.{links_of}
-use Rattle.vs_threads.specs.vs_process.specs.Landings.{todo_behind}
-use Rattle.vs_threads.specs.vs_process.specs.Links.{todo_from, todo_within, Link, item_of, AreLinked}
-use Rattle.vs_threads.specs.vs_process.specs.Places.{Todo, Item, flat}
-use Rattle.vs_threads.specs.vs_process.specs.Steps.{Next, on, after, wait}
-use Rattle.vs_threads.specs.vs_process.specs.Ways.{Pause, none, delay, event, Way, ways, next_by, next_at, point_at, HasWays}
-use Rattle.vs_threads.specs.vs_process.proofs.Links.{todo_here}
-use Rattle.vs_threads.specs.vs_process.proofs.Ways.{has_ways}
+use Rattle.vs_process.specs.declared.draft.Op.{Op}
+use Rattle.vs_process.specs.Codes.{links_of}
+use Rattle.vs_process.specs.Landings.{todo_behind}
+use Rattle.vs_process.specs.Links.{todo_from, todo_within, Link, item_of, AreLinked}
+use Rattle.vs_process.specs.Places.{Todo, Item, flat}
+use Rattle.vs_process.specs.Steps.{Next, on, after, wait}
+use Rattle.vs_process.specs.Ways.{Pause, none, delay, event, Way, ways, next_by, next_at, point_at, HasWays}
+use Rattle.vs_process.proofs.Links.{todo_here}
+use Rattle.vs_process.proofs.Ways.{has_ways}
 use Rattle.vs_rules.specs.Points.{Among, Goes, Point}
 use Rattle.vs_rules.specs.Points as r
 use Rattle.vs_rules.specs.Paths.{Path}

@@ -8,12 +8,12 @@ use Rattle.std.proofs.Math.Nat.{add-mod-mod}
 use Rattle.std.specs.List.{list_any}
 use Rattle.vs_design.specs.Stores.{Store}
 use Rattle.vs_design.specs.Writes.{Write, names}
-use Rattle.vs_threads.specs.vs_process.specs.Places.{Todo, flat}
-use Rattle.vs_threads.specs.vs_process.specs.Steps.{Next, on, after, wait, step}
-use Rattle.vs_threads.specs.vs_process.specs.Drafts.{flat_all}
-use Rattle.vs_threads.specs.Threads.{todo_reads}
-use Rattle.vs_threads.specs.vs_process.proofs.WellFormed.{branch_each}
-use Rattle.vs_threads.proofs.ThreadsTodos.{flat_each, taken_each}
+use Rattle.vs_process.specs.Places.{Todo, flat, perform, turns}
+use Rattle.vs_process.specs.Steps.{Next, on, after, wait, step, assignment, statement_step, has_nothing, is_default, flat_item, taken, turns_for, repeated}
+use Rattle.vs_process.specs.Drafts.{flat_all}
+use Rattle.vs_process.specs.Threads.{todo_reads}
+use Rattle.vs_process.proofs.WellFormed.{branch_each}
+use Rattle.vs_process.proofs.ThreadsTodos.{flat_each, taken_each}
 use Rattle.vs_design.specs.vs_logic4.specs.declared.case.CaseKind.{CaseKind}
 use Rattle.vs_design.specs.vs_logic4.specs.declared.digit.Digit.{Digit}
 use Rattle.vs_design.specs.vs_logic4.specs.Comparisons.{truth}
@@ -22,12 +22,10 @@ use Rattle.std.proofs.lemmas.Option.{none-some, same_Some}
 use Rattle.vs_design.specs.declared.statement.Statement.{Statement}
 use Rattle.vs_design.specs.declared.statement.Statement.TheOpen.{Statement-F}
 use Rattle.vs_design.specs.declared.statement.Statement.TheViews.{out-Statement}
-use Rattle.vs_threads.specs.vs_process.specs.Places.{perform, turns}
-use Rattle.vs_threads.specs.vs_process.specs.Steps.{assignment, statement_step, has_nothing, is_default, flat_item, taken, turns_for, repeated}
-use Rattle.vs_threads.specs.vs_process.proofs.Ranges.{assigned_names}
-use Rattle.vs_threads.specs.vs_process.proofs.Values.{value_unchanged}
-use Rattle.vs_threads.specs.vs_eval.specs.Values.{target_value, value_of}
-use Rattle.vs_threads.specs.vs_process.specs.Nexts.{erased_item, erased, erased_next, past, case_nexts, nexts, statement_nexts}
+use Rattle.vs_process.proofs.Ranges.{assigned_names}
+use Rattle.vs_process.proofs.Values.{value_unchanged}
+use Rattle.vs_process.specs.vs_eval.specs.Values.{target_value, value_of}
+use Rattle.vs_process.specs.Nexts.{erased_item, erased, erased_next, past, case_nexts, nexts, statement_nexts}
 use Rattle.vs_design.specs.declared.range.BitRange.{BitRange}
 use Rattle.vs_design.specs.Stores.{is_changed}
 use Rattle.vs_design.specs.Uses.{reads}

@@ -17,12 +17,12 @@ use Rattle.vs_design.specs.declared.expression.Typed.{Typed}
 use Rattle.vs_design.specs.Parts.{Parts}
 use Rattle.vs_design.specs.Stores.{Store, start_store}
 use Rattle.vs_design.specs.Uses.{covers, slice_range}
-use Rattle.vs_threads.specs.vs_process.specs.declared.moves.Grain.TheVariants as g
-use Rattle.vs_threads.specs.vs_process.specs.Executions.{is_combinational}
-use Rattle.vs_threads.specs.vs_process.specs.Places.{perform, Todo}
-use Rattle.vs_threads.specs.vs_process.specs.Steps.{Next, on, after, wait, step}
-use Rattle.vs_threads.specs.Blocks.{IsSettledStart}
-use Rattle.vs_threads.specs.Threads.{store_behind}
+use Rattle.vs_process.specs.declared.moves.Grain.TheVariants as g
+use Rattle.vs_process.specs.Executions.{is_combinational}
+use Rattle.vs_process.specs.Places.{perform, Todo}
+use Rattle.vs_process.specs.Steps.{Next, on, after, wait, step}
+use Rattle.vs_process.specs.BlockDrivers.{IsSettledStart}
+use Rattle.vs_process.specs.Threads.{store_behind}
 use Rattle.vs_rules.specs.Claims.{nonblocking, both, IsSequential, IsWide}
 use Rattle.vs_rules.specs.Points.{Goes, first_todo}
 use Rattle.vs_rules.specs.Claims.{Claims, Start, cold, sources, starter, HasStart, IsBlock, IsDelay, IsWriter, HasMode}

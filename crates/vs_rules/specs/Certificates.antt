@@ -16,8 +16,8 @@ use Rattle.vs_certificate.specs.declared.members.Start.TheVariants as starts
 use Rattle.vs_certificate.specs.declared.members.Version.{Version}
 use Rattle.vs_certificate.specs.declared.members.Version.TheVariants as versions
 use Rattle.vs_certificate.specs.JsonValue.{version_number}
-use Rattle.vs_threads.specs.vs_process.specs.declared.moves.Grain.{Grain}
-use Rattle.vs_threads.specs.vs_process.specs.declared.moves.Grain.TheVariants as g
+use Rattle.vs_process.specs.declared.moves.Grain.{Grain}
+use Rattle.vs_process.specs.declared.moves.Grain.TheVariants as g
 use Rattle.vs_rules.specs.Claims.{Name, Mode, net, unwritten, combinational, nonblocking, blocking, private, both, Start, cold, sources, starter}
 use Rattle.vs_rules.specs.Claims.{Kind, block, edges, delays, mixed, SignalClaim, ProcessClaim, EdgeClaim, Claims}
 

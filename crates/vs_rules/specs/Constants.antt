@@ -28,8 +28,8 @@ use Rattle.vs_design.specs.declared.range.BitRange.{BitRange}
 use Rattle.vs_design.specs.Parts.{Parts}
 use Rattle.vs_design.specs.Uses.{aim_range, is_of, reads}
 use Rattle.vs_design.specs.WellFormed.{aim_width}
-use Rattle.vs_threads.specs.vs_eval.specs.Values.{target_value}
-use Rattle.vs_threads.specs.vs_process.specs.Places.{perform, Todo}
+use Rattle.vs_process.specs.vs_eval.specs.Values.{target_value}
+use Rattle.vs_process.specs.Places.{perform, Todo}
 use Rattle.vs_rules.specs.Claims.{Claims, IsWriter, is_wide}
 use Rattle.vs_rules.specs.Paths.{Bit, IsPoint, Writes, WritesLater, WritesNow}
 

@@ -6,7 +6,7 @@ use Rattle.vs_design.specs.declared.statement.EventTerm.{EventTerm}
 use Rattle.vs_design.specs.Parts.{Parts}
 use Rattle.vs_design.specs.Uses.{reads, writes}
 use Rattle.vs_rules.specs.Claims.{Name, place_of}
-use Rattle.vs_threads.specs.vs_process.specs.Places.{Todo}
+use Rattle.vs_process.specs.Places.{Todo}
 use Rattle.vs_rules.specs.Claims.{Claims, IsBlock, HasKind, assign_name, process_name}
 use Rattle.vs_rules.specs.Paths.{Bit, Has, Touches, Meet, Lists, IsPoint, WritesNow, Writes, reads_of, writes_of, HasTerm}
 

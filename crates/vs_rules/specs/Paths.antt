@@ -15,13 +15,13 @@ use Rattle.vs_design.specs.declared.statement.Statement.TheViews.{out-Statement}
 use Rattle.vs_design.specs.Parts.{Parts}
 use Rattle.vs_design.specs.Statements.{all_reads, assignment_reads}
 use Rattle.vs_design.specs.Uses.{covers, joined, reads, writes}
-use Rattle.vs_threads.specs.vs_process.specs.Landings.{todo_behind}
-use Rattle.vs_threads.specs.vs_process.specs.Places.{perform, Todo}
-use Rattle.vs_threads.specs.vs_process.specs.Steps.{Next, on, after, wait}
-use Rattle.vs_threads.specs.Bits.{HasBit, meet_in}
-use Rattle.vs_threads.specs.Blocks.{outputs}
-use Rattle.vs_threads.specs.Threads.{todo_reads, todo_shows}
-use Rattle.vs_threads.specs.vs_process.specs.Nexts.{nexts}
+use Rattle.vs_process.specs.Landings.{todo_behind}
+use Rattle.vs_process.specs.Places.{perform, Todo}
+use Rattle.vs_process.specs.Steps.{Next, on, after, wait}
+use Rattle.vs_process.specs.Bits.{HasBit, meet_in}
+use Rattle.vs_process.specs.BlockDrivers.{outputs}
+use Rattle.vs_process.specs.Threads.{todo_reads, todo_shows}
+use Rattle.vs_process.specs.Nexts.{nexts}
 use Rattle.vs_rules.specs.Points.{Among, Goes, first_todo, nexts_by, Point}
 
 -- ---- bits

@@ -1,12 +1,12 @@
 -- Paths of a text as ways of its flat code: what a checker walks.
 use Rattle.std.specs.Prelude.{ℕ, suc, ◌≡◌, Bool, true, Some, List, slice_get}
 use Rattle.vs_design.specs.declared.statement.Statement.{Statement}
-use Rattle.vs_threads.specs.vs_process.specs.declared.draft.Op.{Op}
-use Rattle.vs_threads.specs.vs_process.specs.Codes.{links_of, IsCodeOf}
-use Rattle.vs_threads.specs.vs_process.specs.Links.{Link}
-use Rattle.vs_threads.specs.vs_process.specs.Places.{Todo, flat}
-use Rattle.vs_threads.specs.vs_process.specs.Steps.{Next}
-use Rattle.vs_threads.specs.vs_process.specs.Ways.{Way, ways, next_at, point_at}
+use Rattle.vs_process.specs.declared.draft.Op.{Op}
+use Rattle.vs_process.specs.Codes.{links_of, IsCodeOf}
+use Rattle.vs_process.specs.Links.{Link}
+use Rattle.vs_process.specs.Places.{Todo, flat}
+use Rattle.vs_process.specs.Steps.{Next}
+use Rattle.vs_process.specs.Ways.{Way, ways, next_at, point_at}
 use Rattle.vs_rules.specs.Points.{Among, Point}
 use Rattle.vs_rules.specs.Paths.{Path}
 

@@ -6,12 +6,11 @@ use Rattle.vs_design.specs.declared.statement.Statement.TheOpen.{Statement-F}
 use Rattle.vs_design.specs.declared.statement.Statement.TheViews.{out-Statement}
 use Rattle.vs_design.specs.Parts.{Parts}
 use Rattle.vs_design.specs.Uses.{reads, writes_signal}
-use Rattle.vs_threads.specs.vs_process.specs.Places.{Item, perform, Todo, ended}
-use Rattle.vs_threads.specs.vs_process.specs.Steps.{Next, on, after, wait, has_nothing, turns_for}
-use Rattle.vs_threads.specs.vs_eval.specs.Values.{value_of}
-use Rattle.vs_threads.specs.vs_process.specs.Nexts.{nexts}
-use Rattle.vs_threads.specs.vs_process.specs.States.{start}
-use Rattle.vs_threads.specs.vs_process.specs.Places.{todo_of}
+use Rattle.vs_process.specs.Places.{Item, perform, Todo, ended, todo_of}
+use Rattle.vs_process.specs.Steps.{Next, on, after, wait, has_nothing, turns_for}
+use Rattle.vs_process.specs.vs_eval.specs.Values.{value_of}
+use Rattle.vs_process.specs.Nexts.{nexts}
+use Rattle.vs_process.specs.States.{start}
 
 -- ---- paths
 

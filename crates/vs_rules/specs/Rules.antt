@@ -11,9 +11,9 @@ use Rattle.vs_design.specs.declared.range.BitRange.{BitRange}
 use Rattle.vs_design.specs.declared.statement.EventTerm.{EventTerm}
 use Rattle.vs_design.specs.Parts.{Parts}
 use Rattle.vs_design.specs.Uses.{reads, writes}
-use Rattle.vs_threads.specs.vs_process.specs.Executions.{is_level}
-use Rattle.vs_threads.specs.vs_process.specs.Places.{Todo}
-use Rattle.vs_threads.specs.vs_process.specs.Steps.{Next, after, wait}
+use Rattle.vs_process.specs.Executions.{is_level}
+use Rattle.vs_process.specs.Places.{Todo}
+use Rattle.vs_process.specs.Steps.{Next, after, wait}
 use Rattle.vs_rules.specs.Claims.{Name, Mode, net, unwritten, combinational, nonblocking, blocking, private, both, writer_in, second_in, times_in}
 use Rattle.vs_rules.specs.Controls.{controls_of}
 use Rattle.vs_rules.specs.Points.{Goes, nexts_by}

@@ -7,7 +7,7 @@ use Rattle.vs_design.specs.declared.range.BitRange.{BitRange}
 use Rattle.vs_design.specs.declared.signal.Signal.{Signal}
 use Rattle.vs_design.specs.Parts.{Parts}
 use Rattle.vs_design.specs.WellFormed.{width_at}
-use Rattle.vs_rules.specs.vs_threads.specs.Bits.{meet_in, common_word, common_place}
+use Rattle.vs_rules.specs.vs_process.specs.Bits.{meet_in, common_word, common_place}
 use Rattle.vs_graph.specs.Reached.{Reached, begins, goes_on}
 use Rattle.vs_rules.specs.Claims.{Claims}
 use Rattle.vs_rules.specs.Drivers.{Driver, IsDriver, DriverWrites, DriverNeeds, InCone}

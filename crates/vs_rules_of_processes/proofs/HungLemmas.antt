@@ -8,7 +8,7 @@ use Rattle.vs_design.specs.Parts.{Parts}
 use Rattle.vs_process.specs.Places.{Todo}
 use Rattle.vs_maps.specs.vs_rules.specs.Claims.{Claims, IsBlock}
 use Rattle.vs_maps.specs.vs_rules.specs.Drivers.{block, DriverNeeds, InCone}
-use Rattle.vs_maps.specs.vs_rules.specs.vs_threads.specs.Threads.{todo_shows}
+use Rattle.vs_maps.specs.vs_rules.specs.vs_process.specs.Threads.{todo_shows}
 use Rattle.vs_maps.specs.vs_rules.specs.Paths.{IsPoint}
 use Rattle.vs_maps.specs.vs_rules.specs.Rules.{BlockNeeds}
 use Rattle.vs_maps.specs.vs_rules.specs.Rules as rules

@@ -9,7 +9,7 @@ use Rattle.vs_design.specs.declared.signal.Signal.{Signal}
 use Rattle.vs_design.specs.Kinds.{is_variable}
 use Rattle.vs_design.specs.Parts.{Parts}
 use Rattle.vs_process.specs.Stops.{Stop, stop_at, stop_statement}
-use Rattle.vs_maps.specs.vs_rules.specs.vs_threads.specs.Threads.{own_reads, own_shows}
+use Rattle.vs_maps.specs.vs_rules.specs.vs_process.specs.Threads.{own_reads, own_shows}
 use Rattle.vs_maps.specs.vs_rules.specs.Claims.{Claims}
 use Rattle.vs_maps.specs.vs_rules.specs.Paths.{statement_now}
 use Rattle.vs_drivers.specs.vs_maps.specs.Ranges.{ranges_of, now_at, reads_at, shows_at}

@@ -10,7 +10,7 @@ use Rattle.vs_design.specs.Parts.{Parts}
 use Rattle.vs_process.specs.Places.{perform, turns, Todo}
 use Rattle.vs_process.specs.Numbers.{number_next}
 use Rattle.vs_process.specs.Stops.{Stop, IsText}
-use Rattle.vs_rules.specs.vs_threads.specs.Threads.{todo_reads, own_shows, todo_shows}
+use Rattle.vs_rules.specs.vs_process.specs.Threads.{todo_reads, own_shows, todo_shows}
 use Rattle.vs_rules.specs.Claims.{Claims, IsRootOf, IsSequential, edges, delays, is_wide, mixed}
 use Rattle.vs_rules.specs.Paths.{IsHot}
 use Rattle.vs_rules.specs.Rules.{K9, Reads, IsOwnRead, IsOwnEdge, AreApart}

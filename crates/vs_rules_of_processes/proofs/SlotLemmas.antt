@@ -8,7 +8,7 @@ use Rattle.vs_design.specs.declared.range.BitRange.{BitRange}
 use Rattle.vs_design.specs.Parts.{Parts}
 use Rattle.vs_process.specs.Places.{Todo}
 use Rattle.vs_process.specs.Stops.{IsText}
-use Rattle.vs_maps.specs.vs_rules.specs.vs_threads.specs.Threads.{todo_reads, todo_shows}
+use Rattle.vs_maps.specs.vs_rules.specs.vs_process.specs.Threads.{todo_reads, todo_shows}
 use Rattle.vs_maps.specs.vs_rules.specs.Claims.{Claims, IsSequential, is_wide}
 use Rattle.vs_maps.specs.vs_rules.specs.Paths.{IsSlot0, IsPrologue, WritesNow, todo_now, is_plain, is_zero_time}
 use Rattle.vs_maps.specs.vs_rules.specs.Rules.{K10_Process, Reads}

@@ -3,11 +3,11 @@ use Rattle.std.proofs.Common.{◌≡◌, ℕ, zero, suc, ◌-◌, ◌<◌, Bool,
 use Rattle.vs_design.specs.declared.statement.Statement.{Statement}
 use Rattle.vs_design.specs.Stores.{Store}
 use Rattle.vs_design.specs.Writes.{Write}
-use Rattle.vs_rules.specs.vs_threads.specs.vs_process.specs.Changes.{store_behind}
-use Rattle.vs_rules.specs.vs_threads.specs.vs_process.specs.Places.{Todo, flat}
-use Rattle.vs_rules.specs.vs_threads.specs.vs_process.specs.Steps.{Next, on, after, wait, step, has_nothing}
+use Rattle.vs_rules.specs.vs_process.specs.Changes.{store_behind}
+use Rattle.vs_rules.specs.vs_process.specs.Places.{Todo, flat}
+use Rattle.vs_rules.specs.vs_process.specs.Steps.{Next, on, after, wait, step, has_nothing}
 use Rattle.std.proofs.lemmas.Option.{same_Some}
-use Rattle.vs_rules.specs.vs_threads.specs.Threads as threads
+use Rattle.vs_rules.specs.vs_process.specs.Threads as threads
 use Rattle.vs_rules.specs.Blocks.{arrived, run_alone}
 use Rattle.vs_rules_of_starts.specs.Alone.{Arrival, arrives, arrival, arrived_if, store_if, ComesTo}
 

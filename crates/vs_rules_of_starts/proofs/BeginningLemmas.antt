@@ -21,8 +21,8 @@ use Rattle.vs_design.specs.WellFormed.{aim_width}
 use Rattle.vs_eval.specs.Values.{target_value}
 use Rattle.vs_rules_of_starts.specs.vs_process.specs.Places.{perform, turns, Todo}
 use Rattle.vs_rules_of_starts.specs.vs_process.specs.Stops.{Stop, next_statement, stop_at, stop_statement, IsText}
-use Rattle.vs_rules.specs.vs_threads.specs.Bits.{HasBit}
-use Rattle.vs_rules.specs.vs_threads.proofs.Lists.{contains_at, place_of}
+use Rattle.vs_rules.specs.vs_process.specs.Bits.{HasBit}
+use Rattle.vs_rules.specs.vs_process.proofs.ThreadLists.{contains_at, place_of}
 use Rattle.vs_rules.specs.Paths.{Bit, IsBit, WritesAny}
 use Rattle.vs_rules.specs.Constants.{GivesDigit, IsKnown, given, is_nothing, places_give, place_gives, any_aims}
 use Rattle.vs_rules.specs.Constants as k

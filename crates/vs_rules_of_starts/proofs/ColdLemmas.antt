@@ -6,12 +6,12 @@ use Rattle.vs_design.specs.declared.statement.Statement.{Statement}
 use Rattle.vs_design.specs.Parts.{Parts}
 use Rattle.vs_design.specs.Stores.{Store, start_store}
 use Rattle.vs_design.specs.Writes.{Write}
-use Rattle.vs_rules.specs.vs_threads.specs.vs_process.specs.Places.{Todo, flat}
-use Rattle.vs_rules.specs.vs_threads.specs.vs_process.specs.Steps.{Next, on, after, wait, step}
-use Rattle.vs_rules.specs.vs_threads.specs.vs_process.specs.Executions.{is_combinational}
-use Rattle.vs_rules.specs.vs_threads.specs.vs_process.proofs.Stores.{shape, shape-put}
-use Rattle.vs_rules.specs.vs_threads.specs.Blocks.{sizes}
-use Rattle.vs_rules.specs.vs_threads.specs.Threads.{store_behind}
+use Rattle.vs_rules.specs.vs_process.specs.Places.{Todo, flat}
+use Rattle.vs_rules.specs.vs_process.specs.Steps.{Next, on, after, wait, step}
+use Rattle.vs_rules.specs.vs_process.specs.Executions.{is_combinational}
+use Rattle.vs_rules.specs.vs_process.proofs.Stores.{shape, shape-put}
+use Rattle.vs_rules.specs.vs_process.specs.BlockDrivers.{sizes}
+use Rattle.vs_rules.specs.vs_process.specs.Threads.{store_behind}
 use Rattle.vs_rules.specs.Points.{Point}
 use Rattle.vs_rules.specs.Blocks.{arrived, run_alone, StaysCold}
 use Rattle.vs_maps.proofs.Texts.{begins_with}

@@ -14,14 +14,14 @@ use Rattle.vs_design.specs.declared.statement.Statement.TheOpen.{Statement-F}
 use Rattle.vs_design.specs.declared.statement.Statement.TheViews.{out-Statement}
 use Rattle.vs_design.specs.Statements.{has_control, has_control_step}
 use Rattle.vs_design.specs.Stores.{Store}
-use Rattle.vs_rules.specs.vs_threads.specs.vs_process.specs.Drafts.{is_block}
-use Rattle.vs_rules.specs.vs_threads.specs.vs_process.specs.Nexts.{past, nexts, statement_nexts}
-use Rattle.vs_rules.specs.vs_threads.specs.vs_process.specs.Changes.{store_behind}
-use Rattle.vs_rules.specs.vs_threads.specs.vs_process.specs.Places.{Item, perform, turns, Todo, flat}
-use Rattle.vs_rules.specs.vs_threads.specs.vs_process.specs.Steps.{Next, Out, on, after, wait, goes, is_default, statement_step, step}
-use Rattle.vs_rules.specs.vs_threads.specs.vs_process.proofs.Shapes.{flat-single}
-use Rattle.vs_rules.specs.vs_threads.specs.vs_process.specs.Executions.{is_always, is_block_body, is_combinational, waits_for_levels}
-use Rattle.vs_rules.specs.vs_threads.proofs.Free.{GoesOn, item_control, todo_control, both_free, flat_free}
+use Rattle.vs_rules.specs.vs_process.specs.Drafts.{is_block}
+use Rattle.vs_rules.specs.vs_process.specs.Nexts.{past, nexts, statement_nexts}
+use Rattle.vs_rules.specs.vs_process.specs.Changes.{store_behind}
+use Rattle.vs_rules.specs.vs_process.specs.Places.{Item, perform, turns, Todo, flat}
+use Rattle.vs_rules.specs.vs_process.specs.Steps.{Next, Out, on, after, wait, goes, is_default, statement_step, step}
+use Rattle.vs_rules.specs.vs_process.proofs.Shapes.{flat-single}
+use Rattle.vs_rules.specs.vs_process.specs.Executions.{is_always, is_block_body, is_combinational, waits_for_levels}
+use Rattle.vs_rules.specs.vs_process.proofs.Free.{GoesOn, item_control, todo_control, both_free, flat_free}
 use Rattle.vs_rules.specs.Points.{Among, first, further, Goes, Point, first_todo}
 use Rattle.vs_rules.specs.Points as r
 use Rattle.vs_rules_of_starts.specs.Alone.{arrival, arrived_if}

@@ -11,8 +11,8 @@ use Rattle.vs_design.specs.declared.range.BitRange.{BitRange}
 use Rattle.vs_design.specs.Parts.{Parts}
 use Rattle.vs_design.specs.Uses.{covers, reads, writes}
 use Rattle.vs_design.specs.WellFormed.{WellFormed}
-use Rattle.vs_rules.specs.vs_threads.specs.Bits.{HasBit}
-use Rattle.vs_rules.specs.vs_threads.proofs.Lists.{contains_at}
+use Rattle.vs_rules.specs.vs_process.specs.Bits.{HasBit}
+use Rattle.vs_rules.specs.vs_process.proofs.ThreadLists.{contains_at}
 use Rattle.vs_claims.specs.vs_process.proofs.ProcessLists.{map_at, set_same, set_other, distinct_place}
 use Rattle.vs_rules.specs.Claims.{Claims, Name, assign_name, place_of, times_in}
 use Rattle.vs_rules.specs.Drivers.{Driver, assign, WritesBit, StandsBefore}

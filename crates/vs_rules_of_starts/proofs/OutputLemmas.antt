@@ -14,11 +14,11 @@ use Rattle.vs_design.specs.declared.signal.Signal.{Signal}
 use Rattle.vs_design.specs.Parts.{Parts}
 use Rattle.vs_design.specs.Stores.{Store, same_words, start_store, start_word, start_words, word_of}
 use Rattle.vs_design.proofs.Stores.{same_words-true, same_words_self}
-use Rattle.vs_rules.specs.vs_threads.specs.Writes.{statement_writes}
-use Rattle.vs_rules.specs.vs_threads.specs.Blocks.{outputs_for, sizes}
-use Rattle.vs_rules.specs.vs_threads.proofs.Copying.{start_at}
-use Rattle.vs_rules.specs.vs_threads.proofs.Lists.{contains_at, place_of}
-use Rattle.vs_rules.specs.vs_threads.specs.vs_process.proofs.Ranges.{same_sizes}
+use Rattle.vs_rules.specs.vs_process.specs.Writes.{statement_writes}
+use Rattle.vs_rules.specs.vs_process.specs.BlockDrivers.{outputs_for, sizes}
+use Rattle.vs_rules.specs.vs_process.proofs.Copying.{start_at}
+use Rattle.vs_rules.specs.vs_process.proofs.ThreadLists.{contains_at, place_of}
+use Rattle.vs_rules.specs.vs_process.proofs.Ranges.{same_sizes}
 use Rattle.vs_rules_of_starts.specs.Cold.{SameWritten}
 
 -- ---- a word

@@ -11,21 +11,21 @@ use Rattle.vs_design.specs.Parts.{Parts}
 use Rattle.vs_design.specs.Stores.{Store, put, is_changed, start_store}
 use Rattle.vs_design.specs.Uses.{covers, reads, writes}
 use Rattle.vs_design.specs.WellFormed.{WellFormed}
-use Rattle.vs_rules.specs.vs_threads.specs.vs_eval.specs.Laws.{digit_of}
-use Rattle.vs_rules.specs.vs_threads.specs.vs_eval.specs.Values.{target_value}
-use Rattle.vs_rules.specs.vs_threads.specs.vs_process.specs.Steps.{assignment}
-use Rattle.vs_rules.specs.vs_threads.specs.vs_process.proofs.Assigns.{DrivesApart, drives, nothing_changed}
-use Rattle.vs_rules.specs.vs_threads.specs.vs_process.proofs.Digits.{kept_digit, put_again, same_stores}
-use Rattle.vs_rules.specs.vs_threads.specs.vs_process.proofs.ProcessLists.{none_from}
-use Rattle.vs_rules.specs.vs_threads.specs.vs_process.proofs.Ranges.{assigned_fixed, covered_fixes, fixed_write, same_content, uncovered_keeps}
-use Rattle.vs_rules.specs.vs_threads.specs.vs_process.proofs.Stores.{shape, shape-put}
-use Rattle.vs_rules.specs.vs_threads.specs.vs_process.proofs.Values.{same_unchanged, target_value_unchanged}
-use Rattle.vs_rules.specs.vs_threads.specs.vs_process.proofs.WellFormed.{drives_apart}
-use Rattle.vs_rules.specs.vs_threads.specs.Bits.{HasBit}
-use Rattle.vs_rules.specs.vs_threads.specs.Blocks.{IsSettledStart}
-use Rattle.vs_rules.specs.vs_threads.proofs.Bits.{by_bit}
-use Rattle.vs_rules.specs.vs_threads.proofs.Lists.{contains_at, place_of}
-use Rattle.vs_rules.specs.vs_threads.proofs.Settle.{same_fixed}
+use Rattle.vs_rules.specs.vs_process.specs.vs_eval.specs.Laws.{digit_of}
+use Rattle.vs_rules.specs.vs_process.specs.vs_eval.specs.Values.{target_value}
+use Rattle.vs_rules.specs.vs_process.specs.Steps.{assignment}
+use Rattle.vs_rules.specs.vs_process.proofs.Assigns.{DrivesApart, drives, nothing_changed}
+use Rattle.vs_rules.specs.vs_process.proofs.Digits.{kept_digit, put_again, same_stores}
+use Rattle.vs_rules.specs.vs_process.proofs.ProcessLists.{none_from}
+use Rattle.vs_rules.specs.vs_process.proofs.Ranges.{assigned_fixed, covered_fixes, fixed_write, same_content, uncovered_keeps}
+use Rattle.vs_rules.specs.vs_process.proofs.Stores.{shape, shape-put}
+use Rattle.vs_rules.specs.vs_process.proofs.Values.{same_unchanged, target_value_unchanged}
+use Rattle.vs_rules.specs.vs_process.proofs.WellFormed.{drives_apart}
+use Rattle.vs_rules.specs.vs_process.specs.Bits.{HasBit}
+use Rattle.vs_rules.specs.vs_process.specs.BlockDrivers.{IsSettledStart}
+use Rattle.vs_rules.specs.vs_process.proofs.Bits.{by_bit}
+use Rattle.vs_rules.specs.vs_process.proofs.ThreadLists.{contains_at, place_of}
+use Rattle.vs_rules.specs.vs_process.proofs.Settle.{same_fixed}
 use Rattle.vs_rules_of_starts.specs.Settled.{put_assign, put_all, is_idle, are_idle, Drives, IsDrivenBefore, IsInOrder}
 
 -- ---- bits whose digits are known

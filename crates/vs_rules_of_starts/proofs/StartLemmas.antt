@@ -8,9 +8,9 @@ use Rattle.vs_design.specs.declared.design.Process.{Process}
 use Rattle.vs_design.specs.declared.range.BitRange.{BitRange}
 use Rattle.vs_design.specs.declared.statement.EventTerm.{EventTerm}
 use Rattle.vs_design.specs.Parts.{Parts}
-use Rattle.vs_rules.specs.vs_threads.specs.Blocks.{outputs_for}
-use Rattle.vs_rules.specs.vs_threads.proofs.Lists.{contains_at, place_of}
-use Rattle.vs_drivers.specs.vs_threads.specs.Writes.{statement_writes}
+use Rattle.vs_rules.specs.vs_process.specs.BlockDrivers.{outputs_for}
+use Rattle.vs_rules.specs.vs_process.proofs.ThreadLists.{contains_at, place_of}
+use Rattle.vs_drivers.specs.vs_process.specs.Writes.{statement_writes}
 use Rattle.vs_rules.specs.Claims.{Claims, Kind, Start, block, cold, starter, kind_of, kind_for, HasStart, IsBlock}
 use Rattle.vs_rules.specs.Paths.{Writes}
 use Rattle.vs_rules.specs.Drivers.{block as driver, DriverNeeds, IsSource, Passes}

@@ -9,7 +9,7 @@ use Rattle.vs_design.specs.declared.signal.Signal.{Signal}
 use Rattle.vs_design.specs.declared.statement.EventTerm.{EventTerm}
 use Rattle.vs_design.specs.Parts.{Parts}
 use Rattle.vs_design.specs.WellFormed.{WellFormed, counts_from, is_body_of, is_sound_process, is_sound_statement, numbers}
-use Rattle.vs_rules.specs.vs_threads.proofs.Lists.{contains_at, place_of}
+use Rattle.vs_rules.specs.vs_process.proofs.ThreadLists.{contains_at, place_of}
 use Rattle.vs_claims.specs.vs_process.proofs.ProcessLists.{all_slice}
 use Rattle.vs_rules.specs.Claims.{Claims, Kind, Mode, claim_for, delays, edges, mixed, mode_in, kind_for, kind_of, nonblocking, HasMode, IsDelay, IsSequential, IsWide, IsWriter}
 use Rattle.vs_rules.specs.Claims as claims

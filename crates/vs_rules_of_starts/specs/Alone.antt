@@ -2,9 +2,9 @@
 use Rattle.std.specs.Prelude.{ℕ, zero, suc, ◌≡◌, Bool, true, false, Option, Some, None}
 use Rattle.vs_design.specs.declared.statement.Statement.{Statement}
 use Rattle.vs_design.specs.Stores.{Store}
-use Rattle.vs_rules.specs.vs_threads.specs.vs_process.specs.Changes.{store_behind}
-use Rattle.vs_rules.specs.vs_threads.specs.vs_process.specs.Places.{Todo, flat}
-use Rattle.vs_rules.specs.vs_threads.specs.vs_process.specs.Steps.{Next, on, after, wait, step}
+use Rattle.vs_rules.specs.vs_process.specs.Changes.{store_behind}
+use Rattle.vs_rules.specs.vs_process.specs.Places.{Todo, flat}
+use Rattle.vs_rules.specs.vs_process.specs.Steps.{Next, on, after, wait, step}
 
 -- a process that has come to an event control: what it has to do after it, and the store there
 pub record Arrival : Type 0 where

@@ -3,9 +3,9 @@ use Rattle.std.specs.Prelude.{ℕ, ◌≡◌, ◌↔◌, Option, Some, List, sli
 use Rattle.vs_design.specs.declared.statement.EventTerm.{EventTerm}
 use Rattle.vs_design.specs.Parts.{Parts}
 use Rattle.vs_design.specs.Stores.{Store, start_store}
-use Rattle.vs_rules.specs.vs_threads.specs.vs_process.specs.Places.{Todo}
-use Rattle.vs_rules.specs.vs_threads.specs.vs_process.specs.Steps.{wait}
-use Rattle.vs_rules.specs.vs_threads.specs.Blocks.{IsSettledStart}
+use Rattle.vs_rules.specs.vs_process.specs.Places.{Todo}
+use Rattle.vs_rules.specs.vs_process.specs.Steps.{wait}
+use Rattle.vs_rules.specs.vs_process.specs.BlockDrivers.{IsSettledStart}
 use Rattle.vs_rules.specs.Points.{Goes}
 use Rattle.vs_rules.specs.Paths.{IsPoint, Writes}
 use Rattle.vs_rules.specs.Blocks.{run_alone, StaysCold}

@@ -1,7 +1,7 @@
 pub mod Settled
 pub mod Alone
 pub mod Cold
-pub use Rattle.vs_rules.specs.vs_threads.specs.vs_process
+pub use Rattle.vs_rules.specs.vs_process
 pub mod Order
 pub mod Missing
 pub mod Inside

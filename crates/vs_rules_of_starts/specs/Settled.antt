@@ -6,8 +6,8 @@ use Rattle.vs_design.specs.declared.range.BitRange.{BitRange}
 use Rattle.vs_design.specs.Parts.{Parts}
 use Rattle.vs_design.specs.Stores.{Store, changes_nothing, put}
 use Rattle.vs_design.specs.Uses.{covers, reads, writes}
-use Rattle.vs_rules.specs.vs_threads.specs.vs_process.specs.Steps.{assignment}
-use Rattle.vs_rules.specs.vs_threads.specs.Bits.{HasBit}
+use Rattle.vs_rules.specs.vs_process.specs.Steps.{assignment}
+use Rattle.vs_rules.specs.vs_process.specs.Bits.{HasBit}
 
 -- a store after a continuous assignment, where there is one
 abbrev pub put_assign : Option Assign → Store → Store

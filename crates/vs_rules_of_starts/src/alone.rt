@@ -4,7 +4,7 @@ ghost use Rattle.vs_rules_of_starts.specs.Alone.{arrival, arrived_if};
 
 use std::alloc::{AllocError, Global};
 use vs_design::Store;
-use vs_rules::vs_threads::vs_process::{Cursor, Halt};
+use vs_rules::vs_process::{Cursor, Halt};
 
 // Steps of a process alone at time 0, at most so many, to its next event control: whether it arrives there.
 pub(crate) fn arrive(

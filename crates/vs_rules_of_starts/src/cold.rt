@@ -3,9 +3,9 @@ ghost use Rattle.std.specs.Prelude.{ℕ, ◌≡◌, ◌<◌, ◌↔◌, true, So
 ghost use Rattle.vs_design.specs.declared.design.Process as declared;
 ghost use Rattle.vs_design.specs.Stores as stores;
 ghost use Rattle.vs_design.specs.Stores.{start_store};
-ghost use Rattle.vs_rules.specs.vs_threads.specs.vs_process.specs.Places.{Todo};
-ghost use Rattle.vs_rules.specs.vs_threads.specs.Blocks.{IsSettledStart, sizes};
-ghost use Rattle.vs_rules.specs.vs_threads.specs.vs_process.specs.Executions.{is_combinational};
+ghost use Rattle.vs_rules.specs.vs_process.specs.Places.{Todo};
+ghost use Rattle.vs_rules.specs.vs_process.specs.BlockDrivers.{IsSettledStart, sizes};
+ghost use Rattle.vs_rules.specs.vs_process.specs.Executions.{is_combinational};
 ghost use Rattle.vs_rules.specs.Blocks.{run_alone};
 ghost use Rattle.vs_rules_of_starts.specs.Settled.{IsInOrder};
 ghost use Rattle.vs_rules_of_starts.specs.Alone.{store_if, ComesTo};
@@ -17,7 +17,7 @@ use crate::settled::settled_start;
 use std::alloc::{AllocError, Global};
 use std::marker::Model;
 use vs_design::{Design, Store};
-use vs_rules::vs_threads::vs_process::{Code, Cursor, compile};
+use vs_rules::vs_process::{Code, Cursor, compile};
 
 /// A design, the store in which its executions begin, and that store with the continuous assignments settled, where it can be settled. A contract
 /// sees the design.

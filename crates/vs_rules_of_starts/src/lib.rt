@@ -20,4 +20,4 @@ pub use order::in_order;
 pub use settled::settled_start;
 pub use starts::{keeps_start, keeps_start_by};
 pub use vs_rules;
-pub use vs_rules::vs_threads::vs_process;
+pub use vs_rules::vs_process;

@@ -3,12 +3,12 @@ ghost use Rattle.std.specs.Prelude.{ℕ, ◌≡◌, ◌<◌, ◌↔◌, length, 
 ghost use Rattle.vs_design.specs.Parts.{Parts};
 ghost use Rattle.vs_design.specs.Stores as stores;
 ghost use Rattle.vs_design.specs.Stores.{start_store, word_of};
-ghost use Rattle.vs_rules.specs.vs_threads.specs.Blocks.{sizes};
+ghost use Rattle.vs_rules.specs.vs_process.specs.BlockDrivers.{sizes};
 ghost use Rattle.vs_rules_of_starts.specs.Cold.{SameWritten};
 
 use std::alloc::{AllocError, Global};
 use vs_design::{Design, Store};
-use vs_rules::vs_threads::statement_writes;
+use vs_rules::vs_process::statement_writes;
 
 // Whether a word of a signal is the same in two stores.
 fn is_same_word(a: &Store, b: &Store, signal: usize, word: usize) -> bool

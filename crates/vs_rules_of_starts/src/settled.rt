@@ -2,13 +2,13 @@
 ghost use Rattle.std.specs.Prelude.{ℕ, ◌≡◌, ◌↔◌, Some, slice_get, IfOk, OnOk};
 ghost use Rattle.vs_design.specs.Stores as stores;
 ghost use Rattle.vs_design.specs.Stores.{start_store};
-ghost use Rattle.vs_rules.specs.vs_threads.specs.vs_process.specs.Steps.{assignment};
-ghost use Rattle.vs_rules.specs.vs_threads.specs.Blocks.{IsSettledStart};
+ghost use Rattle.vs_rules.specs.vs_process.specs.Steps.{assignment};
+ghost use Rattle.vs_rules.specs.vs_process.specs.BlockDrivers.{IsSettledStart};
 ghost use Rattle.vs_rules_of_starts.specs.Settled.{put_all, put_assign, is_idle, are_idle, IsInOrder};
 
 use std::alloc::{AllocError, Global};
 use vs_design::{Assign, Design, Store, Write};
-use vs_rules::vs_threads::vs_eval::{cut_value, write_of};
+use vs_rules::vs_process::vs_eval::{cut_value, write_of};
 
 // The write of a continuous assignment in a store.
 fn write_in(alloc: Global, assign: &Assign, store: &Store) -> Result<Write, AllocError>

@@ -2,8 +2,8 @@
 ghost use Rattle.std.specs.Prelude.{ℕ, ◌≡◌, ◌<◌, ◌↔◌, ◌⊎◌, false, true, Some, length, slice_get, slice_index_or, IfOk, IsTrue, option_map};
 ghost use Rattle.std.specs.List.{Contains};
 ghost use Rattle.vs_design.specs.declared.statement.EventTerm as event;
-ghost use Rattle.vs_drivers.specs.vs_threads.specs.Writes.{statement_writes};
-ghost use Rattle.vs_rules.specs.vs_threads.specs.Blocks.{outputs};
+ghost use Rattle.vs_drivers.specs.vs_process.specs.Writes.{statement_writes};
+ghost use Rattle.vs_rules.specs.vs_process.specs.BlockDrivers.{outputs};
 ghost use Rattle.vs_rules.specs.Certificates.{kind_from, start_from};
 ghost use Rattle.vs_rules.specs.Claims as claims;
 ghost use Rattle.vs_rules.specs.Claims.{block, cold, starter, HasStart, IsBlock};
@@ -23,7 +23,7 @@ use vs_claims::Facts;
 use vs_claims::vs_certificate::{ClaimedKind, Start};
 use vs_design::{BitRange, EventTerm};
 use vs_drivers::vs_maps::terms;
-use vs_drivers::vs_threads::statement_writes;
+use vs_drivers::vs_process::statement_writes;
 use vs_drivers::{Cones, Copies};
 
 // The start of a kind that is there, where it is that of a combinational block.

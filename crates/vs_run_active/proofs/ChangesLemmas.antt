@@ -12,8 +12,8 @@ use Rattle.vs_design.specs.declared.write.Part.{Part}
 use Rattle.vs_design.specs.Stores.{Store, word_of, put, put_part}
 use Rattle.vs_design.specs.Uses.{all_words, has_word}
 use Rattle.vs_design.specs.Writes.{Write}
-use Rattle.vs_edges.specs.Differences.{HaveOneSize, bits_differ, word_changes, part_changes}
-use Rattle.vs_edges.proofs.StoresLemmas.{changed_by_parts, put_size}
+use Rattle.vs_eval.specs.Differences.{HaveOneSize, bits_differ, word_changes, part_changes}
+use Rattle.vs_eval.proofs.StoresLemmas.{changed_by_parts, put_size}
 use Rattle.vs_process.specs.declared.changes.Change.{Change}
 use Rattle.vs_process.specs.Changes.{changed_word, changed_part, changed_words}
 use Rattle.vs_run_active.specs.vs_process.proofs.Assigns.{signal_kept}

@@ -10,7 +10,7 @@ use Rattle.vs_design.specs.vs_logic4.specs.declared.edge.Edge.TheVariants.{Posed
 use Rattle.vs_design.specs.vs_logic4.specs.Edges.{is_edge}
 use Rattle.vs_design.specs.vs_logic4.specs.PlaneLaws.{value_plane-lt}
 use Rattle.vs_design.specs.vs_logic4.specs.Planes.{value_bit, value_plane}
-use Rattle.vs_run_active.specs.vs_edges.specs.Masks.{AreEdges}
+use Rattle.vs_run_active.specs.vs_eval.specs.Masks.{AreEdges}
 
 -- a one where there is an edge
 edge_digit : Bool → Digit

@@ -2,7 +2,7 @@
 use Rattle.std.proofs.Common.{◌≡◌, ℕ, zero, suc, ◌+◌, ◌-◌, ◌<◌, ◌≤◌, ◌&&◌, Bool, false, List, [], ◌∷◌, ◌++◌, map, take, drop, length, get_or, nat_lt, if◌then◌else◌, refl, sym, ◌∙◌, ap, ap₂, subst, append_assoc, arith}
 use Rattle.std.proofs.lemmas.Bool.{le-leb, lt-ltb, ltb-true, false_from_ne_true}
 use Rattle.std.proofs.lemmas.List.{append-nil, length-append, map-append, take_all, take_more}
-use Rattle.vs_edges.specs.declared.masks.WordMask.{WordMask}
+use Rattle.vs_eval.specs.declared.masks.WordMask.{WordMask}
 use Rattle.vs_run_active.specs.declared.groups.Group.{Group}
 use Rattle.vs_run_active.specs.declared.groups.Groups.{Groups}
 use Rattle.vs_run_active.specs.declared.watchers.Watcher.{Watcher}

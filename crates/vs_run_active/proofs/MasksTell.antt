@@ -9,12 +9,12 @@ use Rattle.vs_design.specs.declared.range.Bits.{Bits}
 use Rattle.vs_design.specs.declared.range.BitRange.{BitRange}
 use Rattle.vs_design.specs.declared.statement.EventTerm.{EventTerm}
 use Rattle.vs_design.specs.Uses.{has_word}
-use Rattle.vs_run_active.specs.vs_edges.specs.Masks.{IsMaskOf, IsTermMask, every_word, has_bits, edge_mask, lowest_bit, mask_in, range_bits, range_mask, term_mask}
-use Rattle.vs_run_active.specs.vs_edges.specs.Waking.{edge_word}
-use Rattle.vs_run_active.specs.vs_edges.specs.passes.Masks.{IsBitMask, IsLowestMask}
-use Rattle.vs_run_active.specs.vs_edges.proofs.DifferencesLemmas.{past_bits}
-use Rattle.vs_run_active.specs.vs_edges.proofs.MasksLemmas.{any_edges, bits_above, bits_between, bits_past, edge_term, has_above, has_between, lowest_above, lowest_none, lowest_of_all, lowest_of_none, lowest_of_some, lowest_past, lowest_shifted, no_bit}
-use Rattle.vs_run_active.specs.vs_edges.proofs.WakingLemmas.{level_wakes}
+use Rattle.vs_run_active.specs.vs_eval.specs.Masks.{IsMaskOf, IsTermMask, every_word, has_bits, edge_mask, lowest_bit, mask_in, range_bits, range_mask, term_mask}
+use Rattle.vs_run_active.specs.vs_eval.specs.Waking.{edge_word}
+use Rattle.vs_run_active.specs.vs_eval.specs.passes.Masks.{IsBitMask, IsLowestMask}
+use Rattle.vs_run_active.specs.vs_eval.proofs.DifferencesLemmas.{past_bits}
+use Rattle.vs_run_active.specs.vs_eval.proofs.MasksLemmas.{any_edges, bits_above, bits_between, bits_past, edge_term, has_above, has_between, lowest_above, lowest_none, lowest_of_all, lowest_of_none, lowest_of_some, lowest_past, lowest_shifted, no_bit}
+use Rattle.vs_run_active.specs.vs_eval.proofs.WakingLemmas.{level_wakes}
 
 range_bits_past : (b : Bits) → 63 < b.low → IsBitMask (Some b) (range_bits (Some b))
 range_bits_past b h = subst (IsBitMask (Some b)) (bits_past b h) (λ number below. no_bit number ∙ sym (past_bits number b.low b.width below h))

@@ -18,11 +18,11 @@ use Rattle.vs_design.specs.Writes.{Write}
 use Rattle.vs_process.specs.declared.changes.Change.{Change}
 use Rattle.vs_process.specs.Changes.{changed_word, changed_words}
 use Rattle.vs_run_active.specs.vs_process.specs.States.{AssignState, start_assign, touched}
-use Rattle.vs_edges.specs.Differences.{bits_differ, HaveOneSize, difference, word_difference, sees, word_changes, part_changes}
+use Rattle.vs_eval.specs.Differences.{bits_differ, HaveOneSize, difference, word_difference, sees, word_changes, part_changes}
 use Rattle.vs_run_active.proofs.ChangedLemmas.{changed_behind}
 use Rattle.vs_run_active.specs.Touches.{AreOf, woken, woken_in, all_woken, woken_by, woken_changes}
-use Rattle.vs_edges.proofs.DifferencesLemmas.{sees_difference}
-use Rattle.vs_edges.proofs.StoresLemmas.{same_bits_differ, changed_by_parts, put_size}
+use Rattle.vs_eval.proofs.DifferencesLemmas.{sees_difference}
+use Rattle.vs_eval.proofs.StoresLemmas.{same_bits_differ, changed_by_parts, put_size}
 
 -- ---- waking the readers of a signal
 

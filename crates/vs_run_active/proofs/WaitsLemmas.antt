@@ -8,10 +8,10 @@ use Rattle.vs_design.specs.declared.statement.EventTerm.{EventTerm}
 use Rattle.vs_design.specs.declared.write.Part.{Part}
 use Rattle.vs_design.specs.Stores.{Store, word_of, put}
 use Rattle.vs_design.specs.Writes.{Write}
-use Rattle.vs_edges.specs.Differences.{HaveOneSize}
-use Rattle.vs_edges.specs.Waking.{word_wakes, part_wakes}
-use Rattle.vs_edges.proofs.StoresLemmas.{put_size}
-use Rattle.vs_edges.proofs.WakingLemmas.{same_wakes_none, waking_by_parts}
+use Rattle.vs_eval.specs.Differences.{HaveOneSize}
+use Rattle.vs_eval.specs.Waking.{word_wakes, part_wakes}
+use Rattle.vs_eval.proofs.StoresLemmas.{put_size}
+use Rattle.vs_eval.proofs.WakingLemmas.{same_wakes_none, waking_by_parts}
 use Rattle.vs_process.specs.Places.{Todo, Place, going, sleeping, inactive, waiting, ended, active_at}
 use Rattle.vs_process.specs.declared.changes.Change.{Change}
 use Rattle.vs_process.specs.Changes.{changed_word, changed_words}

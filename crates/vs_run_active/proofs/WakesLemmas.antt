@@ -10,10 +10,10 @@ use Rattle.vs_design.specs.declared.readers.Reader.{Reader}
 use Rattle.vs_design.specs.declared.statement.EventTerm.{EventTerm}
 use Rattle.vs_design.specs.Parts.{Parts}
 use Rattle.vs_design.specs.Readers.{readers}
-use Rattle.vs_run_active.specs.vs_edges.specs.declared.masks.WordChange.{WordChange}
-use Rattle.vs_run_active.specs.vs_edges.specs.Differences.{sees, word_changes}
-use Rattle.vs_run_active.specs.vs_edges.specs.Masks.{AreEdges, AreEdgesOf, IsChangeOf, every_word, has_bits}
-use Rattle.vs_run_active.specs.vs_edges.specs.Waking.{word_wakes}
+use Rattle.vs_run_active.specs.vs_eval.specs.declared.masks.WordChange.{WordChange}
+use Rattle.vs_run_active.specs.vs_eval.specs.Differences.{sees, word_changes}
+use Rattle.vs_run_active.specs.vs_eval.specs.Masks.{AreEdges, AreEdgesOf, IsChangeOf, every_word, has_bits}
+use Rattle.vs_run_active.specs.vs_eval.specs.Waking.{word_wakes}
 use Rattle.vs_run_active.proofs.MasksTell.{range_mask-has}
 use Rattle.vs_process.specs.declared.gait.Gait.{Gait}
 use Rattle.vs_process.specs.declared.gait.Gait.TheVariants.{Woken}

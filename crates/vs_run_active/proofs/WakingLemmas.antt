@@ -8,8 +8,8 @@ use Rattle.vs_design.specs.vs_logic4.specs.declared.edge.Edge.TheVariants.{Any, 
 use Rattle.vs_design.specs.declared.range.BitRange.{BitRange}
 use Rattle.vs_design.specs.declared.statement.EventTerm.{EventTerm}
 use Rattle.vs_design.specs.Uses.{is_of}
-use Rattle.vs_run_active.specs.vs_edges.specs.Masks.{AreEdges, every_word, has_bits}
-use Rattle.vs_run_active.specs.vs_edges.specs.Waking.{range_wakes, term_wakes, word_wakes}
+use Rattle.vs_run_active.specs.vs_eval.specs.Masks.{AreEdges, every_word, has_bits}
+use Rattle.vs_run_active.specs.vs_eval.specs.Waking.{range_wakes, term_wakes, word_wakes}
 use Rattle.vs_run_active.proofs.MasksTell.{term_mask-wakes}
 use Rattle.vs_run_active.specs.declared.watchers.ListedTerm.{ListedTerm}
 use Rattle.vs_run_active.specs.declared.watchers.Watcher.{Watcher}

@@ -9,7 +9,7 @@ use Rattle.vs_design.specs.declared.design.Assign.{Assign}
 use Rattle.vs_design.specs.Stores.{changed_at}
 use Rattle.vs_design.specs.Tables.{empty_rows, rows}
 use Rattle.vs_design.proofs.Stores.{length-changed_at}
-use Rattle.vs_edges.specs.Masks.{every_word}
+use Rattle.vs_eval.specs.Masks.{every_word}
 use Rattle.vs_run_active.specs.declared.groups.Groups.{Groups}
 use Rattle.vs_run_active.specs.declared.rows.Row.{Row}
 use Rattle.vs_run_active.specs.declared.watchers.ListedTerm.{ListedTerm}

@@ -7,7 +7,7 @@ pub use Rattle.vs_process
 pub mod Changes
 pub mod Touches
 pub mod Waits
-pub use Rattle.vs_edges
+pub use Rattle.vs_eval
 pub mod Groups
 pub mod Lists
 pub mod Rows

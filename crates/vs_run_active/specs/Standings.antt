@@ -2,7 +2,7 @@
 use Rattle.std.specs.Prelude.{ℕ, ◌≡◌, ◌==◌, ◌⊎◌, Bool, true, false, Option, Some, List, [], length, slice_get, if◌then◌else◌}
 use Rattle.vs_design.specs.vs_logic4.specs.declared.digit.Digit.{Digit}
 use Rattle.vs_design.specs.declared.statement.EventTerm.{EventTerm}
-use Rattle.vs_process.specs.vs_edges.specs.Waking.{word_wakes}
+use Rattle.vs_process.specs.vs_eval.specs.Waking.{word_wakes}
 use Rattle.vs_process.specs.declared.gait.Gait.TheVariants.{Woken}
 use Rattle.vs_process.specs.Places.{Todo, Place, sleeping, inactive, waiting, active_at, is_going}
 use Rattle.vs_process.specs.Scripts.{todo_on}

@@ -7,7 +7,7 @@ use Rattle.vs_design.specs.declared.readers.Reader.{Reader}
 use Rattle.vs_design.specs.Parts.{Parts}
 use Rattle.vs_design.specs.Stores.{changed_at}
 use Rattle.vs_design.specs.Uses.{reads}
-use Rattle.vs_edges.specs.Differences.{word_changes}
+use Rattle.vs_eval.specs.Differences.{word_changes}
 use Rattle.vs_process.specs.declared.changes.Change.{Change}
 use Rattle.vs_run_active.specs.vs_process.specs.States.{AssignState}
 

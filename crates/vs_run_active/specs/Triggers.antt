@@ -2,7 +2,7 @@
 use Rattle.std.specs.Prelude.{ℕ, Option, List, [], ◌∷◌, if◌then◌else◌}
 use Rattle.vs_design.specs.vs_logic4.specs.declared.digit.Digit.{Digit}
 use Rattle.vs_design.specs.Stores.{changed_at}
-use Rattle.vs_process.specs.vs_edges.specs.Waking.{word_wakes}
+use Rattle.vs_process.specs.vs_eval.specs.Waking.{word_wakes}
 use Rattle.vs_process.specs.Places.{Place}
 use Rattle.vs_process.specs.States.{terms_of, triggered}
 

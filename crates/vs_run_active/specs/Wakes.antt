@@ -4,9 +4,9 @@ use Rattle.vs_design.specs.vs_logic4.specs.declared.digit.Digit.{Digit}
 use Rattle.vs_design.specs.vs_logic4.specs.declared.edge.Edge.{Edge}
 use Rattle.vs_design.specs.vs_logic4.specs.declared.edge.Edge.TheVariants.{Any, Posedge, Negedge}
 use Rattle.vs_design.specs.Parts.{Parts}
-use Rattle.vs_run_active.specs.vs_edges.specs.declared.masks.WordChange.{WordChange}
-use Rattle.vs_run_active.specs.vs_edges.specs.Differences.{word_changes}
-use Rattle.vs_run_active.specs.vs_edges.specs.Masks.{AreEdges, IsChangeOf, has_bits}
+use Rattle.vs_run_active.specs.vs_eval.specs.declared.masks.WordChange.{WordChange}
+use Rattle.vs_run_active.specs.vs_eval.specs.Differences.{word_changes}
+use Rattle.vs_run_active.specs.vs_eval.specs.Masks.{AreEdges, IsChangeOf, has_bits}
 use Rattle.vs_run_active.specs.vs_process.specs.States.{AssignState}
 use Rattle.vs_run_active.specs.declared.process.Process.{Process}
 use Rattle.vs_run_active.specs.Standings.{GoneOn, gone_on}

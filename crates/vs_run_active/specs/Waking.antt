@@ -4,8 +4,8 @@ use Rattle.std.specs.List.{list_any}
 use Rattle.vs_design.specs.vs_logic4.specs.declared.digit.Digit.{Digit}
 use Rattle.vs_design.specs.vs_logic4.specs.declared.edge.Edge.TheVariants.{Any, Posedge, Negedge}
 use Rattle.vs_design.specs.declared.statement.EventTerm.{EventTerm}
-use Rattle.vs_edges.specs.Masks.{has_bits}
-use Rattle.vs_edges.specs.Waking.{term_wakes}
+use Rattle.vs_eval.specs.Masks.{has_bits}
+use Rattle.vs_eval.specs.Waking.{term_wakes}
 use Rattle.vs_run_active.specs.declared.watchers.ListedTerm.{ListedTerm}
 use Rattle.vs_run_active.specs.declared.watchers.Watcher.{Watcher}
 use Rattle.vs_run_active.specs.Watchers.{kind_watchers}

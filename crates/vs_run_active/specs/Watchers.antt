@@ -4,7 +4,7 @@ use Rattle.vs_design.specs.vs_logic4.specs.declared.edge.Edge.{Edge}
 use Rattle.vs_design.specs.vs_logic4.specs.declared.edge.Edge.TheVariants.{Any, Posedge, Negedge}
 use Rattle.vs_design.specs.declared.readers.Reader.{Reader}
 use Rattle.vs_design.specs.Uses.{joined}
-use Rattle.vs_edges.specs.Masks.{range_mask, term_mask}
+use Rattle.vs_eval.specs.Masks.{range_mask, term_mask}
 use Rattle.vs_run_active.specs.declared.watchers.Watcher.{Watcher}
 use Rattle.vs_run_active.specs.declared.watchers.ListedTerm.{ListedTerm}
 

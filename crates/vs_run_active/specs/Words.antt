@@ -3,7 +3,7 @@ use Rattle.std.specs.Prelude.{ℕ, zero, suc, ◌≡◌, ◌<◌, ◌==◌, ◌|
 use Rattle.std.specs.declared.vec.Vec.{Vec}
 use Rattle.std.specs.declared.alloc.Global.{Global}
 use Rattle.vs_design.specs.Tables as tables
-use Rattle.vs_edges.specs.Masks.{every_word}
+use Rattle.vs_eval.specs.Masks.{every_word}
 use Rattle.vs_run_active.specs.declared.rows.Row.{Row}
 use Rattle.vs_run_active.specs.declared.watchers.Watcher.{Watcher}
 use Rattle.vs_run_active.specs.Watchers.{between}

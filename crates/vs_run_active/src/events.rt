@@ -1,7 +1,7 @@
 //! What is active, and who is woken by the change of a word.
 ghost use Rattle.std.specs.Prelude.{◌≡◌, ◌<◌, get_or, length, if◌then◌else◌, OnOk};
 ghost use Rattle.vs_design.specs.Stores.{changed_at};
-ghost use Rattle.vs_run_active.specs.vs_edges.specs.Masks.{every_word};
+ghost use Rattle.vs_run_active.specs.vs_eval.specs.Masks.{every_word};
 ghost use Rattle.vs_run_active.specs.Groups.{group_members, meaning, no_group, spelled, spelled_one};
 ghost use Rattle.vs_run_active.specs.Rows.{Fits};
 ghost use Rattle.vs_run_active.specs.Touches.{woken_in};
@@ -14,7 +14,7 @@ ghost use Rattle.vs_run_active.specs.Wakes.{KindsWalked, RowWalked, Wakes, has_o
 use crate::assigns::Assigns;
 use crate::processes::Processes;
 use crate::queue::Queue;
-use crate::vs_edges::WordChange;
+use crate::vs_eval::WordChange;
 use crate::{FEW, Groups, Row, Tables, Watcher};
 use std::alloc::AllocError;
 

@@ -32,7 +32,7 @@ pub use queue::Queue;
 pub use rows::Row;
 pub use tables::Tables;
 pub use terms::{terms_are_listed, terms_of};
-pub use vs_edges;
+pub use vs_eval;
 pub use vs_process;
 pub use watchers::{ListedTerm, Watcher};
 pub use words::FEW;

@@ -5,7 +5,7 @@ ghost use Rattle.vs_run_active.specs.Watchers.{is_kind, kind_watchers, reader_wa
 use std::alloc::{AllocError, Global};
 use vs_design::vs_logic4::Edge;
 use vs_design::{EventTerm, Reader};
-use vs_edges::WordMask;
+use vs_eval::WordMask;
 
 /// Who is woken by which bits of a signal.
 #[derive(Clone, Copy)]

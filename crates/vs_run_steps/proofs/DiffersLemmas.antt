@@ -18,9 +18,9 @@ use Rattle.vs_design.specs.declared.write.Part.{Part}
 use Rattle.vs_design.specs.Behind.{is_kept, behind}
 use Rattle.vs_design.specs.Stores.{Store, changes_nothing, overlaid, word_of}
 use Rattle.vs_design.proofs.Stores.{keeps_all}
-use Rattle.vs_eval_resolved.specs.declared.node.Planes.{Planes}
-use Rattle.vs_eval_resolved.specs.PlanesOf.{planes_of}
-use Rattle.vs_eval_resolved.proofs.PlanesLemmas.{bits_are}
+use Rattle.vs_eval.specs.declared.node.Planes.{Planes}
+use Rattle.vs_eval.specs.PlanesOf.{planes_of}
+use Rattle.vs_eval.proofs.PlanesLemmas.{bits_are}
 
 -- ---- bits of a word
 

@@ -18,10 +18,10 @@ use Rattle.vs_design.specs.InOrder.{IsStoreOf, numbered_word, with_word}
 use Rattle.vs_design.specs.Stores.{Store, changed_at, overlaid, put, word_in, word_of}
 use Rattle.vs_design.proofs.InOrderLemmas.{word_numbered, word_placed}
 use Rattle.vs_design.proofs.Stores.{changed_at-kept, part_changes}
-use Rattle.vs_run_active.specs.vs_edges.specs.declared.masks.WordChange.{WordChange}
-use Rattle.vs_run_active.specs.vs_edges.specs.Differences.{difference}
-use Rattle.vs_run_active.specs.vs_edges.specs.Masks.{AreEdgesOf, IsChangeOf}
-use Rattle.vs_run_active.specs.vs_edges.proofs.DifferencesLemmas.{sees_difference}
+use Rattle.vs_run_active.specs.vs_eval.specs.declared.masks.WordChange.{WordChange}
+use Rattle.vs_run_active.specs.vs_eval.specs.Differences.{difference}
+use Rattle.vs_run_active.specs.vs_eval.specs.Masks.{AreEdgesOf, IsChangeOf}
+use Rattle.vs_run_active.specs.vs_eval.proofs.DifferencesLemmas.{sees_difference}
 use Rattle.vs_process.specs.declared.spot.Spot.{Spot}
 use Rattle.vs_process.specs.Spots.{IsSpotIn, spot_part, spot_write}
 use Rattle.vs_process.proofs.SpotLemmas.{spots_hold}

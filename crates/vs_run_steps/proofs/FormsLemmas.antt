@@ -17,13 +17,13 @@ use Rattle.vs_design.specs.InOrder.{IsStoreOf, numbered_word, words_before}
 use Rattle.vs_design.specs.Parts.{Parts}
 use Rattle.vs_design.specs.Stores.{Store, changes_nothing, word_of}
 use Rattle.vs_design.proofs.InOrderLemmas.{word_numbered}
-use Rattle.vs_run_active.specs.vs_process.specs.vs_edges.specs.declared.masks.WordChange.{WordChange}
-use Rattle.vs_run_active.specs.vs_process.specs.vs_edges.specs.Masks.{AreEdgesOf, IsChangeOf}
-use Rattle.vs_eval_resolved.specs.vs_eval.specs.Targets.{assigned}
-use Rattle.vs_eval_resolved.specs.vs_eval.specs.Values.{operand_value, target_value, value_of}
-use Rattle.vs_eval_resolved.specs.Meant.{IsWordOf, Meaning}
-use Rattle.vs_eval_resolved.proofs.MeantLemmas.{word_named}
-use Rattle.vs_eval_resolved.proofs.WordLemmas.{all_selected}
+use Rattle.vs_run_active.specs.vs_process.specs.vs_eval.specs.declared.masks.WordChange.{WordChange}
+use Rattle.vs_run_active.specs.vs_process.specs.vs_eval.specs.Masks.{AreEdgesOf, IsChangeOf}
+use Rattle.vs_eval.specs.Targets.{assigned}
+use Rattle.vs_eval.specs.Values.{operand_value, target_value, value_of}
+use Rattle.vs_eval.specs.Meant.{IsWordOf, Meaning}
+use Rattle.vs_eval.proofs.MeantLemmas.{word_named}
+use Rattle.vs_eval.proofs.WordLemmas.{all_selected}
 use Rattle.vs_run_active.specs.vs_process.specs.declared.spot.Spot.{Spot}
 use Rattle.vs_run_active.specs.vs_process.specs.Spots.{IsSpotIn, SpotHolds, spot_part, spot_write}
 use Rattle.vs_run_active.specs.vs_process.proofs.SpotLemmas.{spots_hold}

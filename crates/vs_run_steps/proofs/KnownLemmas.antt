@@ -6,8 +6,8 @@ use Rattle.vs_design.specs.vs_logic4.specs.Extensions.{length-resized}
 use Rattle.vs_design.specs.Parts.{Parts}
 use Rattle.vs_design.specs.Stores.{Store, changes_nothing, put}
 use Rattle.vs_design.specs.Writes.{Write}
-use Rattle.vs_eval_resolved.specs.vs_eval.specs.Targets.{assigned}
-use Rattle.vs_eval_resolved.specs.vs_eval.specs.Values.{target_value, value_of}
+use Rattle.vs_eval.specs.Targets.{assigned}
+use Rattle.vs_eval.specs.Values.{target_value, value_of}
 use Rattle.vs_run_active.specs.vs_process.specs.Places.{Place, todo_of}
 use Rattle.vs_run_active.specs.vs_process.specs.Steps.{step}
 use Rattle.vs_run_active.specs.vs_process.proofs.ProcessLists.{map_cases, set_cases}

@@ -7,8 +7,8 @@ use Rattle.vs_design.specs.declared.design.Assign.{Assign}
 use Rattle.vs_design.specs.declared.statement.Target.{Target}
 use Rattle.vs_design.specs.Parts.{Parts}
 use Rattle.vs_design.specs.Stores.{Store, changed_at, changes_nothing}
-use Rattle.vs_eval_resolved.specs.vs_eval.specs.Targets.{assigned}
-use Rattle.vs_eval_resolved.specs.vs_eval.specs.Values.{target_value, value_of}
+use Rattle.vs_eval.specs.Targets.{assigned}
+use Rattle.vs_eval.specs.Values.{target_value, value_of}
 use Rattle.vs_run_active.specs.vs_process.specs.declared.moves.Move.{Move}
 use Rattle.vs_run_active.specs.vs_process.specs.declared.moves.Move.TheVariants.{Evaluate, Propagate}
 use Rattle.vs_run_active.specs.vs_process.specs.Executions.{apply, if_some, is_enabled}

@@ -15,7 +15,7 @@ use Rattle.vs_design.specs.Writes.{Write}
 use Rattle.vs_design.specs.vs_logic4.specs.declared.digit.Digit.{Digit}
 use Rattle.vs_design.specs.vs_logic4.specs.PlaneLaws.{digits_of_planes-of, unknown_plane-lt, value_plane-lt}
 use Rattle.vs_design.specs.vs_logic4.specs.Planes.{ArePlanes, digits_of_planes, unknown_plane, value_plane}
-use Rattle.vs_run_steps.specs.vs_edges.specs.Waking.{wake_any}
+use Rattle.vs_run_steps.specs.vs_eval.specs.Waking.{wake_any}
 use Rattle.vs_run_regions.specs.vs_time_wheel.specs.Bag.{SameBag}
 use Rattle.vs_run_regions.specs.vs_time_wheel.specs.declared.timing.Timed.{Timed}
 use Rattle.vs_process.specs.declared.changes.Change.{Change}

@@ -14,8 +14,8 @@ use Rattle.vs_design.specs.declared.expression.Typed.{Typed}
 use Rattle.vs_design.specs.Parts.{Parts}
 use Rattle.vs_design.specs.Stores.{Store}
 use Rattle.vs_design.specs.Writes.{Write}
-use Rattle.vs_eval_resolved.specs.vs_eval.specs.Values.{value_of}
-use Rattle.vs_eval_resolved.specs.Meant.{Meaning}
+use Rattle.vs_eval.specs.Values.{value_of}
+use Rattle.vs_eval.specs.Meant.{Meaning}
 use Rattle.vs_process.specs.vs_strobe.specs.Lines.{full_line}
 use Rattle.vs_process.specs.declared.choice.Repeat.{Repeat}
 use Rattle.vs_process.specs.declared.choice.Turns.{Turns}

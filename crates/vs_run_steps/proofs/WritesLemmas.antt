@@ -10,10 +10,10 @@ use Rattle.vs_design.specs.InOrder.{IsStoreOf, sizes_of_signals, word_sizes}
 use Rattle.vs_design.specs.Parts.{Parts}
 use Rattle.vs_design.specs.Stores.{Store, put, word_of}
 use Rattle.vs_design.specs.Writes.{Write}
-use Rattle.vs_run_active.specs.vs_edges.specs.declared.masks.WordChange.{WordChange}
-use Rattle.vs_run_active.specs.vs_edges.specs.Differences.{HaveOneSize}
-use Rattle.vs_run_active.specs.vs_edges.specs.Masks.{IsChangeOf, every_word}
-use Rattle.vs_run_active.specs.vs_edges.proofs.StoresLemmas.{put_size}
+use Rattle.vs_run_active.specs.vs_eval.specs.declared.masks.WordChange.{WordChange}
+use Rattle.vs_run_active.specs.vs_eval.specs.Differences.{HaveOneSize}
+use Rattle.vs_run_active.specs.vs_eval.specs.Masks.{IsChangeOf, every_word}
+use Rattle.vs_run_active.specs.vs_eval.proofs.StoresLemmas.{put_size}
 use Rattle.vs_process.specs.declared.changes.Change.{Change}
 use Rattle.vs_process.specs.Changes.{changed_part, changed_word, changed_words}
 use Rattle.vs_process.specs.Places.{Place}

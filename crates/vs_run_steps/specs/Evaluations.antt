@@ -4,8 +4,8 @@ use Rattle.vs_design.specs.vs_logic4.specs.declared.digit.Digit.{Digit}
 use Rattle.vs_design.specs.declared.design.Assign.{Assign}
 use Rattle.vs_design.specs.Parts.{Parts}
 use Rattle.vs_design.specs.Stores.{Store, changes_nothing}
-use Rattle.vs_eval_resolved.specs.vs_eval.specs.Targets.{assigned}
-use Rattle.vs_eval_resolved.specs.vs_eval.specs.Values.{target_value}
+use Rattle.vs_eval.specs.Targets.{assigned}
+use Rattle.vs_eval.specs.Values.{target_value}
 use Rattle.vs_run_active.specs.vs_process.specs.States.{State, written}
 
 -- the digits are the value of a continuous assignment in a store at a time, and it is told whether they would change anything (clause 6.1)

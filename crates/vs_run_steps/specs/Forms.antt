@@ -6,8 +6,8 @@ use Rattle.vs_design.specs.declared.statement.Target.{Target}
 use Rattle.vs_design.specs.InOrder.{IsStoreOf, numbered_word}
 use Rattle.vs_design.specs.Parts.{Parts}
 use Rattle.vs_design.specs.Stores.{Store}
-use Rattle.vs_eval_resolved.specs.vs_eval.specs.Values.{target_value}
-use Rattle.vs_eval_resolved.specs.Meant.{Meaning}
+use Rattle.vs_eval.specs.Values.{target_value}
+use Rattle.vs_eval.specs.Meant.{Meaning}
 use Rattle.vs_run_active.specs.vs_process.specs.declared.spot.Spot.{Spot}
 use Rattle.vs_run_active.specs.vs_process.specs.Spots.{IsSpotOf}
 use Rattle.vs_run_steps.specs.declared.forms.Form.{Form}

@@ -8,7 +8,7 @@ pub mod Taken
 pub mod Turns
 pub mod Writes
 pub use Rattle.vs_run_active
-pub use Rattle.vs_run_active.specs.vs_edges
+pub use Rattle.vs_run_active.specs.vs_eval
 pub mod Runs
 pub mod Stepping
 pub mod Evaluations

@@ -5,7 +5,7 @@ use Rattle.vs_design.specs.vs_logic4.specs.Planes.{ArePlanes, digits_of_planes}
 use Rattle.vs_design.specs.declared.design.Assign.{Assign}
 use Rattle.vs_design.specs.Parts.{Parts}
 use Rattle.vs_design.specs.Stores.{Store}
-use Rattle.vs_run_active.specs.vs_process.specs.vs_edges.specs.Masks.{AreEdgesOf}
+use Rattle.vs_run_active.specs.vs_process.specs.vs_eval.specs.Masks.{AreEdgesOf}
 use Rattle.vs_run_steps.specs.declared.evaluation.Copied.{Copied}
 use Rattle.vs_run_steps.specs.declared.evaluation.Placed.{Placed}
 use Rattle.vs_run_steps.specs.Evaluations.{IsEvaluation}

@@ -3,7 +3,7 @@ use Rattle.std.specs.Prelude.{ℕ, ◌≡◌, ◌<◌, List, [], ◌∷◌, map,
 use Rattle.vs_design.specs.Parts.{Parts}
 use Rattle.vs_design.specs.Stores.{Store, put}
 use Rattle.vs_design.specs.Writes.{Write}
-use Rattle.vs_run_active.specs.vs_edges.specs.Masks.{every_word}
+use Rattle.vs_run_active.specs.vs_eval.specs.Masks.{every_word}
 use Rattle.vs_process.specs.declared.changes.Change.{Change}
 use Rattle.vs_run_active.specs.vs_process.specs.States.{AssignState, State, touched, wakened, written}
 use Rattle.vs_run_active.specs.declared.process.Process.{Process}

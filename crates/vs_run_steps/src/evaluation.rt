@@ -3,7 +3,7 @@ ghost use Rattle.std.specs.Prelude.{◌≡◌, ◌+◌, ◌≤◌, pos, Some, le
 ghost use Rattle.vs_design.specs.vs_logic4.specs.Parts.{selected};
 ghost use Rattle.vs_design.specs.declared.design.Assign as design_assign;
 ghost use Rattle.vs_design.specs.InOrder.{IsStoreOf, numbered_word};
-ghost use Rattle.vs_run_active.specs.vs_process.specs.vs_edges.specs.Masks.{IsChangeOf};
+ghost use Rattle.vs_run_active.specs.vs_process.specs.vs_eval.specs.Masks.{IsChangeOf};
 ghost use Rattle.vs_run_steps.specs.Evaluations.{HasDigits, IsDriven, IsEvaluation};
 ghost use Rattle.vs_run_steps.specs.Placed.{IsCopied, IsPlaced};
 ghost use Rattle.vs_run_steps.specs.Runs.{Agrees, Keeps, Plan, state_of};
@@ -13,9 +13,9 @@ use crate::forms::{Form, Forms};
 use std::alloc::AllocError;
 use vs_design::Store;
 use vs_design::vs_logic4::Vec4;
-use vs_eval_resolved::vs_eval::{cut_value, write_of};
+use vs_eval::{cut_value, write_of};
 use vs_run_active::vs_process::Spot;
-use vs_run_active::vs_process::vs_edges::WordChange;
+use vs_run_active::vs_process::vs_eval::WordChange;
 use vs_run_regions::Due;
 use vs_run_regions::vs_time_wheel::EventQueue;
 

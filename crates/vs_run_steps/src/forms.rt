@@ -6,7 +6,7 @@ ghost use Rattle.vs_run_steps.specs.Forms.{IsCopy, IsForm, IsPlaceOf, IsSized};
 use std::alloc::{AllocError, Global};
 use std::marker::Model;
 use vs_design::{Assign, Design, Typed};
-use vs_eval_resolved::Resolved;
+use vs_eval::Resolved;
 use vs_run_active::vs_process::{Spot, spot_of};
 
 /// How a continuous assignment is evaluated and driven.

@@ -3,7 +3,7 @@ ghost use Rattle.std.specs.Prelude.{◌≡◌, ◌<◌, ◌^◌, Some, length, s
 ghost use Rattle.std.specs.Io.KnownBytes.{Appends};
 ghost use Rattle.vs_design.specs.vs_logic4.specs.Comparisons.{truth};
 ghost use Rattle.vs_design.specs.InOrder.{IsStoreOf};
-ghost use Rattle.vs_eval_resolved.specs.vs_eval.specs.Values.{value_of};
+ghost use Rattle.vs_eval.specs.Values.{value_of};
 ghost use Rattle.vs_process.specs.vs_strobe.specs.Lines.{full_line};
 ghost use Rattle.vs_process.specs.Choices.{index_of, repeat_lands, turns_lands};
 ghost use Rattle.vs_process.specs.Steps.{branch};
@@ -17,7 +17,7 @@ use crate::called::Called;
 use crate::run::RunState;
 use std::alloc::AllocError;
 use vs_design::vs_logic4::Digit;
-use vs_eval_resolved::Resolved;
+use vs_eval::Resolved;
 use vs_process::vs_strobe::{Format, full_line};
 use vs_process::{Action, Instruction, Repeat, Turns, case_of};
 use vs_run_active::{Wait, pause};

@@ -10,7 +10,7 @@ use crate::run::RunState;
 use std::alloc::AllocError;
 use vs_design::vs_logic4::Vec4;
 use vs_design::{Target, Ticks, Typed, Write};
-use vs_eval_resolved::vs_eval::{cut_value, write_of};
+use vs_eval::{cut_value, write_of};
 use vs_process::Spot;
 use vs_run_regions::vs_time_wheel::EventQueue;
 use vs_run_regions::{Bits, Due};

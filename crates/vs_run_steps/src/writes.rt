@@ -5,7 +5,7 @@ ghost use Rattle.vs_design.specs.vs_logic4.specs.Planes.{ArePlanes, digits_of_pl
 ghost use Rattle.vs_design.specs.declared.signal.Signal.{Signal};
 ghost use Rattle.vs_design.specs.InOrder.{IsStoreOf};
 ghost use Rattle.vs_design.specs.Stores.{put};
-ghost use Rattle.vs_run_active.specs.vs_edges.specs.Masks.{IsChangeOf};
+ghost use Rattle.vs_run_active.specs.vs_eval.specs.Masks.{IsChangeOf};
 ghost use Rattle.vs_run_active.specs.Changes.{MarkChanges};
 ghost use Rattle.vs_process.specs.Spots.{IsSpotIn, spot_write};
 ghost use Rattle.vs_run_steps.specs.Writes.{AreNamed, Follows, Makes, MakesWritten};
@@ -15,7 +15,7 @@ use std::alloc::AllocError;
 use vs_design::vs_logic4::Vec4;
 use vs_design::{Store, Write};
 use vs_process::{Change, Spot, make};
-use vs_run_active::vs_edges::WordChange;
+use vs_run_active::vs_eval::WordChange;
 use vs_run_active::{Events, Tables};
 
 /// The store, the tables of who watches its signals, what is active, and the marks of the signals that were written.

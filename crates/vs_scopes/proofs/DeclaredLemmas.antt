@@ -10,10 +10,10 @@ use Rattle.vs_syntax.specs.declared.tree.Form.{Form}
 use Rattle.vs_syntax.specs.declared.tree.Item.{Item}
 use Rattle.vs_syntax.specs.declared.tree.PortForm.{PortForm}
 use Rattle.vs_design.specs.declared.signal.SignalKind.{SignalKind}
-use Rattle.vs_scopes.specs.vs_elab_pieces.specs.Pieces.{Piece}
-use Rattle.vs_scopes.specs.vs_elab_pieces.specs.Reads.{read_piece}
-use Rattle.vs_scopes.specs.vs_elab_pieces.specs.declared.scope.ScopePiece.{ScopePiece as FoundPiece}
-use Rattle.vs_scopes.specs.vs_elab_pieces.specs.declared.scope.ScopePiece.TheVariants as pieces
+use Rattle.vs_scopes.specs.Pieces.{Piece}
+use Rattle.vs_scopes.specs.Reads.{read_piece}
+use Rattle.vs_scopes.specs.declared.scope.ScopePiece.{ScopePiece as FoundPiece}
+use Rattle.vs_scopes.specs.declared.scope.ScopePiece.TheVariants as pieces
 use Rattle.vs_scopes.specs.vs_widths.specs.Names.{meaning_of, Declares}
 use Rattle.vs_scopes.specs.Parameters.{said}
 use Rattle.vs_scopes.specs.Ports.{is_among, said_in, port_said, KindSaid, kind_among, kind_in, kind_said}

@@ -1,3 +1,8 @@
+pub mod DepthLemmas
+pub mod PiecesLemmas
+pub mod TurnLemmas
+pub mod UsedLemmas
+pub mod UsesLemmas
 pub mod Folds
 pub mod PassLemmas
 pub mod ConnectionLemmas

@@ -13,17 +13,17 @@ use Rattle.vs_syntax.specs.declared.tree.ModuleItem.TheOpen.{ModuleItem-F}
 use Rattle.vs_syntax.specs.declared.tree.ModuleItem.TheOpen as m
 use Rattle.vs_syntax.specs.declared.tree.ModuleItem.TheFolds.{fold-ModuleItem}
 use Rattle.vs_syntax.specs.declared.tree.ModuleItem.TheViews.{out-ModuleItem}
-use Rattle.vs_width_selects.specs.declared.bindings.Binding.{Binding}
-use Rattle.vs_width_selects.specs.declared.bindings.Binding.TheVariants as b
-use Rattle.vs_width_selects.specs.declared.constants.Const.{Const}
-use Rattle.vs_width_selects.specs.declared.faults.WidthReason.{WidthReason}
-use Rattle.vs_width_selects.specs.declared.faults.WidthReason.TheVariants.{Unknown, WrongKind}
-use Rattle.vs_width_selects.specs.Environment.{Environment}
-use Rattle.vs_width_selects.specs.Findings.{stands}
-use Rattle.vs_width_selects.specs.Meants.{own}
-use Rattle.vs_width_selects.specs.Constants.{constant_finding, whole_number}
+use Rattle.vs_widths.specs.declared.bindings.Binding.{Binding}
+use Rattle.vs_widths.specs.declared.bindings.Binding.TheVariants as b
+use Rattle.vs_widths.specs.declared.constants.Const.{Const}
+use Rattle.vs_widths.specs.declared.faults.WidthReason.{WidthReason}
+use Rattle.vs_widths.specs.declared.faults.WidthReason.TheVariants.{Unknown, WrongKind}
+use Rattle.vs_widths.specs.Environment.{Environment}
+use Rattle.vs_widths.specs.Findings.{stands}
+use Rattle.vs_widths.specs.Meants.{own}
+use Rattle.vs_widths.specs.Constants.{constant_finding, whole_number}
 use Rattle.vs_scopes.specs.vs_widths.specs.Expressions.{meant}
-use Rattle.vs_scopes.specs.vs_elab_pieces.specs.Pieces.{NamedBlock, blocks_of, Piece, plain, loop, choice, local, inside, net, Content, nothing, block, content_step, content_of}
+use Rattle.vs_scopes.specs.Pieces.{NamedBlock, blocks_of, Piece, plain, loop, choice, local, inside, net, Content, nothing, block, content_step, content_of}
 use Rattle.vs_scopes.specs.declared.faults.Reason.{Reason}
 use Rattle.vs_scopes.specs.declared.faults.Reason.TheVariants.{Endless, Unnamed, Width}
 use Rattle.vs_scopes.specs.Printed.{PathName}

@@ -1,7 +1,10 @@
+pub mod Pieces
+pub mod Reads
+pub mod Uses
+pub mod pieces_passes
 pub mod Connections
 pub mod Overrides
 pub mod passes
-pub use Rattle.vs_elab_pieces
 pub use Rattle.vs_widths
 pub mod Printed
 pub mod Ranges
@@ -13,5 +16,4 @@ pub mod Generate
 pub mod Scopes
 pub mod Texts
 pub mod scopes_passes
-pub use Rattle.vs_width_selects
 pub use Rattle.vs_strobe

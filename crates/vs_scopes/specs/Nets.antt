@@ -4,18 +4,18 @@ use Rattle.std.specs.List.{list_any}
 use Rattle.std.specs.Str.{bytes_eq}
 use Rattle.std.specs.declared.vec.Vec.{Vec}
 use Rattle.std.specs.declared.alloc.Global.{Global}
-use Rattle.vs_syntax.specs.vs_lex_tokens.specs.declared.token.Directive.{Directive}
-use Rattle.vs_syntax.specs.vs_lex_tokens.specs.declared.token.Directive.TheVariants as g
-use Rattle.vs_syntax.specs.vs_lex_tokens.specs.declared.token.ImplicitNet.TheVariants.{Wire, Forbidden}
+use Rattle.vs_syntax.specs.vs_lexer.specs.declared.token.Directive.{Directive}
+use Rattle.vs_syntax.specs.vs_lexer.specs.declared.token.Directive.TheVariants as g
+use Rattle.vs_syntax.specs.vs_lexer.specs.declared.token.ImplicitNet.TheVariants.{Wire, Forbidden}
 use Rattle.vs_syntax.specs.declared.tree.Declarator.{Declarator}
 use Rattle.vs_syntax.specs.declared.tree.Item.TheVariants as i
 use Rattle.vs_syntax.specs.declared.tree.Module.{Module}
 use Rattle.vs_design.specs.Kinds.{is_variable}
-use Rattle.vs_width_selects.specs.declared.bindings.Binding.{Binding}
-use Rattle.vs_width_selects.specs.declared.bindings.Binding.TheVariants as b
+use Rattle.vs_widths.specs.declared.bindings.Binding.{Binding}
+use Rattle.vs_widths.specs.declared.bindings.Binding.TheVariants as b
 use Rattle.vs_scopes.specs.vs_widths.specs.Names.{meaning_of}
-use Rattle.vs_scopes.specs.vs_elab_pieces.specs.Pieces.{Piece, plain, net}
-use Rattle.vs_scopes.specs.vs_elab_pieces.specs.Uses.{names_used}
+use Rattle.vs_scopes.specs.Pieces.{Piece, plain, net}
+use Rattle.vs_scopes.specs.Uses.{names_used}
 use Rattle.vs_scopes.specs.Printed.{Path}
 use Rattle.vs_scopes.specs.Declarations.{Bindings}
 

@@ -9,7 +9,7 @@ use Rattle.vs_syntax.specs.declared.tree.ParameterForm.{ParameterForm}
 use Rattle.vs_syntax.specs.declared.tree.Module.{Module}
 use Rattle.vs_syntax.specs.declared.tree.Item.{Item}
 use Rattle.vs_syntax.specs.declared.tree.Item.TheVariants as i
-use Rattle.vs_elab_pieces.specs.Pieces.{Piece, plain, pieces_of}
+use Rattle.vs_scopes.specs.Pieces.{Piece, plain, pieces_of}
 use Rattle.vs_scopes.specs.Connections.{ends_of, is_mismatch}
 
 -- ---- declarations

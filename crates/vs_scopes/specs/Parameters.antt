@@ -7,16 +7,16 @@ use Rattle.vs_syntax.specs.declared.tree.Expr.{Expr}
 use Rattle.vs_syntax.specs.declared.tree.Range.{Range}
 use Rattle.vs_syntax.specs.declared.tree.ParameterForm.{ParameterForm}
 use Rattle.vs_syntax.specs.declared.tree.ParameterForm.TheVariants.{Integer, Vector}
-use Rattle.vs_width_selects.specs.declared.bindings.Binding.{Binding}
-use Rattle.vs_width_selects.specs.declared.bindings.Binding.TheVariants as b
-use Rattle.vs_width_selects.specs.declared.constants.Const.{Const}
-use Rattle.vs_width_selects.specs.declared.faults.WidthReason.{WidthReason}
-use Rattle.vs_width_selects.specs.declared.faults.WidthReason.TheVariants.{TooWide, Unknown, NotConstant, WrongKind}
-use Rattle.vs_width_selects.specs.Environment.{Environment}
-use Rattle.vs_width_selects.specs.Findings.{Finding, Has, Lacks, stands}
-use Rattle.vs_width_selects.specs.Meants.{Meant, own}
-use Rattle.vs_width_selects.specs.Selects.{size_found}
-use Rattle.vs_width_selects.specs.Constants.{constant_finding, constant_in}
+use Rattle.vs_widths.specs.declared.bindings.Binding.{Binding}
+use Rattle.vs_widths.specs.declared.bindings.Binding.TheVariants as b
+use Rattle.vs_widths.specs.declared.constants.Const.{Const}
+use Rattle.vs_widths.specs.declared.faults.WidthReason.{WidthReason}
+use Rattle.vs_widths.specs.declared.faults.WidthReason.TheVariants.{TooWide, Unknown, NotConstant, WrongKind}
+use Rattle.vs_widths.specs.Environment.{Environment}
+use Rattle.vs_widths.specs.Findings.{Finding, Has, Lacks, stands}
+use Rattle.vs_widths.specs.Meants.{Meant, own}
+use Rattle.vs_widths.specs.Selects.{size_found}
+use Rattle.vs_widths.specs.Constants.{constant_finding, constant_in}
 use Rattle.vs_scopes.specs.vs_widths.specs.Expressions.{meant}
 use Rattle.vs_scopes.specs.Ranges.{Sized, sized_as}
 pub use Rattle.vs_scopes.specs.Overrides.{Parameter, said, header_parameters, item_parameter, parameters_in, piece_parameters, parameters_among, parameters_of, overridable}

@@ -19,7 +19,7 @@ use Rattle.vs_syntax.specs.declared.tree.Item.TheVariants as i
 use Rattle.vs_design.specs.declared.signal.SignalKind.{SignalKind}
 use Rattle.vs_design.specs.declared.signal.SignalKind.TheVariants as k
 use Rattle.vs_design.specs.Kinds.{is_variable}
-use Rattle.vs_scopes.specs.vs_elab_pieces.specs.Pieces.{Piece, plain, pieces_of}
+use Rattle.vs_scopes.specs.Pieces.{Piece, plain, pieces_of}
 use Rattle.vs_scopes.specs.Parameters.{said}
 
 -- what says which way a port goes: the header; an item, which says what it is declared as too, or leaves that to another item; or nothing

@@ -7,13 +7,13 @@ use Rattle.vs_syntax.specs.declared.tree.Range.{Range}
 use Rattle.vs_design.specs.declared.signal.Bounds.{Bounds}
 use Rattle.vs_design.specs.declared.signal.SignalKind.{SignalKind}
 use Rattle.vs_design.specs.Kinds.{is_variable}
-use Rattle.vs_width_selects.specs.declared.shape.Shape.{Shape}
-use Rattle.vs_width_selects.specs.declared.faults.WidthReason.{WidthReason}
-use Rattle.vs_width_selects.specs.declared.faults.WidthReason.TheVariants.{WrongKind}
-use Rattle.vs_width_selects.specs.Environment.{Environment}
-use Rattle.vs_width_selects.specs.Findings.{Finding, Has, Lacks, not_constant, too_wide}
-use Rattle.vs_width_selects.specs.Meants.{own}
-use Rattle.vs_width_selects.specs.Constants.{constant_finding, whole_at}
+use Rattle.vs_widths.specs.declared.shape.Shape.{Shape}
+use Rattle.vs_widths.specs.declared.faults.WidthReason.{WidthReason}
+use Rattle.vs_widths.specs.declared.faults.WidthReason.TheVariants.{WrongKind}
+use Rattle.vs_widths.specs.Environment.{Environment}
+use Rattle.vs_widths.specs.Findings.{Finding, Has, Lacks, not_constant, too_wide}
+use Rattle.vs_widths.specs.Meants.{own}
+use Rattle.vs_widths.specs.Constants.{constant_finding, whole_at}
 use Rattle.vs_scopes.specs.vs_widths.specs.Expressions.{meant}
 use Rattle.vs_scopes.specs.declared.faults.Reason.{Reason}
 use Rattle.vs_scopes.specs.declared.faults.Reason.TheVariants.{Limit, Width}

@@ -10,15 +10,15 @@ use Rattle.vs_syntax.specs.declared.tree.Item.TheVariants as i
 use Rattle.vs_syntax.specs.declared.tree.Module.{Module}
 use Rattle.vs_design.specs.declared.design.ScopeKind.{ScopeKind}
 use Rattle.vs_design.specs.declared.design.ScopeKind.TheVariants as opened_by
-use Rattle.vs_width_selects.specs.declared.bindings.Binding.{Binding}
-use Rattle.vs_width_selects.specs.declared.bindings.Binding.TheVariants as b
-use Rattle.vs_width_selects.specs.declared.constants.Const.{Const}
-use Rattle.vs_width_selects.specs.declared.faults.WidthReason.{WidthReason}
-use Rattle.vs_width_selects.specs.Environment.{Environment}
+use Rattle.vs_widths.specs.declared.bindings.Binding.{Binding}
+use Rattle.vs_widths.specs.declared.bindings.Binding.TheVariants as b
+use Rattle.vs_widths.specs.declared.constants.Const.{Const}
+use Rattle.vs_widths.specs.declared.faults.WidthReason.{WidthReason}
+use Rattle.vs_widths.specs.Environment.{Environment}
 use Rattle.vs_scopes.specs.vs_widths.specs.Names.{meaning_of}
 use Rattle.vs_scopes.specs.vs_widths.specs.Lefts.{is_left}
-use Rattle.vs_scopes.specs.vs_elab_pieces.specs.Pieces.{block_pieces, Piece, plain, pieces_of}
-use Rattle.vs_scopes.specs.vs_elab_pieces.specs.Uses.{names_used}
+use Rattle.vs_scopes.specs.Pieces.{block_pieces, Piece, plain, pieces_of}
+use Rattle.vs_scopes.specs.Uses.{names_used}
 use Rattle.vs_scopes.specs.Printed.{PathName, plainly, Path, same_path}
 use Rattle.vs_scopes.specs.Connections.{ends_of, is_mismatch}
 use Rattle.vs_scopes.specs.Parameters.{said, parameters_of, parameters_among, Given, given_from, given_to, is_override_mismatch, with_constant, known_behind, constants_of, own_faults, outer_faults, any_fault}

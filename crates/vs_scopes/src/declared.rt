@@ -1,13 +1,13 @@
 //! What items say of names that the header of a module has alone, or another item declares.
 ghost use Rattle.std.specs.Prelude.{◌≡◌, ℕ, ◌∷◌, [], List, map, IfOk, OnOk};
-ghost use Rattle.vs_scopes.specs.vs_elab_pieces.specs.Pieces.{plain};
-ghost use Rattle.vs_scopes.specs.vs_elab_pieces.specs.Reads.{read_piece};
+ghost use Rattle.vs_scopes.specs.Pieces.{plain};
+ghost use Rattle.vs_scopes.specs.Reads.{read_piece};
 ghost use Rattle.vs_scopes.specs.vs_widths.specs.Names.{meaning_of};
 ghost use Rattle.vs_scopes.specs.Ports.{said_in, kind_in, kind_among};
 ghost use Rattle.vs_scopes.specs.scopes_passes.Parts.{read_end};
 ghost use Rattle.vs_scopes.specs.scopes_passes.Declared.{first_of, read_said, form_of, AddsNames, said_by, ArePortForms, AreKinds};
 
-use crate::vs_elab_pieces::ScopePiece;
+use crate::ScopePiece;
 use crate::vs_widths::Names;
 use std::alloc::{AllocError, Global};
 use vs_design::SignalKind;

@@ -8,7 +8,7 @@ ghost use Rattle.vs_scopes.specs.scopes_passes.Answers.{body_fault};
 use std::alloc::{AllocError, AllocFailed};
 use thiserror::Error;
 use vs_strobe::FormatReason;
-use vs_width_selects::{WidthFault, WidthReason};
+use vs_widths::{WidthFault, WidthReason};
 
 /// Why there is no design, as it is printed.
 #[derive(Clone, Copy, PartialEq, Eq, Debug, Error)]

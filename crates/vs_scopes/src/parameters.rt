@@ -1,13 +1,13 @@
 //! The parameters of a module, and what overrides them.
 ghost use Rattle.std.specs.Prelude.{◌≡◌, ◌++◌, [], None, drop, map, IfOk, OnOk};
-ghost use Rattle.vs_elab_pieces.specs.Reads.{read_piece};
+ghost use Rattle.vs_scopes.specs.Reads.{read_piece};
 ghost use Rattle.vs_scopes.specs.Overrides.{header_parameters, item_parameter, parameters_in, parameters_among, overridable, given_from, first_end};
 ghost use Rattle.vs_scopes.specs.passes.Ends.{borrowed, read_end, read_ends, read_parameter, read_given, AreOverrides, AreGiven};
 
+use crate::ScopePiece;
 use crate::connections::ends;
 use crate::forms::said;
 use std::alloc::{AllocError, Global};
-use vs_elab_pieces::ScopePiece;
 use vs_syntax::{Connections, Constant, Expr, HeaderParameter, Item, Module, ParameterForm};
 
 /// A parameter as the text declares it (IEEE 1364-2005, clauses 4.10 and 12.2).

@@ -1,15 +1,14 @@
 //! The ports of a module.
 ghost use Rattle.std.specs.Prelude.{◌≡◌, ℕ, List, map, Some, None, IfOk};
-ghost use Rattle.vs_scopes.specs.vs_elab_pieces.specs.Pieces.{Piece as GivenPiece};
-ghost use Rattle.vs_scopes.specs.vs_elab_pieces.specs.Reads.{read_piece};
+ghost use Rattle.vs_scopes.specs.Pieces.{Piece as GivenPiece};
+ghost use Rattle.vs_scopes.specs.Reads.{read_piece};
 ghost use Rattle.vs_scopes.specs.Ports.{kind_of_port, port_as, ports_from, port_said, kind_said, is_name_list, port_of_items, port_by_items, listed_ports};
 ghost use Rattle.vs_scopes.specs.scopes_passes.Parts.{read_end, read_port};
 ghost use Rattle.vs_scopes.specs.scopes_passes.Declared.{read_said, ArePortForms, AreKinds};
 
 use crate::declared::{KindSaid, kinds_said, port_forms};
-use crate::said;
-use crate::vs_elab_pieces::ScopePiece;
 use crate::vs_widths::Names;
+use crate::{ScopePiece, said};
 use std::alloc::{AllocError, Global};
 use vs_design::SignalKind;
 use vs_syntax::{Direction, Expr, Module, Port, PortForm, PortKind, Range};

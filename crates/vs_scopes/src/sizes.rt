@@ -16,7 +16,7 @@ use crate::words::WordCount;
 use std::alloc::Global;
 use vs_design::{Bounds, SignalKind};
 use vs_syntax::{Expr, Form, Range};
-use vs_width_selects::{Shape, WidthReason};
+use vs_widths::{Shape, WidthReason};
 
 /// The size and sign of a signal, and its range.
 #[derive(Clone, Copy)]

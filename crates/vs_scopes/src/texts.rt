@@ -6,7 +6,7 @@ ghost use Rattle.vs_scopes.specs.Texts.{reason_text, is_control, hexadecimal, sh
 use crate::faults::{ElabFault, Reason};
 use std::alloc::{AllocError, Global};
 use vs_strobe::FormatReason;
-use vs_width_selects::WidthReason;
+use vs_widths::WidthReason;
 
 /// The number of a fault.
 fn reason_text(reason: Reason) -> &'static [u8]

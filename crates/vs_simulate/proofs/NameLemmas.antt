@@ -1,18 +1,18 @@
 -- The names of a design that bytes define hold no line feed.
 use Rattle.std.proofs.Common.{◌≡◌, ℕ, ◌&&◌, Bool, true, List, [], ◌∷◌, refl, ap₂, ◌∙◌}
 use Rattle.std.specs.List.{list_all}
-use Rattle.vs_syntax.specs.vs_lexer.specs.vs_lex_tokens.specs.declared.token.Kind.{Kind}
-use Rattle.vs_syntax.specs.vs_lexer.specs.vs_lex_tokens.specs.declared.token.Kind.TheVariants as k
+use Rattle.vs_syntax.specs.vs_lexer.specs.declared.token.Kind.{Kind}
+use Rattle.vs_syntax.specs.vs_lexer.specs.declared.token.Kind.TheVariants as k
 use Rattle.vs_syntax.specs.vs_lexer.specs.NameLines.{is_one_line, has_one_line_name, is_one_line_token}
 use Rattle.vs_syntax.specs.vs_lexer.specs.Spelling.{IsSpelled}
 use Rattle.vs_syntax.specs.vs_lexer.specs.Tokens.{Lexeme}
-use Rattle.vs_elab_laws.specs.PrintableNames.{name_passes, token_passes}
+use Rattle.vs_elaborate.specs.PrintableNames.{name_passes, token_passes}
 use Rattle.vs_syntax.specs.declared.tree.Source.{Source}
 use Rattle.vs_design.specs.OneLine.{HasNamesOfOneLine}
 use Rattle.vs_design.specs.Parts.{Parts}
-use Rattle.vs_elab_laws.specs.vs_elaborate.specs.DesignOf.{DesignOf}
-use Rattle.vs_elab_laws.specs.Named.{NamesOfModulesAreTokens}
-use Rattle.vs_elab_laws.specs.OneLine.{HasModulesOfOneLine}
+use Rattle.vs_elaborate.specs.DesignOf.{DesignOf}
+use Rattle.vs_elaborate.specs.Named.{NamesOfModulesAreTokens}
+use Rattle.vs_elaborate.specs.OneLine.{HasModulesOfOneLine}
 use Rattle.vs_simulate.specs.Honesty.{Defines}
 
 of_kind : (kind : Kind) (bytes : List ℕ) → name_passes is_one_line kind bytes ≡ has_one_line_name kind bytes

@@ -7,10 +7,10 @@ use Rattle.vs_syntax.specs.Derives.{Derives}
 use Rattle.vs_syntax.specs.declared.tree.Source.{Source}
 use Rattle.vs_parser.specs.Faults.{IsRefused}
 use Rattle.vs_parser.specs.declared.fault.ParseFault.{ParseFault}
-use Rattle.vs_elab_laws.specs.vs_elaborate.specs.vs_scopes.specs.declared.faults.ElabFault.{ElabFault}
+use Rattle.vs_elaborate.specs.vs_scopes.specs.declared.faults.ElabFault.{ElabFault}
 use Rattle.vs_design.specs.Parts.{Parts}
-use Rattle.vs_elab_laws.specs.vs_elaborate.specs.DesignOf.{DesignOf}
-use Rattle.vs_elab_laws.specs.vs_elaborate.specs.Faults.{Faults}
+use Rattle.vs_elaborate.specs.DesignOf.{DesignOf}
+use Rattle.vs_elaborate.specs.Faults.{Faults}
 use Rattle.vs_kernel.specs.Runs.{RanTo, HasBegun}
 use Rattle.vs_kernel.specs.Shows.{ShowsSlotEnds}
 use Rattle.vs_kernel.specs.declared.outcome.Outcome.{Outcome}

@@ -3,7 +3,7 @@ ghost use Rattle.std.specs.Prelude.{◌≡◌};
 ghost use Rattle.vs_simulate.specs.declared.fault.SimFault.TheVariants.{Lex, Parse, Elab, Run, Memory};
 
 use std::alloc::AllocError;
-use vs_elab_laws::vs_elaborate::ElabFault;
+use vs_elaborate::ElabFault;
 use vs_kernel::RunFault;
 use vs_parser::ParseFault;
 use vs_syntax::vs_lexer::LexFault;

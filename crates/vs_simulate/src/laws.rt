@@ -4,7 +4,7 @@ ghost use Rattle.vs_design.specs.OneLine.{HasNamesOfOneLine};
 ghost use Rattle.vs_design.specs.Parts.{Parts};
 ghost use Rattle.vs_simulate.specs.Honesty.{Defines};
 
-use vs_elab_laws::{names_of_modules_are_tokens, names_of_one_line as defined_of_one_line};
+use vs_elaborate::{names_of_modules_are_tokens, names_of_one_line as defined_of_one_line};
 use vs_syntax::vs_lexer::names_of_one_line as spelled_of_one_line;
 
 /// No name of a design that the bytes of a source and the name of a top module define holds a line feed.

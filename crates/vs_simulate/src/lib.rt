@@ -10,5 +10,5 @@ pub use fault::SimFault;
 pub use laws::names_of_one_line;
 pub use listing::list_design;
 pub use simulation::{Policy, design_of, run_design, simulate};
-pub use vs_elab_laws::vs_elaborate;
+pub use vs_elaborate;
 pub use vs_kernel;

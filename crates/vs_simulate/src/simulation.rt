@@ -10,7 +10,7 @@ use crate::fault::SimFault;
 use crate::laws::names_of_one_line;
 use std::alloc::Global;
 use vs_design::Design;
-use vs_elab_laws::vs_elaborate::elaborate;
+use vs_elaborate::elaborate;
 use vs_kernel::vs_vcd_writing::Sink;
 use vs_kernel::{Fifo, Kernel, Lifo, Listed, Outcome, Pick, RunFault, dumps_show_slot_ends};
 use vs_parser::parse;
@@ -106,7 +106,7 @@ pub fn run_design<V: Sink, L: Sink>(
 /// Where it answers an outcome, the run is an execution of the design that the source defines, and the dump is that execution's: it shows, of each
 /// signal that is no array, at each time, the value at the end of the last slot at or before that time; and the lines are those that its steps make, in
 /// their order, those of `$strobe` at the end of their slot. Where the source is refused, nothing is written. That the dump reads back
-/// to these values at these times is a law of `vs_read_back`.
+/// to these values at these times is a law of `vs_vcd_reader`.
 pub fn simulate<'s, V: Sink, L: Sink>(
     alloc: Global,
     source: &'s [u8],

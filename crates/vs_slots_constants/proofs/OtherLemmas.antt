@@ -16,8 +16,8 @@ use Rattle.vs_design.specs.declared.statement.Statement.TheFolds.{fold_out-State
 use Rattle.vs_design.specs.declared.statement.Statement.TheViews.{out-Statement}
 use Rattle.vs_design.specs.Uses.{aim_range, joined, slice_range}
 use Rattle.vs_design.specs.Parts.{Parts}
-use Rattle.vs_rules.specs.vs_threads.specs.Blocks.{outputs_for}
-use Rattle.vs_threads.specs.Writes.{statement_writes, statement_writes_step}
+use Rattle.vs_rules.specs.vs_process.specs.BlockDrivers.{outputs_for}
+use Rattle.vs_process.specs.Writes.{statement_writes, statement_writes_step}
 use Rattle.vs_rules.specs.Constants.{HasBody, IsBare, itself, inside, MayTurn, Sets, SetsFirst, SetsAndTurns, TurnsForever}
 use Rattle.vs_rules.specs.Constants as k
 use Rattle.vs_rules.specs.Claims.{is_wide}

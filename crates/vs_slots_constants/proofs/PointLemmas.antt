@@ -18,10 +18,10 @@ use Rattle.vs_process.specs.Landings.{todo_behind}
 use Rattle.vs_process.specs.Nexts.{past, statement_nexts, nexts}
 use Rattle.vs_process.specs.Places.{perform, turns, Todo, active_at, ended, flat, start_place, todo_of}
 use Rattle.vs_process.specs.Steps.{Next, on, after, wait, is_default}
-use Rattle.vs_threads.specs.Writes.{item_writes, statement_writes, statement_writes_step, todo_writes}
-use Rattle.vs_threads.proofs.Among.{Among, both_among, left_of, right_of, same_among}
-use Rattle.vs_threads.proofs.Named.{begun}
-use Rattle.vs_rules.specs.vs_threads.specs.Blocks.{outputs, outputs_for}
+use Rattle.vs_process.specs.Writes.{item_writes, statement_writes, statement_writes_step, todo_writes}
+use Rattle.vs_process.proofs.Among.{Among, both_among, left_of, right_of, same_among}
+use Rattle.vs_process.proofs.Named.{begun}
+use Rattle.vs_rules.specs.vs_process.specs.BlockDrivers.{outputs, outputs_for}
 use Rattle.vs_rules.specs.Points.{Goes, Point, first_todo}
 use Rattle.vs_rules.specs.Points as r
 use Rattle.vs_rules.specs.Paths.{IsPoint, Writes, WritesNow, statement_now, todo_now}

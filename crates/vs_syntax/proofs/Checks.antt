@@ -1,6 +1,6 @@
 -- The tables are those of the rules.
 use Rattle.std.specs.Prelude.{◌≡◌, ℕ, zero, suc, List, [], ◌∷◌, refl}
-use Rattle.vs_lexer.specs.vs_lex_tokens.specs.declared.token.Mark.{Mark}
+use Rattle.vs_lexer.specs.declared.token.Mark.{Mark}
 use Rattle.vs_syntax.specs.Grammar.{Nonterminal, a_source, a_module, a_header_parameter, told_ports, net_ports, variable_ports, port_names, a_bare_name, a_generate_block, a_local, an_item, a_constant, an_instance, a_connection, a_net, a_variable, an_assignment, a_stmt, an_argument, a_dump_argument, a_case_item, an_event_expr, a_target, an_expr, a_level, operands, levels, level_at, rule}
 use Rattle.vs_syntax.specs.Tables.{null_of, low_of, operand_fronts, fronts_of, null, low, fronts}
 

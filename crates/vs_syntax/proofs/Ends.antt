@@ -1,9 +1,9 @@
 -- What can go on behind a part: another token may follow a tree where none of its parts could go on with it.
 use Rattle.std.specs.Prelude.{◌≡◌, ℕ, zero, suc, Bool, true, false, not, ◌&&◌, ◌||◌, ◌⊎◌, List, [], ◌∷◌, ◌++◌, length, refl}
 use Rattle.std.proofs.Common.{sym, ◌∙◌, ap, inl, inr}
-use Rattle.vs_lexer.specs.vs_lex_tokens.specs.declared.token.Mark.{Mark}
-use Rattle.vs_lexer.specs.vs_lex_tokens.specs.declared.token.Mark.TheVariants as m
-use Rattle.vs_lexer.specs.vs_lex_tokens.specs.declared.token.Word.TheVariants as w
+use Rattle.vs_lexer.specs.declared.token.Mark.{Mark}
+use Rattle.vs_lexer.specs.declared.token.Mark.TheVariants as m
+use Rattle.vs_lexer.specs.declared.token.Word.TheVariants as w
 use Rattle.vs_syntax.specs.Symbols.{Symbol, Class, the_mark, the_word, the_directive, same_class, first}
 use Rattle.vs_syntax.specs.Grammar.{Nonterminal, a_source, a_module, a_header_parameter, told_ports, net_ports, variable_ports, port_names, a_bare_name, a_generate_block, a_local, an_item, a_constant, an_instance, a_connection, a_net, a_variable, an_assignment, a_stmt, an_argument, a_dump_argument, a_case_item, an_event_expr, a_target, an_expr, a_level, Grammar, nothing, token, seq, either, many, part, node, chain, optional, ◌·◌, one_or_more, one_mark, operands, a_condition, arm, levels, level_at, rule}
 use Rattle.vs_syntax.specs.Tables.{Front, at_least, mark_fronts, null, fronts, among, goes}

@@ -2,8 +2,8 @@
 use Rattle.std.specs.Prelude.{◌≡◌, ℕ, suc, max, ◌≤◌, Bool, true, false, cond, ◌&&◌, ◌||◌, List, [], ◌∷◌, ◌++◌, refl}
 use Rattle.std.proofs.Common.{sym, ◌∙◌, ap, arith}
 use denote.Enum.Bare.{true_same}
-use Rattle.vs_lexer.specs.vs_lex_tokens.specs.contracts.token.Mark as marks
-use Rattle.vs_lexer.specs.vs_lex_tokens.specs.contracts.token.Word as words
+use Rattle.vs_lexer.specs.contracts.token.Mark as marks
+use Rattle.vs_lexer.specs.contracts.token.Word as words
 use Rattle.vs_syntax.specs.Symbols.{Symbol, Class, class_of, no_token, the_mark, the_word, any_name, any_number, the_cast, any_text, the_print, the_finish, the_dump, the_time, the_directive, any_other, same_class, first}
 use Rattle.vs_syntax.specs.Grammar.{Grammar, seq, either, node, chain, optional}
 use Rattle.vs_syntax.specs.Tables.{Front, null, low, beside, above, fronts, among, need, goes}

@@ -2,8 +2,8 @@
 use Rattle.std.specs.Prelude.{◌≡◌, zero, suc, Bool, true, false, not, ◌&&◌, ◌||◌, ◌⊎◌, List, [], ◌∷◌, ◌++◌, refl}
 use Rattle.std.proofs.Common.{sym, ◌∙◌, ap, inl, inr, append_assoc}
 use denote.Enum.Bare.{same_true}
-use Rattle.vs_lexer.specs.vs_lex_tokens.specs.contracts.token.Mark as marks
-use Rattle.vs_lexer.specs.vs_lex_tokens.specs.contracts.token.Word as words
+use Rattle.vs_lexer.specs.contracts.token.Mark as marks
+use Rattle.vs_lexer.specs.contracts.token.Word as words
 use Rattle.vs_syntax.specs.Symbols.{Symbol, Class, no_token, the_mark, the_word, any_name, any_number, the_cast, any_text, the_print, the_finish, the_dump, the_time, the_directive, any_other, class_of, first, same_class}
 use Rattle.vs_syntax.specs.Grammar.{Nonterminal, a_source, a_module, a_header_parameter, told_ports, net_ports, variable_ports, port_names, a_bare_name, a_generate_block, a_local, an_item, a_constant, an_instance, a_connection, a_net, a_variable, an_assignment, a_stmt, an_argument, a_dump_argument, a_case_item, an_event_expr, a_target, an_expr, a_level, Grammar, nothing, token, seq, either, many, part, node, chain, optional, operands, levels, rule}
 use Rattle.vs_syntax.specs.Tables.{Front, null, fronts, among, goes}

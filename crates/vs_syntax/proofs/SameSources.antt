@@ -4,7 +4,7 @@ use Rattle.std.proofs.Common.{sym, ◌∙◌, ap, subst, append_assoc, arith}
 use Rattle.std.proofs.lemmas.Bool.{eqb-false}
 use Rattle.std.specs.List.{flat_map}
 use Rattle.std.specs.declared.boxed.Box.{Box}
-use Rattle.vs_lexer.specs.vs_lex_tokens.specs.declared.token.Directive.{Directive}
+use Rattle.vs_lexer.specs.declared.token.Directive.{Directive}
 use Rattle.std.specs.Option.{option_map}
 use Rattle.std.specs.declared.vec.Vec.{Vec}
 use Rattle.std.specs.declared.alloc.Global.{Global}
@@ -35,7 +35,7 @@ use Rattle.vs_syntax.specs.declared.tree.ModuleItem.TheShapes.{former-ModuleItem
 use Rattle.vs_syntax.specs.declared.tree.ModuleItem.TheVariants.{rolls-Plain, rolls-Region, rolls-For, rolls-If, rolls-Null, rolls-Block}
 use Rattle.vs_syntax.specs.declared.tree.Module.{Module}
 use Rattle.vs_syntax.specs.declared.tree.Source.{Source}
-use Rattle.vs_lexer.specs.vs_lex_tokens.specs.declared.token.Word.TheVariants as w
+use Rattle.vs_lexer.specs.declared.token.Word.TheVariants as w
 use Rattle.vs_syntax.specs.Symbols.{Symbol, a_word, a_name}
 use Rattle.vs_syntax.specs.Derivation.{Tree, empty, leaf, both, down, tokens}
 use Rattle.vs_syntax.specs.Derives.{Derives}

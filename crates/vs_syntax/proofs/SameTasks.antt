@@ -3,7 +3,7 @@ use Rattle.std.specs.Prelude.{◌≡◌, Option, None, Some, refl}
 use Rattle.std.proofs.Common.{ap, subst}
 use Rattle.std.specs.declared.vec.Vec.{Vec}
 use Rattle.std.specs.declared.alloc.Global.{Global}
-use Rattle.vs_lexer.specs.vs_lex_tokens.specs.declared.token.Literal.{Literal}
+use Rattle.vs_lexer.specs.declared.token.Literal.{Literal}
 use Rattle.vs_syntax.specs.declared.tree.DelayValue.{DelayValue}
 use Rattle.vs_syntax.specs.declared.tree.DelayValue.TheVariants as d
 use Rattle.vs_syntax.specs.declared.tree.Argument.{Argument}

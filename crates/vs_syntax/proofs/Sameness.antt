@@ -8,9 +8,9 @@ use Rattle.vs_logic4.specs.declared.operators.Unary.{Unary}
 use Rattle.vs_logic4.specs.declared.operators.Unary.TheVariants as u
 use Rattle.vs_logic4.specs.declared.operators.Binary.{Binary}
 use Rattle.vs_logic4.specs.declared.operators.Binary.TheVariants as b
-use Rattle.vs_lexer.specs.vs_lex_tokens.specs.declared.token.Literal.{Literal}
-use Rattle.vs_lexer.specs.vs_lex_tokens.specs.declared.token.Mark.{Mark}
-use Rattle.vs_lexer.specs.vs_lex_tokens.specs.declared.token.Mark.TheVariants as m
+use Rattle.vs_lexer.specs.declared.token.Literal.{Literal}
+use Rattle.vs_lexer.specs.declared.token.Mark.{Mark}
+use Rattle.vs_lexer.specs.declared.token.Mark.TheVariants as m
 use Rattle.vs_syntax.specs.declared.tree.PartSelect.{PartSelect}
 use Rattle.vs_syntax.specs.declared.tree.PartSelect.TheVariants as p
 use Rattle.vs_syntax.specs.declared.tree.Expr.{Expr, Expr-F, roll-Expr, out-Expr, roll-out-Expr, ind-Expr, map-Expr, fold-roll-Expr}
@@ -18,7 +18,7 @@ use Rattle.vs_syntax.specs.declared.tree.Expr.TheOpen as f
 use Rattle.vs_syntax.specs.declared.tree.Expr.TheShapes.{former-Expr-Select-1-at-4, former-Expr-Select-1-at-5}
 use Rattle.vs_syntax.specs.declared.tree.Expr.TheVariants as e
 use Rattle.vs_syntax.specs.declared.tree.Expr.TheVariants.{rolls-Number, rolls-Name, rolls-Select, rolls-Group, rolls-Unary, rolls-Chain, rolls-Choice, rolls-Concat, rolls-Repeat, rolls-Cast}
-use Rattle.vs_lexer.specs.vs_lex_tokens.specs.declared.token.Word.{Word}
+use Rattle.vs_lexer.specs.declared.token.Word.{Word}
 use Rattle.vs_syntax.specs.Symbols.{Symbol, a_mark, a_word, a_name, a_number, a_cast}
 use Rattle.vs_syntax.proofs.Fronts.{clash}
 use Rattle.vs_syntax.specs.Derivation.{Tree, empty, leaf, both, down}

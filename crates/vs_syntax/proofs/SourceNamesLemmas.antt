@@ -2,7 +2,7 @@
 use Rattle.std.proofs.Common.{◌≡◌, ℕ, Bool, true, false, true≢false, ◌&&◌, List, [], ◌∷◌, ◌++◌, Option, None, Some, map, refl, sym, ◌∙◌, ap, subst, append_assoc}
 use Rattle.std.specs.List.{flat_map, list_all}
 use Rattle.std.proofs.lemmas.List.Folds.{list_all-append}
-use Rattle.vs_lexer.specs.vs_lex_tokens.specs.declared.token.Mark.TheVariants as m
+use Rattle.vs_lexer.specs.declared.token.Mark.TheVariants as m
 use Rattle.vs_syntax.specs.declared.tree.Form.{Form}
 use Rattle.vs_syntax.specs.declared.tree.Declarator.{Declarator}
 use Rattle.std.specs.Option.{option_map}
@@ -16,7 +16,7 @@ use Rattle.vs_syntax.specs.declared.tree.Port.{Port}
 use Rattle.vs_syntax.specs.declared.tree.Connections.{Connections}
 use Rattle.vs_syntax.specs.declared.tree.Instance.{Instance}
 use Rattle.std.specs.declared.boxed.Box.{Box}
-use Rattle.vs_lexer.specs.vs_lex_tokens.specs.declared.token.Directive.{Directive}
+use Rattle.vs_lexer.specs.declared.token.Directive.{Directive}
 use Rattle.vs_syntax.specs.declared.tree.CaseLabel.{CaseLabel}
 use Rattle.vs_syntax.specs.declared.tree.CaseLabel.TheVariants as n
 use Rattle.vs_syntax.specs.declared.tree.Local.{Local}
@@ -31,7 +31,7 @@ use Rattle.vs_syntax.specs.declared.tree.ModuleItem.TheShapes.{former-ModuleItem
 use Rattle.vs_syntax.specs.declared.tree.Item.{Item}
 use Rattle.vs_syntax.specs.declared.tree.Item.TheVariants as i
 use Rattle.vs_syntax.specs.declared.tree.Module.{Module}
-use Rattle.vs_lexer.specs.vs_lex_tokens.specs.declared.token.Word.TheVariants as w
+use Rattle.vs_lexer.specs.declared.token.Word.TheVariants as w
 use Rattle.vs_syntax.specs.Symbols.{Symbol, a_mark, a_name, a_word}
 use Rattle.vs_syntax.specs.Derivation.{Tree, leaf, both, down, tokens}
 use Rattle.vs_syntax.specs.Views.{row_of, name_tree, commas_tree, listed_tree, expr_tree, connections_tree, told_tree, declarator_tree, form_tree, declared_tree, parameter_form_tree, valued_tree, constant_tree, parameter_word_tree, header_parameter_tree, header_parameters_tree, direction_word, kind_tree, port_form_tree, port_tree, more_ports_tree, ports_tree, header_ports_tree, overrides_tree, instance_tree, constants_tree, item_tree, value_tree, bare_name_tree, range_tree, local_tree, local_declaration_tree, labelled_tree, case_item_tree, some_tree, else_tree, stmt_step, stmt_tree, block_name_tree, module_item_step, module_item_tree, module_tree, directive_tree, directed_trees}

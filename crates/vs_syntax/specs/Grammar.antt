@@ -1,9 +1,9 @@
 -- The grammar of a source (IEEE 1364-2005, annex A; profile).
 use Rattle.std.specs.Prelude.{ℕ, zero, suc, List, [], ◌∷◌, ◌++◌, length, map}
-use Rattle.vs_lexer.specs.vs_lex_tokens.specs.declared.token.Mark.{Mark}
-use Rattle.vs_lexer.specs.vs_lex_tokens.specs.declared.token.Mark.TheVariants as m
-use Rattle.vs_lexer.specs.vs_lex_tokens.specs.declared.token.Word.{Word}
-use Rattle.vs_lexer.specs.vs_lex_tokens.specs.declared.token.Word.TheVariants as w
+use Rattle.vs_lexer.specs.declared.token.Mark.{Mark}
+use Rattle.vs_lexer.specs.declared.token.Mark.TheVariants as m
+use Rattle.vs_lexer.specs.declared.token.Word.{Word}
+use Rattle.vs_lexer.specs.declared.token.Word.TheVariants as w
 use Rattle.vs_syntax.specs.Symbols.{Class, the_mark, the_word, any_name, any_number, the_cast, any_text, the_print, the_finish, the_dump, the_time, the_directive}
 
 -- the parts of a source that have a rule

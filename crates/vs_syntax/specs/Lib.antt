@@ -8,6 +8,5 @@ pub mod Derives
 pub mod Plain
 pub mod Same
 pub mod SourceNames
-pub use Rattle.vs_lexer.specs.vs_lex_tokens
 pub use Rattle.vs_lexer
 pub use Rattle.vs_logic4

@@ -1,16 +1,16 @@
 -- Tokens as the grammar sees them.
 use Rattle.std.specs.Prelude.{ℕ, Bool, true, false, List, [], ◌∷◌, if◌then◌else◌, codes, map}
 use Rattle.std.specs.Str.{bytes_eq}
-use Rattle.vs_lexer.specs.vs_lex_tokens.specs.declared.token.Directive.{Directive}
-use Rattle.vs_lexer.specs.vs_lex_tokens.specs.declared.token.Kind.{Kind}
-use Rattle.vs_lexer.specs.vs_lex_tokens.specs.declared.token.Kind.TheVariants as k
-use Rattle.vs_lexer.specs.vs_lex_tokens.specs.declared.token.Literal.{Literal}
-use Rattle.vs_lexer.specs.vs_lex_tokens.specs.declared.token.Mark.{Mark}
-use Rattle.vs_lexer.specs.vs_lex_tokens.specs.declared.token.Mark.TheVariants as m
-use Rattle.vs_lexer.specs.vs_lex_tokens.specs.declared.token.Word.{Word}
-use Rattle.vs_lexer.specs.vs_lex_tokens.specs.contracts.token.Mark as marks
-use Rattle.vs_lexer.specs.vs_lex_tokens.specs.contracts.token.Word as words
-use Rattle.vs_lexer.specs.vs_lex_tokens.specs.Texts.{text_value}
+use Rattle.vs_lexer.specs.declared.token.Directive.{Directive}
+use Rattle.vs_lexer.specs.declared.token.Kind.{Kind}
+use Rattle.vs_lexer.specs.declared.token.Kind.TheVariants as k
+use Rattle.vs_lexer.specs.declared.token.Literal.{Literal}
+use Rattle.vs_lexer.specs.declared.token.Mark.{Mark}
+use Rattle.vs_lexer.specs.declared.token.Mark.TheVariants as m
+use Rattle.vs_lexer.specs.declared.token.Word.{Word}
+use Rattle.vs_lexer.specs.contracts.token.Mark as marks
+use Rattle.vs_lexer.specs.contracts.token.Word as words
+use Rattle.vs_lexer.specs.Texts.{text_value}
 use Rattle.vs_lexer.specs.Tokens.{Lexeme, name_of}
 use Rattle.vs_syntax.specs.declared.tree.PrintTask.{PrintTask}
 use Rattle.vs_syntax.specs.declared.tree.PrintTask.TheVariants.{Display, Strobe}

@@ -24,3 +24,14 @@ pub mod TextLemmas
 pub mod LawTimeLemmas
 pub mod LawLawLemmas
 pub mod OneFaultLemmas
+pub mod ClockLemmas
+pub mod EndLemmas
+pub mod WholeLemmas
+pub mod NumberLemmas
+pub mod NestLemmas
+pub mod TopLemmas
+pub mod OutlineLemmas
+pub mod PrintedLemmas
+pub mod BackEndLemmas
+mod RangeLemmas
+mod RunReadLemmas

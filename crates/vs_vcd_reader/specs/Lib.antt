@@ -14,3 +14,8 @@ pub mod Values
 pub mod Conditions
 pub mod OneFault
 pub use Rattle.vs_vcd_writing
+pub mod ReadBack
+pub use Rattle.vs_kernel
+pub mod Outlined
+pub use Rattle.vs_elaborate
+pub mod BackReadBack

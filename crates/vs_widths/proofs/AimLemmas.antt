@@ -16,25 +16,25 @@ use Rattle.vs_design.specs.declared.write.Part.{Part}
 use Rattle.vs_design.specs.Selects.{place_of, word_place}
 use Rattle.vs_design.specs.Uses.{all_words, aim_range}
 use Rattle.vs_design.specs.WellFormed.{aim_width, size_of}
-use Rattle.vs_width_selects.specs.declared.shape.Shape.{Shape}
-use Rattle.vs_width_selects.specs.Each.{Each, each_none, each_more}
-use Rattle.vs_width_selects.specs.Senses.{sense, IsFitted}
-use Rattle.vs_width_selects.specs.declared.bindings.Meaning.{Meaning}
-use Rattle.vs_width_selects.specs.declared.bindings.Binding.{Binding}
-use Rattle.vs_width_selects.specs.declared.bindings.Binding.TheVariants.{Signal, Constant, Pending, Other, Genvar}
-use Rattle.vs_width_selects.specs.declared.faults.WidthReason.{WidthReason}
-use Rattle.vs_width_selects.specs.declared.faults.WidthReason.TheVariants.{Unknown, NotConstant, WrongKind}
-use Rattle.vs_width_selects.specs.declared.faults.WidthFault.{WidthFault}
-use Rattle.vs_width_selects.specs.declared.faults.WidthFault.TheVariants.{Memory, Refused}
-use Rattle.vs_width_selects.specs.declared.places.ChosenBits.{ChosenBits}
-use Rattle.vs_width_selects.specs.Environment.{Environment}
-use Rattle.vs_width_selects.specs.Findings.{Finding, Has, Lacks, stands, unknown, wrong_kind, not_constant, together, alone, second, Refuses}
-use Rattle.vs_width_selects.specs.Meants.{Meant, own}
-use Rattle.vs_width_selects.specs.Constants.{where_none, constant_finding}
-use Rattle.vs_width_selects.specs.Selects.{Select, Named, named, of_words, span_of, stands_in}
-use Rattle.vs_width_selects.specs.passes.Measures.{meaning}
-use Rattle.vs_width_selects.specs.passes.Places.{IsPlaced, IsFixed}
-use Rattle.vs_width_selects.proofs.FixingLemmas.{fixed_range, fixed_reads, chosen_range}
+use Rattle.vs_widths.specs.declared.shape.Shape.{Shape}
+use Rattle.vs_widths.specs.Each.{Each, each_none, each_more}
+use Rattle.vs_widths.specs.Senses.{sense, IsFitted}
+use Rattle.vs_widths.specs.declared.bindings.Meaning.{Meaning}
+use Rattle.vs_widths.specs.declared.bindings.Binding.{Binding}
+use Rattle.vs_widths.specs.declared.bindings.Binding.TheVariants.{Signal, Constant, Pending, Other, Genvar}
+use Rattle.vs_widths.specs.declared.faults.WidthReason.{WidthReason}
+use Rattle.vs_widths.specs.declared.faults.WidthReason.TheVariants.{Unknown, NotConstant, WrongKind}
+use Rattle.vs_widths.specs.declared.faults.WidthFault.{WidthFault}
+use Rattle.vs_widths.specs.declared.faults.WidthFault.TheVariants.{Memory, Refused}
+use Rattle.vs_widths.specs.declared.places.ChosenBits.{ChosenBits}
+use Rattle.vs_widths.specs.Environment.{Environment}
+use Rattle.vs_widths.specs.Findings.{Finding, Has, Lacks, stands, unknown, wrong_kind, not_constant, together, alone, second, Refuses}
+use Rattle.vs_widths.specs.Meants.{Meant, own}
+use Rattle.vs_widths.specs.Constants.{where_none, constant_finding}
+use Rattle.vs_widths.specs.Selects.{Select, Named, named, of_words, span_of, stands_in}
+use Rattle.vs_widths.specs.select_passes.Measures.{meaning}
+use Rattle.vs_widths.specs.select_passes.Places.{IsPlaced, IsFixed}
+use Rattle.vs_widths.proofs.FixingLemmas.{fixed_range, fixed_reads, chosen_range, both_empty}
 use Rattle.vs_widths.specs.declared.kinds.AssignmentKind.{AssignmentKind}
 use Rattle.vs_widths.specs.declared.kinds.AssignmentKind.TheVariants.{Procedural, Continuous, Event}
 use Rattle.vs_widths.specs.Lefts.{wanted, takes_bound, takes_reads, name_aimed}
@@ -42,8 +42,7 @@ use Rattle.vs_widths.specs.Aiming.{is_none_read, is_fixed, IsPlace, IsTarget}
 use Rattle.vs_widths.specs.passes.Aims.{takes_aim, IsAim, IsTakenAim, select_passes, AreWithin}
 use Rattle.std.proofs.lemmas.Bool.{or_right}
 use Rattle.vs_design.specs.vs_logic4.proofs.Basics.{and_left, and_right}
-use Rattle.vs_width_selects.proofs.FixingLemmas.{both_empty}
-use Rattle.vs_width_selects.proofs.PlaceLemmas.{refused_by}
+use Rattle.vs_widths.proofs.PlaceLemmas.{refused_by}
 
 -- ---- faults
 

@@ -18,12 +18,12 @@ use Rattle.vs_syntax.specs.declared.tree.PartSelect.{PartSelect}
 use Rattle.vs_design.specs.declared.statement.Target.{Target}
 use Rattle.vs_design.specs.Uses.{aim_range}
 use Rattle.vs_design.specs.WellFormed.{aim_width}
-use Rattle.vs_width_selects.specs.Each.{Each, each_none, each_more}
-use Rattle.vs_width_selects.specs.declared.faults.WidthReason.{WidthReason}
-use Rattle.vs_width_selects.specs.declared.faults.WidthFault.{WidthFault}
-use Rattle.vs_width_selects.specs.Environment.{Environment}
-use Rattle.vs_width_selects.specs.Findings.{Finding, Has, Lacks, stands, together, unsigned, beside, Refuses}
-use Rattle.vs_width_selects.specs.Selects.{Select, Named, named_range, stands_in}
+use Rattle.vs_widths.specs.Each.{Each, each_none, each_more}
+use Rattle.vs_widths.specs.declared.faults.WidthReason.{WidthReason}
+use Rattle.vs_widths.specs.declared.faults.WidthFault.{WidthFault}
+use Rattle.vs_widths.specs.Environment.{Environment}
+use Rattle.vs_widths.specs.Findings.{Finding, Has, Lacks, stands, together, unsigned, beside, Refuses}
+use Rattle.vs_widths.specs.Selects.{Select, Named, named_range, stands_in}
 use Rattle.vs_widths.specs.Expressions.{meant_selects}
 use Rattle.vs_widths.specs.declared.kinds.AssignmentKind.{AssignmentKind}
 use Rattle.vs_widths.specs.Lefts.{Aimed, name_aimed, sum_found, from_last, concat_aimed, aimed_step, aimed}
@@ -31,7 +31,7 @@ use Rattle.vs_widths.specs.Aiming.{IsPlace, IsTarget}
 use Rattle.vs_widths.specs.passes.Aims.{AreWithin, Aims, IsJoined}
 use Rattle.vs_widths.proofs.ReadLemmas.{reads_within}
 use Rattle.vs_widths.proofs.AimLemmas.{stands_left, stands_right, selects_refused}
-use Rattle.vs_width_selects.proofs.PlaceLemmas.{refused_by}
+use Rattle.vs_widths.proofs.PlaceLemmas.{refused_by}
 use Rattle.vs_design.specs.vs_logic4.proofs.Basics.{take_push as split_at}
 
 -- ---- faults of parts

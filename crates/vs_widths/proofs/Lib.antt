@@ -1,3 +1,9 @@
+pub mod ConstantLemmas
+pub mod SelectDepthLemmas
+pub mod FittingLemmas
+pub mod PlaceLemmas
+pub mod FixingLemmas
+pub mod ExcerptLemmas
 pub mod AimLemmas
 pub mod ReadLemmas
 pub mod LeftLemmas

@@ -18,21 +18,21 @@ use Rattle.vs_design.specs.declared.range.BitRange.{BitRange}
 use Rattle.vs_design.specs.Stores.{Store}
 use Rattle.vs_design.specs.Uses.{joined}
 use Rattle.vs_design.specs.WellFormed.{sized_by, linked_size, chain_size}
-use Rattle.vs_width_selects.specs.vs_eval.specs.Values.{left_side, right_side, linked, chained}
-use Rattle.vs_width_selects.specs.declared.shape.Shape.{Shape}
-use Rattle.vs_width_selects.specs.declared.forms.Sizable.{Sizable}
-use Rattle.vs_width_selects.specs.declared.forms.Sizable.TheVariants as v
-use Rattle.vs_width_selects.specs.declared.forms.Sizable.TheOpen as f
-use Rattle.vs_width_selects.specs.declared.forms.Measured.{Measured}
-use Rattle.vs_width_selects.specs.Findings.{Has, alike, linked_shape}
-use Rattle.vs_width_selects.specs.Meants.{Meant}
-use Rattle.vs_width_selects.specs.Operations.{operated}
-use Rattle.vs_width_selects.specs.Senses.{Sense, sense, open_size, open_link, open_value}
+use Rattle.vs_widths.specs.vs_eval.specs.Values.{left_side, right_side, linked, chained}
+use Rattle.vs_widths.specs.declared.shape.Shape.{Shape}
+use Rattle.vs_widths.specs.declared.forms.Sizable.{Sizable}
+use Rattle.vs_widths.specs.declared.forms.Sizable.TheVariants as v
+use Rattle.vs_widths.specs.declared.forms.Sizable.TheOpen as f
+use Rattle.vs_widths.specs.declared.forms.Measured.{Measured}
+use Rattle.vs_widths.specs.Findings.{Has, alike, linked_shape}
+use Rattle.vs_widths.specs.Meants.{Meant}
+use Rattle.vs_widths.specs.Operations.{operated}
+use Rattle.vs_widths.specs.Senses.{Sense, sense, open_size, open_link, open_value}
 use Rattle.vs_widths.specs.Expressions.{linked_value, linked_meant}
 use Rattle.vs_widths.specs.passes.Forms.{ends_in_test, IsOperated, IsTestLink, IsTested}
-use Rattle.vs_width_selects.specs.passes.Measures.{meaning, IsFlexible, IsMeasured, IsOwnPart}
-use Rattle.vs_width_selects.proofs.FittingLemmas.{layer, links_sensed, tests_sensed}
-use Rattle.vs_width_selects.proofs.FixingLemmas.{meant_same}
+use Rattle.vs_widths.specs.select_passes.Measures.{meaning, IsFlexible, IsMeasured, IsOwnPart}
+use Rattle.vs_widths.proofs.FittingLemmas.{layer, links_sensed, tests_sensed}
+use Rattle.vs_widths.proofs.FixingLemmas.{meant_same}
 
 -- ---- meanings
 

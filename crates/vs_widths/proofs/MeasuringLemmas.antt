@@ -13,39 +13,39 @@ use Rattle.vs_design.specs.vs_logic4.specs.declared.operators.Binary.{Binary}
 use Rattle.vs_design.specs.vs_logic4.specs.Operators.{sizing_of, gives_bit}
 use Rattle.vs_design.specs.vs_logic4.specs.Vectors.{resized}
 use Rattle.vs_design.specs.vs_logic4.specs.Parts.{replication}
-use Rattle.vs_syntax.specs.vs_lex_tokens.specs.declared.token.Literal.{Literal}
+use Rattle.vs_syntax.specs.vs_lexer.specs.declared.token.Literal.{Literal}
 use Rattle.vs_syntax.specs.declared.tree.Expr.{Expr, Expr-F, map-Expr, roll-Expr, fold-roll-Expr}
 use Rattle.vs_syntax.specs.declared.tree.Expr.TheVariants as e
 use Rattle.vs_syntax.specs.declared.tree.Expr.TheOpen as x
 use Rattle.vs_design.specs.Stores.{Store}
 use Rattle.vs_design.specs.Uses.{joined}
 use Rattle.vs_design.specs.WellFormed.{choice_size, picked_size, sum_size, at_most_64}
-use Rattle.vs_width_selects.specs.vs_eval.specs.Values.{chosen, concatenated}
-use Rattle.vs_width_selects.specs.declared.shape.Shape.{Shape}
-use Rattle.vs_width_selects.specs.declared.faults.WidthReason.{WidthReason}
-use Rattle.vs_width_selects.specs.declared.faults.WidthReason.TheVariants.{TooWide}
-use Rattle.vs_width_selects.specs.declared.faults.WidthFault.{WidthFault}
-use Rattle.vs_width_selects.specs.declared.faults.WidthFault.TheVariants.{Memory, Refused}
-use Rattle.vs_width_selects.specs.declared.forms.Sizable.{Sizable}
-use Rattle.vs_width_selects.specs.declared.forms.Sizable.TheVariants as v
-use Rattle.vs_width_selects.specs.declared.forms.Sizable.TheOpen as f
-use Rattle.vs_width_selects.specs.declared.forms.Measured.{Measured}
-use Rattle.vs_width_selects.specs.Environment.{Environment}
-use Rattle.vs_width_selects.specs.Findings.{Finding, Has, Lacks, stands, together, alone, alike, linked_shape, second, unsigned, beside, repeated, too_wide, Refuses}
-use Rattle.vs_width_selects.specs.Layers.{brought}
-use Rattle.vs_width_selects.specs.Selects.{size_found}
-use Rattle.vs_width_selects.specs.Meants.{Meant, own}
+use Rattle.vs_widths.specs.vs_eval.specs.Values.{chosen, concatenated}
+use Rattle.vs_widths.specs.declared.shape.Shape.{Shape}
+use Rattle.vs_widths.specs.declared.faults.WidthReason.{WidthReason}
+use Rattle.vs_widths.specs.declared.faults.WidthReason.TheVariants.{TooWide}
+use Rattle.vs_widths.specs.declared.faults.WidthFault.{WidthFault}
+use Rattle.vs_widths.specs.declared.faults.WidthFault.TheVariants.{Memory, Refused}
+use Rattle.vs_widths.specs.declared.forms.Sizable.{Sizable}
+use Rattle.vs_widths.specs.declared.forms.Sizable.TheVariants as v
+use Rattle.vs_widths.specs.declared.forms.Sizable.TheOpen as f
+use Rattle.vs_widths.specs.declared.forms.Measured.{Measured}
+use Rattle.vs_widths.specs.Environment.{Environment}
+use Rattle.vs_widths.specs.Findings.{Finding, Has, Lacks, stands, together, alone, alike, linked_shape, second, unsigned, beside, repeated, too_wide, Refuses}
+use Rattle.vs_widths.specs.Layers.{brought}
+use Rattle.vs_widths.specs.Selects.{size_found}
+use Rattle.vs_widths.specs.Meants.{Meant, own}
 use Rattle.vs_widths.specs.Expressions.{meant, meant_step, number_meant, name_meant, unary_finding, unary_meant, cast_meant, linked_meant, chain_meant, choice_finding, choice_meant, sum_finding, joined_value, concat_meant, repeated_value, repeat_meant}
-use Rattle.vs_width_selects.specs.Constants.{where_none, where_some, constant_finding, count_finding, natural_of, positive}
-use Rattle.vs_width_selects.specs.Senses.{Sense, sense}
-use Rattle.vs_width_selects.specs.passes.Measures.{meaning, IsFlexible, IsMeasured, Measures, IsOwnPart, IsCount}
+use Rattle.vs_widths.specs.Constants.{where_none, where_some, constant_finding, count_finding, natural_of, positive}
+use Rattle.vs_widths.specs.Senses.{Sense, sense}
+use Rattle.vs_widths.specs.select_passes.Measures.{meaning, IsFlexible, IsMeasured, Measures, IsOwnPart, IsCount}
 use Rattle.vs_widths.specs.passes.Forms.{links_meant, pairs_meant, IsChoicePair, IsPartOf, AreJoined, IsRepetition, Repeats, Closes}
-use Rattle.vs_width_selects.specs.Each.{Each, each_none, each_more}
-use Rattle.vs_width_selects.proofs.FittingLemmas.{layer, pairs_sensed}
-use Rattle.vs_width_selects.proofs.FixingLemmas.{meant_same}
+use Rattle.vs_widths.specs.Each.{Each, each_none, each_more}
+use Rattle.vs_widths.proofs.FittingLemmas.{layer, pairs_sensed}
+use Rattle.vs_widths.proofs.FixingLemmas.{meant_same}
 use Rattle.std.proofs.lemmas.Bool.{or_right}
 use Rattle.vs_design.specs.vs_logic4.proofs.Basics.{front_of}
-use Rattle.vs_width_selects.proofs.PlaceLemmas.{refused_by}
+use Rattle.vs_widths.proofs.PlaceLemmas.{refused_by}
 
 -- ---- faults
 

@@ -11,16 +11,16 @@ use Rattle.vs_design.specs.Uses.{joined}
 use Rattle.vs_syntax.specs.declared.tree.PartSelect.{PartSelect}
 use Rattle.vs_syntax.specs.declared.tree.PartSelect.TheVariants as p
 use Rattle.vs_design.specs.declared.signal.Bounds.{Bounds}
-use Rattle.vs_width_selects.specs.declared.shape.Shape.{Shape}
-use Rattle.vs_width_selects.specs.declared.bindings.Meaning.{Meaning}
-use Rattle.vs_width_selects.specs.declared.bindings.Binding.{Binding}
-use Rattle.vs_width_selects.specs.declared.bindings.Binding.TheVariants.{Signal, Constant, Pending, Other, Genvar}
-use Rattle.vs_width_selects.specs.declared.constants.Const.{Const}
-use Rattle.vs_width_selects.specs.Findings.{Finding, Has, Lacks}
-use Rattle.vs_width_selects.specs.Meants.{Meant}
-use Rattle.vs_width_selects.specs.Selects.{Select, select_span, span_of, constant_span, Named, in_array, of_words, range_by, named_reads, select_meant}
+use Rattle.vs_widths.specs.declared.shape.Shape.{Shape}
+use Rattle.vs_widths.specs.declared.bindings.Meaning.{Meaning}
+use Rattle.vs_widths.specs.declared.bindings.Binding.{Binding}
+use Rattle.vs_widths.specs.declared.bindings.Binding.TheVariants.{Signal, Constant, Pending, Other, Genvar}
+use Rattle.vs_widths.specs.declared.constants.Const.{Const}
+use Rattle.vs_widths.specs.Findings.{Finding, Has, Lacks}
+use Rattle.vs_widths.specs.Meants.{Meant}
+use Rattle.vs_widths.specs.Selects.{Select, select_span, span_of, constant_span, Named, in_array, of_words, range_by, named_reads, select_meant}
 use Rattle.vs_widths.specs.Typing.{HoldsOfSignals, ReadsNamed}
-use Rattle.vs_width_selects.specs.Environment.{Environment}
+use Rattle.vs_widths.specs.Environment.{Environment}
 use Rattle.vs_widths.specs.Expressions.{meant, meant_step, name_meant, linked_meant, chain_meant}
 use Rattle.std.proofs.lemmas.Bool.{and_from as both_true}
 

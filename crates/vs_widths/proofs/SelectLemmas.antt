@@ -13,26 +13,26 @@ use Rattle.vs_syntax.specs.declared.tree.Expr.TheShapes.{former-Expr-Select-1, f
 use Rattle.vs_syntax.specs.declared.tree.PartSelect.{PartSelect}
 use Rattle.vs_syntax.specs.declared.tree.PartSelect.TheVariants as p
 use Rattle.vs_design.specs.declared.signal.Bounds.{Bounds}
-use Rattle.vs_width_selects.specs.declared.shape.Shape.{Shape}
-use Rattle.vs_width_selects.specs.declared.forms.Measured.{Measured}
-use Rattle.vs_width_selects.specs.declared.bindings.Meaning.{Meaning}
-use Rattle.vs_width_selects.specs.declared.bindings.Binding.{Binding}
-use Rattle.vs_width_selects.specs.declared.bindings.Binding.TheVariants.{Signal, Constant, Pending, Other, Genvar}
-use Rattle.vs_width_selects.specs.declared.constants.Const.{Const}
-use Rattle.vs_width_selects.specs.declared.faults.WidthReason.{WidthReason}
-use Rattle.vs_width_selects.specs.declared.faults.WidthFault.{WidthFault}
-use Rattle.vs_width_selects.specs.Environment.{Environment}
-use Rattle.vs_width_selects.specs.Findings.{Has, Lacks, stands, second, wrong_kind, unknown, not_constant, Refuses}
-use Rattle.vs_width_selects.specs.Meants.{Meant}
-use Rattle.vs_width_selects.specs.Constants.{where_none, constant_finding, natural_of, whole_of, positive}
-use Rattle.vs_width_selects.specs.Selects.{Select, stands_in, between, counted, select_span, span_of, constant_span, in_array, of_words, named, select_meant}
-use Rattle.vs_width_selects.specs.passes.Measures.{IsMeasured, Measures}
-use Rattle.vs_width_selects.specs.passes.Places.{select_meaning, selects_meaning, IsFlexibleSelect}
+use Rattle.vs_widths.specs.declared.shape.Shape.{Shape}
+use Rattle.vs_widths.specs.declared.forms.Measured.{Measured}
+use Rattle.vs_widths.specs.declared.bindings.Meaning.{Meaning}
+use Rattle.vs_widths.specs.declared.bindings.Binding.{Binding}
+use Rattle.vs_widths.specs.declared.bindings.Binding.TheVariants.{Signal, Constant, Pending, Other, Genvar}
+use Rattle.vs_widths.specs.declared.constants.Const.{Const}
+use Rattle.vs_widths.specs.declared.faults.WidthReason.{WidthReason}
+use Rattle.vs_widths.specs.declared.faults.WidthFault.{WidthFault}
+use Rattle.vs_widths.specs.Environment.{Environment}
+use Rattle.vs_widths.specs.Findings.{Has, Lacks, stands, second, wrong_kind, unknown, not_constant, Refuses}
+use Rattle.vs_widths.specs.Meants.{Meant}
+use Rattle.vs_widths.specs.Constants.{where_none, constant_finding, natural_of, whole_of, positive}
+use Rattle.vs_widths.specs.Selects.{Select, stands_in, between, counted, select_span, span_of, constant_span, in_array, of_words, named, select_meant}
+use Rattle.vs_widths.specs.select_passes.Measures.{IsMeasured, Measures}
+use Rattle.vs_widths.specs.select_passes.Places.{select_meaning, selects_meaning, IsFlexibleSelect}
 use Rattle.vs_widths.specs.Expressions.{meant, meant_select, meant_selects}
 use Rattle.vs_widths.specs.passes.Selects.{AreMeasured}
 use Rattle.vs_widths.proofs.MeasuringLemmas.{stands_alone, stands_left, stands_right, form}
 use Rattle.std.proofs.lemmas.Bool.{or_right}
-use Rattle.vs_width_selects.proofs.PlaceLemmas.{refused_by}
+use Rattle.vs_widths.proofs.PlaceLemmas.{refused_by}
 use Rattle.vs_design.specs.vs_logic4.proofs.Basics.{or_parts}
 
 -- ---- faults

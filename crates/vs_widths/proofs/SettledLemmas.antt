@@ -7,14 +7,14 @@ use Rattle.vs_syntax.specs.declared.tree.Expr.{Expr, Expr-F, roll-Expr, map-Expr
 use Rattle.vs_syntax.specs.declared.tree.Expr.TheShapes.{former-Expr-Select-1-at-5}
 use Rattle.vs_syntax.specs.declared.tree.Expr.TheOpen as f
 use Rattle.vs_syntax.specs.declared.tree.PartSelect.{PartSelect}
-use Rattle.vs_width_selects.specs.declared.bindings.Binding.{Binding}
-use Rattle.vs_width_selects.specs.declared.bindings.Binding.TheVariants.{Pending}
-use Rattle.vs_width_selects.specs.declared.faults.WidthReason.TheVariants.{NotConstant}
-use Rattle.vs_width_selects.specs.Environment.{Environment}
-use Rattle.vs_width_selects.specs.Findings.{Finding, Has, stands, together, alone, alike, linked_shape, second, beside, repeated}
-use Rattle.vs_width_selects.specs.Meants.{Meant}
-use Rattle.vs_width_selects.specs.Constants.{where_none, where_some, constant_finding, count_finding, natural_of, positive}
-use Rattle.vs_width_selects.specs.Selects.{Select, stands_in, select_meant}
+use Rattle.vs_widths.specs.declared.bindings.Binding.{Binding}
+use Rattle.vs_widths.specs.declared.bindings.Binding.TheVariants.{Pending}
+use Rattle.vs_widths.specs.declared.faults.WidthReason.TheVariants.{NotConstant}
+use Rattle.vs_widths.specs.Environment.{Environment}
+use Rattle.vs_widths.specs.Findings.{Finding, Has, stands, together, alone, alike, linked_shape, second, beside, repeated}
+use Rattle.vs_widths.specs.Meants.{Meant}
+use Rattle.vs_widths.specs.Constants.{where_none, where_some, constant_finding, count_finding, natural_of, positive}
+use Rattle.vs_widths.specs.Selects.{Select, stands_in, select_meant}
 use Rattle.vs_widths.specs.Expressions.{meant, meant_step, name_meant, unary_meant, linked_meant, chain_meant, choice_finding, choice_meant, sum_finding, concat_meant, repeat_meant, cast_meant}
 use Rattle.vs_widths.proofs.MeasuringLemmas.{stands_alone, stands_left, stands_right, stands_unary, stands_choice, stands_sum}
 use Rattle.std.proofs.lemmas.Bool.{or_right}

@@ -1,11 +1,11 @@
 -- Expressions of a design that are what measured ones mean.
 use Rattle.std.proofs.Common.{ℕ, Bool, ap, sym, ◌∙◌}
 use Rattle.vs_design.specs.declared.expression.Typed.{Typed}
-use Rattle.vs_width_selects.specs.declared.forms.Measured.{Measured}
-use Rattle.vs_width_selects.specs.Senses.{sense, IsFitted}
-use Rattle.vs_width_selects.specs.Findings.{stands}
-use Rattle.vs_width_selects.specs.Meants.{Meant}
-use Rattle.vs_width_selects.specs.passes.Measures.{IsMeasured}
+use Rattle.vs_widths.specs.declared.forms.Measured.{Measured}
+use Rattle.vs_widths.specs.Senses.{sense, IsFitted}
+use Rattle.vs_widths.specs.Findings.{stands}
+use Rattle.vs_widths.specs.Meants.{Meant}
+use Rattle.vs_widths.specs.select_passes.Measures.{IsMeasured}
 use Rattle.vs_widths.specs.Typing.{IsTypedAs}
 
 pub typed_as : (m : Meant) (x : Measured) (width : ℕ) (signed : Bool) (y : Typed) → IsMeasured m x → IsFitted (sense x.form) width signed y → IsTypedAs m width signed y

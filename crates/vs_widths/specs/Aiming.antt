@@ -10,14 +10,14 @@ use Rattle.vs_design.specs.declared.write.Part.{Part}
 use Rattle.vs_design.specs.Stores.{Store}
 use Rattle.vs_design.specs.Uses.{aim_range, aim_reads, writes}
 use Rattle.vs_design.specs.WellFormed.{aim_width, size_of}
-use Rattle.vs_width_selects.specs.vs_eval.specs.Targets.{part_at}
-use Rattle.vs_width_selects.specs.declared.bindings.Meaning.{Meaning}
-use Rattle.vs_width_selects.specs.declared.bindings.Binding.TheVariants.{Signal}
-use Rattle.vs_width_selects.specs.Environment.{Environment}
-use Rattle.vs_width_selects.specs.Findings.{Has}
-use Rattle.vs_width_selects.specs.Selects.{Named, named_range}
+use Rattle.vs_widths.specs.vs_eval.specs.Targets.{part_at}
+use Rattle.vs_widths.specs.declared.bindings.Meaning.{Meaning}
+use Rattle.vs_widths.specs.declared.bindings.Binding.TheVariants.{Signal}
+use Rattle.vs_widths.specs.Environment.{Environment}
+use Rattle.vs_widths.specs.Findings.{Has}
+use Rattle.vs_widths.specs.Selects.{Named, named_range}
 use Rattle.vs_widths.specs.Typing.{HoldsOfSignals}
-use Rattle.vs_width_selects.specs.Each.{Each}
+use Rattle.vs_widths.specs.Each.{Each}
 use Rattle.vs_widths.specs.declared.kinds.AssignmentKind.{AssignmentKind}
 use Rattle.vs_widths.specs.Lefts.{Aimed, takes, takes_reads}
 

@@ -8,7 +8,7 @@ use Rattle.vs_design.specs.vs_logic4.specs.declared.operators.Sizing.TheVariants
 use Rattle.vs_design.specs.vs_logic4.specs.Operators.{unary, gives_bit, sizing_of}
 use Rattle.vs_design.specs.vs_logic4.specs.Vectors.{resized}
 use Rattle.vs_design.specs.vs_logic4.specs.Parts.{replication}
-use Rattle.vs_syntax.specs.vs_lex_tokens.specs.declared.token.Literal.{Literal}
+use Rattle.vs_syntax.specs.vs_lexer.specs.declared.token.Literal.{Literal}
 use Rattle.vs_syntax.specs.declared.tree.Expr.{Expr}
 use Rattle.vs_syntax.specs.declared.tree.Expr.TheOpen.{Expr-F}
 use Rattle.vs_syntax.specs.declared.tree.Expr.TheOpen as f
@@ -18,17 +18,17 @@ use Rattle.vs_design.specs.declared.range.BitRange.{BitRange}
 use Rattle.vs_design.specs.declared.signal.Bounds.{Bounds}
 use Rattle.vs_design.specs.Stores.{Store, word_of}
 use Rattle.vs_design.specs.Uses.{whole, joined}
-use Rattle.vs_width_selects.specs.vs_eval.specs.Values.{operand_value, chosen, concatenated}
-use Rattle.vs_width_selects.specs.Operations.{operated}
-use Rattle.vs_width_selects.specs.declared.shape.Shape.{Shape}
-use Rattle.vs_width_selects.specs.declared.bindings.Binding.{Binding}
-use Rattle.vs_width_selects.specs.declared.bindings.Binding.TheVariants.{Signal, Constant, Pending, Other, Genvar}
-use Rattle.vs_width_selects.specs.Environment.{Environment}
-use Rattle.vs_width_selects.specs.Findings.{Finding, Has, Lacks, unknown, wrong_kind, not_constant, together, alone, alike, linked_shape, second, beside, repeated, at_found}
-use Rattle.vs_width_selects.specs.Layers.{Layer, name, other, brought, operator_layer}
-use Rattle.vs_width_selects.specs.Meants.{Meant, own}
-use Rattle.vs_width_selects.specs.Constants.{natural_of, positive, count_finding}
-use Rattle.vs_width_selects.specs.Selects.{Select, size_found, select_meant}
+use Rattle.vs_widths.specs.vs_eval.specs.Values.{operand_value, chosen, concatenated}
+use Rattle.vs_widths.specs.Operations.{operated}
+use Rattle.vs_widths.specs.declared.shape.Shape.{Shape}
+use Rattle.vs_widths.specs.declared.bindings.Binding.{Binding}
+use Rattle.vs_widths.specs.declared.bindings.Binding.TheVariants.{Signal, Constant, Pending, Other, Genvar}
+use Rattle.vs_widths.specs.Environment.{Environment}
+use Rattle.vs_widths.specs.Findings.{Finding, Has, Lacks, unknown, wrong_kind, not_constant, together, alone, alike, linked_shape, second, beside, repeated, at_found}
+use Rattle.vs_widths.specs.Layers.{Layer, name, other, brought, operator_layer}
+use Rattle.vs_widths.specs.Meants.{Meant, own}
+use Rattle.vs_widths.specs.Constants.{natural_of, positive, count_finding}
+use Rattle.vs_widths.specs.Selects.{Select, size_found, select_meant}
 
 -- ---- names
 

@@ -7,17 +7,17 @@ use Rattle.vs_design.specs.declared.range.BitRange.{BitRange}
 use Rattle.vs_design.specs.Stores.{Store}
 use Rattle.vs_design.specs.Uses.{reads}
 use Rattle.vs_design.specs.WellFormed.{size_of}
-use Rattle.vs_width_selects.specs.vs_eval.specs.Values.{value_of}
+use Rattle.vs_widths.specs.vs_eval.specs.Values.{value_of}
 use Rattle.vs_syntax.specs.declared.tree.Expr.{Expr}
-use Rattle.vs_width_selects.specs.declared.bindings.Meaning.{Meaning}
-use Rattle.vs_width_selects.specs.declared.bindings.Binding.TheVariants.{Signal}
-use Rattle.vs_width_selects.specs.declared.faults.WidthReason.{WidthReason}
-use Rattle.vs_width_selects.specs.declared.constants.Const.{Const}
-use Rattle.vs_width_selects.specs.Environment.{Environment}
-use Rattle.vs_width_selects.specs.Findings.{Has, stands}
-use Rattle.vs_width_selects.specs.Layers.{layer_of}
-use Rattle.vs_width_selects.specs.Meants.{Meant, own}
-use Rattle.vs_width_selects.specs.Constants.{constant_finding, plain_range}
+use Rattle.vs_widths.specs.declared.bindings.Meaning.{Meaning}
+use Rattle.vs_widths.specs.declared.bindings.Binding.TheVariants.{Signal}
+use Rattle.vs_widths.specs.declared.faults.WidthReason.{WidthReason}
+use Rattle.vs_widths.specs.declared.constants.Const.{Const}
+use Rattle.vs_widths.specs.Environment.{Environment}
+use Rattle.vs_widths.specs.Findings.{Has, stands}
+use Rattle.vs_widths.specs.Layers.{layer_of}
+use Rattle.vs_widths.specs.Meants.{Meant, own}
+use Rattle.vs_widths.specs.Constants.{constant_finding, plain_range}
 use Rattle.vs_widths.specs.Expressions.{meant}
 
 -- The expression of a design that means this at a size and a sign: no fault stands, and it has this size and this value in each store, reads

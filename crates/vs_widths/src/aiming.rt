@@ -2,20 +2,20 @@
 ghost use Rattle.std.specs.Prelude.{◌≡◌, ◌∷◌, true, [], Some, IfOk};
 ghost use Rattle.std.specs.List.{All};
 ghost use Rattle.vs_design.specs.WellFormed.{aim_width};
-ghost use Rattle.vs_width_selects.specs.Selects.{Named};
-ghost use Rattle.vs_width_selects.specs.passes.Places.{selects_meaning, IsFlexibleSelect, IsPlaced};
+ghost use Rattle.vs_widths.specs.Selects.{Named};
+ghost use Rattle.vs_widths.specs.select_passes.Places.{selects_meaning, IsFlexibleSelect, IsPlaced};
 ghost use Rattle.vs_widths.specs.Names.{meaning_of};
 ghost use Rattle.vs_widths.specs.Lefts.{takes_bound, name_aimed};
 ghost use Rattle.vs_widths.specs.passes.Aims.{takes_aim, IsAim, AimsAt, AreWithin, Aims};
 
 use crate::kinds::{AssignmentKind, takes_kind};
 use crate::levels::Levels;
+use crate::{
+    Binding, ChosenBits, Measured, WidthFault, WidthReason, fitted, fixed, named, selection,
+};
 use std::alloc::{AllocError, Global};
 use vs_design::{Aim, Target};
 use vs_syntax::PartSelect;
-use vs_width_selects::{
-    Binding, ChosenBits, Measured, WidthFault, WidthReason, fitted, fixed, named, selection,
-};
 
 /// What a name with its selects names, as a place of a target.
 fn aim(alloc: Global, chosen_bits: &ChosenBits) -> Result<Aim, AllocError>

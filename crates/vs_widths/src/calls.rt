@@ -2,18 +2,18 @@
 ghost use Rattle.std.specs.Prelude.{◌≡◌, IfOk, IfErr};
 ghost use Rattle.vs_widths.specs.Names.{meaning_of};
 ghost use Rattle.vs_widths.specs.Expressions.{meant, name_meant};
-ghost use Rattle.vs_width_selects.specs.declared.faults.WidthFault.TheVariants.{Memory};
-ghost use Rattle.vs_width_selects.specs.Constants.{constant_finding};
-ghost use Rattle.vs_width_selects.specs.Findings.{Has, Refuses};
+ghost use Rattle.vs_widths.specs.declared.faults.WidthFault.TheVariants.{Memory};
+ghost use Rattle.vs_widths.specs.Constants.{constant_finding};
+ghost use Rattle.vs_widths.specs.Findings.{Has, Refuses};
 ghost use Rattle.vs_widths.specs.Typing.{IsTyped, IsTypedAs, IsConstant, IsConstantAt};
 
 use crate::levels::Levels;
 use crate::measuring::{measured, of_name};
+use crate::{Const, Shape, WidthFault, fitted, known};
 use std::alloc::Global;
 use vs_design::Typed;
 use vs_design::vs_logic4::Vec4;
 use vs_syntax::Expr;
-use vs_width_selects::{Const, Shape, WidthFault, fitted, known};
 
 /// The size and sign that an expression has by itself (IEEE 1364-2005, clauses 5.4.1 and 5.5.1).
 pub fn shape_of(alloc: Global, names: &Levels, e: &Expr) -> Result<Shape, WidthFault>

@@ -1,7 +1,7 @@
 //! Left sides of assignments.
 ghost use Rattle.std.specs.Prelude.{◌≡◌, true, [], IfOk, IfErr, map};
 ghost use Rattle.std.specs.List.{list_all};
-ghost use Rattle.vs_width_selects.specs.Findings.{Refuses};
+ghost use Rattle.vs_widths.specs.Findings.{Refuses};
 ghost use Rattle.vs_widths.specs.Names.{meaning_of};
 ghost use Rattle.vs_widths.specs.Aiming.{IsTarget};
 ghost use Rattle.vs_widths.specs.Lefts.{Aimed, aimed, name_aimed, concat_aimed, is_left, as_left, expr_aimed};
@@ -11,10 +11,10 @@ use crate::aiming::named_target;
 use crate::kinds::AssignmentKind;
 use crate::levels::Levels;
 use crate::measuring::measured_selects;
+use crate::{WidthFault, WidthReason};
 use std::alloc::Global;
 use vs_design::Target;
 use vs_syntax::{Expr, Left};
-use vs_width_selects::{WidthFault, WidthReason};
 
 /// What a left side means as a target of a design (IEEE 1364-2005, clauses 6.1 and 9.2).
 pub fn target(

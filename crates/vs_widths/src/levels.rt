@@ -2,10 +2,10 @@
 ghost use Rattle.std.specs.Prelude.{◌≡◌, ◌++◌, [], IfOk};
 ghost use Rattle.vs_widths.specs.Names.{meaning_of, nested_names};
 
+use crate::Binding;
 use crate::names::Names;
 use std::alloc::{AllocError, Global};
 use std::marker::Model;
-use vs_width_selects::Binding;
 
 /// The names of a scope and those of the scopes around it, the innermost first: a name is looked up in its scope, and then outward
 /// (IEEE 1364-2005, clause 12.7).
@@ -17,7 +17,7 @@ pub struct Levels<'s, 'o> {
 
 impl<'s, 'o> Model for Levels<'s, 'o> {
     ghost use Rattle.std.specs.Prelude.{List, ℕ, ◌++◌};
-    ghost use Rattle.vs_width_selects.specs.declared.bindings.Binding.{Binding};
+    ghost use Rattle.vs_widths.specs.declared.bindings.Binding.{Binding};
     ghost use Rattle.vs_widths.specs.Names.{nested_names};
 
     ghost Value = { List (List ℕ × Binding) };

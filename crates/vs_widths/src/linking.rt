@@ -3,15 +3,15 @@ ghost use Rattle.std.specs.Prelude.{◌≡◌, Some, IfOk, true, false, max};
 ghost use Rattle.vs_design.specs.vs_logic4.specs.Operators.{sizing_of};
 ghost use Rattle.vs_design.specs.vs_logic4.specs.declared.operators.Sizing.TheVariants as sizing;
 ghost use Rattle.vs_widths.specs.Expressions.{linked_meant};
-ghost use Rattle.vs_width_selects.specs.Findings.{Has, alike};
-ghost use Rattle.vs_width_selects.specs.Senses.{sense};
-ghost use Rattle.vs_width_selects.specs.passes.Measures.{meaning, IsFlexible, IsMeasured, IsOwnPart};
+ghost use Rattle.vs_widths.specs.Findings.{Has, alike};
+ghost use Rattle.vs_widths.specs.Senses.{sense};
+ghost use Rattle.vs_widths.specs.select_passes.Measures.{meaning, IsFlexible, IsMeasured, IsOwnPart};
 ghost use Rattle.vs_widths.specs.passes.Forms.{ends_in_test, IsOperated, IsTestLink, IsTested};
 
+use crate::{BIT, Measured, Shape, Sizable};
 use std::alloc::{AllocError, Global};
 use vs_design::Link;
 use vs_design::vs_logic4::{Binary, Sizing};
-use vs_width_selects::{BIT, Measured, Shape, Sizable};
 
 /// The size and sign of two operands of one context (IEEE 1364-2005, clauses 5.4.1 and 5.5.1).
 pub fn joined_shape(left: Shape, right: Shape) -> Shape

@@ -1,28 +1,27 @@
 //! The own size and sign of each part of an expression.
 ghost use Rattle.std.specs.Prelude.{◌≡◌, ◌<◌, ◌≤◌, false, List, Some, IfErr, OnOk, map};
 ghost use Rattle.vs_widths.specs.Names.{meaning_of};
-ghost use Rattle.vs_widths.specs.Expressions.{meant, meant_selects, digits_meant, name_meant, unary_meant};
-ghost use Rattle.vs_widths.specs.Expressions.{chain_meant, choice_meant, repeat_meant};
-ghost use Rattle.vs_width_selects.specs.declared.bindings.Binding.TheVariants.{Signal};
-ghost use Rattle.vs_width_selects.specs.declared.faults.WidthFault.TheVariants.{Memory};
+ghost use Rattle.vs_widths.specs.Expressions.{meant, meant_selects, digits_meant, name_meant, unary_meant, chain_meant, choice_meant, repeat_meant};
+ghost use Rattle.vs_widths.specs.declared.bindings.Binding.TheVariants.{Signal};
+ghost use Rattle.vs_widths.specs.declared.faults.WidthFault.TheVariants.{Memory};
 ghost use Rattle.std.specs.List.{All};
-ghost use Rattle.vs_width_selects.specs.Meants.{Meant};
-ghost use Rattle.vs_width_selects.specs.Selects.{named, operand_meant, constant_span, excerpt_meant, select_meant};
-ghost use Rattle.vs_width_selects.specs.passes.Measures.{meaning, IsFlexible, IsMeasured, Measures};
-ghost use Rattle.vs_width_selects.specs.passes.Places.{selects_meaning, IsFlexibleSelect};
+ghost use Rattle.vs_widths.specs.Meants.{Meant};
+ghost use Rattle.vs_widths.specs.Selects.{named, operand_meant, constant_span, excerpt_meant, select_meant};
+ghost use Rattle.vs_widths.specs.select_passes.Measures.{meaning, IsFlexible, IsMeasured, Measures};
+ghost use Rattle.vs_widths.specs.select_passes.Places.{selects_meaning, IsFlexibleSelect};
 ghost use Rattle.vs_widths.specs.passes.Forms.{links_meant, pairs_meant, AddsPair, AddsPart, AreJoined, Joins, Repeats, Closes};
 ghost use Rattle.vs_widths.specs.passes.Selects.{MeasuresSelects};
 
 use crate::levels::Levels;
 use crate::linking::{joined_shape, linked, own};
+use crate::{
+    BIT, Binding, Const, Meaning, Measured, Shape, Sizable, WidthFault, WidthReason,
+    bits_of_constant, count_of, excerpt, named, operand,
+};
 use std::alloc::{AllocError, Global};
 use vs_design::Count;
 use vs_design::vs_logic4::{Binary, Unary, Vec4};
 use vs_syntax::{Expr, PartSelect};
-use vs_width_selects::{
-    BIT, Binding, Const, Meaning, Measured, Shape, Sizable, WidthFault, WidthReason,
-    bits_of_constant, count_of, excerpt, named, operand,
-};
 
 const TOO_WIDE: WidthFault = WidthFault::Refused(WidthReason::TooWide);
 

@@ -1,11 +1,12 @@
 //! Names with selects.
 ghost use Rattle.std.specs.Prelude.{IfOk, IfErr};
-ghost use Rattle.vs_width_selects.specs.Findings.{Refuses};
+ghost use Rattle.vs_widths.specs.Findings.{Refuses};
 ghost use Rattle.vs_widths.specs.Names.{meaning_of};
 ghost use Rattle.vs_widths.specs.Expressions.{meant_selects};
 ghost use Rattle.vs_widths.specs.Aiming.{IsTarget};
 ghost use Rattle.vs_widths.specs.Lefts.{name_aimed};
 
+use crate::WidthFault;
 use crate::aiming::named_target;
 use crate::kinds::AssignmentKind;
 use crate::levels::Levels;
@@ -13,7 +14,6 @@ use crate::measuring::measured_selects;
 use std::alloc::Global;
 use vs_design::Target;
 use vs_syntax::{Expr, PartSelect};
-use vs_width_selects::WidthFault;
 
 /// A name with its selects as a target of a design (IEEE 1364-2005, clauses 6.1, 9.2 and 9.7.2).
 pub fn selected_target(

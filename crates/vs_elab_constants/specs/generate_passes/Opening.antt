@@ -1,7 +1,7 @@
 -- What the functions on what opens scopes answer.
 use Rattle.std.specs.Prelude.{ℕ, Bool, false, is_none, List, [], ◌∷◌, Option, map}
 use Rattle.vs_syntax.specs.declared.tree.ModuleItem.{ModuleItem}
-use Rattle.vs_scopes.specs.vs_width_selects.specs.declared.constants.Const.{Const}
+use Rattle.vs_scopes.specs.vs_widths.specs.declared.constants.Const.{Const}
 use Rattle.vs_scopes.specs.declared.faults.Reason.{Reason}
 use Rattle.vs_scopes.specs.declared.faults.Reason.TheVariants.{Unnamed}
 use Rattle.vs_scopes.specs.Generate.{Inner, generated, genvar_number, name_of_block}

@@ -1,8 +1,8 @@
 -- What names of a scope are bound to before the values of its parameters are known.
 use Rattle.std.specs.Prelude.{◌≡◌, ℕ, List}
 use Rattle.vs_design.specs.declared.signal.SignalKind.{SignalKind}
-use Rattle.vs_scopes.specs.vs_width_selects.specs.declared.bindings.Binding.{Binding}
-use Rattle.vs_elab_pieces.specs.Pieces.{Piece}
+use Rattle.vs_scopes.specs.vs_widths.specs.declared.bindings.Binding.{Binding}
+use Rattle.vs_scopes.specs.Pieces.{Piece}
 use Rattle.vs_widths.specs.Names.{meaning_of}
 use Rattle.vs_scopes.specs.Parameters.{Parameter}
 use Rattle.vs_scopes.specs.Ports.{ModulePort}

@@ -2,14 +2,14 @@
 use Rattle.std.specs.Prelude.{◌≡◌, ℕ, Bool, true, false, max, take, List, [], ◌++◌, Option}
 use Rattle.vs_syntax.specs.declared.tree.Connections.{Connections}
 use Rattle.vs_syntax.specs.declared.tree.Module.{Module}
-use Rattle.vs_elab_pieces.specs.Pieces.{Piece}
-use Rattle.vs_scopes.specs.vs_width_selects.specs.declared.constants.Const.{Const}
-use Rattle.vs_scopes.specs.vs_width_selects.specs.declared.faults.WidthReason.{WidthReason}
-use Rattle.vs_scopes.specs.vs_width_selects.specs.Environment.{Environment}
-use Rattle.vs_scopes.specs.vs_width_selects.specs.Findings.{stands}
-use Rattle.vs_scopes.specs.vs_width_selects.specs.Meants.{Meant}
-use Rattle.vs_scopes.specs.vs_width_selects.specs.Selects.{size_found}
-use Rattle.vs_scopes.specs.vs_width_selects.specs.Constants.{constant_finding, constant_in}
+use Rattle.vs_scopes.specs.Pieces.{Piece}
+use Rattle.vs_scopes.specs.vs_widths.specs.declared.constants.Const.{Const}
+use Rattle.vs_scopes.specs.vs_widths.specs.declared.faults.WidthReason.{WidthReason}
+use Rattle.vs_scopes.specs.vs_widths.specs.Environment.{Environment}
+use Rattle.vs_scopes.specs.vs_widths.specs.Findings.{stands}
+use Rattle.vs_scopes.specs.vs_widths.specs.Meants.{Meant}
+use Rattle.vs_scopes.specs.vs_widths.specs.Selects.{size_found}
+use Rattle.vs_scopes.specs.vs_widths.specs.Constants.{constant_finding, constant_in}
 use Rattle.vs_widths.specs.Names.{meaning_of, by_bytes}
 use Rattle.vs_scopes.specs.Parameters.{parameters_among, Given, the_size, Takes, takes_fault, constant_by, sign_found, is_override_mismatch, given_to, constant_given, own_fault, outer_fault, own_faults, outer_faults, constants_of, known_behind}
 use Rattle.vs_scopes.specs.Declarations.{Bindings, valueless_of, early_names}

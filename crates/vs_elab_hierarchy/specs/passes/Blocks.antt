@@ -1,7 +1,7 @@
 -- Scopes inside a scope, by their names.
 use Rattle.std.specs.Prelude.{◌≡◌, ℕ, suc, ℤ, ◌+◌, ◌<◌, Option, Some, None, List, [], ◌++◌, length, slice_get}
 use Rattle.vs_elab_constants.specs.vs_widths.specs.Names.{meaning_of}
-use Rattle.vs_elab_pieces.specs.Pieces.{NamedBlock}
+use Rattle.vs_scopes.specs.Pieces.{NamedBlock}
 use Rattle.vs_elab_listed.specs.vs_scopes.specs.Generate.{Inner, instance, generated}
 use Rattle.vs_elab_listed.specs.vs_scopes.specs.Generate as g
 use Rattle.vs_elab_listed.specs.vs_scopes.specs.Scopes.{Scope, inner_of}

@@ -4,12 +4,12 @@ use Rattle.std.specs.Option.{option_map}
 use Rattle.std.specs.List.{IsDistinct}
 use Rattle.std.specs.Str.{bytes_eq}
 use Rattle.vs_syntax.specs.declared.tree.Module.{Module}
-use Rattle.vs_width_selects.specs.declared.constants.Const.{Const}
-use Rattle.vs_width_selects.specs.declared.faults.WidthReason.{WidthReason}
-use Rattle.vs_width_selects.specs.declared.faults.WidthFault.{WidthFault}
-use Rattle.vs_width_selects.specs.declared.faults.WidthFault.TheVariants as width
+use Rattle.vs_widths.specs.declared.constants.Const.{Const}
+use Rattle.vs_widths.specs.declared.faults.WidthReason.{WidthReason}
+use Rattle.vs_widths.specs.declared.faults.WidthFault.{WidthFault}
+use Rattle.vs_widths.specs.declared.faults.WidthFault.TheVariants as width
 use Rattle.vs_elab_constants.specs.vs_widths.specs.Names.{meaning_of}
-use Rattle.vs_elab_pieces.specs.Pieces.{Piece, pieces_of, block_pieces}
+use Rattle.vs_scopes.specs.Pieces.{Piece, pieces_of, block_pieces}
 use Rattle.vs_elab_listed.specs.vs_scopes.specs.declared.faults.Reason.{Reason}
 use Rattle.vs_elab_listed.specs.vs_scopes.specs.declared.faults.Reason.TheVariants.{NoModule, Inside, PortMismatch, ParameterMismatch, DeclaredTwice, Width}
 use Rattle.vs_elab_listed.specs.vs_scopes.specs.declared.faults.ElabFault.{ElabFault}

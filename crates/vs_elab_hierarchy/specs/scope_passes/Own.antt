@@ -5,7 +5,7 @@ use Rattle.std.specs.Str.{bytes_eq}
 use Rattle.vs_design.specs.declared.design.ScopeKind.{ScopeKind}
 use Rattle.vs_design.specs.declared.design.Entry.{Entry}
 use Rattle.vs_widths.specs.Names.{meaning_of}
-use Rattle.vs_elab_listed.specs.vs_elab_pieces.specs.Pieces.{Piece}
+use Rattle.vs_elab_listed.specs.vs_scopes.specs.Pieces.{Piece}
 use Rattle.vs_scopes.specs.declared.faults.Reason.{Reason}
 use Rattle.vs_scopes.specs.declared.faults.Reason.TheVariants.{PortMismatch, ParameterMismatch, DeclaredTwice, Limit, Width}
 use Rattle.vs_scopes.specs.Printed.{printed_part, plainly, Path}

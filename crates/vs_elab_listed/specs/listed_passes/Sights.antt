@@ -1,6 +1,6 @@
 -- How names stand at places of the text.
 use Rattle.std.specs.Prelude.{◌≡◌, ℕ, ◌<◌, Bool, ◌&&◌, is_some, List, Option, Some, None, map, slice_get, if◌then◌else◌}
-use Rattle.vs_scopes.specs.vs_width_selects.specs.declared.bindings.Binding.{Binding}
+use Rattle.vs_scopes.specs.vs_widths.specs.declared.bindings.Binding.{Binding}
 use Rattle.vs_scopes.specs.Printed.{Path}
 use Rattle.vs_scopes.specs.Nets.{Sight, unseen, seen, coming, is_before, is_net}
 use Rattle.vs_scopes.specs.Scopes.{Scope, named, sight_in}

@@ -2,11 +2,11 @@
 use Rattle.std.specs.Prelude.{◌≡◌, ℕ, ◌<◌, Bool, true, List, ◌++◌, Some, length, map, slice_get}
 use Rattle.std.specs.List.{flat_map}
 use Rattle.vs_syntax.specs.declared.tree.ModuleItem.{ModuleItem}
-use Rattle.vs_scopes.specs.vs_width_selects.specs.declared.constants.Const.{Const}
+use Rattle.vs_scopes.specs.vs_widths.specs.declared.constants.Const.{Const}
 use Rattle.vs_elab_constants.specs.vs_widths.specs.Names.{meaning_of}
-use Rattle.vs_elab_listed.specs.vs_elab_pieces.specs.Pieces.{Piece, net}
-use Rattle.vs_elab_listed.specs.vs_elab_pieces.specs.Reads.{read_piece}
-use Rattle.vs_elab_listed.specs.vs_elab_pieces.specs.declared.scope.ScopePiece.{ScopePiece as FoundPiece}
+use Rattle.vs_elab_listed.specs.vs_scopes.specs.Pieces.{Piece, net}
+use Rattle.vs_elab_listed.specs.vs_scopes.specs.Reads.{read_piece}
+use Rattle.vs_elab_listed.specs.vs_scopes.specs.declared.scope.ScopePiece.{ScopePiece as FoundPiece}
 use Rattle.vs_scopes.specs.declared.faults.Reason.{Reason}
 use Rattle.vs_scopes.specs.declared.faults.Reason.TheVariants.{DeclaredTwice}
 use Rattle.vs_scopes.specs.Printed.{PathName, Path}

@@ -18,12 +18,12 @@ use Rattle.vs_design.specs.declared.statement.Call.{Call}
 use Rattle.vs_design.specs.declared.statement.CallKind.{CallKind}
 use Rattle.vs_scopes.specs.vs_strobe.specs.declared.fault.FormatReason.{FormatReason}
 use Rattle.vs_scopes.specs.vs_strobe.specs.Pieces.{format_fault}
-use Rattle.vs_scopes.specs.vs_width_selects.specs.declared.shape.Shape.{Shape}
-use Rattle.vs_scopes.specs.vs_width_selects.specs.declared.constants.Const.{Const}
-use Rattle.vs_scopes.specs.vs_width_selects.specs.declared.faults.WidthFault.{WidthFault}
-use Rattle.vs_scopes.specs.vs_width_selects.specs.Findings.{Finding, Has, Refuses, stands}
-use Rattle.vs_scopes.specs.vs_width_selects.specs.Meants.{Meant, own}
-use Rattle.vs_scopes.specs.vs_width_selects.specs.Constants.{constant_finding}
+use Rattle.vs_scopes.specs.vs_widths.specs.declared.shape.Shape.{Shape}
+use Rattle.vs_scopes.specs.vs_widths.specs.declared.constants.Const.{Const}
+use Rattle.vs_scopes.specs.vs_widths.specs.declared.faults.WidthFault.{WidthFault}
+use Rattle.vs_scopes.specs.vs_widths.specs.Findings.{Finding, Has, Refuses, stands}
+use Rattle.vs_scopes.specs.vs_widths.specs.Meants.{Meant, own}
+use Rattle.vs_scopes.specs.vs_widths.specs.Constants.{constant_finding}
 use Rattle.vs_widths.specs.Lefts.{Aimed}
 use Rattle.vs_widths.specs.Expressions.{meant}
 use Rattle.vs_widths.specs.Typing.{IsTypedAs}
@@ -33,11 +33,11 @@ use Rattle.vs_design.specs.declared.statement.Statement.{Statement}
 use Rattle.vs_design.specs.declared.statement.Statement.TheVariants as d
 use Rattle.vs_widths.specs.declared.kinds.AssignmentKind.TheVariants.{Procedural}
 use Rattle.vs_design.specs.WellFormed.{numbers}
-use Rattle.vs_scopes.specs.vs_width_selects.specs.Environment.{Environment}
+use Rattle.vs_scopes.specs.vs_widths.specs.Environment.{Environment}
 use Rattle.vs_scopes.specs.declared.faults.Reason.{Reason}
 use Rattle.vs_scopes.specs.declared.faults.Reason.TheVariants.{Limit, Width, Format}
 use Rattle.vs_scopes.specs.Printed.{plainly, Path, printed}
-use Rattle.vs_elab_listed.specs.vs_elab_pieces.specs.Pieces.{NamedBlock, blocks_in, blocks_among}
+use Rattle.vs_elab_listed.specs.vs_scopes.specs.Pieces.{NamedBlock, blocks_in, blocks_among}
 use Rattle.vs_elab_listed.specs.declared.opened.ListedScope.{ListedScope as FoundScope}
 use Rattle.vs_elab_statements.specs.declared.faults.StatementFault.{StatementFault}
 use Rattle.vs_elab_statements.specs.declared.faults.StatementFault.TheVariants.{Memory, Overfull, Refused, Inside}

@@ -10,9 +10,9 @@ use Rattle.vs_elab_statements.specs.vs_scopes.specs.declared.faults.Reason.TheVa
 use Rattle.vs_elab_statements.specs.vs_scopes.specs.declared.faults.ElabFault.{ElabFault}
 use Rattle.vs_elab_statements.specs.vs_scopes.specs.declared.faults.ElabFault.TheVariants.{Memory, At}
 use Rattle.vs_syntax.specs.declared.tree.Expr.{Expr}
-use Rattle.vs_elab_hierarchy.specs.vs_elab_pieces.specs.Pieces.{NamedBlock, Piece, blocks_of, plain}
-use Rattle.vs_elab_hierarchy.specs.vs_elab_pieces.specs.Reads.{read_piece}
-use Rattle.vs_elab_hierarchy.specs.vs_elab_pieces.specs.declared.scope.ScopePiece.{ScopePiece as FoundPiece}
+use Rattle.vs_elab_hierarchy.specs.vs_scopes.specs.Pieces.{NamedBlock, Piece, blocks_of, plain}
+use Rattle.vs_elab_hierarchy.specs.vs_scopes.specs.Reads.{read_piece}
+use Rattle.vs_elab_hierarchy.specs.vs_scopes.specs.declared.scope.ScopePiece.{ScopePiece as FoundPiece}
 use Rattle.vs_elab_statements.specs.vs_scopes.specs.Ports.{ModulePort}
 use Rattle.vs_elab_statements.specs.vs_scopes.specs.Printed.{Path}
 use Rattle.vs_elab_statements.specs.vs_scopes.specs.Scopes.{Scope, environment, is_wrong_end, has_wrong_end}

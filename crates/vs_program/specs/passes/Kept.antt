@@ -3,8 +3,8 @@ use Rattle.std.specs.Prelude.{ℕ, ◌≡◌, ◌≤◌, ◌⊎◌, Bool, true, 
 use Rattle.std.specs.Io.KnownBytes.{Keeps, append_known}
 use Rattle.vs_certified.specs.Certified.{is_before_run}
 use Rattle.vs_certified.specs.declared.fault.CertifiedFault.{CertifiedFault}
-use Rattle.vs_targets.specs.Targets.{Fails, IsMeant}
-use Rattle.vs_targets.specs.declared.target.TargetFault.{TargetFault}
+use Rattle.vs_program_words.specs.Targets.{Fails, IsMeant}
+use Rattle.vs_program_words.specs.declared.target.TargetFault.{TargetFault}
 use Rattle.vs_program.specs.Statuses.{proposal_status, refusal_status, target_status}
 use Rattle.vs_program.specs.Texts.{ReadsBack, proposal_line}
 use Rattle.vs_program.specs.passes.Proposing.{WroteLine}

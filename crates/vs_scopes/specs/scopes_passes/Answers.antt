@@ -1,7 +1,7 @@
 -- What a pass answers.
 use Rattle.std.specs.Prelude.{◌≡◌, ℕ, Bool, true, false, List, ◌++◌, Result, Ok, Err, MatchResult}
-use Rattle.vs_width_selects.specs.declared.faults.WidthFault.{WidthFault}
-use Rattle.vs_width_selects.specs.declared.faults.WidthFault.TheVariants as width
+use Rattle.vs_widths.specs.declared.faults.WidthFault.{WidthFault}
+use Rattle.vs_widths.specs.declared.faults.WidthFault.TheVariants as width
 use Rattle.vs_scopes.specs.declared.faults.Reason.{Reason}
 use Rattle.vs_scopes.specs.declared.faults.Reason.TheVariants.{Width}
 use Rattle.vs_scopes.specs.declared.faults.BodyFault.{BodyFault}

@@ -7,7 +7,7 @@ use Rattle.std.specs.declared.alloc.Global.{Global}
 use Rattle.vs_syntax.specs.declared.tree.Form.{Form}
 use Rattle.vs_syntax.specs.declared.tree.Range.{Range}
 use Rattle.vs_syntax.specs.declared.tree.PortForm.{PortForm}
-use Rattle.vs_scopes.specs.vs_elab_pieces.specs.Pieces.{Piece}
+use Rattle.vs_scopes.specs.Pieces.{Piece}
 use Rattle.vs_scopes.specs.vs_widths.specs.Names.{meaning_of}
 use Rattle.vs_scopes.specs.declared.declared.KindSaid.{KindSaid as FoundSaid}
 use Rattle.vs_scopes.specs.Ports.{is_among, KindSaid, port_said, kind_said}

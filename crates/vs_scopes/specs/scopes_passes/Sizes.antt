@@ -2,8 +2,8 @@
 use Rattle.std.specs.Prelude.{◌≡◌, ℕ, ◌+◌, ◌<◌, Bool, false, Some}
 use Rattle.vs_syntax.specs.declared.tree.Range.{Range}
 use Rattle.vs_design.specs.declared.signal.Bounds.{Bounds}
-use Rattle.vs_width_selects.specs.Environment.{Environment}
-use Rattle.vs_width_selects.specs.declared.faults.WidthReason.{WidthReason}
+use Rattle.vs_widths.specs.Environment.{Environment}
+use Rattle.vs_widths.specs.declared.faults.WidthReason.{WidthReason}
 use Rattle.vs_scopes.specs.declared.faults.Reason.{Reason}
 use Rattle.vs_scopes.specs.declared.faults.Reason.TheVariants.{Width}
 use Rattle.vs_scopes.specs.declared.sizes.Size.{Size}

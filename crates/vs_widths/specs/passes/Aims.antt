@@ -9,12 +9,12 @@ use Rattle.vs_design.specs.declared.statement.Target.{Target}
 use Rattle.vs_design.specs.Stores.{Store}
 use Rattle.vs_design.specs.Uses.{aim_range, aim_reads}
 use Rattle.vs_design.specs.WellFormed.{aim_width}
-use Rattle.vs_width_selects.specs.vs_eval.specs.Targets.{part_at}
-use Rattle.vs_width_selects.specs.declared.bindings.Binding.{Binding}
-use Rattle.vs_width_selects.specs.declared.faults.WidthFault.{WidthFault}
-use Rattle.vs_width_selects.specs.Environment.{Environment}
-use Rattle.vs_width_selects.specs.Findings.{Has, unsigned, Refuses}
-use Rattle.vs_width_selects.specs.Selects.{Select, Named, named, named_range}
+use Rattle.vs_widths.specs.vs_eval.specs.Targets.{part_at}
+use Rattle.vs_widths.specs.declared.bindings.Binding.{Binding}
+use Rattle.vs_widths.specs.declared.faults.WidthFault.{WidthFault}
+use Rattle.vs_widths.specs.Environment.{Environment}
+use Rattle.vs_widths.specs.Findings.{Has, unsigned, Refuses}
+use Rattle.vs_widths.specs.Selects.{Select, Named, named, named_range}
 use Rattle.vs_widths.specs.Typing.{HoldsOfSignals}
 use Rattle.vs_widths.specs.declared.kinds.AssignmentKind.{AssignmentKind}
 use Rattle.vs_widths.specs.declared.kinds.AssignmentKind.TheVariants.{Procedural, Continuous, Event}

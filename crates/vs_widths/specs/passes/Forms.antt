@@ -9,19 +9,19 @@ use Rattle.vs_syntax.specs.declared.tree.Expr.{Expr}
 use Rattle.vs_design.specs.declared.expression.Link.{Link}
 use Rattle.vs_design.specs.Stores.{Store}
 use Rattle.vs_design.specs.WellFormed.{linked_size, at_most_64}
-use Rattle.vs_width_selects.specs.vs_eval.specs.Values.{left_side, linked}
-use Rattle.vs_width_selects.specs.declared.shape.Shape.{Shape}
-use Rattle.vs_width_selects.specs.declared.forms.Sizable.{Sizable}
-use Rattle.vs_width_selects.specs.declared.forms.Measured.{Measured}
-use Rattle.vs_width_selects.specs.Operations.{operated}
-use Rattle.vs_width_selects.specs.Senses.{sense, open_link}
-use Rattle.vs_width_selects.specs.declared.faults.WidthFault.{WidthFault}
-use Rattle.vs_width_selects.specs.declared.faults.WidthFault.TheVariants.{Memory}
-use Rattle.vs_width_selects.specs.Environment.{Environment}
-use Rattle.vs_width_selects.specs.Findings.{Has, unsigned, Refuses}
-use Rattle.vs_width_selects.specs.Layers.{other}
-use Rattle.vs_width_selects.specs.Meants.{Meant, own}
-use Rattle.vs_width_selects.specs.passes.Measures.{IsFlexible, IsOwnPart, IsClosedPart}
+use Rattle.vs_widths.specs.vs_eval.specs.Values.{left_side, linked}
+use Rattle.vs_widths.specs.declared.shape.Shape.{Shape}
+use Rattle.vs_widths.specs.declared.forms.Sizable.{Sizable}
+use Rattle.vs_widths.specs.declared.forms.Measured.{Measured}
+use Rattle.vs_widths.specs.Operations.{operated}
+use Rattle.vs_widths.specs.Senses.{sense, open_link}
+use Rattle.vs_widths.specs.declared.faults.WidthFault.{WidthFault}
+use Rattle.vs_widths.specs.declared.faults.WidthFault.TheVariants.{Memory}
+use Rattle.vs_widths.specs.Environment.{Environment}
+use Rattle.vs_widths.specs.Findings.{Has, unsigned, Refuses}
+use Rattle.vs_widths.specs.Layers.{other}
+use Rattle.vs_widths.specs.Meants.{Meant, own}
+use Rattle.vs_widths.specs.select_passes.Measures.{IsFlexible, IsOwnPart, IsClosedPart}
 use Rattle.vs_widths.specs.Expressions.{meant, concat_meant, joined_value}
 
 -- whether the last of the operators gives one bit

@@ -4,11 +4,11 @@ use Rattle.std.specs.List.{All, list_any}
 use Rattle.std.specs.declared.vec.Vec.{Vec}
 use Rattle.std.specs.declared.alloc.Global.{Global}
 use Rattle.vs_syntax.specs.declared.tree.PartSelect.{PartSelect}
-use Rattle.vs_width_selects.specs.declared.forms.Measured.{Measured}
-use Rattle.vs_width_selects.specs.declared.faults.WidthFault.{WidthFault}
-use Rattle.vs_width_selects.specs.Findings.{Lacks, Refuses}
-use Rattle.vs_width_selects.specs.Selects.{Select, stands_in}
-use Rattle.vs_width_selects.specs.passes.Places.{selects_meaning, IsFlexibleSelect}
+use Rattle.vs_widths.specs.declared.forms.Measured.{Measured}
+use Rattle.vs_widths.specs.declared.faults.WidthFault.{WidthFault}
+use Rattle.vs_widths.specs.Findings.{Lacks, Refuses}
+use Rattle.vs_widths.specs.Selects.{Select, stands_in}
+use Rattle.vs_widths.specs.select_passes.Places.{selects_meaning, IsFlexibleSelect}
 
 -- measured selects are those that mean this
 pub record AreMeasured (ss : List Select) (xs : List (Measured × Option (PartSelect × Measured))) : Type 0 where

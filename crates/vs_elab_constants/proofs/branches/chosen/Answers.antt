@@ -1,6 +1,6 @@
 use Rattle.std.proofs.Common.{refl}
 use Rattle.vs_widths.specs.Names.{meaning_of}
-use Rattle.vs_elab_pieces.specs.Pieces.{unboxed}
+use Rattle.vs_scopes.specs.Pieces.{unboxed}
 use Rattle.vs_scopes.specs.Generate.{branch_taken, other_taken, chosen}
 use Rattle.vs_elab_constants.proofs.BranchesLemmas.{first_taken, other_chosen}
 use Rattle.vs_elab_constants.proofs.branches.chosen.Goals as goal

@@ -1,6 +1,6 @@
 use Rattle.std.proofs.Common.{◌≡◌, ◌≤◌, true, length, ap, sym, subst, ◌∙◌, arith}
 use Rattle.vs_widths.specs.Names.{meaning_of}
-use Rattle.vs_elab_pieces.specs.Reads.{read_piece}
+use Rattle.vs_scopes.specs.Reads.{read_piece}
 use Rattle.vs_scopes.specs.Generate.{Turns, turns_of, turn_number, piece_turns}
 use Rattle.vs_scopes.specs.scopes_passes.Answers.{Refuses}
 use Rattle.vs_elab_constants.specs.generate_passes.Turns.{turn_fault}

@@ -1,8 +1,8 @@
 use Rattle.std.proofs.Common.{ℕ, List, map, arith}
 use Rattle.std.specs.List.{flat_map}
-use Rattle.vs_scopes.specs.vs_width_selects.specs.declared.bindings.Binding.TheVariants.{Other}
-use Rattle.vs_elab_pieces.specs.declared.scope.ScopePiece.{ScopePiece as FoundPiece}
-use Rattle.vs_elab_pieces.specs.Reads.{read_piece}
+use Rattle.vs_scopes.specs.vs_widths.specs.declared.bindings.Binding.TheVariants.{Other}
+use Rattle.vs_scopes.specs.declared.scope.ScopePiece.{ScopePiece as FoundPiece}
+use Rattle.vs_scopes.specs.Reads.{read_piece}
 use Rattle.vs_scopes.specs.Declarations.{inner_names_in, bound_to}
 use Rattle.vs_scopes.proofs.DeclaredLemmas.{adds_step}
 use Rattle.vs_elab_constants.proofs.EarlyLemmas.{maps_read}

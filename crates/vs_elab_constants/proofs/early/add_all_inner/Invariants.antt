@@ -1,7 +1,7 @@
 use Rattle.std.proofs.Common.{map, take}
 use Rattle.std.specs.List.{flat_map}
-use Rattle.vs_scopes.specs.vs_width_selects.specs.declared.bindings.Binding.TheVariants.{Other}
-use Rattle.vs_elab_pieces.specs.Reads.{read_piece}
+use Rattle.vs_scopes.specs.vs_widths.specs.declared.bindings.Binding.TheVariants.{Other}
+use Rattle.vs_scopes.specs.Reads.{read_piece}
 use Rattle.vs_scopes.specs.Declarations.{inner_names_in, bound_to}
 use Rattle.vs_scopes.specs.scopes_passes.Declared.{AddsNames}
 use Rattle.vs_elab_constants.proofs.early.add_all_inner.Given as goal

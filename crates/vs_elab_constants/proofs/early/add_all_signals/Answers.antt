@@ -1,7 +1,7 @@
 use Rattle.std.proofs.Common.{List, None, map, arith}
 use Rattle.std.specs.List.{flat_map}
-use Rattle.vs_elab_pieces.specs.declared.scope.ScopePiece.{ScopePiece as FoundPiece}
-use Rattle.vs_elab_pieces.specs.Reads.{read_piece}
+use Rattle.vs_scopes.specs.declared.scope.ScopePiece.{ScopePiece as FoundPiece}
+use Rattle.vs_scopes.specs.Reads.{read_piece}
 use Rattle.vs_scopes.specs.Declarations.{DeclaredName, declared_in, signal_names}
 use Rattle.vs_elab_constants.specs.passes.Early.{bound_by}
 use Rattle.vs_scopes.proofs.DeclaredLemmas.{adds_step}

@@ -1,6 +1,6 @@
 use Rattle.std.proofs.Common.{None, map, take}
 use Rattle.std.specs.List.{flat_map}
-use Rattle.vs_elab_pieces.specs.Reads.{read_piece}
+use Rattle.vs_scopes.specs.Reads.{read_piece}
 use Rattle.vs_scopes.specs.Declarations.{declared_in, signal_names}
 use Rattle.vs_scopes.specs.scopes_passes.Declared.{AddsNames}
 use Rattle.vs_elab_constants.specs.passes.Early.{bound_by}

@@ -1,8 +1,8 @@
 use Rattle.std.proofs.Common.{ℕ, List, [], ◌∷◌, map, arith}
-use Rattle.vs_elab_pieces.specs.Pieces.{NamedBlock}
-use Rattle.vs_elab_pieces.specs.declared.blocks.NamedBlock.{NamedBlock as FoundBlock}
-use Rattle.vs_elab_pieces.specs.Reads.{read_block}
-use Rattle.vs_scopes.specs.vs_width_selects.specs.declared.bindings.Binding.TheVariants.{Other}
+use Rattle.vs_scopes.specs.Pieces.{NamedBlock}
+use Rattle.vs_scopes.specs.declared.blocks.NamedBlock.{NamedBlock as FoundBlock}
+use Rattle.vs_scopes.specs.Reads.{read_block}
+use Rattle.vs_scopes.specs.vs_widths.specs.declared.bindings.Binding.TheVariants.{Other}
 use Rattle.vs_scopes.specs.Declarations.{bound_to}
 use Rattle.vs_scopes.proofs.PassLemmas.{maps_three}
 use Rattle.vs_scopes.proofs.DeclaredLemmas.{adds_step}

@@ -1,7 +1,7 @@
 use Rattle.std.proofs.Common.{map, take}
-use Rattle.vs_elab_pieces.specs.Pieces.{NamedBlock}
-use Rattle.vs_elab_pieces.specs.Reads.{read_block}
-use Rattle.vs_scopes.specs.vs_width_selects.specs.declared.bindings.Binding.TheVariants.{Other}
+use Rattle.vs_scopes.specs.Pieces.{NamedBlock}
+use Rattle.vs_scopes.specs.Reads.{read_block}
+use Rattle.vs_scopes.specs.vs_widths.specs.declared.bindings.Binding.TheVariants.{Other}
 use Rattle.vs_scopes.specs.Declarations.{bound_to}
 use Rattle.vs_scopes.specs.scopes_passes.Declared.{AddsNames}
 use Rattle.vs_elab_constants.proofs.early.add_blocks.Given as goal

@@ -1,7 +1,7 @@
 use Rattle.std.proofs.Common.{ℕ, List, [], ◌∷◌, map, arith}
 use Rattle.std.specs.declared.vec.Vec.{Vec}
 use Rattle.std.specs.declared.alloc.Global.{Global}
-use Rattle.vs_scopes.specs.vs_width_selects.specs.declared.bindings.Binding.TheVariants.{Genvar}
+use Rattle.vs_scopes.specs.vs_widths.specs.declared.bindings.Binding.TheVariants.{Genvar}
 use Rattle.vs_scopes.specs.Declarations.{bound_to}
 use Rattle.vs_scopes.proofs.PassLemmas.{maps_two}
 use Rattle.vs_scopes.proofs.DeclaredLemmas.{adds_step}

@@ -1,7 +1,7 @@
 use Rattle.std.proofs.Common.{ℕ, map, take}
 use Rattle.std.specs.declared.vec.Vec.{Vec}
 use Rattle.std.specs.declared.alloc.Global.{Global}
-use Rattle.vs_scopes.specs.vs_width_selects.specs.declared.bindings.Binding.TheVariants.{Genvar}
+use Rattle.vs_scopes.specs.vs_widths.specs.declared.bindings.Binding.TheVariants.{Genvar}
 use Rattle.vs_scopes.specs.Declarations.{bound_to}
 use Rattle.vs_scopes.specs.scopes_passes.Declared.{AddsNames}
 use Rattle.vs_elab_constants.proofs.early.add_genvar_names.Given as goal

@@ -1,6 +1,6 @@
 use Rattle.std.proofs.Common.{ℕ, List, [], ◌∷◌, map, arith}
 use Rattle.vs_syntax.specs.declared.tree.Instance.{Instance}
-use Rattle.vs_scopes.specs.vs_width_selects.specs.declared.bindings.Binding.TheVariants.{Other}
+use Rattle.vs_scopes.specs.vs_widths.specs.declared.bindings.Binding.TheVariants.{Other}
 use Rattle.vs_scopes.specs.Declarations.{Use, use_of, bound_to}
 use Rattle.vs_scopes.proofs.PassLemmas.{maps_three}
 use Rattle.vs_scopes.proofs.DeclaredLemmas.{adds_step, adds_all}

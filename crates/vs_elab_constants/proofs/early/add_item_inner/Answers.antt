@@ -1,5 +1,5 @@
 use Rattle.std.proofs.lemmas.Result.{on_ok_weaker}
-use Rattle.vs_scopes.specs.vs_width_selects.specs.declared.bindings.Binding.TheVariants.{Other}
+use Rattle.vs_scopes.specs.vs_widths.specs.declared.bindings.Binding.TheVariants.{Other}
 use Rattle.vs_elab_constants.proofs.EarlyLemmas.{adds_both}
 use Rattle.vs_elab_constants.proofs.early.add_item_inner.Goals as goal
 

@@ -1,5 +1,5 @@
 use Rattle.std.proofs.Common.{List, [], ◌∷◌, map, arith}
-use Rattle.vs_scopes.specs.vs_width_selects.specs.declared.bindings.Binding.TheVariants.{Pending}
+use Rattle.vs_scopes.specs.vs_widths.specs.declared.bindings.Binding.TheVariants.{Pending}
 use Rattle.vs_scopes.specs.declared.parameters.Parameter.{Parameter as FoundParameter}
 use Rattle.vs_scopes.specs.Parameters.{Parameter}
 use Rattle.vs_scopes.specs.Declarations.{pending_names}

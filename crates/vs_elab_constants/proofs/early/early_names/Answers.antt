@@ -1,5 +1,5 @@
 use Rattle.std.proofs.Common.{map}
-use Rattle.vs_elab_pieces.specs.Reads.{read_piece}
+use Rattle.vs_scopes.specs.Reads.{read_piece}
 use Rattle.vs_scopes.specs.scopes_passes.Parts.{read_port, read_parameter}
 use Rattle.vs_elab_constants.specs.passes.Early.{bound_by}
 use Rattle.vs_elab_constants.proofs.EarlyLemmas.{early_is}

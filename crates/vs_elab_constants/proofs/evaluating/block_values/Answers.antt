@@ -1,7 +1,7 @@
 use Rattle.std.proofs.Common.{◌≡◌, ◌∙◌, ◌++◌, [], ap, subst, map, false}
 use Rattle.std.proofs.Math.Path.{fun_ext}
-use Rattle.vs_elab_pieces.specs.Reads.{read_piece}
-use Rattle.vs_scopes.specs.vs_width_selects.specs.Environment.{Environment}
+use Rattle.vs_scopes.specs.Reads.{read_piece}
+use Rattle.vs_scopes.specs.vs_widths.specs.Environment.{Environment}
 use Rattle.vs_widths.specs.Names.{meaning_of, nested_names, by_bytes}
 use Rattle.vs_scopes.specs.Parameters.{given_from, outer_faults, own_faults}
 use Rattle.vs_scopes.specs.Declarations.{Bindings, valueless_of}

@@ -1,4 +1,4 @@
-use Rattle.vs_scopes.specs.vs_width_selects.specs.Constants.{constant_finding}
+use Rattle.vs_scopes.specs.vs_widths.specs.Constants.{constant_finding}
 use Rattle.vs_widths.specs.Names.{meaning_of}
 use Rattle.vs_widths.specs.Expressions.{meant}
 use Rattle.std.proofs.Common.{ap}

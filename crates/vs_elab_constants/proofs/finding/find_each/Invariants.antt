@@ -1,5 +1,5 @@
 use Rattle.std.proofs.Common.{◌≡◌, length, map}
-use Rattle.vs_scopes.specs.vs_width_selects.specs.Environment.{Environment}
+use Rattle.vs_scopes.specs.vs_widths.specs.Environment.{Environment}
 use Rattle.vs_widths.specs.Names.{meaning_of, nested_names}
 use Rattle.vs_scopes.specs.scopes_passes.Parts.{read_given}
 use Rattle.vs_elab_constants.specs.passes.Finding.{AreFound}

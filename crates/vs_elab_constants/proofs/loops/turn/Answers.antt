@@ -1,6 +1,6 @@
 use Rattle.std.proofs.Common.{◌≡◌, false, Some, None, ap, subst, ◌∙◌}
 use Rattle.std.proofs.lemmas.Result.{err_from_is_err_and}
-use Rattle.vs_scopes.specs.vs_width_selects.specs.Environment.{Environment}
+use Rattle.vs_scopes.specs.vs_widths.specs.Environment.{Environment}
 use Rattle.vs_widths.specs.Names.{meaning_of}
 use Rattle.vs_scopes.specs.declared.faults.Reason.{Reason}
 use Rattle.vs_scopes.specs.scopes_passes.Answers.{Refuses}

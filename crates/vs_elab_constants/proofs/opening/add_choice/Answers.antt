@@ -2,8 +2,8 @@ use Rattle.std.proofs.Common.{ap, ◌∙◌}
 use Rattle.std.proofs.lemmas.List.{map-append}
 use Rattle.std.proofs.lemmas.Result.{err_from_is_err_and}
 use Rattle.vs_widths.specs.Names.{meaning_of}
-use Rattle.vs_elab_pieces.specs.Pieces.{unboxed}
-use Rattle.vs_elab_pieces.specs.Reads.{read_content, referred}
+use Rattle.vs_scopes.specs.Pieces.{unboxed}
+use Rattle.vs_scopes.specs.Reads.{read_content, referred}
 use Rattle.vs_scopes.specs.Generate.{takes, chosen}
 use Rattle.vs_scopes.specs.scopes_passes.Names.{read_part}
 use Rattle.vs_elab_constants.specs.Reads.{read_inner, read_inners}

@@ -1,9 +1,9 @@
 use Rattle.std.proofs.Common.{ℕ, List, ◌++◌, ap, ap₂, sym, ◌∙◌, arith}
 use Rattle.std.proofs.lemmas.Result.{err_from_is_err_and}
-use Rattle.vs_scopes.specs.vs_width_selects.specs.declared.constants.Const.{Const}
+use Rattle.vs_scopes.specs.vs_widths.specs.declared.constants.Const.{Const}
 use Rattle.vs_widths.specs.Names.{meaning_of}
-use Rattle.vs_elab_pieces.specs.Pieces.{content_of}
-use Rattle.vs_elab_pieces.specs.Reads.{read_content, referred}
+use Rattle.vs_scopes.specs.Pieces.{content_of}
+use Rattle.vs_scopes.specs.Reads.{read_content, referred}
 use Rattle.vs_scopes.specs.Generate.{turns_of}
 use Rattle.vs_scopes.specs.scopes_passes.Names.{read_part}
 use Rattle.vs_elab_constants.specs.Reads.{read_inners}

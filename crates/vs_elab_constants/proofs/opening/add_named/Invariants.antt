@@ -1,5 +1,5 @@
 use Rattle.std.proofs.Common.{◌≡◌, ◌++◌, map, drop}
-use Rattle.vs_elab_pieces.specs.Reads.{read_block}
+use Rattle.vs_scopes.specs.Reads.{read_block}
 use Rattle.vs_scopes.specs.Generate.{named}
 use Rattle.vs_elab_constants.specs.Reads.{read_inners}
 use Rattle.vs_elab_constants.proofs.opening.add_named.Given as goal

@@ -1,8 +1,8 @@
 use Rattle.std.proofs.Common.{◌≡◌, ◌++◌, refl, ap, sym, subst, ◌∙◌}
 use Rattle.std.proofs.lemmas.List.{map-append}
 use Rattle.vs_widths.specs.Names.{meaning_of}
-use Rattle.vs_elab_pieces.specs.Pieces.{Piece, unboxed, loop, choice}
-use Rattle.vs_elab_pieces.specs.Reads.{read_piece}
+use Rattle.vs_scopes.specs.Pieces.{Piece, unboxed, loop, choice}
+use Rattle.vs_scopes.specs.Reads.{read_piece}
 use Rattle.vs_scopes.specs.Generate.{construct_fault, inner_in}
 use Rattle.vs_scopes.specs.scopes_passes.Answers.{Elaborates}
 use Rattle.vs_elab_constants.specs.Reads.{read_inner, read_inners}

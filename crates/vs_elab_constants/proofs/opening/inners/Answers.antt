@@ -1,7 +1,7 @@
 use Rattle.std.proofs.Common.{◌≡◌, map, arith}
 use Rattle.std.proofs.lemmas.Result.{err_from_is_err_and}
 use Rattle.vs_widths.specs.Names.{meaning_of}
-use Rattle.vs_elab_pieces.specs.Reads.{read_piece}
+use Rattle.vs_scopes.specs.Reads.{read_piece}
 use Rattle.vs_scopes.specs.Generate.{behind_piece, constructs_fault, inner_from}
 use Rattle.vs_elab_constants.specs.Reads.{read_inners}
 use Rattle.vs_elab_constants.proofs.OpeningLemmas.{construct_next, plain_next, fault_on, inner_on, fault_at}

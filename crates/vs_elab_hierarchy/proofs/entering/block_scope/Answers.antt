@@ -1,8 +1,8 @@
 use Rattle.std.proofs.Common.{◌≡◌, ◌<◌, length, map, slice_index_or, refl, subst, arith}
 use Rattle.std.proofs.lemmas.Option.{slice_get-get_or}
-use Rattle.vs_width_selects.specs.Findings.{Lacks, Refuses}
+use Rattle.vs_widths.specs.Findings.{Lacks, Refuses}
 use Rattle.vs_elab_constants.specs.vs_widths.specs.Names.{by_bytes, nested_names}
-use Rattle.vs_elab_pieces.specs.Reads.{read_piece}
+use Rattle.vs_scopes.specs.Reads.{read_piece}
 use Rattle.vs_elab_listed.specs.vs_elab_constants.specs.passes.Values.{AreBlockValues, block_faults}
 use Rattle.vs_elab_listed.specs.vs_scopes.specs.Scopes.{block_scope, block_text, sight_in}
 use Rattle.vs_elab_listed.specs.nets_passes.Nets.{AreMembers}

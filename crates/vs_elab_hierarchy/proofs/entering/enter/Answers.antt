@@ -1,5 +1,5 @@
 use Rattle.std.proofs.Common.{MatchResult, map, sym, subst}
-use Rattle.vs_elab_pieces.specs.Reads.{read_piece, read_block}
+use Rattle.vs_scopes.specs.Reads.{read_piece, read_block}
 use Rattle.vs_elab_constants.specs.Reads.{read_inner}
 use Rattle.vs_elab_listed.specs.vs_scopes.specs.scopes_passes.Answers.{Told}
 use Rattle.vs_elab_hierarchy.specs.passes.Entering.{before_next, Enters, EntersNot}

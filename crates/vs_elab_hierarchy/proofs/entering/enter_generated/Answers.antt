@@ -1,6 +1,6 @@
 use Rattle.std.proofs.Common.{[], map, ap, sym, ◌∙◌}
 use Rattle.vs_elab_constants.specs.vs_widths.specs.Names.{by_bytes}
-use Rattle.vs_elab_pieces.specs.Reads.{read_piece}
+use Rattle.vs_scopes.specs.Reads.{read_piece}
 use Rattle.vs_elab_constants.specs.Reads.{read_constant}
 use Rattle.vs_elab_hierarchy.specs.passes.Entering.{before_next}
 use Rattle.vs_elab_hierarchy.proofs.EnteringLemmas.{generated_entered}

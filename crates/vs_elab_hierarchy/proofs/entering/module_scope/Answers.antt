@@ -1,7 +1,7 @@
 use Rattle.std.proofs.Common.{◌≡◌, ◌+◌, ◌<◌, ◌≤◌, ◌∷◌, suc, Some, None, length, map, slice_get, slice_index_or, refl, ap, subst, ◌∙◌, arith}
 use Rattle.std.proofs.lemmas.Option.{slice_get-get_or}
-use Rattle.vs_elab_pieces.specs.Reads.{read_piece}
-use Rattle.vs_elab_pieces.specs.Pieces.{pieces_of}
+use Rattle.vs_scopes.specs.Reads.{read_piece}
+use Rattle.vs_scopes.specs.Pieces.{pieces_of}
 use Rattle.vs_elab_constants.specs.Reads.{read_use}
 use Rattle.vs_elab_listed.specs.vs_scopes.specs.Ports.{ports_of, listed_ports}
 use Rattle.vs_elab_listed.specs.vs_scopes.specs.Scopes.{instance_scope}

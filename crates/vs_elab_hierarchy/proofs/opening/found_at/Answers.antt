@@ -1,7 +1,7 @@
 use Rattle.std.proofs.Common.{◌≡◌, ◌++◌, Some, map, ap, ◌∙◌}
 use Rattle.std.specs.List.{slice_get}
 use Rattle.vs_elab_constants.specs.vs_widths.specs.Names.{meaning_of, nested_names}
-use Rattle.vs_elab_listed.specs.vs_elab_pieces.specs.Reads.{read_piece}
+use Rattle.vs_elab_listed.specs.vs_scopes.specs.Reads.{read_piece}
 use Rattle.vs_elab_listed.specs.vs_elab_constants.specs.Reads.{read_inner}
 use Rattle.vs_scopes.specs.Declarations.{Bindings}
 use Rattle.vs_scopes.specs.Scopes.{environment, text_names}

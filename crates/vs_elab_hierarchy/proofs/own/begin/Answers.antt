@@ -2,8 +2,8 @@ use Rattle.std.proofs.Common.{◌≡◌, [], ◌∷◌, ◌++◌, length, map, r
 use Rattle.std.specs.List.{flat_map}
 use Rattle.std.proofs.lemmas.Result.{err_from_is_err_and}
 use Rattle.vs_design.specs.declared.design.Entry.TheVariants.{Enter}
-use Rattle.vs_scopes.specs.vs_width_selects.specs.declared.bindings.Binding.TheVariants as b
-use Rattle.vs_elab_listed.specs.vs_elab_pieces.specs.Reads.{read_piece}
+use Rattle.vs_scopes.specs.vs_widths.specs.declared.bindings.Binding.TheVariants as b
+use Rattle.vs_elab_listed.specs.vs_scopes.specs.Reads.{read_piece}
 use Rattle.vs_scopes.specs.Printed.{printed_part}
 use Rattle.vs_scopes.specs.Declarations.{bound_to, genvars_in, inner_names_among}
 use Rattle.vs_scopes.specs.scopes_passes.Answers.{borrowed}

@@ -1,6 +1,6 @@
 use Rattle.std.proofs.Common.{[], Result, Ok, Err, map, ap, ◌∙◌, ◌≡◌}
 use Rattle.std.specs.Prelude.{MatchResult}
-use Rattle.vs_elab_listed.specs.vs_elab_pieces.specs.Reads.{read_piece}
+use Rattle.vs_elab_listed.specs.vs_scopes.specs.Reads.{read_piece}
 use Rattle.vs_scopes.specs.declared.faults.ElabFault.{ElabFault}
 use Rattle.vs_scopes.specs.Scopes.{Scope, late_nets}
 use Rattle.vs_scopes.specs.scopes_passes.Answers.{Told}

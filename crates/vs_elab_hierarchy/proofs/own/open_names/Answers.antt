@@ -1,6 +1,6 @@
 use Rattle.std.proofs.Common.{◌≡◌, map, ap, subst, ◌∙◌}
 use Rattle.std.proofs.lemmas.Result.{err_from_is_err_and}
-use Rattle.vs_elab_listed.specs.vs_elab_pieces.specs.Reads.{read_piece}
+use Rattle.vs_elab_listed.specs.vs_scopes.specs.Reads.{read_piece}
 use Rattle.vs_scopes.specs.scopes_passes.Answers.{Told}
 use Rattle.vs_scopes.specs.scopes_passes.Names.{read_path}
 use Rattle.vs_scopes.specs.scopes_passes.Parts.{read_port}

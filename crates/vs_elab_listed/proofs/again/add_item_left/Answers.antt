@@ -1,5 +1,5 @@
 use Rattle.std.proofs.Common.{◌≡◌, [], rules}
-use Rattle.vs_elab_pieces.specs.Pieces.{plain}
+use Rattle.vs_scopes.specs.Pieces.{plain}
 use Rattle.vs_scopes.specs.Ports.{port_names_in}
 use Rattle.vs_scopes.specs.scopes_passes.Answers.{borrowed}
 use Rattle.vs_elab_listed.proofs.CountingLemmas.{leaves_nothing}

@@ -1,6 +1,6 @@
 use Rattle.std.proofs.Common.{ap}
-use Rattle.vs_elab_pieces.specs.declared.scope.ScopePiece.{ScopePiece as FoundPiece}
-use Rattle.vs_elab_pieces.specs.Reads.{read_piece}
+use Rattle.vs_scopes.specs.declared.scope.ScopePiece.{ScopePiece as FoundPiece}
+use Rattle.vs_scopes.specs.Reads.{read_piece}
 use Rattle.vs_scopes.specs.Ports.{port_names_in}
 use Rattle.vs_scopes.specs.scopes_passes.Answers.{borrowed}
 use Rattle.vs_elab_listed.proofs.CountingLemmas.{leaves_nothing}

@@ -1,5 +1,5 @@
 use Rattle.std.proofs.Common.{[], map, take}
-use Rattle.vs_elab_pieces.specs.Reads.{read_piece}
+use Rattle.vs_scopes.specs.Reads.{read_piece}
 use Rattle.vs_scopes.specs.Ports.{is_of_items, names_where, port_names_among}
 use Rattle.vs_scopes.specs.scopes_passes.Answers.{borrowed}
 use Rattle.vs_scopes.specs.scopes_passes.Parts.{read_port}

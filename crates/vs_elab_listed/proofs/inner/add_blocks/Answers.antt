@@ -1,7 +1,7 @@
 use Rattle.std.proofs.Common.{refl, ap, map, arith}
 use Rattle.std.proofs.lemmas.List.{drop_all}
-use Rattle.vs_elab_listed.specs.vs_elab_pieces.specs.Pieces.{NamedBlock}
-use Rattle.vs_elab_listed.specs.vs_elab_pieces.specs.Reads.{read_block}
+use Rattle.vs_elab_listed.specs.vs_scopes.specs.Pieces.{NamedBlock}
+use Rattle.vs_elab_listed.specs.vs_scopes.specs.Reads.{read_block}
 use Rattle.vs_scopes.proofs.PassLemmas.{moved, ended}
 use Rattle.vs_design.specs.vs_logic4.proofs.Basics.{front_of as drop_at}
 use Rattle.vs_elab_listed.proofs.inner.add_blocks.Goals as goal

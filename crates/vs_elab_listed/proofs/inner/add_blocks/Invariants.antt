@@ -1,6 +1,6 @@
 use Rattle.std.proofs.Common.{◌≡◌, ◌++◌, map, drop}
-use Rattle.vs_elab_listed.specs.vs_elab_pieces.specs.Pieces.{NamedBlock}
-use Rattle.vs_elab_listed.specs.vs_elab_pieces.specs.Reads.{read_block}
+use Rattle.vs_elab_listed.specs.vs_scopes.specs.Pieces.{NamedBlock}
+use Rattle.vs_elab_listed.specs.vs_scopes.specs.Reads.{read_block}
 use Rattle.vs_scopes.specs.scopes_passes.Answers.{borrowed}
 use Rattle.vs_elab_listed.proofs.inner.add_blocks.Given as goal
 

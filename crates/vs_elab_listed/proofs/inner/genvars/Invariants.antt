@@ -1,6 +1,6 @@
 use Rattle.std.proofs.Common.{◌≡◌, ◌++◌, map, drop}
 use Rattle.std.specs.List.{flat_map}
-use Rattle.vs_elab_listed.specs.vs_elab_pieces.specs.Reads.{read_piece}
+use Rattle.vs_elab_listed.specs.vs_scopes.specs.Reads.{read_piece}
 use Rattle.vs_scopes.specs.Declarations.{genvars_in}
 use Rattle.vs_scopes.specs.scopes_passes.Answers.{borrowed}
 use Rattle.vs_elab_listed.proofs.inner.genvars.Given as goal

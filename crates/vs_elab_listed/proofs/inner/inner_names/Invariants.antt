@@ -1,5 +1,5 @@
 use Rattle.std.proofs.Common.{◌≡◌, ◌++◌, map, drop}
-use Rattle.vs_elab_listed.specs.vs_elab_pieces.specs.Reads.{read_piece}
+use Rattle.vs_elab_listed.specs.vs_scopes.specs.Reads.{read_piece}
 use Rattle.vs_scopes.specs.Declarations.{inner_names_among}
 use Rattle.vs_scopes.specs.scopes_passes.Answers.{borrowed}
 use Rattle.vs_elab_listed.proofs.inner.inner_names.Given as goal

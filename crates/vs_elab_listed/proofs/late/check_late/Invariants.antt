@@ -1,5 +1,5 @@
 use Rattle.std.proofs.Common.{◌≡◌, List, map, drop}
-use Rattle.vs_elab_listed.specs.vs_elab_pieces.specs.Reads.{read_piece}
+use Rattle.vs_elab_listed.specs.vs_scopes.specs.Reads.{read_piece}
 use Rattle.vs_scopes.specs.Scopes.{Scope, late_from}
 use Rattle.vs_scopes.specs.scopes_passes.Names.{read_path}
 use Rattle.vs_elab_listed.specs.nets_passes.Nets.{IsAround, IsTold}

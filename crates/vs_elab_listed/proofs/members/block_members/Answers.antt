@@ -1,6 +1,6 @@
 use Rattle.std.proofs.Common.{map}
 use Rattle.vs_elab_constants.specs.vs_widths.specs.Names.{by_bytes}
-use Rattle.vs_elab_listed.specs.vs_elab_pieces.specs.Reads.{read_piece}
+use Rattle.vs_elab_listed.specs.vs_scopes.specs.Reads.{read_piece}
 use Rattle.vs_scopes.specs.Scopes.{block_text}
 use Rattle.vs_elab_listed.proofs.members.block_members.Goals as goal
 

@@ -1,5 +1,5 @@
 use Rattle.std.proofs.Common.{map, refl, ap, ◌∙◌}
-use Rattle.vs_elab_listed.specs.vs_elab_pieces.specs.Reads.{read_piece}
+use Rattle.vs_elab_listed.specs.vs_scopes.specs.Reads.{read_piece}
 use Rattle.vs_scopes.specs.Nets.{first_told}
 use Rattle.vs_elab_listed.proofs.NetLemmas.{are_members}
 use Rattle.vs_elab_listed.proofs.members.gathered.Goals as goal

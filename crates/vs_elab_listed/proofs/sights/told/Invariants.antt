@@ -1,5 +1,5 @@
 use Rattle.std.proofs.Common.{[], map, take}
-use Rattle.vs_elab_listed.specs.vs_elab_pieces.specs.Reads.{read_piece}
+use Rattle.vs_elab_listed.specs.vs_scopes.specs.Reads.{read_piece}
 use Rattle.vs_scopes.specs.Nets.{told_from}
 use Rattle.vs_scopes.specs.scopes_passes.Declared.{AddsNames}
 use Rattle.vs_elab_listed.proofs.sights.told.Given as goal

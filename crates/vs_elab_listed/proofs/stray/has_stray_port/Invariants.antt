@@ -1,5 +1,5 @@
 use Rattle.std.proofs.Common.{◌≡◌, map, drop}
-use Rattle.vs_elab_pieces.specs.Reads.{read_piece}
+use Rattle.vs_scopes.specs.Reads.{read_piece}
 use Rattle.vs_scopes.specs.Ports.{port_names, port_names_among, has_stray_port}
 use Rattle.vs_scopes.specs.scopes_passes.Parts.{read_port}
 use Rattle.vs_elab_listed.specs.passes.Strays.{has_other_name}

@@ -1,7 +1,7 @@
 use Rattle.std.proofs.Common.{ℕ, List, [], ◌∷◌, arith}
 use Rattle.std.specs.Borrow.{Bor}
-use Rattle.vs_scopes.specs.vs_width_selects.specs.declared.bindings.Binding.TheVariants as b
-use Rattle.vs_scopes.specs.vs_width_selects.specs.declared.constants.Const.{Const}
+use Rattle.vs_scopes.specs.vs_widths.specs.declared.bindings.Binding.TheVariants as b
+use Rattle.vs_scopes.specs.vs_widths.specs.declared.constants.Const.{Const}
 use Rattle.vs_elab_constants.specs.vs_widths.specs.Names.{by_bytes}
 use Rattle.vs_scopes.specs.Declarations.{Bindings}
 use Rattle.vs_scopes.specs.Scopes.{constant_names}

@@ -1,6 +1,6 @@
 use Rattle.std.proofs.Common.{◌≡◌, [], map, ap, sym, ◌∙◌}
 use Rattle.vs_elab_constants.specs.vs_widths.specs.Names.{meaning_of, by_bytes}
-use Rattle.vs_elab_listed.specs.vs_elab_pieces.specs.Reads.{read_piece}
+use Rattle.vs_elab_listed.specs.vs_scopes.specs.Reads.{read_piece}
 use Rattle.vs_scopes.specs.Parameters.{parameters_among}
 use Rattle.vs_scopes.specs.Declarations.{unsized_of, early_names}
 use Rattle.vs_scopes.specs.Scopes.{constant_names}

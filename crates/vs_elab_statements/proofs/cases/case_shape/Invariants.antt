@@ -1,5 +1,5 @@
 use Rattle.std.proofs.Common.{◌≡◌, take}
-use Rattle.vs_scopes.specs.vs_width_selects.specs.Findings.{Has}
+use Rattle.vs_scopes.specs.vs_widths.specs.Findings.{Has}
 use Rattle.vs_widths.specs.Expressions.{meant}
 use Rattle.vs_widths.specs.Names.{meaning_of}
 use Rattle.vs_elab_statements.specs.Statements.{common_finding}

@@ -1,6 +1,6 @@
 use Rattle.std.proofs.Common.{arith}
 use Rattle.std.proofs.lemmas.Result.{err_from_is_err_and}
-use Rattle.vs_scopes.specs.vs_width_selects.specs.Findings.{Has}
+use Rattle.vs_scopes.specs.vs_widths.specs.Findings.{Has}
 use Rattle.vs_widths.specs.Names.{meaning_of}
 use Rattle.vs_elab_statements.proofs.CaseLemmas.{common_one, common_refused, common_all}
 use Rattle.vs_elab_statements.proofs.cases.with_exprs.Goals as goal

@@ -1,5 +1,5 @@
 use Rattle.std.proofs.lemmas.Result.{err_from_is_err_and}
-use Rattle.vs_scopes.specs.vs_width_selects.specs.Findings.{Has}
+use Rattle.vs_scopes.specs.vs_widths.specs.Findings.{Has}
 use Rattle.vs_widths.specs.Names.{meaning_of}
 use Rattle.vs_elab_statements.proofs.CaseLemmas.{first_refused}
 use Rattle.vs_elab_statements.proofs.cases.with_label.Goals as goal

@@ -1,7 +1,7 @@
 use Rattle.std.proofs.Common.{[], ◌∷◌, ◌++◌, ◌∙◌, ap, length, refl, rules, subst, sym, arith, ◌≡◌, ◌<◌}
 use Rattle.std.proofs.lemmas.Grind.{common_steps}
 use Rattle.std.proofs.lemmas.Result.{err_from_is_err_and}
-use Rattle.vs_elab_pieces.specs.Pieces.{NamedBlock, blocks_in}
+use Rattle.vs_scopes.specs.Pieces.{NamedBlock, blocks_in}
 use Rattle.vs_syntax.specs.declared.tree.CaseLabel.{CaseLabel}
 use Rattle.vs_syntax.specs.declared.tree.Stmt.{Stmt, size-Stmt, the_lemmas}
 use Rattle.vs_syntax.specs.declared.tree.Stmt.TheVariants as s

@@ -1,6 +1,6 @@
 use Rattle.std.proofs.Common.{take}
 use Rattle.std.specs.List.{flat_map}
-use Rattle.vs_elab_hierarchy.specs.vs_elab_pieces.specs.Reads.{read_piece}
+use Rattle.vs_elab_hierarchy.specs.vs_scopes.specs.Reads.{read_piece}
 use Rattle.vs_elab_statements.specs.Members.{behaviors_in}
 use Rattle.vs_elab_statements.specs.vs_scopes.specs.Printed.{Path}
 use Rattle.vs_elab_statements.specs.vs_scopes.specs.Scopes.{Scope}

@@ -1,5 +1,5 @@
 use Rattle.std.proofs.Common.{◌≡◌, true}
-use Rattle.vs_run_moves.specs.Standing.{IsStanding}
+use Rattle.vs_kernel.specs.Standing.{IsStanding}
 use Rattle.vs_explain.proofs.steps.count_steps.Given as goal
 
 abbrev pub invariant-loop-left : goal.invariant-loop-left

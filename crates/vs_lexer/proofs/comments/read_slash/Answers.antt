@@ -1,7 +1,7 @@
 use Rattle.std.proofs.Common.{refl}
-use Rattle.vs_lex_tokens.specs.Bytes.{in_line}
+use Rattle.vs_lexer.specs.Bytes.{in_line}
 use Rattle.vs_lexer.specs.Pieces.{line_piece}
-use Rattle.vs_lex_tokens.proofs.LongestRuns.{run_reads}
+use Rattle.vs_lexer.proofs.LongestRuns.{run_reads}
 use Rattle.vs_lexer.proofs.Openings.{heads_differ, slash_alone, slash_line, slash_block}
 use Rattle.vs_lexer.proofs.comments.read_slash.Goals as goal
 

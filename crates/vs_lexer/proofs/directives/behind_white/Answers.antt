@@ -1,7 +1,7 @@
 use Rattle.std.proofs.Common.{sym, ap, ◌∙◌}
-use Rattle.vs_lex_tokens.specs.Bytes.{is_white, after_run}
+use Rattle.vs_lexer.specs.Bytes.{is_white, after_run}
 use Rattle.vs_lexer.specs.Directives.{behind_white}
-use Rattle.vs_lex_tokens.proofs.LongestRuns.{after_all}
+use Rattle.vs_lexer.proofs.LongestRuns.{after_all}
 use Rattle.vs_lexer.proofs.directives.behind_white.Goals as goal
 
 pub returns : goal.returns

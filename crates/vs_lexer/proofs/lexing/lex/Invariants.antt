@@ -1,5 +1,5 @@
 use Rattle.std.proofs.Common.{length}
-use Rattle.vs_lex_tokens.specs.Tokens.{lexemes}
+use Rattle.vs_lexer.specs.Tokens.{lexemes}
 use Rattle.vs_lexer.proofs.Spelled.{ReadSoFar}
 use Rattle.vs_lexer.proofs.lexing.lex.Given as goal
 

@@ -1,6 +1,6 @@
-use Rattle.vs_lex_tokens.specs.Bytes.{in_escaped}
+use Rattle.vs_lexer.specs.Bytes.{in_escaped}
 use Rattle.vs_lexer.specs.Pieces.{escaped_piece}
-use Rattle.vs_lex_tokens.proofs.LongestRuns.{run_reads}
+use Rattle.vs_lexer.proofs.LongestRuns.{run_reads}
 use Rattle.vs_lexer.proofs.names.read_escaped.Goals as goal
 
 pub returns : goal.returns

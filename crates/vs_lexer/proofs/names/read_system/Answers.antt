@@ -1,6 +1,6 @@
-use Rattle.vs_lex_tokens.specs.Bytes.{in_name}
+use Rattle.vs_lexer.specs.Bytes.{in_name}
 use Rattle.vs_lexer.specs.Pieces.{system_piece}
-use Rattle.vs_lex_tokens.proofs.LongestRuns.{run_reads}
+use Rattle.vs_lexer.proofs.LongestRuns.{run_reads}
 use Rattle.vs_lexer.proofs.names.read_system.Goals as goal
 
 pub returns : goal.returns

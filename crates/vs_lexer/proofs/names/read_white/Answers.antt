@@ -1,7 +1,7 @@
 use Rattle.std.proofs.Common.{refl}
-use Rattle.vs_lex_tokens.specs.Bytes.{is_white}
+use Rattle.vs_lexer.specs.Bytes.{is_white}
 use Rattle.vs_lexer.specs.Pieces.{white_piece}
-use Rattle.vs_lex_tokens.proofs.LongestRuns.{run_reads}
+use Rattle.vs_lexer.proofs.LongestRuns.{run_reads}
 use Rattle.vs_lexer.proofs.names.read_white.Goals as goal
 
 pub returns : goal.returns

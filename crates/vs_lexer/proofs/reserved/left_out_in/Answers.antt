@@ -1,5 +1,5 @@
 use Rattle.std.proofs.Common.{sym, ◌∙◌}
-use Rattle.vs_lex_tokens.specs.declared.token.Kind.TheVariants as k
+use Rattle.vs_lexer.specs.declared.token.Kind.TheVariants as k
 use Rattle.vs_lexer.proofs.Tables.{entry_passed, entry_found}
 use Rattle.vs_lexer.proofs.reserved.left_out_in.Goals as goal
 

@@ -1,5 +1,5 @@
 use Rattle.std.proofs.Common.{◌≡◌, map, drop}
-use Rattle.vs_lex_tokens.specs.declared.token.Kind.TheVariants as k
+use Rattle.vs_lexer.specs.declared.token.Kind.TheVariants as k
 use Rattle.vs_lexer.specs.Reserved.{kind_in}
 use Rattle.vs_lexer.proofs.reserved.mark_in.Given as goal
 

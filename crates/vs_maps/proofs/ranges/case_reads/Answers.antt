@@ -1,7 +1,7 @@
 use Rattle.std.proofs.Common.{◌++◌, ◌∙◌, ap}
 use Rattle.vs_design.proofs.LoopLemmas.{each_pushed, all_pushed}
 use Rattle.vs_design.specs.Statements.{all_reads}
-use Rattle.vs_rules.specs.vs_threads.specs.Threads.{item_reads}
+use Rattle.vs_rules.specs.vs_process.specs.Threads.{item_reads}
 use Rattle.vs_maps.proofs.ranges.case_reads.Goals as goal
 
 pub loop-labels-preserved : goal.loop-labels-preserved

@@ -6,7 +6,7 @@ use Rattle.vs_design.specs.declared.statement.Statement.TheOpen as layer
 use Rattle.vs_design.proofs.UsesLemmas.{both_pushed, pushed_as}
 use Rattle.vs_design.proofs.LoopLemmas.{each_pushed, all_pushed}
 use Rattle.vs_design.proofs.StatementLemmas.{fold_layer}
-use Rattle.vs_rules.specs.vs_threads.specs.Threads.{item_reads}
+use Rattle.vs_rules.specs.vs_process.specs.Threads.{item_reads}
 use Rattle.vs_rules.specs.Paths.{text_reads, text_reads_step}
 use Rattle.vs_maps.proofs.ReadingLemmas.{text_loop, text_Case}
 use Rattle.vs_maps.proofs.readings.+text_reads.Goals as goal

@@ -1,6 +1,6 @@
 use Rattle.std.proofs.Common.{◌≡◌, suc, ◌≤◌, ◌<◌, ◌+◌, ◌-◌, refl, sym, ap, subst, add-one, arith}
 use Rattle.std.proofs.lemmas.Result.{err_from_is_err_and}
-use Rattle.vs_syntax.specs.vs_lex_tokens.specs.declared.token.Mark.TheVariants as m
+use Rattle.vs_syntax.specs.vs_lexer.specs.declared.token.Mark.TheVariants as m
 use Rattle.vs_syntax.specs.Symbols.{a_name, the_mark, the_cast, first}
 use Rattle.vs_syntax.specs.Grammar.{◌·◌, part, many, mark, name, arm, a_level, a_condition, an_expr, an_operand, other_parts, select}
 use Rattle.vs_syntax.specs.Derivation.{height}

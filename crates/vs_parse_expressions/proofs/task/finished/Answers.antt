@@ -1,4 +1,4 @@
-use Rattle.vs_syntax.specs.vs_lex_tokens.specs.declared.token.Mark.TheVariants as m
+use Rattle.vs_syntax.specs.vs_lexer.specs.declared.token.Mark.TheVariants as m
 use Rattle.vs_syntax.specs.Symbols.{a_finish}
 use Rattle.vs_syntax.specs.Grammar.{mark}
 use Rattle.vs_syntax.specs.Derivation.{both}

@@ -1,6 +1,6 @@
 use Rattle.std.proofs.Common.{refl, arith, false}
 use Rattle.std.proofs.lemmas.Result.{err_from_is_err_and}
-use Rattle.vs_syntax.specs.vs_lex_tokens.specs.declared.token.Mark.TheVariants as m
+use Rattle.vs_syntax.specs.vs_lexer.specs.declared.token.Mark.TheVariants as m
 use Rattle.std.proofs.Common.{sym, ◌∙◌}
 use Rattle.vs_syntax.specs.Symbols.{any_text}
 use Rattle.vs_syntax.specs.Grammar.{token, part, mark, an_argument}

@@ -1,6 +1,6 @@
 use Rattle.std.proofs.Common.{◌∙◌, ◌∷◌, ap, sym}
 use denote.Enum.Bare.{same_true}
-use Rattle.vs_syntax.specs.vs_lex_tokens.specs.contracts.token.Mark.{the_type}
+use Rattle.vs_syntax.specs.vs_lexer.specs.contracts.token.Mark.{the_type}
 use Rattle.vs_syntax.specs.Symbols.{a_mark}
 use Rattle.vs_parse_expressions.specs.Answers.{seen}
 use Rattle.vs_parse_expressions.proofs.token.mark_at.Goals as goal

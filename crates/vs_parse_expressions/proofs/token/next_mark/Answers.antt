@@ -1,5 +1,5 @@
 use Rattle.std.proofs.Common.{refl, ◌∷◌, ap, ◌∙◌, sym}
-use Rattle.vs_syntax.specs.vs_lex_tokens.specs.declared.token.Kind.TheVariants as k
+use Rattle.vs_syntax.specs.vs_lexer.specs.declared.token.Kind.TheVariants as k
 use Rattle.vs_syntax.specs.Symbols.{the_mark, a_mark}
 use Rattle.vs_syntax.specs.Grammar.{mark}
 use Rattle.vs_parse_expressions.specs.Answers.{seen}

@@ -1,7 +1,7 @@
 use Rattle.std.proofs.Common.{refl, ◌∷◌, ap, ◌∙◌, sym}
 use denote.Enum.Bare.{same_true}
-use Rattle.vs_syntax.specs.vs_lex_tokens.specs.contracts.token.Word.{the_type}
-use Rattle.vs_syntax.specs.vs_lex_tokens.specs.declared.token.Kind.TheVariants as k
+use Rattle.vs_syntax.specs.vs_lexer.specs.contracts.token.Word.{the_type}
+use Rattle.vs_syntax.specs.vs_lexer.specs.declared.token.Kind.TheVariants as k
 use Rattle.vs_syntax.specs.Symbols.{a_word, the_word}
 use Rattle.vs_syntax.specs.Grammar.{word}
 use Rattle.vs_parse_expressions.specs.Answers.{seen}

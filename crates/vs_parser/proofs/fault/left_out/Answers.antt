@@ -1,7 +1,7 @@
 use Rattle.std.specs.Prelude.{not}
 use Rattle.std.proofs.Common.{sym, ◌∙◌, ap}
 use Rattle.std.proofs.Math.Bool.{not-not}
-use Rattle.vs_syntax.specs.vs_lex_tokens.specs.declared.token.Kind.{Kind}
+use Rattle.vs_syntax.specs.vs_lexer.specs.declared.token.Kind.{Kind}
 use Rattle.vs_parser.specs.LeftOut.{is_left_out}
 use Rattle.vs_parser.proofs.SystemNames.{left_out_name}
 use Rattle.vs_parser.proofs.fault.left_out.Goals as goal

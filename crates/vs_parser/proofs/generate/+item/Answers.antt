@@ -1,6 +1,6 @@
 use Rattle.std.proofs.Common.{refl, arith}
 use Rattle.std.proofs.lemmas.Result.{err_from_is_err_and}
-use Rattle.vs_syntax.specs.vs_lex_tokens.specs.declared.token.Word.TheVariants as w
+use Rattle.vs_syntax.specs.vs_lexer.specs.declared.token.Word.TheVariants as w
 use Rattle.vs_syntax.specs.Grammar.{many, part, word, guarded, generate_loop, generate_branches, block_name, a_generate_block, an_item}
 use Rattle.vs_syntax.specs.Views.{module_item_tree}
 use Rattle.vs_syntax.specs.Reading.{stuck_here, stuck_first, stuck_second}

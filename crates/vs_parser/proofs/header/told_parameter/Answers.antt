@@ -1,6 +1,6 @@
 use Rattle.std.proofs.Common.{refl}
 use Rattle.std.proofs.lemmas.Result.{err_from_is_err_and}
-use Rattle.vs_syntax.specs.vs_lex_tokens.specs.declared.token.Word.TheVariants as w
+use Rattle.vs_syntax.specs.vs_lexer.specs.declared.token.Word.TheVariants as w
 use Rattle.vs_syntax.specs.Symbols.{a_word}
 use Rattle.vs_syntax.specs.Grammar.{◌·◌, ◌or◌, nothing, part, word, parameter_form, a_header_parameter}
 use Rattle.vs_syntax.specs.Reading.{stuck_first, stuck_part}

@@ -1,5 +1,5 @@
 use Rattle.std.proofs.lemmas.Result.{err_from_is_err_and}
-use Rattle.vs_syntax.specs.vs_lex_tokens.specs.declared.token.Mark.TheVariants as m
+use Rattle.vs_syntax.specs.vs_lexer.specs.declared.token.Mark.TheVariants as m
 use Rattle.vs_syntax.specs.Grammar.{◌·◌, ◌or◌, nothing, mark, instances, an_instance}
 use Rattle.vs_syntax.specs.Grammar as grammar
 use Rattle.vs_syntax.specs.Reading.{stuck_first, stuck_second}

@@ -1,6 +1,6 @@
 use Rattle.std.proofs.Common.{Some, None, sym, ◌∙◌, refl, arith}
 use Rattle.std.proofs.lemmas.Result.{err_from_is_err_and}
-use Rattle.vs_syntax.specs.vs_lex_tokens.specs.declared.token.Word.TheVariants as w
+use Rattle.vs_syntax.specs.vs_lexer.specs.declared.token.Word.TheVariants as w
 use Rattle.vs_syntax.specs.Grammar.{◌·◌, part, word, block_head, guarded, branches, case_items, for_parts, delay, event, a_stmt, a_case_item}
 use Rattle.vs_syntax.specs.Views.{stmt_tree}
 use Rattle.vs_syntax.specs.Reading.{stuck_here, stuck_first, stuck_second}

@@ -1,6 +1,6 @@
 use Rattle.std.proofs.Common.{ℕ, List, ◌≡◌, ◌++◌, ◌-◌, ◌∷◌, [], Ok, ap, arith, length, map, refl, take}
 use Rattle.std.specs.Borrow.{Bor}
-use Rattle.vs_prep_pieces.specs.Parts.{seen}
+use Rattle.vs_prep_macros.specs.Parts.{seen}
 use Rattle.vs_prep_macros.specs.declared.actuals.Move.TheVariants as m
 use Rattle.vs_prep_macros.specs.Actuals.{move_by}
 use Rattle.vs_prep_macros.proofs.ActualsRead.{all_left, none_found, pushed_front, same_reading, splits_reading, stays_reading}

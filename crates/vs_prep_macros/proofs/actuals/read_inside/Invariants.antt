@@ -1,5 +1,5 @@
 use Rattle.std.proofs.Common.{◌≡◌, ◌≤◌, ◌+◌, ◌-◌, ◌++◌, length, map, take, Err}
-use Rattle.vs_prep_pieces.specs.Parts.{parts_of}
+use Rattle.vs_prep_macros.specs.Parts.{parts_of}
 use Rattle.vs_prep_macros.specs.declared.fault.Fault.TheVariants as d
 use Rattle.vs_prep_macros.specs.declared.fault.Halt.TheVariants as h
 use Rattle.vs_prep_macros.specs.Actuals.{read_piece, actuals_in}

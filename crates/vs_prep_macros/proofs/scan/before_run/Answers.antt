@@ -1,5 +1,5 @@
 use Rattle.std.proofs.Common.{◌∙◌, arith, sym}
-use Rattle.vs_prep_pieces.specs.Classes.{in_class}
+use Rattle.vs_prep_macros.specs.Classes.{in_class}
 use Rattle.vs_prep_macros.proofs.Fronts.{front_before, length_before, run_before}
 use Rattle.vs_prep_macros.proofs.scan.before_run.Goals as goal
 

@@ -1,6 +1,6 @@
 use Rattle.std.proofs.Common.{◌≡◌, ◌≤◌, length, reverse, take}
-use Rattle.vs_prep_pieces.specs.Bytes.{after_run}
-use Rattle.vs_prep_pieces.specs.Classes.{in_class}
+use Rattle.vs_lexer.specs.Bytes.{after_run}
+use Rattle.vs_prep_macros.specs.Classes.{in_class}
 use Rattle.vs_prep_macros.proofs.scan.before_run.Given as goal
 
 abbrev pub invariant-loop-last : goal.invariant-loop-last

@@ -1,5 +1,5 @@
 use Rattle.std.proofs.Common.{◌≡◌, ◌≤◌, length}
-use Rattle.vs_prep_pieces.specs.Parts.{parts_of}
+use Rattle.vs_prep_macros.specs.Parts.{parts_of}
 use Rattle.vs_prep_macros.specs.Spaces.{is_blank, behind_those}
 use Rattle.vs_prep_macros.proofs.scan.behind_blank.Given as goal
 

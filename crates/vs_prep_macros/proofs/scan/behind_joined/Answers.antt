@@ -1,5 +1,5 @@
 use Rattle.std.proofs.Common.{◌∙◌, [], sym}
-use Rattle.vs_prep_pieces.specs.Parts.{parts_of}
+use Rattle.vs_prep_macros.specs.Parts.{parts_of}
 use Rattle.vs_prep_macros.specs.Spaces.{joined, behind_joined}
 use Rattle.vs_prep_macros.proofs.Reading.{no_bytes, none_first, over_none}
 use Rattle.vs_prep_macros.proofs.scan.behind_joined.Goals as goal

@@ -1,5 +1,5 @@
 use Rattle.std.proofs.Common.{◌≡◌, ◌≤◌, length, false, []}
-use Rattle.vs_prep_pieces.specs.Parts.{parts_of}
+use Rattle.vs_prep_macros.specs.Parts.{parts_of}
 use Rattle.vs_prep_macros.specs.Folds.{over}
 use Rattle.vs_prep_macros.specs.Spaces.{joined}
 use Rattle.vs_prep_macros.proofs.scan.behind_joined.Given as goal

@@ -1,7 +1,7 @@
 use Rattle.std.proofs.Common.{◌≡◌, ℕ, sym, ap, ◌∙◌}
 use Rattle.std.proofs.lemmas.List.Elements.{All-same}
 use Rattle.vs_design.specs.vs_logic4.specs.declared.case.CaseKind.{CaseKind}
-use Rattle.vs_eval_resolved.specs.Meant.{Meaning}
+use Rattle.vs_eval.specs.Meant.{Meaning}
 use Rattle.vs_process.specs.Switches.{any_index, walked}
 use Rattle.vs_process.proofs.SwitchLemmas.{any_walked, known_all}
 use Rattle.vs_process.proofs.switch.labels_for.Goals as goal

@@ -1,5 +1,5 @@
 use Rattle.vs_certificate.specs.JsonValue.{value_of}
-use Rattle.vs_propose_plan.specs.Settling.{CanSettle}
+use Rattle.vs_propose.specs.Settling.{CanSettle}
 use Rattle.vs_propose.proofs.Made.{sound_by}
 use Rattle.vs_propose.proofs.search.tried_by_assigns.Goals as goal
 

@@ -1,4 +1,4 @@
-use Rattle.vs_run_moves.specs.Standing.{IsStanding}
+use Rattle.vs_kernel.specs.Standing.{IsStanding}
 use Rattle.vs_race_orders.proofs.trial.reference_of.Given as goal
 
 abbrev pub invariant-loop-left : goal.invariant-loop-left

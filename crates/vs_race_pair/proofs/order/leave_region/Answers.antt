@@ -1,4 +1,4 @@
-use Rattle.vs_run_moves.proofs.RunLemmas.{own_run, queue_run, run_of_own}
+use Rattle.vs_kernel.proofs.RunLemmas.{own_run, queue_run, run_of_own}
 use Rattle.vs_race_pair.proofs.CodeLemmas.{same_run}
 use Rattle.vs_race_pair.proofs.order.leave_region.Goals as goal
 

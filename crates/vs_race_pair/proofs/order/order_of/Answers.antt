@@ -1,4 +1,4 @@
-use Rattle.vs_run_moves.proofs.RunLemmas.{queue_run}
+use Rattle.vs_kernel.proofs.RunLemmas.{queue_run}
 use Rattle.vs_race_pair.proofs.order.order_of.Goals as goal
 
 pub returns : goal.returns

@@ -1,6 +1,6 @@
 use Rattle.std.proofs.Common.{◌∙◌, sym, ap}
-use Rattle.vs_rules.specs.vs_threads.specs.vs_process.specs.declared.halt.Halt.{Halt}
-use Rattle.vs_rules.specs.vs_threads.specs.vs_process.specs.Landings.{next_of}
+use Rattle.vs_rules.specs.vs_process.specs.declared.halt.Halt.{Halt}
+use Rattle.vs_rules.specs.vs_process.specs.Landings.{next_of}
 use Rattle.vs_rules_of_starts.proofs.AloneLemmas.{nowhere, further}
 use Rattle.vs_rules_of_starts.proofs.alone.arrive.Goals as goal
 

@@ -1,7 +1,7 @@
 use Rattle.std.proofs.Common.{List, get_or, ◌∙◌, ap, sym, subst, ◌≡◌, lt-ltb, le-ltb, ◌↔◌, IsTrue, nat_lt}
 use Rattle.std.specs.List.{slice_get}
 use Rattle.vs_design.specs.declared.signal.Signal.{Signal}
-use Rattle.vs_rules.specs.vs_threads.specs.Bits.{HasBit}
+use Rattle.vs_rules.specs.vs_process.specs.Bits.{HasBit}
 use Rattle.vs_rules_of_starts.proofs.BeginningLemmas.{at_index, word_there, word_not}
 use Rattle.vs_rules_of_starts.proofs.begins.is_there.Goals as goal
 

@@ -1,6 +1,6 @@
 use Rattle.std.proofs.Common.{◌≡◌}
 use Rattle.std.proofs.lemmas.Result.{IfOk-weaker}
-use Rattle.vs_rules.specs.vs_threads.specs.vs_process.specs.Places.{Todo}
+use Rattle.vs_rules.specs.vs_process.specs.Places.{Todo}
 use Rattle.vs_rules.specs.Blocks.{run_alone}
 use Rattle.vs_rules_of_starts.specs.Alone.{arrival, arrived_if, store_if, ComesTo}
 use Rattle.vs_rules_of_starts.proofs.AloneLemmas.{came}

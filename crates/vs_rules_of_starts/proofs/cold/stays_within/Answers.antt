@@ -1,7 +1,7 @@
 use Rattle.std.proofs.Common.{◌↔◌, IsTrue, sym, ap, ◌∙◌}
 use Rattle.std.proofs.lemmas.Result.{IfOk-weaker}
 use Rattle.vs_design.specs.declared.design.Process.{Process}
-use Rattle.vs_rules.specs.vs_threads.specs.vs_process.specs.Places.{Todo}
+use Rattle.vs_rules.specs.vs_process.specs.Places.{Todo}
 use Rattle.vs_rules_of_starts.specs.Cold.{IsBehind, SameWritten, StaysWithin}
 use Rattle.vs_rules_of_starts.proofs.ColdLemmas.{process_at, ran, run_sized, stays_is, stays_not}
 use Rattle.vs_rules_of_starts.proofs.cold.stays_within.Goals as goal

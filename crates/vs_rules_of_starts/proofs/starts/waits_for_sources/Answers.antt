@@ -3,7 +3,7 @@ use Rattle.vs_design.specs.declared.design.Process.{Process}
 use Rattle.vs_design.specs.declared.range.BitRange.{BitRange}
 use Rattle.vs_design.specs.declared.statement.EventTerm.{EventTerm}
 use Rattle.vs_design.specs.Parts.{Parts}
-use Rattle.vs_drivers.specs.vs_threads.specs.Writes.{statement_writes}
+use Rattle.vs_drivers.specs.vs_process.specs.Writes.{statement_writes}
 use Rattle.vs_rules_of_starts.proofs.ColdLemmas.{process_at}
 use Rattle.vs_rules_of_starts.specs.Starts.{AreFine}
 use Rattle.vs_rules_of_starts.proofs.StartLemmas.{sources_are}

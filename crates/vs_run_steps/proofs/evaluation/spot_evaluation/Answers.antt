@@ -3,7 +3,7 @@ use Rattle.vs_design.specs.vs_logic4.specs.declared.digit.Digit.{Digit}
 use Rattle.vs_design.specs.vs_logic4.specs.Extensions.{length-resized}
 use Rattle.vs_design.specs.vs_logic4.specs.Vectors.{resized, same_digits}
 use Rattle.vs_design.specs.declared.design.Assign.{Assign}
-use Rattle.vs_eval_resolved.specs.vs_eval.specs.Values.{value_of}
+use Rattle.vs_eval.specs.Values.{value_of}
 use Rattle.vs_run_steps.specs.Forms.{IsFixed, IsForm}
 use Rattle.vs_run_steps.proofs.DiffersLemmas.{twice_not}
 use Rattle.vs_run_steps.proofs.FormsLemmas.{fixed_held, fixed_value, spot_within}

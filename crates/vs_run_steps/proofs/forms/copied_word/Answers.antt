@@ -1,4 +1,4 @@
-use Rattle.vs_eval_resolved.proofs.LayerLemmas.{signal_law}
+use Rattle.vs_eval.proofs.LayerLemmas.{signal_law}
 use Rattle.vs_run_steps.proofs.FormsLemmas.{copy_is}
 use Rattle.vs_run_steps.proofs.forms.copied_word.Goals as goal
 

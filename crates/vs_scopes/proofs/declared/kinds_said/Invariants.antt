@@ -1,5 +1,5 @@
 use Rattle.std.proofs.Common.{map, take}
-use Rattle.vs_scopes.specs.vs_elab_pieces.specs.Reads.{read_piece}
+use Rattle.vs_scopes.specs.Reads.{read_piece}
 use Rattle.vs_scopes.specs.scopes_passes.Declared.{AreKinds}
 use Rattle.vs_scopes.proofs.declared.kinds_said.Given as goal
 

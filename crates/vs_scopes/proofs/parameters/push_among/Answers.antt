@@ -1,10 +1,10 @@
 use Rattle.std.proofs.Common.{◌≡◌, List, ◌∷◌, ◌++◌, ◌+◌, refl, ap, sym, ◌∙◌, map, drop, arith, Bor}
 use Rattle.std.proofs.lemmas.List.{drop_all}
 use Rattle.vs_syntax.specs.declared.tree.Item.{Item}
-use Rattle.vs_elab_pieces.specs.Pieces.{Piece}
-use Rattle.vs_elab_pieces.specs.Reads.{read_piece}
-use Rattle.vs_elab_pieces.specs.declared.scope.ScopePiece.{ScopePiece as FoundPiece}
-use Rattle.vs_elab_pieces.specs.declared.scope.ScopePiece.TheVariants as pieces
+use Rattle.vs_scopes.specs.Pieces.{Piece}
+use Rattle.vs_scopes.specs.Reads.{read_piece}
+use Rattle.vs_scopes.specs.declared.scope.ScopePiece.{ScopePiece as FoundPiece}
+use Rattle.vs_scopes.specs.declared.scope.ScopePiece.TheVariants as pieces
 use Rattle.vs_scopes.specs.Overrides.{parameters_among}
 use Rattle.vs_scopes.specs.passes.Ends.{read_parameter}
 use Rattle.vs_scopes.proofs.PassLemmas.{moved_by, ended}

@@ -1,5 +1,5 @@
 use Rattle.std.proofs.Common.{◌≡◌, ◌++◌, map, drop}
-use Rattle.vs_elab_pieces.specs.Reads.{read_piece}
+use Rattle.vs_scopes.specs.Reads.{read_piece}
 use Rattle.vs_scopes.specs.Overrides.{parameters_among}
 use Rattle.vs_scopes.specs.passes.Ends.{read_parameter}
 use Rattle.vs_scopes.proofs.parameters.push_among.Given as goal

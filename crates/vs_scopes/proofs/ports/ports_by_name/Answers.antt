@@ -1,6 +1,6 @@
 use Rattle.std.proofs.Common.{◌∙◌, ap, map, arith}
 use Rattle.std.proofs.lemmas.List.{drop_all}
-use Rattle.vs_scopes.specs.vs_elab_pieces.specs.Reads.{read_piece}
+use Rattle.vs_scopes.specs.Reads.{read_piece}
 use Rattle.vs_scopes.specs.Ports.{port_by_items, port_of_items, port_said, kind_said}
 use Rattle.vs_scopes.specs.scopes_passes.Parts.{read_port}
 use Rattle.vs_scopes.proofs.PassLemmas.{moved, map_at, ended}

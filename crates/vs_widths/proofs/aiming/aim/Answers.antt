@@ -1,5 +1,5 @@
 use Rattle.std.proofs.Common.{subst}
-use Rattle.vs_width_selects.specs.passes.Places.{Fixes}
+use Rattle.vs_widths.specs.select_passes.Places.{Fixes}
 use Rattle.vs_widths.proofs.AimLemmas.{chosen_aim}
 use Rattle.vs_widths.proofs.aiming.aim.Goals as goal
 

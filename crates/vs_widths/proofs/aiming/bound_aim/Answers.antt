@@ -1,5 +1,5 @@
 use Rattle.std.proofs.Common.{◌≡◌, true, false, rules}
-use Rattle.vs_width_selects.specs.passes.Places.{selects_meaning}
+use Rattle.vs_widths.specs.select_passes.Places.{selects_meaning}
 use Rattle.vs_widths.specs.passes.Aims.{takes_aim}
 use Rattle.vs_widths.proofs.AimLemmas.{reads_refused, taken_aim}
 use Rattle.vs_widths.proofs.aiming.bound_aim.Goals as goal

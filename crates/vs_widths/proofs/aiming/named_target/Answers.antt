@@ -1,5 +1,5 @@
 use Rattle.std.proofs.Common.{sym, subst, ◌∙◌}
-use Rattle.vs_width_selects.specs.passes.Places.{selects_meaning}
+use Rattle.vs_widths.specs.select_passes.Places.{selects_meaning}
 use Rattle.vs_widths.specs.Names.{meaning_of}
 use Rattle.vs_widths.specs.Lefts.{name_aimed}
 use Rattle.vs_widths.specs.Aiming.{IsTarget}

@@ -1,7 +1,7 @@
 use Rattle.std.proofs.Common.{map, sym, subst, arith}
 use Rattle.std.proofs.lemmas.Result.{err_from_is_err_and}
 use Rattle.vs_widths.specs.Names.{meaning_of}
-use Rattle.vs_width_selects.specs.Findings.{Refuses}
+use Rattle.vs_widths.specs.Findings.{Refuses}
 use Rattle.vs_widths.specs.Lefts.{aimed}
 use Rattle.vs_widths.specs.passes.Aims.{AreWithin}
 use Rattle.vs_widths.proofs.LeftLemmas.{aimed_Name, aimed_Concat, selects_within, name_selects_refused, concat_refused, parts_start, part_refused, sum_refused, parts_step, parts_end}

@@ -1,7 +1,7 @@
 use Rattle.std.proofs.Common.{map, sym, subst, ap, ◌∙◌, arith}
 use Rattle.std.proofs.lemmas.Result.{err_from_is_err_and}
-use Rattle.vs_width_selects.specs.Findings.{Refuses}
-use Rattle.vs_width_selects.specs.passes.Places.{selects_meaning}
+use Rattle.vs_widths.specs.Findings.{Refuses}
+use Rattle.vs_widths.specs.select_passes.Places.{selects_meaning}
 use Rattle.vs_widths.specs.Names.{meaning_of}
 use Rattle.vs_widths.specs.Expressions.{meant_selects}
 use Rattle.vs_widths.specs.Lefts.{as_left}

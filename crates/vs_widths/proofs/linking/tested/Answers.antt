@@ -1,5 +1,5 @@
 use Rattle.std.proofs.Common.{◌≡◌, ap, sym, ◌∙◌}
-use Rattle.vs_width_selects.specs.Senses.{sense}
+use Rattle.vs_widths.specs.Senses.{sense}
 use Rattle.vs_widths.specs.passes.Forms.{ends_in_test}
 use Rattle.vs_widths.proofs.LinkingLemmas.{tested_more}
 use Rattle.vs_widths.proofs.linking.tested.Goals as goal

@@ -2,11 +2,11 @@ use Rattle.std.proofs.Common.{Some, None, Ok, Err, map, refl, ap, sym, ◌∙◌
 use Rattle.std.proofs.Math.Nat.{le_refl}
 use Rattle.std.proofs.lemmas.Result.{err_from_is_err_and}
 use Rattle.vs_widths.specs.Names.{meaning_of}
-use Rattle.vs_width_selects.specs.passes.Measures.{meaning}
-use Rattle.vs_width_selects.specs.Each.{each_none}
+use Rattle.vs_widths.specs.select_passes.Measures.{meaning}
+use Rattle.vs_widths.specs.Each.{each_none}
 use Rattle.vs_widths.specs.Expressions.{meant, name_meant, number_meant, unary_meant, chain_meant, repeat_meant}
 use Rattle.vs_widths.specs.passes.Forms.{links_meant, pairs_meant, IsChoicePair, IsPartOf}
-use Rattle.vs_width_selects.proofs.FittingLemmas.{each_step}
+use Rattle.vs_widths.proofs.FittingLemmas.{each_step}
 use Rattle.vs_widths.proofs.DepthLemmas.{falls_by, falls_one, falls_within, first_most, second_most}
 use Rattle.vs_design.specs.vs_logic4.proofs.Basics.{second_most as middle_most}
 use Rattle.vs_widths.proofs.MeasuringLemmas.{measures_as, meant_Number, meant_Name, meant_Group, links_end, chain_refused, choice_refused, concat_refused, count_refused, counted_refused, parts_refused, form_Unary, form_Cast, form_Chain, form_Choice, form_Concat, form_Repeat, unary_refused, cast_refused, concat_closed, cast_closed, links_step, link_refused, pair_of, pairs_step, condition_refused, operand_refused, pairs_end, sum_one, part_of, parts_step, size_step, part_refused, part_too_wide, parts_end}

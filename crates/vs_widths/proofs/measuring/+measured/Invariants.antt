@@ -2,11 +2,11 @@ use Rattle.std.proofs.Common.{◌≡◌, ℕ, ◌+◌, ◌*◌, max, ◌<◌, �
 use Rattle.vs_syntax.specs.declared.tree.Expr.{size-Expr}
 use Rattle.vs_design.specs.WellFormed.{sum_size}
 use Rattle.vs_widths.specs.Names.{meaning_of}
-use Rattle.vs_width_selects.specs.Findings.{Has}
+use Rattle.vs_widths.specs.Findings.{Has}
 use Rattle.vs_widths.specs.Expressions.{meant, meant_selects, chain_meant, choice_finding}
-use Rattle.vs_width_selects.specs.passes.Measures.{meaning, IsFlexible}
+use Rattle.vs_widths.specs.select_passes.Measures.{meaning, IsFlexible}
 use Rattle.vs_widths.specs.passes.Forms.{links_meant, pairs_meant, IsChoicePair, IsPartOf}
-use Rattle.vs_width_selects.specs.Each.{Each}
+use Rattle.vs_widths.specs.Each.{Each}
 use Rattle.vs_widths.proofs.DepthLemmas.{parts_depth, links_depth, pairs_depth}
 use Rattle.vs_widths.proofs.MeasuringLemmas.{sum_from, sizes_of}
 use Rattle.vs_widths.specs.passes.Selects.{AreMeasured}

@@ -1,5 +1,5 @@
 use Rattle.std.proofs.lemmas.Result.{err_from_is_err_and}
-use Rattle.vs_width_selects.specs.passes.Measures.{meaning}
+use Rattle.vs_widths.specs.select_passes.Measures.{meaning}
 use Rattle.vs_widths.proofs.MeasuringLemmas.{count_refused, repeats}
 use Rattle.vs_widths.proofs.measuring.counted.Goals as goal
 

@@ -6,7 +6,7 @@ use Rattle.vs_design.specs.declared.design.Assign.{Assign}
 use Rattle.vs_design.specs.declared.design.Process.{Process}
 use Rattle.vs_design.specs.declared.range.BitRange.{BitRange}
 use Rattle.vs_design.specs.Uses.{writes}
-use Rattle.vs_threads.specs.Writes.{statement_writes}
+use Rattle.vs_process.specs.Writes.{statement_writes}
 use Rattle.vs_drivers.specs.Wires.{Wiring, wiring, WritesAt}
 use Rattle.vs_drivers.proofs.WireLemmas.{assign_writes, block_writes, none_writes}
 use Rattle.vs_drivers.proofs.wires.Wires.written.Goals as goal

@@ -1,6 +1,6 @@
 use Rattle.std.proofs.Common.{subst}
 use Rattle.std.proofs.lemmas.Result.{err_from_is_err_and}
-use Rattle.vs_syntax.specs.vs_lex_tokens.specs.declared.token.Mark.TheVariants as m
+use Rattle.vs_syntax.specs.vs_lexer.specs.declared.token.Mark.TheVariants as m
 use Rattle.vs_syntax.specs.Symbols.{a_mark}
 use Rattle.vs_syntax.specs.Grammar.{◌·◌, ◌or◌, nothing, part, name, range, a_variable, an_expr}
 use Rattle.vs_syntax.specs.Derivation.{Tree, leaf, both}

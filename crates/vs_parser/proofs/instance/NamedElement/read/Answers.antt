@@ -1,5 +1,5 @@
 use Rattle.std.proofs.lemmas.Result.{err_from_is_err_and}
-use Rattle.vs_syntax.specs.vs_lex_tokens.specs.declared.token.Mark.TheVariants as m
+use Rattle.vs_syntax.specs.vs_lexer.specs.declared.token.Mark.TheVariants as m
 use Rattle.vs_syntax.specs.Grammar.{◌·◌, part, mark, name, an_end, a_connection}
 use Rattle.vs_syntax.specs.Reading.{stuck_first, stuck_second, stuck_part}
 use Rattle.vs_syntax.proofs.Gets.{gets_seq, gets_part}

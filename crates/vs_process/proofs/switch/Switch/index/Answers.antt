@@ -5,7 +5,7 @@ use Rattle.vs_design.specs.vs_logic4.specs.declared.digit.Digit.{Digit}
 use Rattle.vs_design.specs.declared.expression.Typed.{Typed}
 use Rattle.vs_design.specs.declared.signal.Signal.{Signal}
 use Rattle.vs_design.specs.InOrder.{IsStoreOf}
-use Rattle.vs_eval_resolved.specs.Meant.{Meaning}
+use Rattle.vs_eval.specs.Meant.{Meaning}
 use Rattle.vs_strobe.specs.vs_eval.specs.Values.{value_of}
 use Rattle.vs_process.specs.declared.switch.Labels.{Labels}
 use Rattle.vs_process.specs.Switches.{AreOfSignals, any_index, switch_index, table_index}

@@ -1,7 +1,7 @@
 use Rattle.std.proofs.Common.{◌↔◌, IsTrue, subst}
 use Rattle.std.proofs.lemmas.Result.{IfOk-weaker}
 use Rattle.vs_design.specs.Parts.{Parts}
-use Rattle.vs_rules.specs.vs_threads.specs.vs_process.specs.Places.{Todo}
+use Rattle.vs_rules.specs.vs_process.specs.Places.{Todo}
 use Rattle.vs_rules_of_starts.specs.Cold.{AreFirst, IsBehind, StaysAtEach, StaysWithin}
 use Rattle.vs_rules_of_starts.proofs.ColdLemmas.{each_is, none_is}
 use Rattle.vs_rules_of_starts.proofs.cold.Beginning.stays_cold.Goals as goal

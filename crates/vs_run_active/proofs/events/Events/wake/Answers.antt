@@ -1,5 +1,5 @@
 use Rattle.std.proofs.Common.{List, OnOk, ap, subst, ◌∙◌, arith}
-use Rattle.vs_run_active.specs.vs_edges.specs.declared.masks.WordChange.{WordChange}
+use Rattle.vs_run_active.specs.vs_eval.specs.declared.masks.WordChange.{WordChange}
 use Rattle.std.proofs.lemmas.Result.{on_ok_weaker}
 use Rattle.vs_run_active.specs.declared.process.Process.{Process}
 use Rattle.vs_run_active.specs.declared.watchers.Watcher.{Watcher}

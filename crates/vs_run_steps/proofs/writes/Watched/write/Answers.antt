@@ -3,7 +3,7 @@ use Rattle.std.proofs.lemmas.Bool.{eq-eqb, ne_eqb}
 use Rattle.std.proofs.lemmas.Result.{on_ok_weaker}
 use Rattle.vs_design.specs.vs_logic4.specs.Planes.{ArePlanes, digits_of_planes}
 use Rattle.vs_design.specs.InOrder.{IsStoreOf, numbered_word}
-use Rattle.vs_run_active.specs.vs_edges.specs.declared.masks.WordChange.{WordChange}
+use Rattle.vs_run_active.specs.vs_eval.specs.declared.masks.WordChange.{WordChange}
 use Rattle.vs_process.specs.Spots.{IsSpotIn, spot_part, spot_write}
 use Rattle.vs_run_active.proofs.ChangesLemmas.{marks_put, nothing_words}
 use Rattle.vs_run_active.proofs.MarkingLemmas.{marked_word}

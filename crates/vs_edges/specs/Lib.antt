@@ -1,4 +1,0 @@
-pub mod Differences
-pub mod Masks
-pub mod Waking
-pub mod passes

@@ -1,5 +1,0 @@
-use Rattle.vs_elab_laws.proofs.NameLemmas.{all_printable}
-use Rattle.vs_elab_laws.proofs.printable.names_are_printable.Goals as goal
-
-pub returns : goal.returns
-returns c = λ source tokens a. all_printable a.spells

@@ -1,9 +1,0 @@
-pub mod PrintableNames
-pub use Rattle.vs_elaborate.specs.DesignOf
-pub mod Named
-pub mod OneLine
-pub mod Same
-pub use Rattle.vs_elaborate.specs.vs_elab_hierarchy
-pub use Rattle.vs_elaborate
-pub use Rattle.vs_elaborate.specs.vs_scopes
-pub use Rattle.vs_elab_statements.specs.vs_width_selects

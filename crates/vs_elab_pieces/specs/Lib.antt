@@ -1,4 +1,0 @@
-pub mod Pieces
-pub mod Reads
-pub mod Uses
-pub mod passes

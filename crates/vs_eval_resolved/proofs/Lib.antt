@@ -1,9 +1,0 @@
-pub mod CopyLemmas
-pub mod DepthLemmas
-pub mod IndexLemmas
-pub mod LayerLemmas
-pub mod MeantLemmas
-pub mod NodeLemmas
-pub mod OperandLemmas
-pub mod PlanesLemmas
-pub mod WordLemmas

@@ -1,5 +1,0 @@
-use Rattle.vs_eval_resolved.proofs.MeantLemmas.{literal_means}
-use Rattle.vs_eval_resolved.proofs.resolve.literal.Goals as goal
-
-pub returns : goal.returns
-returns c = λ signals values law. literal_means signals values c.args.digits c.planes.result c.width-width.result c.planes.ensures c.width-width.ensures.digits law

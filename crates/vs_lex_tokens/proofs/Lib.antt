@@ -1,5 +1,0 @@
-pub mod BasedNumbers
-pub mod CollectedDigits
-pub mod DecimalValues
-pub mod LongestRuns
-pub mod TextEnds

@@ -1,4 +1,0 @@
-use Rattle.vs_lex_tokens.proofs.collector.Collector.+push_same.Given as goal
-
-abbrev pub decreases-push_same : goal.decreases-push_same
-decreases-push_same l = l.times

@@ -1,7 +1,0 @@
-use Rattle.std.proofs.Common.{ap, ◌∙◌}
-use Rattle.vs_lex_tokens.specs.Numbers.{filling}
-use Rattle.vs_lex_tokens.proofs.CollectedDigits.{fitted_is}
-use Rattle.vs_lex_tokens.proofs.collector.Collector.fitted.Goals as goal
-
-pub returns : goal.returns
-returns c = λ ds was. c.from_digits.ensures ∙ fitted_is _ ds _ _ c.requires.most (c.filling.ensures ∙ ap filling was.last) (c.push_same-filled.ensures ds was)

@@ -1,7 +1,0 @@
-use Rattle.std.proofs.Common.{drop}
-use Rattle.vs_lex_tokens.specs.Numbers.{digits_vector}
-use Rattle.vs_lex_tokens.specs.Collecting.{Collects}
-use Rattle.vs_lex_tokens.proofs.collector.Collector.of_text.Given as goal
-
-abbrev pub invariant-loop-index : goal.invariant-loop-index
-invariant-loop-index l = Collects l.digits (digits_vector l.bits (drop l.index l.text))

@@ -1,5 +1,0 @@
-use Rattle.vs_lex_tokens.proofs.TextEnds.{text_reads}
-use Rattle.vs_lex_tokens.proofs.texts.read_text.Goals as goal
-
-pub returns : goal.returns
-returns c = text_reads _ _ _ c.read_behind_quote.ensures

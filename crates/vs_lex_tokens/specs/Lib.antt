@@ -1,9 +1,0 @@
-pub mod Bytes
-pub mod Collecting
-pub mod Forms
-pub mod Literals
-pub mod Numbers
-pub mod Reading
-pub mod Texts
-pub mod Times
-pub mod Tokens

@@ -1,3 +1,0 @@
-pub mod Behind
-pub mod Cuttings
-pub mod Parts

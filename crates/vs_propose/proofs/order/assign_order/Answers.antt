@@ -1,0 +1,14 @@
+use Rattle.std.proofs.Common.{subst}
+use Rattle.vs_graph.specs.Order.{IsSorted}
+use Rattle.vs_propose.proofs.Gathered.{no_maps}
+use Rattle.vs_propose.proofs.order.assign_order.Goals as goal
+
+pub new-requires : goal.new-requires
+new-requires c = no_maps c.args.design.now c.requires
+
+pub returns : goal.returns
+returns c = record {
+  table = c.in_ok-needs.needs.items;
+  needs = c.in_ok-needs.ensures;
+  sorted = subst (λ t. IsSorted t c.in_ok-order.order.items) c.deref.ensures.value c.in_ok-order.ensures;
+}

@@ -1,5 +1,0 @@
-use Rattle.vs_propose_plan.proofs.Gathered.{GatheredBelow}
-use Rattle.vs_propose_plan.proofs.order.needed_by.Given as goal
-
-abbrev pub invariant-loop-range : goal.invariant-loop-range
-invariant-loop-range l = GatheredBelow l.design l.reader l.ranges l.range-index l.needed.items

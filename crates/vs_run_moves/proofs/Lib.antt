@@ -1,9 +1,0 @@
-pub mod ActiveLemmas
-pub mod LeavingLemmas
-pub mod RunLemmas
-pub mod UpdateLemmas
-mod ScriptLemmas
-mod StartLemmas
-pub mod MarkingLemmas
-pub mod RegionLemmas
-pub mod StandingLemmas

@@ -1,8 +1,0 @@
-use Rattle.vs_run_steps.specs.Runs.{plan_of}
-use Rattle.vs_run_moves.proofs.moves.make.Given as goal
-
-abbrev pub ghost-write_planes : goal.ghost-write_planes
-ghost-write_planes g a = plan_of a.self.now
-
-abbrev pub ghost-write_listed : goal.ghost-write_listed
-ghost-write_listed g a = plan_of a.self.now

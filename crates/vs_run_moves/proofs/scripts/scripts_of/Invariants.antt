@@ -1,6 +1,0 @@
-use Rattle.std.proofs.Common.{take}
-use Rattle.vs_run_moves.proofs.ScriptLemmas.{AreOf}
-use Rattle.vs_run_moves.proofs.scripts.scripts_of.Given as goal
-
-abbrev pub invariant-loop-code : goal.invariant-loop-code
-invariant-loop-code l = AreOf l.design.signals (take l.code-index l.codes) l.scripts.items

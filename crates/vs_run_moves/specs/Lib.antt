@@ -1,9 +1,0 @@
-pub mod Leaving
-pub mod Making
-pub mod Running
-pub use Rattle.vs_run_regions
-pub use Rattle.vs_run_active
-pub mod Scripts
-pub mod Starting
-pub mod Standing
-pub use Rattle.vs_run_steps

@@ -1,5 +1,0 @@
-mod Indexed
-mod TopsLemmas
-mod UsesLemmas
-mod TargetLemmas
-mod TickLemmas

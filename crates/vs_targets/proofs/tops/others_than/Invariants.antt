@@ -1,8 +1,0 @@
-use Rattle.std.proofs.Common.{ℕ, List}
-use Rattle.vs_elab_pieces.specs.Reads.{read_names}
-use Rattle.vs_targets.specs.passes.Names.{AreIndexed}
-use Rattle.vs_targets.proofs.TopsLemmas.{AreTold}
-use Rattle.vs_targets.proofs.tops.others_than.Given as goal
-
-abbrev pub invariant-loop-module : goal.invariant-loop-module
-invariant-loop-module l = (names : List (List ℕ)) → AreIndexed names l.fn.index → AreTold names l.modules (read_names l.tops.items) l.module-index l.left

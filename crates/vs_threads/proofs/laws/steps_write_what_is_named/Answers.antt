@@ -1,5 +1,0 @@
-use Rattle.vs_threads.proofs.Named.{begun, left, updated, written}
-use Rattle.vs_threads.proofs.laws.steps_write_what_is_named.Goals as goal
-
-pub returns : goal.returns
-returns c = record { written = written; updated = updated; left = left; begun = begun }

@@ -1,6 +1,0 @@
-use Rattle.vs_threads.proofs.ThreadsNamed.{all_there, left, lines, named, strobes}
-use Rattle.vs_threads.proofs.StepReads.{step_reads}
-use Rattle.vs_threads.proofs.threads_laws.steps_read_what_is_named.Goals as goal
-
-pub returns : goal.returns
-returns c = record { kept = step_reads; named = named; lines = lines; strobes = strobes; left = left; begun = all_there }

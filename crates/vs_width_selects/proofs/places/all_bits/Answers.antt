@@ -1,6 +1,0 @@
-use Rattle.std.proofs.Common.{refl}
-use Rattle.vs_width_selects.proofs.PlaceLemmas.{whole_word}
-use Rattle.vs_width_selects.proofs.places.all_bits.Goals as goal
-
-pub returns : goal.returns
-returns c = whole_word c.args.shape _ c.zero.result refl refl refl refl refl c.zero.ensures
