@@ -1,5 +1,6 @@
 //! The moves of events.
 ghost use Rattle.std.specs.Prelude.{◌≡◌, ◌<◌, ◌≤◌, ◌^◌, false, true, Bool, Some, List, IfOk, OnOk, OnErr};
+ghost use Rattle.vs_design.specs.Parts.{Parts};
 ghost use Rattle.vs_run_regions.specs.vs_process.specs.Executions as executions;
 ghost use Rattle.vs_kernel.specs.Leaving.{changed_each};
 ghost use Rattle.vs_kernel.specs.Making.{WritesUpdate};
@@ -261,7 +262,7 @@ fn end_slot<Q: EventQueue<Due>>(run: &mut RunState<Q>) -> Result<(), AllocError>
 
 /// The inactive processes go on, or the updates that are due in the slot are activated, or time goes on.
 #[inline(always)]
-pub fn leave<Q: EventQueue<Due>>(run: &mut RunState<Q>, region: Region) -> Result<(), AllocError>
+fn make_region<Q: EventQueue<Due>>(run: &mut RunState<Q>, region: Region) -> Result<(), AllocError>
     requires run { IsRunOf run.old.design.now run.old }
     requires going { (state_of run.old).over ≡ false }
     requires enabled { executions.is_enabled (state_of run.old) (region_move region) ≡ true }
@@ -283,4 +284,33 @@ pub fn leave<Q: EventQueue<Due>>(run: &mut RunState<Q>, region: Region) -> Resul
             Ok(())
         }
     }
+}
+
+/// Notes whether a wave of updates begins: the queue goes by that.
+#[inline(always)]
+fn note_wave<Q: EventQueue<Due>>(run: &mut RunState<Q>, region: Region)
+    ensures state { state_of run.new ≡ state_of run.old }
+    ensures marks { run.new.watched.marks ≡ run.old.watched.marks }
+    ensures run { (design : Parts) → IsRunOf design run.old → IsRunOf design run.new }
+    ensures design { run.new.design.now ≡ run.old.design.now }
+{
+    run.watched
+        .events
+        .queue
+        .set_wave(matches!(region, Region::Updates));
+}
+
+/// The same; the queue is told whether a wave of updates begins.
+#[inline(always)]
+pub fn leave<Q: EventQueue<Due>>(run: &mut RunState<Q>, region: Region) -> Result<(), AllocError>
+    requires run { IsRunOf run.old.design.now run.old }
+    requires going { (state_of run.old).over ≡ false }
+    requires enabled { executions.is_enabled (state_of run.old) (region_move region) ≡ true }
+    ensures run { OnOk result (IsRunOf run.old.design.now run.new) }
+    ensures made { OnOk result (state_of run.new ≡ executions.apply (region_move region) (state_of run.old)) }
+    ensures marks { OnOk result (run.new.watched.marks ≡ run.old.watched.marks) }
+{
+    note_wave(run, region);
+    make_region(run, region)?;
+    Ok(())
 }

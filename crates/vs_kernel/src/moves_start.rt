@@ -47,12 +47,25 @@ fn marks_for(alloc: Global, recorder: &Recorder, design: &Design) -> Result<Vec<
     Ok(Vec::new(alloc))
 }
 
-/// Of each continuous assignment whether it is a copy that may be woken with others as one: so where the first event is always chosen.
-fn copies_of(alloc: Global, forms: &Forms, chooses: bool) -> Result<Vec<bool>, AllocError> {
+/// Of each continuous assignment whether it is silent: so where the first event is always chosen.
+fn silent_of(alloc: Global, forms: &Forms, chooses: bool) -> Result<Vec<bool>, AllocError> {
     if chooses {
         return Ok(Vec::new(alloc));
     }
-    forms.copies(alloc)
+    forms.silent(alloc)
+}
+
+/// Of each whether it is a copy that may be woken with others as one: so where the first event is always chosen.
+fn copies_of(
+    alloc: Global,
+    forms: &Forms,
+    silent: &[bool],
+    chooses: bool,
+) -> Result<Vec<bool>, AllocError> {
+    if chooses {
+        return Ok(Vec::new(alloc));
+    }
+    forms.copies(alloc, silent)
 }
 
 /// The list of a policy that chooses, at the start of a run.
@@ -102,10 +115,11 @@ impl<'a, Q: EventQueue<Due>> Run<'a, Q> {
     {
         let blocks = blocks_of(alloc, design.processes())?;
         let forms = Forms::of(alloc, design)?;
-        let copies = copies_of(alloc, &forms, chooses)?;
+        let silent = silent_of(alloc, &forms, chooses)?;
+        let copies = copies_of(alloc, &forms, &silent, chooses)?;
         let recorder = Recorder::start(alloc, vcd, design)?;
         let marks = marks_for(alloc, &recorder, design)?;
-        let mut running = running_of(alloc, design, scripts, wheel, &copies, marks)?;
+        let mut running = running_of(alloc, design, scripts, wheel, &copies, silent, marks)?;
         let agenda = agenda_of(alloc, design, &mut running, chooses)?;
         Ok(Run {
             alloc,

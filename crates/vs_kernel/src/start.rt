@@ -70,12 +70,13 @@ fn list_first(
     Ok(())
 }
 
-/// What is active at the start of a run.
+/// What is active at the start of a run; of each continuous assignment it is told whether it is silent.
 fn events_of<'a>(
     alloc: Global,
     design: &'a Design,
     scripts: &'a [Script<'a>],
     groups: usize,
+    silent: Vec<bool>,
 ) -> Result<Events<'a>, AllocError>
     ensures assigns { IfOk result (λ events. events.assigns ≡ map states.start_assign design.entry.now.assigns) }
     ensures processes { IfOk result (λ events. AreStarted scripts.entry.now events.processes) }
@@ -83,7 +84,7 @@ fn events_of<'a>(
     let assigns = Assigns::start(alloc, design.assigns())?;
     let processes = processes_of(alloc, scripts)?;
     let first_process = assigns.len().wrapping_add(groups);
-    let mut queue = Queue::new(alloc);
+    let mut queue = Queue::new(alloc, silent);
     list_first(&mut queue, assigns.len(), first_process, &processes)?;
     Ok(Events {
         assigns,
@@ -148,13 +149,14 @@ where
 }
 
 /// The state of a run of a design at its start, with these marks; of each continuous assignment it is told whether it is a copy that may be woken
-/// with others as one.
+/// with others as one, and whether it is silent.
 pub fn running_of<'a, Q: EventQueue<Due>>(
     alloc: Global,
     design: &'a Design,
     scripts: &'a [Script<'a>],
     wheel: Q,
     copies: &[bool],
+    silent: Vec<bool>,
     marks: Vec<u64>,
 ) -> Result<RunState<'a, Q>, AllocError>
 where
@@ -168,7 +170,7 @@ where
 {
     let terms = terms_of(alloc, scripts)?;
     let tables = tables_of(alloc, design, &terms, copies)?;
-    let events = events_of(alloc, design, scripts, tables.groups.groups.len())?;
+    let events = events_of(alloc, design, scripts, tables.groups.groups.len(), silent)?;
     let watched = Watched {
         store: Store::start(alloc, design)?,
         tables,

@@ -182,7 +182,15 @@ fn log_under(
     };
     let scripts = scripts_of(alloc, design, codes)?;
     let forms = Forms::of(alloc, &*design)?;
-    let mut run = running_of(alloc, &*design, &scripts, queue, &[], Vec::new(alloc))?;
+    let mut run = running_of(
+        alloc,
+        &*design,
+        &scripts,
+        queue,
+        &[],
+        Vec::new(alloc),
+        Vec::new(alloc),
+    )?;
     let mut order = order_of(alloc, design, &mut run)?;
     let mut policy = Planned::new(choices);
     let left = run_to(&mut run, &forms, &mut order, &mut policy, stage)?;

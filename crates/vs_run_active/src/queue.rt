@@ -7,14 +7,20 @@ use std::alloc::{AllocError, Global};
 pub struct Queue {
     items: Vec<usize>,
     head: usize,
+    /// Of each continuous assignment whether it is silent: in a wave of updates nothing sees it.
+    silent: Vec<bool>,
+    /// Whether a wave of updates runs: from where they are activated to the next move of a region.
+    in_wave: bool,
 }
 
 impl Queue {
-    /// An empty one.
-    pub fn new(alloc: Global) -> Self {
+    /// An empty one; of each continuous assignment it is told whether it is silent.
+    pub fn new(alloc: Global, silent: Vec<bool>) -> Self {
         Queue {
             items: Vec::new(alloc),
             head: 0,
+            silent,
+            in_wave: false,
         }
     }
 
@@ -28,6 +34,27 @@ impl Queue {
     #[inline(always)]
     pub fn len(&self) -> usize {
         self.items.len().saturating_sub(self.head)
+    }
+
+    /// Whether a continuous assignment is silent, in a wave of updates.
+    #[inline(always)]
+    fn is_unseen(&self, assign: usize) -> bool {
+        match self.silent.get(assign) {
+            Some(silent) => self.in_wave && *silent,
+            None => false,
+        }
+    }
+
+    /// Whether the update of a continuous assignment may be made with its evaluation: it would be next, or nothing sees it before the wave is over.
+    #[inline(always)]
+    pub fn may_follow(&self, assign: usize) -> bool {
+        self.is_empty() || self.is_unseen(assign)
+    }
+
+    /// A wave of updates runs from now on, or none.
+    #[inline(always)]
+    pub fn set_wave(&mut self, in_wave: bool) {
+        self.in_wave = in_wave;
     }
 
     /// Puts a number at the end.

@@ -6,8 +6,8 @@ use Rattle.vs_run_active.specs.vs_process.specs.declared.moves.Move.{Move}
 use Rattle.vs_run_active.specs.vs_process.specs.declared.moves.Move.TheVariants.{Evaluate, Propagate}
 use Rattle.vs_run_active.specs.vs_process.specs.Executions.{apply, if_some, is_enabled}
 use Rattle.vs_run_active.specs.vs_process.specs.States.{AssignState, State}
-use Rattle.vs_run_steps.specs.Turns.{is_silent}
-use Rattle.vs_run_steps.proofs.MadeLemmas.{made_more}
+use Rattle.vs_run_steps.specs.Turns.{AreMade, is_silent}
+use Rattle.vs_run_steps.proofs.MadeLemmas.{made_more, made_then}
 use Rattle.vs_run_active.specs.Changes.{MarkChanges}
 use Rattle.vs_run_steps.specs.declared.run.RunState.{RunState}
 use Rattle.vs_run_steps.specs.Runs.{IsRunOf, marks_of, state_of}
@@ -62,6 +62,17 @@ one_done d limit taken old now new m h fewer run silent enabled made marked = re
   run = run;
   within = omega arith;
   made = made_more taken (state_of old) (state_of now) (state_of new) m h.made silent enabled made;
+  marked =
+      marks_then (marks_of old) (marks_of now) (marks_of new) (state_of old).store (state_of now).store (state_of new).store h.marked marked;
+}
+
+-- some more, at most as many as are left
+pub some_done : {Q : Type 0} (d : Parts) (limit taken more : ℕ) (old now new : RunState Q) → AreDone d limit old taken now → taken + more ≤ limit → IsRunOf d new →
+    AreMade more (state_of now) (state_of new) → MarkChanges (marks_of now) (marks_of new) (state_of now).store (state_of new).store → AreDone d limit old (taken + more) new
+some_done d limit taken more old now new h within run made marked = record {
+  run = run;
+  within = within;
+  made = made_then taken more (state_of old) (state_of now) (state_of new) h.made made;
   marked =
       marks_then (marks_of old) (marks_of now) (marks_of new) (state_of old).store (state_of now).store (state_of new).store h.marked marked;
 }

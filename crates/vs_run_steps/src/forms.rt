@@ -3,6 +3,7 @@ ghost use Rattle.std.specs.Prelude.{◌≡◌, true, slice_get, Some, None, IfOk
 ghost use Rattle.vs_design.specs.declared.design.Assign as design_assign;
 ghost use Rattle.vs_run_steps.specs.Forms.{IsCopy, IsForm, IsPlaceOf, IsSized};
 
+use crate::silent::silent_of;
 use std::alloc::{AllocError, Global};
 use std::marker::Model;
 use vs_design::{Assign, Design, Typed};
@@ -140,12 +141,17 @@ impl<'a> Forms<'a> {
         }
     }
 
-    /// Of each whether it is a copy.
-    pub fn copies(&self, alloc: Global) -> Result<Vec<bool>, AllocError> {
+    /// Of each whether it is silent: a copy that nothing sees before a wave of updates is over.
+    pub fn silent(&self, alloc: Global) -> Result<Vec<bool>, AllocError> {
+        silent_of(alloc, self.design, &self.items)
+    }
+
+    /// Of each whether it is a copy that may be woken with others as one: so those that aren't silent.
+    pub fn copies(&self, alloc: Global, silent: &[bool]) -> Result<Vec<bool>, AllocError> {
         let mut copies = Vec::new(alloc);
-        for form in &self.items {
+        for (number, form) in self.items.iter().enumerate() {
             let copy = match form {
-                Form::Copy(_, _) => true,
+                Form::Copy(_, _) => !matches!(silent.get(number), Some(true)),
                 Form::Fixed(_, _) => false,
                 Form::Other => false,
             };

@@ -8,7 +8,7 @@ ghost use Rattle.vs_run_steps.specs.Turns.{AreMade};
 ghost use Rattle.vs_run_active.specs.Changes.{MarkChanges};
 
 use crate::RunState;
-use crate::assigns::{evaluate_alone, is_pending, needs, update_member};
+use crate::assigns::{evaluate_alone, evaluate_by, is_pending, needs, update_member};
 use crate::forms::Forms;
 use std::alloc::AllocError;
 use vs_run_active::vs_process::Move;
@@ -112,7 +112,43 @@ fn evaluate_group<Q: EventQueue<Due>>(
     Ok(taken)
 }
 
-/// What the copies of a group have to do, at most so many moves: their updates, where that of the first one is pending, else their evaluations.
+/// The evaluations of the continuous assignments of a group that need it, each with its update at once, at most so many moves: how many.
+#[inline(always)]
+fn copy_group<Q: EventQueue<Due>>(
+    run: &mut RunState<Q>,
+    forms: &Forms,
+    group: usize,
+    limit: u64,
+) -> Result<u64, AllocError>
+    requires limit { 0 < limit }
+    requires run { IsRunOf forms.now run.old }
+    ensures run { OnOk result (IsRunOf forms.now run.new) }
+    ensures some { IfOk result (λ taken.
+        HasBegun (members_in run.old.watched.tables group) (λ j. Move.Evaluate j) (state_of run.old) taken) }
+    ensures within { IfOk result (λ taken. taken ≤ limit) }
+    ensures made { IfOk result (λ taken. AreMade taken (state_of run.old) (state_of run.new)) }
+    ensures marked { OnOk result (MarkChanges (marks_of run.old) (marks_of run.new) (state_of run.old).store (state_of run.new).store) }
+{
+    let count = run.watched.tables.groups.members_of(group).len();
+    let mut taken = 0;
+    for i in 0..count {
+        if taken == limit {
+            return Ok(taken);
+        }
+        let Some(assign) = member_at(run, group, i) else {
+            return Ok(taken);
+        };
+        if needs(run, assign) {
+            let left = limit - taken;
+            let made = evaluate_by(run, forms, assign, left, left > 1)?;
+            taken += made;
+        }
+    }
+    Ok(taken)
+}
+
+/// What the copies of a group have to do, at most so many moves: their updates, where that of the first one is pending, else their evaluations, with
+/// their updates where these would be next.
 #[inline(never)]
 pub fn run_group<Q: EventQueue<Due>>(
     run: &mut RunState<Q>,
@@ -135,6 +171,8 @@ pub fn run_group<Q: EventQueue<Due>>(
     };
     if is_pending(run, first) {
         update_group(run, forms, group, limit)
+    } else if run.watched.events.queue.is_empty() {
+        copy_group(run, forms, group, limit)
     } else {
         evaluate_group(run, forms, group, limit)
     }

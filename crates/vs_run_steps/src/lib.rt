@@ -13,8 +13,10 @@ mod marks;
 mod process;
 mod recorder;
 mod run;
+mod silent;
 mod step;
 mod steps_writes;
+mod wave;
 mod writes;
 
 pub use assigns::{evaluate, is_pending, needs, propagate};

@@ -1,24 +1,27 @@
-use Rattle.std.proofs.Common.{◌≡◌, true, sym, subst}
+use Rattle.std.proofs.Common.{◌≡◌, ◌≤◌, Bool, false, true, ℕ, sym, ◌∙◌, ap, subst}
+use Rattle.vs_design.specs.Parts.{Parts}
 use Rattle.vs_run_regions.specs.vs_process.specs.Executions.{apply, is_enabled}
-use Rattle.vs_kernel.specs.declared.state.Region.{Region}
+use Rattle.vs_run_regions.specs.vs_process.specs.States.{State}
 use Rattle.vs_kernel.specs.Running.{region_move}
-use Rattle.vs_run_steps.specs.Runs.{state_of}
+use Rattle.vs_run_steps.specs.Runs.{IsRunOf, state_of}
 use Rattle.vs_kernel.proofs.moves.leave.Goals as goal
 
-pub activate-requires-clause-enabled : goal.activate-requires-clause-enabled
-activate-requires-clause-enabled g c = subst (λ (x : Region). is_enabled (state_of c.args.run.now) (region_move x) ≡ true) c.in-Updates.is c.requires.enabled
+pub make_region-requires-clause-run : goal.make_region-requires-clause-run
+make_region-requires-clause-run g c =
+    subst (λ (d : Parts). IsRunOf d c.note_wave.new.run) (sym c.note_wave.ensures.design) (c.note_wave.ensures.run c.args.run.now.design.now c.requires.run)
 
-pub end_slot-requires-clause-enabled : goal.end_slot-requires-clause-enabled
-end_slot-requires-clause-enabled g c = subst (λ (x : Region). is_enabled (state_of c.args.run.now) (region_move x) ≡ true) c.in-End.is c.requires.enabled
+pub make_region-requires-clause-going : goal.make_region-requires-clause-going
+make_region-requires-clause-going g c = subst (λ (s : State). s.over ≡ false) (sym c.note_wave.ensures.state) c.requires.going
 
-pub returns-in_ok-rouse-in-Inactive-clause-made : goal.returns-in_ok-rouse-in-Inactive-clause-made
-returns-in_ok-rouse-in-Inactive-clause-made g c =
-    subst (λ (x : Region). state_of c.rouse.new.run ≡ apply (region_move x) (state_of c.args.run.now)) (sym c.in-Inactive.is) c.in_ok-rouse-in-Inactive.ensures.made
+pub make_region-requires-clause-enabled : goal.make_region-requires-clause-enabled
+make_region-requires-clause-enabled g c = subst (λ (s : State). is_enabled s (region_move c.args.region) ≡ true) (sym c.note_wave.ensures.state) c.requires.enabled
 
-pub returns-in-Updates-clause-made : goal.returns-in-Updates-clause-made
-returns-in-Updates-clause-made g c =
-    subst (λ (x : Region). state_of c.activate.new.run ≡ apply (region_move x) (state_of c.args.run.now)) (sym c.in-Updates.is) c.activate.ensures.made
+pub returns-clause-run : goal.returns-clause-run
+returns-clause-run g c =
+    subst (λ (d : Parts). IsRunOf d c.make_region.new.run) c.note_wave.ensures.design c.in_ok-make_region.ensures.run
 
-pub returns-in_ok-end_slot-in-End-clause-made : goal.returns-in_ok-end_slot-in-End-clause-made
-returns-in_ok-end_slot-in-End-clause-made g c =
-    subst (λ (x : Region). state_of c.end_slot.new.run ≡ apply (region_move x) (state_of c.args.run.now)) (sym c.in-End.is) c.in_ok-end_slot-in-End.ensures.made
+pub returns-clause-made : goal.returns-clause-made
+returns-clause-made g c = c.in_ok-make_region.ensures.made ∙ ap (apply (region_move c.args.region)) c.note_wave.ensures.state
+
+pub returns-clause-marks : goal.returns-clause-marks
+returns-clause-marks g c = c.in_ok-make_region.ensures.marks ∙ c.note_wave.ensures.marks
