@@ -1,7 +1,6 @@
 -- What a block reads and writes, by signals and by terms.
-use Rattle.std.proofs.Common.{◌≡◌, ℕ, ◌<◌, ◌≤◌, ◌⊎◌, inl, inr, ◌↔◌, true, false, IsTrue, Bool, Some, List, [], ◌∷◌, map, length, get_or, slice_get, refl, sym, ◌∙◌, ap, subst, arith}
+use Rattle.std.proofs.Common.{◌≡◌, ℕ, ◌<◌, ◌⊎◌, inl, inr, ◌↔◌, true, false, IsTrue, Bool, Some, List, [], ◌∷◌, map, slice_get, refl, sym, ◌∙◌, ap, subst, arith}
 use Rattle.std.specs.List.{Contains}
-use Rattle.std.proofs.lemmas.List.{get_or_default}
 use Rattle.std.proofs.lemmas.Option.{same_Some}
 use Rattle.vs_design.specs.declared.design.Process.{Process}
 use Rattle.vs_design.specs.declared.range.BitRange.{BitRange}
@@ -12,11 +11,12 @@ use Rattle.vs_process.specs.Writes.{statement_writes}
 use Rattle.vs_drivers.specs.vs_rules.specs.Paths.{Has, text_reads}
 use Rattle.vs_claims.specs.vs_maps.specs.Ranges.{HasSignal, HasTermAt}
 use Rattle.vs_claims.specs.vs_maps.specs.Reaches.{Chart}
-use Rattle.vs_claims.specs.vs_maps.proofs.RangeLemmas.{first_in, later_in, in_either}
+use Rattle.vs_claims.specs.vs_maps.proofs.RangeLemmas.{later_in, in_either}
 use Rattle.vs_drivers.specs.Places.{bit}
 use Rattle.vs_drivers.specs.Ranges.{Cover}
 use Rattle.vs_drivers.proofs.Words.{parted}
 use Rattle.vs_drivers.specs.Signals.{AreOf}
+use Rattle.vs_graph.proofs.RowLemmas.{head_in as first_in}
 use Rattle.vs_cert_blocks.specs.Blocks.{IsNamed, AreNamed, AreWrittenFirst, AreOfOrNamed, IsSignalFirst, AreSignalsFirst, KeepsText}
 use Rattle.vs_cert_blocks.specs.Walks.{IsWrittenFirst}
 
@@ -96,12 +96,6 @@ signal_first_is d t v s is good h = (
       (h.0 y b.word b.place (subst (λ (x : Signal). b.word < x.count) same there.word) (subst (λ (x : Signal). b.place < x.width) same there.place)),
   λ all. h.1 (λ w n low less. all (bit v w n) (record { signal = s; is = is; word = low; place = less }) refl),
 )
-
-pub all_do : (P : ℕ → Type 0) (xs : List ℕ) (i : ℕ) → length xs ≤ i → ((k : ℕ) → k < i → P (get_or xs k 0)) → (IsTrue true ↔ ((r : ℕ) → Contains xs r → P r))
-all_do P xs i h all = (λ t r c. subst P (get_or_default xs c.0 0 r c.1 ∙ c.2) (all c.0 (omega (arith, h, c.1))), λ f. grind arith)
-
-pub one_not : (P : ℕ → Type 0) (xs : List ℕ) (i : ℕ) → i < length xs → (P (get_or xs i 0) → IsTrue false) → (IsTrue false ↔ ((r : ℕ) → Contains xs r → P r))
-one_not P xs i h not = (λ t. absurd (grind (arith, t)), λ f. not (f (get_or xs i 0) (i, h, get_or_default xs i (get_or xs i 0) 0 h)))
 
 -- ---- of a text
 

@@ -1,10 +1,11 @@
 -- Bits that are in each of some ranges alike.
-use Rattle.std.proofs.Common.{◌≡◌, ℕ, ◌+◌, ◌<◌, ◌≤◌, ◌⊎◌, inl, inr, ◌↔◌, IsTrue, false, List, length, get_or, sym, ◌∙◌, ap, subst, arith}
+use Rattle.std.proofs.Common.{◌≡◌, ℕ, ◌+◌, ◌<◌, ◌≤◌, inl, inr, ◌↔◌, IsTrue, false, List, length, get_or, sym, ◌∙◌, ap, subst, arith}
 use Rattle.std.specs.List.{Contains}
 use Rattle.std.proofs.lemmas.List.{get_or_default}
 use Rattle.std.proofs.lemmas.List.Elements.{Contains-get_or}
 use Rattle.vs_design.specs.declared.range.BitRange.{BitRange}
 use Rattle.vs_design.specs.Uses.{covers}
+use Rattle.vs_design.specs.vs_logic4.proofs.Basics.{below_or}
 
 -- of the first of some ranges
 pub record PlacesSoFar (rs : List BitRange) (i v w width place end : ℕ) : Type 0 where
@@ -16,10 +17,6 @@ pub record WordsSoFar (rs : List BitRange) (i v count word end : ℕ) : Type 0 w
   pub more : word < end
   pub bounded : end ≤ count
   pub alike : (k : ℕ) (q : BitRange) → k < i → get_or rs k q ≡ q → (w n : ℕ) → word ≤ w → w < end → covers v w n q ≡ covers v word n q
-
--- a number below the next one is below, or is it
-pub below_or : (k i : ℕ) → k < i + 1 → (k < i) ⊎ (k ≡ i)
-below_or k i h = grind (arith, h)
 
 -- ---- loops over ranges
 

@@ -4,7 +4,7 @@ use Rattle.std.specs.List.{Contains, list_any}
 use Rattle.std.proofs.lemmas.List.{get_or_default}
 use Rattle.std.proofs.lemmas.List.Elements.{Contains-push_cases, Contains-get_or}
 use Rattle.std.proofs.lemmas.Option.{slice_get_within, get_or_from_slice_get}
-use Rattle.vs_design.specs.vs_logic4.proofs.Basics.{element_of}
+use Rattle.vs_design.specs.vs_logic4.proofs.Basics.{element_of, below_or}
 use Rattle.vs_design.specs.declared.range.BitRange.{BitRange}
 use Rattle.vs_design.specs.Uses.{covers}
 use Rattle.vs_process.specs.Stops.{stop_at, stop_statement, stops_tos}
@@ -17,7 +17,6 @@ use Rattle.vs_drivers.proofs.Words.{parted}
 use Rattle.vs_drivers.specs.Signals.{AreOf}
 use Rattle.vs_cert_blocks.specs.Early.{AreEarly, IsScanned, IsUnseen}
 use Rattle.vs_cert_blocks.specs.Walks.{surely_at, is_at_once, open_tos, statement_sure, sure_at, AreWoken, IsUnwritten, begins, goes_on, IsClear, IsWrittenFirst}
-use Rattle.vs_cert_blocks.proofs.CornerLemmas.{below_or}
 use Rattle.vs_cert_blocks.proofs.Open.{sure_is}
 
 -- ---- walks of a span

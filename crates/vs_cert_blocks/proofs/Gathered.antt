@@ -12,8 +12,8 @@ use Rattle.vs_claims.specs.vs_maps.specs.Reaches.{Chart, pause_of, places}
 use Rattle.vs_claims.specs.vs_maps.specs.Ranges.{ranges_of, reads_at}
 use Rattle.vs_drivers.specs.vs_rules.specs.vs_process.specs.Threads.{own_reads}
 use Rattle.std.proofs.lemmas.List.{length-append}
+use Rattle.vs_design.specs.vs_logic4.proofs.Basics.{below_or}
 use Rattle.vs_cert_blocks.specs.Walks.{WakesFrom, AreWoken, sure_at, statement_sure, HaveSure, row_at, AreReads}
-use Rattle.vs_cert_blocks.proofs.CornerLemmas.{below_or}
 
 -- past the end nothing is done
 pub nothing_past : (t : Chart) (p : ℕ) → places t ≤ p → stop_statement (stop_at t.stops p) ≡ None

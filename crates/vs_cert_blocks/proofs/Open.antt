@@ -10,10 +10,11 @@ use Rattle.vs_design.specs.declared.statement.Statement.TheViews.{out-Statement}
 use Rattle.vs_design.specs.Uses.{covers, has_bit, has_word, joined}
 use Rattle.vs_process.specs.Stops.{LeadsIn, stop_at, stop_statement, stops_tos}
 use Rattle.vs_graph.specs.Reached as reach
+use Rattle.vs_graph.proofs.RowLemmas.{head_in as first_in}
 use Rattle.vs_drivers.specs.vs_rules.specs.Blocks.{is_sure, statement_surely}
 use Rattle.vs_drivers.specs.vs_rules.specs.Paths.{Bit}
 use Rattle.vs_claims.specs.vs_maps.specs.Reaches.{Chart, places, pause_of}
-use Rattle.vs_claims.specs.vs_maps.proofs.RangeLemmas.{first_in, later_in}
+use Rattle.vs_claims.specs.vs_maps.proofs.RangeLemmas.{later_in}
 use Rattle.vs_drivers.specs.Places.{bit}
 use Rattle.vs_drivers.specs.Signals.{AreOf}
 use Rattle.vs_cert_blocks.specs.Corners.{Alike, AlikePlaces, AlikeWords}

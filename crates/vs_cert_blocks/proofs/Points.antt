@@ -1,7 +1,7 @@
 -- The rule K5 of points is that of places.
 use Rattle.std.proofs.Common.{◌≡◌, ℕ, ◌⊎◌, inl, inr, ◌↔◌, ◌&&◌, not, Bool, true, false, IsTrue, Some, List, [], ◌∷◌, ◌<◌, length, get_or, slice_get, refl, sym, ◌∙◌, ap, subst, arith, if◌then◌else◌}
 use Rattle.std.specs.List.{Contains, list_any}
-use Rattle.std.proofs.lemmas.Bool.{and_parts, false≢true}
+use Rattle.std.proofs.lemmas.Bool.{and_parts, false≢true, not-true}
 use Rattle.std.proofs.lemmas.Option.{same_Some, slice_get_read}
 use Rattle.vs_design.specs.declared.design.Process.{Process}
 use Rattle.vs_design.specs.declared.range.BitRange.{BitRange}
@@ -70,10 +70,6 @@ if_in : (x : Bool) (xs : List ℕ) (q : ℕ) → Contains (if x then xs else [])
 if_in true xs q c = (refl, c)
 if_in false xs q c = absurd (omega (arith, c.1))
 
-not_so : (x : Bool) → not x ≡ true → x ≡ false
-not_so false h = refl
-not_so true h = absurd (false≢true h)
-
 at_once_is : (pause : Pause) → is_at_once pause ≡ true → pause ≡ none
 at_once_is none h = refl
 at_once_is (delay n u) h = absurd (false≢true h)
@@ -111,7 +107,7 @@ unwritten_back d i q stops start t is b _ (goes_on p r h c) =
     let o = if_in (is_open b s) (stops_tos stops p) r c in
     let parts = and_parts (not (surely_at b s)) (is_at_once (pause_of s)) o.0 in
     rule.goes_on (t.at p) (t.at r) (unwritten_back d i q stops start t is b p h)
-    (surely_told b (t.at p) ∙ ap (surely_at b) (t.says p) ∙ not_so (surely_at b s) parts.0)
+    (surely_told b (t.at p) ∙ ap (surely_at b) (t.says p) ∙ not-true (surely_at b s) parts.0)
     (subst (λ (x : Pause). Goes (t.at p) (next_by x (t.at r))) (at_once_is (pause_of s) parts.1) (step_back q.body stops start t p r o.1))
 
 -- where no control follows, ways go on at once

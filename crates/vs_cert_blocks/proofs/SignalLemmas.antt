@@ -3,7 +3,8 @@ use Rattle.std.proofs.Common.{◌≡◌, ℕ, inl, inr, ◌↔◌, List, [], ◌
 use Rattle.std.specs.List.{Contains}
 use Rattle.vs_design.specs.declared.range.BitRange.{BitRange}
 use Rattle.vs_claims.specs.vs_maps.specs.Ranges.{HasSignal}
-use Rattle.vs_claims.specs.vs_maps.proofs.RangeLemmas.{first_in, later_in, in_either}
+use Rattle.vs_claims.specs.vs_maps.proofs.RangeLemmas.{later_in, in_either}
+use Rattle.vs_graph.proofs.RowLemmas.{head_in as first_in}
 
 abbrev signals : List BitRange → List ℕ
 signals rs = map (λ (r : BitRange). r.signal) rs

@@ -14,7 +14,7 @@ ghost use Rattle.vs_cert_blocks.specs.Walks.{has_late_effect_at, AreReads, AreWo
 use crate::bits::has_late_effect;
 use crate::early::early_ranges;
 use crate::starts::starts;
-use crate::walks::{Walks, statement_at, sure, woken};
+use crate::walks::{Walks, sure, woken};
 use std::alloc::{AllocError, Global};
 use vs_claims::vs_maps::{Tables, terms, text_reads};
 use vs_claims::vs_process::{Grain, is_combinational};
@@ -40,7 +40,7 @@ impl<'a> Rule for Quiet<'a> {
         if !self.tables.is_point(i) {
             return Ok(true);
         }
-        Ok(!has_late_effect(statement_at(self.tables, i)))
+        Ok(!has_late_effect(self.tables.statement(i)))
     }
 }
 

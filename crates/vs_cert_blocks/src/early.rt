@@ -6,7 +6,7 @@ ghost use Rattle.vs_claims.specs.vs_maps.specs.Ranges.{HasSignal};
 ghost use Rattle.vs_cert_blocks.specs.Early.{AreEarly, IsUnseen};
 ghost use Rattle.vs_cert_blocks.specs.Walks.{sure_at, AreReads, AreWoken};
 
-use crate::walks::{is_at_once, push_sure, row, statement_at};
+use crate::walks::{is_at_once, push_sure, row};
 use std::alloc::{AllocError, Global};
 use vs_claims::vs_maps::Tables;
 use vs_design::BitRange;
@@ -91,7 +91,7 @@ fn push_early<'a>(
         return Ok(());
     }
     let mut sure = Vec::new(alloc);
-    push_sure(&mut sure, statement_at(tables, place))?;
+    push_sure(&mut sure, tables.statement(place))?;
     push_unseen(out, &sure, seen)
 }
 

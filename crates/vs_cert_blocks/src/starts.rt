@@ -4,7 +4,7 @@ ghost use Rattle.vs_cert_blocks.specs.Starts.{ArePut, ArePutAt, AreStarts};
 ghost use Rattle.vs_cert_blocks.specs.Walks.{AreReads, AreWoken};
 
 use crate::early::{are_up_to, greatest_of, least_of, noted};
-use crate::walks::{is_at_once, push_sure, row, statement_at};
+use crate::walks::{is_at_once, push_sure, row};
 use std::alloc::{AllocError, Global};
 use std::collections::BTreeMap;
 use vs_claims::vs_maps::Tables;
@@ -57,7 +57,7 @@ fn put_starts<'a>(
         None => Ok(()),
         Some(start) => {
             let mut sure = Vec::new(alloc);
-            push_sure(&mut sure, statement_at(tables, place))?;
+            push_sure(&mut sure, tables.statement(place))?;
             put_signals(starts, &sure, start, seen)
         }
     }

@@ -11,7 +11,7 @@ ghost use Rattle.vs_cert_blocks.specs.Early.{AreEarly};
 ghost use Rattle.vs_cert_blocks.specs.Starts.{AreStarts, IsClearFrom};
 ghost use Rattle.vs_graph.specs.Clear.{AreClear};
 ghost use Rattle.vs_cert_blocks.specs.Inside.{open_in};
-ghost use Rattle.vs_claims.specs.vs_maps.specs.Ranges.{ranges_of, HasSignal};
+ghost use Rattle.vs_claims.specs.vs_maps.specs.Ranges.{ranges_of};
 ghost use Rattle.vs_cert_blocks.specs.Walks.{bit_view, is_open, open_tos, row_at, fixed_range, statement_sure};
 ghost use Rattle.vs_cert_blocks.specs.Walks.{IsClear, IsWrittenFirst, AreWoken, AreReads, HaveSure, WakesFrom};
 
@@ -19,20 +19,10 @@ use crate::bits::{Bit, any_has, slice_range, surely_at};
 use crate::corners::{alike_until, alike_words_until};
 use std::alloc::{AllocError, Global};
 use std::collections::BTreeMap;
-use vs_claims::vs_maps::{Pause, Tables};
+use vs_claims::vs_maps::{Pause, Tables, has_signal};
 use vs_design::{Aim, BitRange, Statement};
 use vs_drivers::BySignal;
 use vs_graph::{Family, Graph, gather, walk};
-
-/// The statement that is done at a place, where there is one.
-pub(crate) fn statement_at<'a>(tables: &'a Tables<'a>, place: usize) -> Option<&'a Statement>
-    ensures { statement_view result ≡ stop_statement (stop_at tables.entry.now.stops place) }
-{
-    match tables.stop(place) {
-        None => None,
-        Some(stop) => stop.statement,
-    }
-}
 
 /// Whether all ways from a place go on through no control.
 pub(crate) fn is_at_once(tables: &Tables, place: usize) -> bool
@@ -48,7 +38,7 @@ pub(crate) fn is_at_once(tables: &Tables, place: usize) -> bool
 fn is_open<'a>(tables: &'a Tables<'a>, bit: Bit, place: usize) -> bool
     ensures { result ≡ is_open (bit_view bit) (stop_statement (stop_at tables.entry.now.stops place)) }
 {
-    !surely_at(bit, statement_at(tables, place)) && is_at_once(tables, place)
+    !surely_at(bit, tables.statement(place)) && is_at_once(tables, place)
 }
 
 /// The places of a map, and where it leads from each at once, but from those where a bit is sure to be written.
@@ -160,7 +150,7 @@ pub(crate) fn sure<'a>(alloc: Global, tables: &'a Tables<'a>) -> Result<Vec<BitR
 {
     let mut out = Vec::new(alloc);
     for p in 0..tables.places() {
-        push_sure(&mut out, statement_at(tables, p))?;
+        push_sure(&mut out, tables.statement(p))?;
     }
     Ok(out)
 }
@@ -173,18 +163,6 @@ pub(crate) fn row(rows: &[Vec<BitRange>], place: usize) -> &[BitRange]
         return &[];
     }
     &rows[place]
-}
-
-// Whether one of some ranges is of a signal.
-fn names(ranges: &[BitRange], signal: usize) -> bool
-    ensures { IsTrue result ↔ HasSignal ranges.now signal }
-{
-    for range in ranges {
-        if range.signal == signal {
-            return true;
-        }
-    }
-    false
 }
 
 /// What walks of the map of a block need.
@@ -213,7 +191,7 @@ impl<'a> Walks<'a> {
     fn is_clear(&self, place: usize, signal: usize) -> bool
         ensures { IsTrue result ↔ IsClear self.now.tables.now signal place }
     {
-        if names(row(self.reads, place), signal) {
+        if has_signal(row(self.reads, place), signal) {
             return false;
         }
         is_at_once(self.tables, place)
@@ -254,7 +232,12 @@ impl<'a> Walks<'a> {
     }
 
     // Whether walks from the place where it is enough to begin for its signal tell that a bit is written first.
-    fn is_told(&self, alloc: Global, bit: Bit, marks: &mut Vec<bool>) -> Result<bool, AllocError>
+    fn is_assigned_first(
+        &self,
+        alloc: Global,
+        bit: Bit,
+        marks: &mut Vec<bool>,
+    ) -> Result<bool, AllocError>
         requires marks { AreClear (places self.now.tables.now) marks.old.items }
         ensures clear { OnOk result (AreClear (places self.now.tables.now) marks.new.items) }
         ensures told { IfOk result (λ b. IsTrue b → IsWrittenFirst self.now.tables.now (bit_view bit)) }
@@ -287,7 +270,7 @@ impl<'a> Walks<'a> {
         if any_has(self.early.of_signal(bit.signal), bit) {
             return Ok(true);
         }
-        if self.is_told(alloc, bit, marks)? {
+        if self.is_assigned_first(alloc, bit, marks)? {
             return Ok(true);
         }
         self.is_clear_from(alloc, bit, self.seeds, marks)

@@ -9,7 +9,7 @@ use Rattle.vs_rules_of_starts.specs.vs_rules.specs.Claims.{Claims, Name}
 use Rattle.vs_rules_of_starts.specs.vs_rules.specs.Verdict.{numbers, subjects}
 use Rattle.vs_rules_of_signals.specs.vs_graph.specs.Verdicts.{IsFirst}
 use Rattle.vs_cert_check.specs.declared.verdict.Broken.{Broken}
-use Rattle.vs_cert_check.specs.Broken.{FirstBroken, asked, broken_view, told_at, AreListed}
+use Rattle.vs_cert_check.specs.Broken.{FirstBroken, asked, broken_view, violation_at, AreFirstBroken}
 use Rattle.vs_cert_check.specs.Verdicts.{KeepsAt, AllKeptBelow}
 
 -- ---- one thing more, kept or broken
@@ -239,20 +239,20 @@ rules_kept keeps (suc r) n most h =
 -- ---- what is told
 
 -- where all rules below a number are kept, nothing is told
-pub none_told : (d : Parts) (c : Claims) (rules most : ℕ) → AllKeptBelow d c rules → AreListed d c rules most []
+pub none_told : (d : Parts) (c : Claims) (rules most : ℕ) → AllKeptBelow d c rules → AreFirstBroken d c rules most []
 none_told d c rules most h = record { found = []; first = rules_kept (KeepsAt d c) rules (length (subjects d c)) most h; told = refl }
 
-as_many : (d : Parts) (c : Claims) (rules most : ℕ) (list : List Broken) → (l : AreListed d c rules most list) → length list ≡ length l.found
-as_many d c rules most list l = sym (length-map list broken_view) ∙ ap length l.told ∙ length-map l.found (told_at d c)
+as_many : (d : Parts) (c : Claims) (rules most : ℕ) (list : List Broken) → (l : AreFirstBroken d c rules most list) → length list ≡ length l.found
+as_many d c rules most list l = sym (length-map list broken_view) ∙ ap length l.told ∙ length-map l.found (violation_at d c)
 
-pub at_most : (d : Parts) (c : Claims) (rules most : ℕ) (list : List Broken) → AreListed d c rules most list → length list ≤ most
+pub at_most : (d : Parts) (c : Claims) (rules most : ℕ) (list : List Broken) → AreFirstBroken d c rules most list → length list ≤ most
 at_most d c rules most list l =
     omega (arith, as_many d c rules most list l, few (of_pair (KeepsAt d c)) most (asked rules (length (subjects d c))) l.found l.first)
 
 -- one rule more
-pub next_told : (d : Parts) (c : Claims) (rule most left n : ℕ) (old new : List Broken) (found : List ℕ) → AreListed d c rule most old →
+pub next_told : (d : Parts) (c : Claims) (rule most left n : ℕ) (old new : List Broken) (found : List ℕ) → AreFirstBroken d c rule most old →
     n ≡ length (subjects d c) → length old + left ≡ most → FirstBroken (KeepsAt d c rule) left (numbers 0 n) found →
-    map broken_view new ≡ map broken_view old ++ map (λ (i : ℕ). told_at d c (rule, i)) found → AreListed d c (suc rule) most new
+    map broken_view new ≡ map broken_view old ++ map (λ (i : ℕ). violation_at d c (rule, i)) found → AreFirstBroken d c (suc rule) most new
 next_told d c rule most left n old new found l many room broken put =
     let all = length (subjects d c) in
     let here = subst (λ (m : ℕ). FirstBroken (KeepsAt d c rule) left (numbers 0 m) found) many broken in
@@ -261,13 +261,13 @@ next_told d c rule most left n old new found l many room broken put =
       found = l.found ++ map (paired rule) found;
       first = append (of_pair (KeepsAt d c)) most left (asked rule all) l.found (map (paired rule) (numbers 0 all)) (map (paired rule) found) so_many l.first
           (mapped (paired rule) (of_pair (KeepsAt d c)) left (numbers 0 all) found here);
-      told = put ∙ ap (λ (xs : List (ℕ × Option Name)). xs ++ map (λ (i : ℕ). told_at d c (rule, i)) found) l.told
-          ∙ ap (λ (xs : List (ℕ × Option Name)). map (told_at d c) l.found ++ xs) (sym (map-map (told_at d c) (paired rule) found))
-          ∙ sym (map-append (told_at d c) l.found (map (paired rule) found));
+      told = put ∙ ap (λ (xs : List (ℕ × Option Name)). xs ++ map (λ (i : ℕ). violation_at d c (rule, i)) found) l.told
+          ∙ ap (λ (xs : List (ℕ × Option Name)). map (violation_at d c) l.found ++ xs) (sym (map-map (violation_at d c) (paired rule) found))
+          ∙ sym (map-append (violation_at d c) l.found (map (paired rule) found));
     }
 
 -- where none are asked for, none are told
-pub none_asked : (d : Parts) (c : Claims) (rules most : ℕ) → most ≡ 0 → AreListed d c rules most []
+pub none_asked : (d : Parts) (c : Claims) (rules most : ℕ) → most ≡ 0 → AreFirstBroken d c rules most []
 none_asked d c rules most none = record {
   found = [];
   first = subst (λ (n : ℕ). FirstBroken (of_pair (KeepsAt d c)) n (asked rules (length (subjects d c))) []) (sym none) refl;
@@ -277,11 +277,11 @@ none_asked d c rules most none = record {
 -- ---- one subject more is told
 
 pub told_next : (d : Parts) (c : Claims) (rule n : ℕ) (old now new : List Broken) (found : List ℕ) (b : Broken) → n < length found →
-    map broken_view now ≡ map broken_view old ++ map (λ (i : ℕ). told_at d c (rule, i)) (take n found) → new ≡ now ++ b ∷ [] →
-    broken_view b ≡ told_at d c (rule, get_or found n 0) →
-    map broken_view new ≡ map broken_view old ++ map (λ (i : ℕ). told_at d c (rule, i)) (take (n + 1) found)
+    map broken_view now ≡ map broken_view old ++ map (λ (i : ℕ). violation_at d c (rule, i)) (take n found) → new ≡ now ++ b ∷ [] →
+    broken_view b ≡ violation_at d c (rule, get_or found n 0) →
+    map broken_view new ≡ map broken_view old ++ map (λ (i : ℕ). violation_at d c (rule, i)) (take (n + 1) found)
 told_next d c rule n old now new found b within so_far put is =
-    let told = λ (i : ℕ). told_at d c (rule, i) in
+    let told = λ (i : ℕ). violation_at d c (rule, i) in
     let at_end : map told (take n found) ++ broken_view b ∷ [] ≡ map told (take (n + 1) found) =
     ap (λ (x : ℕ × Option Name). map told (take n found) ++ x ∷ []) is ∙ sym (map-append told (take n found) (get_or found n 0 ∷ []))
     ∙ ap (map told) (sym (take_more found n 0 within)) in

@@ -12,7 +12,7 @@ use Rattle.vs_rules_of_starts.specs.vs_rules.specs.Verdict as verdict
 use Rattle.vs_claims.specs.declared.subjects.Subject.{Subject}
 use Rattle.vs_claims.specs.Subjects.{subject_view}
 use Rattle.vs_cert_check.specs.declared.verdict.Broken.{Broken}
-use Rattle.vs_cert_check.specs.Broken.{broken_view, name_of, told_at}
+use Rattle.vs_cert_check.specs.Broken.{broken_view, name_of, violation_at}
 use Rattle.vs_cert_check.specs.Verdicts.{rule_of, KeepsAt, AllKeptBelow}
 use Rattle.vs_cert_check.proofs.Verdicts.{all_keep}
 
@@ -62,7 +62,7 @@ kept_of_all d c all rules are h k below i within = h k below i (subst (λ n. i <
 
 -- a subject that a rule is found broken at, as it is told
 pub told_here : (d : Parts) (c : Claims) (all : List Subject) (rule i : ℕ) (x : Subject) (b : Broken) → map subject_view all ≡ subjects d c →
-    slice_get all i ≡ Some x → b.number ≡ rule + 1 → verdict.place_of d (subject_view x) ≡ Some b.place.items → broken_view b ≡ told_at d c (rule, i)
+    slice_get all i ≡ Some x → b.number ≡ rule + 1 → verdict.place_of d (subject_view x) ≡ Some b.place.items → broken_view b ≡ violation_at d c (rule, i)
 told_here d c all rule i x b are is number told =
     let more : rule + 1 ≡ suc rule = omega arith in
     ap (λ (k : ℕ). (k, Some b.place.items)) (number ∙ more)

@@ -4,4 +4,3 @@ pub mod Judged
 pub mod BrokenLemmas
 pub mod SubjectLemmas
 pub mod Verdicts
-pub mod ByPlaces

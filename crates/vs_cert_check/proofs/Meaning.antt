@@ -1,7 +1,7 @@
 -- What a yes means is what the rules are for.
 use Rattle.vs_design.specs.Parts.{Parts}
 use Rattle.vs_design.specs.WellFormed.{WellFormed}
-use Rattle.vs_law_rules.specs.Laws.{RulesMakeDisplaysAlike, RulesMakeIndependent}
+use Rattle.vs_independence.specs.RuleLaws.{RulesMakeDisplaysAlike, RulesMakeIndependent}
 use Rattle.vs_rules_of_starts.specs.vs_rules.specs.Claims.{Claims}
 use Rattle.vs_rules_of_starts.specs.vs_rules.specs.Verdict.{IsVerdict}
 use Rattle.vs_cert_check.specs.Answers.{verdict_view}

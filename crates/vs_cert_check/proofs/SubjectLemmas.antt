@@ -1,15 +1,15 @@
 -- The subjects of the rules are those of the design.
-use Rattle.std.proofs.Common.{◌≡◌, ℕ, zero, suc, ◌+◌, ◌<◌, ◌≤◌, Option, Some, None, List, [], ◌∷◌, length, map, slice_get, inl, inr, refl, sym, ◌∙◌, arith}
+use Rattle.std.proofs.Common.{◌≡◌, ℕ, zero, suc, ◌+◌, ◌<◌, ◌≤◌, Option, Some, None, List, [], ◌∷◌, length, map, slice_get, refl, arith}
 use Rattle.std.specs.List.{All}
 use Rattle.std.proofs.lemmas.List.Elements.{All-nil, All-cons, All-append}
-use Rattle.std.proofs.lemmas.Option.{slice_get_cases}
 use Rattle.vs_design.specs.declared.design.Assign.{Assign}
 use Rattle.vs_design.specs.declared.design.Process.{Process}
 use Rattle.vs_design.specs.declared.signal.Signal.{Signal}
 use Rattle.vs_design.specs.Parts.{Parts}
-use Rattle.vs_law_rules.specs.vs_process.proofs.ProcessLists.{all_slice}
+use Rattle.vs_independence.specs.vs_process.proofs.ProcessLists.{all_slice}
 use Rattle.vs_rules_of_starts.specs.vs_rules.specs.Claims.{Claims, Name, all_names, signal_name, assign_name, process_name}
 use Rattle.vs_rules_of_starts.specs.vs_rules.specs.Verdict.{Subject, signal, assign, process, listed, numbers, subjects, place_of}
+use Rattle.vs_design.specs.vs_logic4.proofs.Basics.{inside}
 use Rattle.vs_cert_check.specs.Answers.{IsOfDesign}
 
 of_numbers : (d : Parts) (f : ℕ → Subject) (bound : ℕ) → ((v : ℕ) → v < bound → IsOfDesign d (f v)) → (first n : ℕ) → first + n ≤ bound →
@@ -39,13 +39,6 @@ subject_of d c n s is = all_slice (IsOfDesign d) (subjects d c) n s is (of_subje
 some_none : {A : Type 0} (x : A) → Some x ≡ None → ⊥
 some_none x e = cc
 
-nothing : {A : Type 0} (xs : List A) (v : ℕ) → v < length xs → slice_get xs v ≡ None → ⊥
-nothing xs v within none =
-    elim (slice_get_cases xs v).1 [
-      | inl x ↦ some_none x.0 (sym x.2 ∙ none)
-      | inr past ↦ absurd (omega (arith, within, past.0))
-    ]
-
 no_signal : (s : Option Signal) → signal_name s ≡ None → s ≡ None
 no_signal None none = refl
 no_signal (Some s) none = absurd (some_none s.path.items none)
@@ -60,7 +53,7 @@ no_process (Some p) none = absurd (some_none p.name.items none)
 
 -- and has a name
 pub subject_named : (d : Parts) (s : Subject) → IsOfDesign d s → place_of d s ≡ None → ⊥
-subject_named d (signal v) h none = nothing d.signals v h (no_signal (slice_get d.signals v) none)
-subject_named d (assign j) h none = nothing d.assigns j h (no_assign (slice_get d.assigns j) none)
-subject_named d (process i) h none = nothing d.processes i h (no_process (slice_get d.processes i) none)
+subject_named d (signal v) h none = inside d.signals v h (no_signal (slice_get d.signals v) none)
+subject_named d (assign j) h none = inside d.assigns j h (no_assign (slice_get d.assigns j) none)
+subject_named d (process i) h none = inside d.processes i h (no_process (slice_get d.processes i) none)
 subject_named d (listed name) h none = some_none name none

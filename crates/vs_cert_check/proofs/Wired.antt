@@ -1,5 +1,5 @@
 -- The marks of blocks are those of a wiring.
-use Rattle.std.proofs.Common.{◌≡◌, ℕ, zero, suc, ◌+◌, ◌<◌, ◌≤◌, ◌↔◌, Bool, true, false, Option, Some, None, List, [], ◌∷◌, ◌++◌, IsTrue, length, map, slice_index_or, inl, inr, refl, sym, ◌∙◌, ap, subst, arith}
+use Rattle.std.proofs.Common.{◌≡◌, ℕ, zero, suc, ◌+◌, ◌<◌, ◌≤◌, ◌↔◌, Bool, false, Option, Some, None, List, [], ◌∷◌, ◌++◌, IsTrue, length, map, slice_index_or, inl, inr, refl, sym, ◌∙◌, ap, subst, arith}
 use Rattle.std.proofs.lemmas.Option.{none-some, slice_get_cases}
 use Rattle.std.proofs.lemmas.Bool.{false≢true}
 use Rattle.vs_design.specs.Parts.{Parts}
@@ -7,6 +7,7 @@ use Rattle.vs_rules_of_starts.specs.vs_rules.specs.Claims.{Claims, Kind, Start, 
 use Rattle.vs_rules_of_starts.specs.vs_rules.specs.Claims.{IsBlock, is_block_kind, blocks_of, kind_for, kind_of}
 use Rattle.vs_rules_of_starts.specs.vs_rules.specs.Verdict.{numbers}
 use Rattle.vs_rules_of_processes.specs.vs_drivers.specs.Wires.{IsWiringOf, wiring}
+use Rattle.vs_design.specs.vs_logic4.proofs.Basics.{same_tests}
 use Rattle.vs_cert_check.specs.Marks.{marks_of}
 
 -- a kind is that of a block exactly where the test says so
@@ -47,10 +48,5 @@ marks_more f first zero = ap (λ (m : ℕ). f m ∷ []) (omega arith)
 marks_more f first (suc n) =
     ap (λ (m : ℕ). f first ∷ map f (numbers (suc first) n) ++ f m ∷ []) (omega arith) ∙ ap (λ (bs : List Bool). f first ∷ bs) (marks_more f (suc first) n)
 
-same : (a b : Bool) → (a ≡ true → b ≡ true) → (b ≡ true → a ≡ true) → a ≡ b
-same true b f g = sym (f refl)
-same false true f g = g refl
-same false false f g = refl
-
 pub mark_is : (d : Parts) (c : Claims) (i : ℕ) (b : Bool) → (IsTrue b ↔ IsBlock d c i) → b ≡ blocks_of d c i
-mark_is d c i b h = same b (blocks_of d c i) (λ yes. (told (kind_of d c i)).1 (h.0 yes)) (λ yes. h.1 ((told (kind_of d c i)).0 yes))
+mark_is d c i b h = same_tests b (blocks_of d c i) (λ yes. (told (kind_of d c i)).1 (h.0 yes)) (λ yes. h.1 ((told (kind_of d c i)).0 yes))

@@ -18,7 +18,7 @@ HasNumber answers.Yes = Unit {0}
 HasNumber (answers.No number place) = (1 ≤ number) × (number ≤ 11)
 
 -- it is the verdict on a design and a certificate
-pub record IsTold (d : Parts) (c : Claims) (told : v.Verdict) : Type 0 where
+pub record IsVerdictOn (d : Parts) (c : Claims) (told : v.Verdict) : Type 0 where
   pub exact : IsVerdict d c (verdict_view told)
   pub numbered : HasNumber told
 

@@ -4,8 +4,8 @@ use Rattle.vs_design.specs.Parts.{Parts}
 use Rattle.vs_rules_of_starts.specs.vs_rules.specs.Claims.{Claims, Name}
 use Rattle.vs_rules_of_starts.specs.vs_rules.specs.Verdict.{Subject, numbers, subjects, place_of}
 use Rattle.vs_cert_check.specs.declared.verdict.Broken.{Broken}
-use Rattle.vs_cert_check.specs.declared.verdict.Told.{Told}
-use Rattle.vs_cert_check.specs.Answers.{IsTold}
+use Rattle.vs_cert_check.specs.declared.verdict.VerdictReport.{VerdictReport}
+use Rattle.vs_cert_check.specs.Answers.{IsVerdictOn}
 use Rattle.vs_cert_check.specs.Verdicts.{KeepsAt, AllKeptBelow}
 
 -- the first things of a list that don't keep a rule, at most so many, in its order
@@ -28,20 +28,20 @@ abbrev pub name_of : Parts → Option Subject → Option Name
 name_of d None = None
 name_of d (Some s) = place_of d s
 
-abbrev pub told_at : Parts → Claims → ℕ × ℕ → ℕ × Option Name
-told_at d c x = (suc x.0, name_of d (slice_get (subjects d c) x.1))
+abbrev pub violation_at : Parts → Claims → ℕ × ℕ → ℕ × Option Name
+violation_at d c x = (suc x.0, name_of d (slice_get (subjects d c) x.1))
 
 -- these are the first subjects that break one of the rules below a number, at most so many
-pub record AreListed (d : Parts) (c : Claims) (rules most : ℕ) (list : List Broken) : Type 0 where
+pub record AreFirstBroken (d : Parts) (c : Claims) (rules most : ℕ) (list : List Broken) : Type 0 where
   pub found : List (ℕ × ℕ)
   pub first : FirstBroken (λ x. KeepsAt d c x.0 x.1) most (asked rules (length (subjects d c))) found
-  pub told : map broken_view list ≡ map (told_at d c) found
+  pub told : map broken_view list ≡ map (violation_at d c) found
 
 -- these are the first subjects that break rules, at most so many; where some subject breaks one of K1 to K10, it isn't asked which ones break K11
-abbrev pub IsListed : Parts → Claims → ℕ → List Broken → Type 0
-IsListed d c most list = AreListed d c 11 most list ⊎ (AllKeptBelow d c 10 → ⊥) × AreListed d c 10 most list
+abbrev pub IsBrokenList : Parts → Claims → ℕ → List Broken → Type 0
+IsBrokenList d c most list = AreFirstBroken d c 11 most list ⊎ (AllKeptBelow d c 10 → ⊥) × AreFirstBroken d c 10 most list
 
 -- what is told of a design and a certificate
-pub record AreTold (d : Parts) (c : Claims) (most : ℕ) (told : Told) : Type 0 where
-  pub verdict : IsTold d c told.verdict
-  pub broken : IsListed d c most told.broken.items
+pub record IsReport (d : Parts) (c : Claims) (most : ℕ) (told : VerdictReport) : Type 0 where
+  pub verdict : IsVerdictOn d c told.verdict
+  pub broken : IsBrokenList d c most told.broken.items

@@ -3,5 +3,4 @@ pub mod Answers
 pub mod Broken
 pub mod Marks
 pub mod Means
-pub mod Places
 pub use Rattle.vs_rules_of_starts.specs.vs_rules

@@ -1,8 +1,8 @@
 -- What a yes means.
 use Rattle.std.specs.Prelude.{◌≡◌, true, not}
 use Rattle.vs_design.specs.Parts.{Parts}
-use Rattle.vs_law_rules.specs.vs_independence.specs.Discipline.{Independent}
-use Rattle.vs_law_rules.specs.vs_independence.specs.Displays.{DisplaysAlike}
+use Rattle.vs_independence.specs.Discipline.{Independent}
+use Rattle.vs_independence.specs.Displays.{DisplaysAlike}
 use Rattle.vs_rules_of_starts.specs.vs_rules.specs.Claims.{Claims, blocks_of}
 use Rattle.vs_cert_check.specs.declared.verdict.Verdict.{Verdict}
 use Rattle.vs_cert_check.specs.declared.verdict.Verdict.TheVariants.{Yes, No}

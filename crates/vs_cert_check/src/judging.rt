@@ -1,14 +1,13 @@
 //! The verdict on a certificate: the least rule that is broken, and the first subject that breaks it.
 ghost use Rattle.std.specs.Prelude.{ℕ, ◌≡◌, ◌<◌, length, map, IfOk};
 ghost use Rattle.std.specs.List.{All};
-ghost use Rattle.vs_cert_check.specs.Answers.{verdict_view, HasNumber, IsTold};
-ghost use Rattle.vs_cert_check.specs.Broken.{AreTold, FirstBroken, IsListed};
+ghost use Rattle.vs_cert_check.specs.Answers.{verdict_view, HasNumber, IsVerdictOn};
+ghost use Rattle.vs_cert_check.specs.Broken.{IsReport, FirstBroken, IsBrokenList};
 ghost use Rattle.vs_cert_check.specs.Marks.{marks_of};
 ghost use Rattle.vs_cert_check.specs.Means.{Means};
 ghost use Rattle.vs_cert_check.specs.Verdicts.{KeepsAt, AllKeptBelow};
 ghost use Rattle.vs_rules_of_signals.specs.vs_claims.specs.Facts.{AreCharts, bodies};
 ghost use Rattle.vs_claims.specs.Subjects.{subject_view};
-ghost use Rattle.vs_rules_of_signals.specs.Writers.{texts_in};
 ghost use Rattle.vs_claims.specs.vs_certificate.specs.JsonValue.{value_of};
 ghost use Rattle.vs_claims.specs.vs_certificate.specs.Reading.{IsSound, IsSoundBy, IsSoundWide, other_by};
 ghost use Rattle.vs_rules_of_signals.specs.vs_graph.specs.Verdicts.{IsFirst, IsLeast};
@@ -24,7 +23,7 @@ ghost use Rattle.vs_rules_of_signals.specs.vs_maps.specs.Reaches.{chart_of};
 use crate::laws::least_is_verdict;
 use crate::listing::{all_broken, breakers};
 use crate::sheet::{Sheet, keeps, starts_well};
-use crate::verdict::{Told, Verdict};
+use crate::verdict::{Verdict, VerdictReport};
 use std::alloc::{AllocError, Global};
 use vs_cert_blocks::vs_process::{Code, TextMap};
 use vs_cert_roots::vs_drivers::Copies;
@@ -32,9 +31,8 @@ use vs_cert_roots::{Entries, FirstWrites};
 use vs_claims::vs_certificate::{Certificate, Rules};
 use vs_claims::{Subject, all_subjects, name_of};
 use vs_design::Design;
-use vs_law_rules::{rules_make_displays_alike, rules_make_independent};
+use vs_independence::{rules_make_displays_alike, rules_make_independent};
 use vs_rules_of_processes::vs_drivers::Cones;
-use vs_rules_of_processes::vs_maps::Uses;
 use vs_rules_of_processes::vs_slots::Slots;
 use vs_rules_of_processes::{FirstSlot, WriteClasses};
 use vs_rules_of_signals::vs_claims::{Facts, codes, tables, texts};
@@ -191,7 +189,7 @@ fn verdict_of<'a>(
 ) -> Result<Verdict, AllocError>
     requires are { map subject_view all.now ≡ subjects facts.now.design facts.now.claims }
     requires least { IsLeast (KeepsAt facts.now.design facts.now.claims) 11 (length all.now) least }
-    ensures { IfOk result (λ v. IsTold facts.entry.now.design facts.entry.now.claims v) }
+    ensures { IfOk result (λ v. IsVerdictOn facts.entry.now.design facts.entry.now.claims v) }
 {
     least_is_verdict();
     match least {
@@ -218,21 +216,20 @@ fn block_marks(alloc: Global, facts: &Facts) -> Result<Vec<bool>, AllocError>
 }
 
 // The verdict, by all tables.
-fn by_sheet<'a>(alloc: Global, sheet: &Sheet<'a>, most: usize) -> Result<Told, AllocError>
-    ensures { IfOk result (λ t. AreTold sheet.entry.now.facts.now.design sheet.entry.now.facts.now.claims most t) }
+fn by_sheet<'a>(alloc: Global, sheet: &Sheet<'a>, most: usize) -> Result<VerdictReport, AllocError>
+    ensures { IfOk result (λ t. IsReport sheet.entry.now.facts.now.design sheet.entry.now.facts.now.claims most t) }
 {
     let all = all_subjects(alloc, sheet.facts)?;
     let least = least(alloc, &*sheet, &all)?;
     let verdict = verdict_of(alloc, sheet.facts, &all, least)?;
     let broken = all_broken(alloc, &*sheet, &all, least, most)?;
-    Ok(Told { verdict, broken })
+    Ok(VerdictReport { verdict, broken })
 }
 
 // The verdict, by the tables in which the rules look things up.
 fn by_tables<'x>(
     alloc: Global,
     facts: &'x Facts<'x>,
-    uses: &'x Uses<'x>,
     cones: &'x Cones<'x>,
     copies: &'x Copies<'x>,
     entries: &'x Entries<'x>,
@@ -241,8 +238,7 @@ fn by_tables<'x>(
     classes: &'x WriteClasses<'x>,
     first_slot: &'x FirstSlot<'x>,
     most: usize,
-) -> Result<Told, AllocError>
-    requires uses { uses.now ≡ texts_in facts.now }
+) -> Result<VerdictReport, AllocError>
     requires cones { cones.now ≡ wiring facts.now.design (marks_of facts.now.design facts.now.claims) }
     requires copies { copies.now ≡ facts.now.design }
     requires entries { entries.now ≡ facts.now }
@@ -250,11 +246,10 @@ fn by_tables<'x>(
     requires slots { slots.now ≡ facts.now }
     requires classes { classes.now ≡ slots.now }
     requires first_slot { first_slot.now ≡ facts.now }
-    ensures { IfOk result (λ t. AreTold facts.entry.now.design facts.entry.now.claims most t) }
+    ensures { IfOk result (λ t. IsReport facts.entry.now.design facts.entry.now.claims most t) }
 {
     let sheet = Sheet {
         facts,
-        uses,
         cones,
         copies,
         entries,
@@ -270,28 +265,25 @@ fn by_tables<'x>(
 fn by_entries<'x>(
     alloc: Global,
     facts: &'x Facts<'x>,
-    uses: &'x Uses<'x>,
     cones: &'x Cones<'x>,
     copies: &'x Copies<'x>,
     inverted: &'x [bool],
     entries: &'x Entries<'x>,
     most: usize,
-) -> Result<Told, AllocError>
-    requires uses { uses.now ≡ texts_in facts.now }
+) -> Result<VerdictReport, AllocError>
     requires cones { cones.now ≡ wiring facts.now.design (marks_of facts.now.design facts.now.claims) }
     requires copies { copies.now ≡ facts.now.design }
     requires inverted { AreInverted facts.now.design (is_wide facts.now.claims) inverted.now }
     requires entries { entries.now ≡ facts.now }
-    ensures { IfOk result (λ t. AreTold facts.entry.now.design facts.entry.now.claims most t) }
+    ensures { IfOk result (λ t. IsReport facts.entry.now.design facts.entry.now.claims most t) }
 {
     let first_writes = FirstWrites::of(alloc, entries, inverted)?;
     let slots = Slots::new(alloc, facts, inverted)?;
     let classes = WriteClasses::of(alloc, &slots, cones)?;
-    let first_slot = FirstSlot::new(alloc, facts, uses, cones)?;
+    let first_slot = FirstSlot::new(alloc, facts, cones)?;
     by_tables(
         alloc,
         &*facts,
-        &*uses,
         &*cones,
         &*copies,
         &*entries,
@@ -311,22 +303,19 @@ fn by_facts<'x>(
     tables: &'x [Tables<'x>],
     marks: &'x [bool],
     most: usize,
-) -> Result<Told, AllocError>
+) -> Result<VerdictReport, AllocError>
     requires certificate { claims_of certificate.now ≡ facts.now.claims }
     requires tables { tables.now ≡ facts.now.charts }
     requires marks { marks.now ≡ marks_of facts.now.design facts.now.claims }
-    ensures { IfOk result (λ t. AreTold facts.entry.now.design facts.entry.now.claims most t) }
+    ensures { IfOk result (λ t. IsReport facts.entry.now.design facts.entry.now.claims most t) }
 {
     facts.maps();
     let design = facts.design();
     let cones = Cones::new(alloc, design, tables, marks)?;
-    let uses = facts.uses();
     let copies = Copies::of(alloc, design)?;
     let inverted = copies.inverted(alloc, facts.is_wide())?;
     let entries = Entries::of(alloc, facts, certificate)?;
-    by_entries(
-        alloc, &*facts, uses, &cones, &copies, &inverted, &entries, most,
-    )
+    by_entries(alloc, &*facts, &cones, &copies, &inverted, &entries, most)
 }
 
 // The verdict, by the tables of the processes.
@@ -336,10 +325,10 @@ fn by_processes<'x>(
     certificate: &'x Certificate,
     tables: &'x [Tables<'x>],
     most: usize,
-) -> Result<Told, AllocError>
+) -> Result<VerdictReport, AllocError>
     requires maps { AreCharts design.now tables.now }
     requires certificate { IsWideCertificate (claims_of certificate.now) }
-    ensures { IfOk result (λ t. AreTold design.entry.now (claims_of certificate.entry.now) most t) }
+    ensures { IfOk result (λ t. IsReport design.entry.now (claims_of certificate.entry.now) most t) }
 {
     let facts = Facts::new(alloc, design, certificate, tables)?;
     let marks = block_marks(alloc, &facts)?;
@@ -353,10 +342,10 @@ fn by_texts<'x>(
     certificate: &'x Certificate,
     texts: &'x [TextMap<'x>],
     most: usize,
-) -> Result<Told, AllocError>
+) -> Result<VerdictReport, AllocError>
     requires maps { AreCharts design.now (map chart_of texts.now) }
     requires certificate { IsWideCertificate (claims_of certificate.now) }
-    ensures { IfOk result (λ t. AreTold design.entry.now (claims_of certificate.entry.now) most t) }
+    ensures { IfOk result (λ t. IsReport design.entry.now (claims_of certificate.entry.now) most t) }
 {
     let tables = tables(alloc, design, texts)?;
     by_processes(alloc, &*design, &*certificate, &tables, most)
@@ -369,26 +358,26 @@ fn by_codes<'x>(
     certificate: &Certificate,
     codes: &'x [Code<'x>],
     most: usize,
-) -> Result<Told, AllocError>
+) -> Result<VerdictReport, AllocError>
     requires codes { codes.now ≡ bodies design.now.processes }
     requires certificate { IsWideCertificate (claims_of certificate.now) }
-    ensures { IfOk result (λ t. AreTold design.entry.now (claims_of certificate.entry.now) most t) }
+    ensures { IfOk result (λ t. IsReport design.entry.now (claims_of certificate.entry.now) most t) }
 {
     let texts = texts(alloc, design, codes)?;
     by_texts(alloc, &*design, &*certificate, &texts, most)
 }
 
 // The same, of codes that are lent for a shorter time than what they are made of.
-fn by_lent_codes(
+fn by_borrowed_codes(
     alloc: Global,
     design: &Design,
     certificate: &Certificate,
     codes: &[Code],
     most: usize,
-) -> Result<Told, AllocError>
+) -> Result<VerdictReport, AllocError>
     requires codes { codes.now ≡ bodies design.now.processes }
     requires certificate { IsWideCertificate (claims_of certificate.now) }
-    ensures { IfOk result (λ t. AreTold design.entry.now (claims_of certificate.entry.now) most t) }
+    ensures { IfOk result (λ t. IsReport design.entry.now (claims_of certificate.entry.now) most t) }
 {
     by_codes(alloc, design, certificate, &*codes, most)
 }
@@ -399,12 +388,12 @@ fn by_design(
     design: &Design,
     certificate: &Certificate,
     most: usize,
-) -> Result<Told, AllocError>
+) -> Result<VerdictReport, AllocError>
     requires certificate { IsWideCertificate (claims_of certificate.now) }
-    ensures { IfOk result (λ t. AreTold design.entry.now (claims_of certificate.entry.now) most t) }
+    ensures { IfOk result (λ t. IsReport design.entry.now (claims_of certificate.entry.now) most t) }
 {
     let codes = codes(alloc, design)?;
-    by_lent_codes(alloc, design, certificate, &codes, most)
+    by_borrowed_codes(alloc, design, certificate, &codes, most)
 }
 
 // What the rules of a design that keeps them all are for.
@@ -435,7 +424,7 @@ pub fn check_wide(
     ensures meaning { IfOk result (λ v. Means design.entry.now (claims_of certificate.entry.now) v) }
 {
     tested_are_wide_certificates();
-    let Told { verdict, broken: _ } = by_design(alloc, design, certificate, 0)?;
+    let VerdictReport { verdict, broken: _ } = by_design(alloc, design, certificate, 0)?;
     tell_meaning(design, certificate, &verdict);
     Ok(verdict)
 }
@@ -477,11 +466,11 @@ pub fn check_all_wide(
     design: &Design,
     certificate: &Certificate,
     most: usize,
-) -> Result<Told, AllocError>
+) -> Result<VerdictReport, AllocError>
     requires sound { IsSoundWide (value_of certificate.now) }
     ensures exact { IfOk result (λ t. IsVerdict design.entry.now (claims_of certificate.entry.now) (verdict_view t.verdict)) }
     ensures numbered { IfOk result (λ t. HasNumber t.verdict) }
-    ensures broken { IfOk result (λ t. IsListed design.entry.now (claims_of certificate.entry.now) most t.broken.items) }
+    ensures broken { IfOk result (λ t. IsBrokenList design.entry.now (claims_of certificate.entry.now) most t.broken.items) }
 {
     tested_are_wide_certificates();
     by_design(alloc, design, certificate, most)
@@ -493,11 +482,11 @@ pub fn check_all(
     design: &Design,
     certificate: &Certificate,
     most: usize,
-) -> Result<Told, AllocError>
+) -> Result<VerdictReport, AllocError>
     requires sound { IsSound (value_of certificate.now) }
     ensures exact { IfOk result (λ t. IsVerdict design.entry.now (claims_of certificate.entry.now) (verdict_view t.verdict)) }
     ensures numbered { IfOk result (λ t. HasNumber t.verdict) }
-    ensures broken { IfOk result (λ t. IsListed design.entry.now (claims_of certificate.entry.now) most t.broken.items) }
+    ensures broken { IfOk result (λ t. IsBrokenList design.entry.now (claims_of certificate.entry.now) most t.broken.items) }
 {
     check_all_wide(alloc, design, certificate, most)
 }
@@ -509,11 +498,11 @@ pub fn check_all_by(
     rules: Rules,
     certificate: &Certificate,
     most: usize,
-) -> Result<Told, AllocError>
+) -> Result<VerdictReport, AllocError>
     requires sound { IsSoundBy (other_by rules) (value_of certificate.now) }
     ensures exact { IfOk result (λ t. IsVerdict design.entry.now (claims_of certificate.entry.now) (verdict_view t.verdict)) }
     ensures numbered { IfOk result (λ t. HasNumber t.verdict) }
-    ensures broken { IfOk result (λ t. IsListed design.entry.now (claims_of certificate.entry.now) most t.broken.items) }
+    ensures broken { IfOk result (λ t. IsBrokenList design.entry.now (claims_of certificate.entry.now) most t.broken.items) }
 {
     let _ = rules;
     check_all_wide(alloc, design, certificate, most)

@@ -1,7 +1,7 @@
 //! All subjects that break rules, as far as so many are asked for.
 ghost use Rattle.std.specs.Prelude.{ℕ, ◌≡◌, ◌<◌, ◌≤◌, ◌++◌, length, map, IfOk, OnOk};
 ghost use Rattle.std.specs.List.{All};
-ghost use Rattle.vs_cert_check.specs.Broken.{broken_view, told_at, AreListed, FirstBroken, IsListed};
+ghost use Rattle.vs_cert_check.specs.Broken.{broken_view, violation_at, AreFirstBroken, FirstBroken, IsBrokenList};
 ghost use Rattle.vs_cert_check.specs.Verdicts.{KeepsAt, AllKeptBelow};
 ghost use Rattle.vs_claims.specs.Subjects.{subject_view};
 ghost use Rattle.vs_rules_of_signals.specs.vs_graph.specs.Verdicts.{IsLeast};
@@ -50,7 +50,7 @@ fn tell<'a>(
     requires rule { rule < 11 }
     requires within { All (λ i. i < length all.now) found.now }
     ensures { OnOk result (map broken_view list.new.items ≡
-        map broken_view list.old.items ++ map (λ i. told_at facts.now.design facts.now.claims (rule, i)) found.now) }
+        map broken_view list.old.items ++ map (λ i. violation_at facts.now.design facts.now.claims (rule, i)) found.now) }
 {
     for i in found {
         match name_of(facts, all[*i]) {
@@ -78,7 +78,7 @@ fn broken_from<'a, 'b>(
     requires are { map subject_view all.now ≡ subjects sheet.now.facts.now.design sheet.now.facts.now.claims }
     requires first { first ≤ 10 }
     requires kept { AllKeptBelow sheet.now.facts.now.design sheet.now.facts.now.claims first }
-    ensures { IfOk result (λ list. AreListed sheet.entry.now.facts.now.design sheet.entry.now.facts.now.claims 10 most list.items) }
+    ensures { IfOk result (λ list. AreFirstBroken sheet.entry.now.facts.now.design sheet.entry.now.facts.now.claims 10 most list.items) }
 {
     let mut list = Vec::new(alloc);
     for rule in first..BEFORE {
@@ -98,7 +98,7 @@ fn broken_starts<'a>(
 ) -> Result<Vec<Broken>, AllocError>
     requires are { map subject_view all.now ≡ subjects sheet.now.facts.now.design sheet.now.facts.now.claims }
     requires kept { AllKeptBelow sheet.now.facts.now.design sheet.now.facts.now.claims 10 }
-    ensures { IfOk result (λ list. AreListed sheet.entry.now.facts.now.design sheet.entry.now.facts.now.claims 11 most list.items) }
+    ensures { IfOk result (λ list. AreFirstBroken sheet.entry.now.facts.now.design sheet.entry.now.facts.now.claims 11 most list.items) }
 {
     let mut list = Vec::new(alloc);
     if most == 0 {
@@ -119,7 +119,7 @@ pub(crate) fn all_broken<'a, 'b>(
 ) -> Result<Vec<Broken>, AllocError>
     requires are { map subject_view all.now ≡ subjects sheet.now.facts.now.design sheet.now.facts.now.claims }
     requires least { IsLeast (KeepsAt sheet.now.facts.now.design sheet.now.facts.now.claims) 11 (length all.now) least }
-    ensures { IfOk result (λ list. IsListed sheet.entry.now.facts.now.design sheet.entry.now.facts.now.claims most list.items) }
+    ensures { IfOk result (λ list. IsBrokenList sheet.entry.now.facts.now.design sheet.entry.now.facts.now.claims most list.items) }
 {
     match least {
         None => Ok(Vec::new(alloc)),

@@ -3,7 +3,6 @@ ghost use Rattle.std.specs.Prelude.{ℕ, ◌≡◌, ◌<◌, ◌↔◌, length, 
 ghost use Rattle.vs_cert_check.specs.Answers.{IsOfDesign};
 ghost use Rattle.vs_cert_check.specs.Verdicts.{rule_of};
 ghost use Rattle.vs_claims.specs.Subjects.{subject_view};
-ghost use Rattle.vs_rules_of_signals.specs.Writers.{texts_in};
 ghost use Rattle.vs_rules_of_starts.specs.vs_rules.specs.Rules.{K10_Process};
 ghost use Rattle.vs_rules_of_starts.specs.vs_rules.specs.Blocks.{K5};
 ghost use Rattle.vs_rules_of_starts.specs.vs_rules.specs.Verdict.{Keeps, k11};
@@ -19,7 +18,6 @@ use vs_claims::{
     Subject, keeps_assign_name, keeps_listed_name, keeps_process_name, keeps_signal_name,
 };
 use vs_rules_of_processes::vs_drivers::Cones;
-use vs_rules_of_processes::vs_maps::Uses;
 use vs_rules_of_processes::vs_slots::Slots;
 use vs_rules_of_processes::{FirstSlot, WriteClasses, keeps_delays, keeps_edges, keeps_readings};
 use vs_rules_of_signals::vs_claims::Facts;
@@ -30,7 +28,6 @@ use vs_rules_of_starts::{Beginning, Starts, keeps_start_by};
 #[derive(Drop)]
 pub(crate) struct Sheet<'a> {
     pub facts: &'a Facts<'a>,
-    pub uses: &'a Uses<'a>,
     pub cones: &'a Cones<'a>,
     pub copies: &'a Copies<'a>,
     pub entries: &'a Entries<'a>,
@@ -38,7 +35,6 @@ pub(crate) struct Sheet<'a> {
     pub slots: &'a Slots<'a>,
     pub classes: &'a WriteClasses<'a>,
     pub first_slot: &'a FirstSlot<'a>,
-    pub ghost uses_are: { uses.now ≡ texts_in facts.now },
     pub ghost cones_are: { cones.now ≡ wiring facts.now.design (marks_of facts.now.design facts.now.claims) },
     pub ghost copies_are: { copies.now ≡ facts.now.design },
     pub ghost entries_are: { entries.now ≡ facts.now },
@@ -56,8 +52,8 @@ fn keeps_of_signal(alloc: Global, sheet: &Sheet, rule: usize, v: usize) -> Resul
 {
     match rule {
         0 => Ok(keeps_signal_name(sheet.facts, v)),
-        1 => Ok(keeps_writers(sheet.facts, sheet.uses, v)),
-        2 => Ok(keeps_mode(sheet.facts, sheet.uses, v)),
+        1 => Ok(keeps_writers(sheet.facts, v)),
+        2 => Ok(keeps_mode(sheet.facts, v)),
         5 => keeps_root(alloc, sheet.entries, sheet.copies, v),
         9 => keeps_first_root(alloc, sheet.first_writes, v),
         _ => Ok(true),

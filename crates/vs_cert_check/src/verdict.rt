@@ -20,7 +20,7 @@ pub struct Broken {
 
 /// A verdict, and subjects that break rules.
 #[derive(Drop)]
-pub struct Told {
+pub struct VerdictReport {
     /// The verdict.
     pub verdict: Verdict,
     /// The subjects.

@@ -1,23 +1,21 @@
 -- The entries for signals of edge terms.
-use Rattle.std.proofs.Common.{◌≡◌, ℕ, zero, suc, ◌<◌, ◌≤◌, ◌⊎◌, ◌↔◌, inl, inr, ◌++◌, Bool, true, false, is_some, if◌then◌else◌, Option, Some, None, List, [], ◌∷◌, length, map, get_or, option_map, slice_get, refl, sym, ◌∙◌, ap, subst, arith}
+use Rattle.std.proofs.Common.{◌≡◌, ℕ, zero, suc, ◌<◌, ◌≤◌, ◌⊎◌, ◌↔◌, inl, inr, ◌++◌, Bool, true, false, is_some, if◌then◌else◌, Option, Some, None, List, [], ◌∷◌, length, map, option_map, slice_get, refl, sym, ◌∙◌, ap, subst, arith}
 use Rattle.std.specs.List.{Contains}
 use Rattle.std.specs.Str.{bytes_eq}
 use Rattle.std.proofs.lemmas.List.{get_or_past}
 use Rattle.std.proofs.lemmas.Option.{same_Some, slice_get-map, slice_get_within, slice_get_past}
 use Rattle.std.proofs.lemmas.Slice.Eq.{bytes_eq-Decides}
-use Rattle.vs_design.specs.vs_logic4.proofs.Basics.{there}
+use Rattle.vs_design.specs.vs_logic4.proofs.Basics.{there, one_in as in_one}
 use Rattle.vs_rules.specs.vs_certificate.specs.declared.members.Certificate.{Certificate}
 use Rattle.vs_rules.specs.vs_certificate.specs.declared.members.EdgeSignal.{EdgeSignal}
 use Rattle.vs_design.specs.Parts.{Parts}
 use Rattle.vs_rules.specs.Certificates.{claims_of, edge_claim}
-use Rattle.vs_rules.specs.Claims.{Name, Claims, EdgeClaim, IsSignalNamed, IsRootOf, signal_name, times_in}
+use Rattle.vs_rules.specs.Claims.{Name, Claims, EdgeClaim, IsSignalNamed, signal_name, times_in}
 use Rattle.vs_rules.specs.Rules.{IsEdgeSignal}
 use Rattle.vs_drivers.specs.Copies.{IsOnly}
 use Rattle.vs_rules_of_signals.specs.vs_graph.specs.Rows.{AreRows, row as row_of}
-use Rattle.vs_rules_of_signals.specs.vs_claims.specs.Facts.{IsRootAt}
 use Rattle.vs_cert_roots.specs.Entries.{NamesEntry, HasEntries}
-use Rattle.vs_drivers.proofs.ListLemmas.{same_read}
-use Rattle.vs_cert_roots.proofs.ListLemmas.{nothing_more, appended, in_one}
+use Rattle.vs_cert_roots.proofs.ListLemmas.{nothing_more, appended}
 
 -- ---- an entry by its place
 
@@ -204,15 +202,3 @@ right_none d c v row b h are no_edge empty = (into, back) where
   back k =
       let n = has_name d v h in
       empty.1 (empty_of row (λ p r. none_at c.edges n.0 (k.none n.0 n.1 no_edge) p ((at_named d c.edges v n.0 n.1 p).0 ((are p).0 r))))
-
--- ---- roots
-
-pub roots_are : (d : Parts) (c : Claims) (v n : ℕ) (row : List ℕ) → n ≡ length row → ((p : ℕ) → (Contains row p ↔ NamesEntry d c.edges p v)) → (r : ℕ) →
-    (((k : ℕ) × (k < n) × ((k < length row) × IsRootAt d c.edges (get_or row k 0) r v)) ↔ IsRootOf d c r v)
-roots_are d c v n row long are r = (
-  λ y. let a = y.2.1 in record { place = get_or row y.0 0; entry = a.entry; is = a.is; signal = a.signal; root_is = a.root_is },
-  λ h.
-      let m = (are h.place).1 (h.entry, h.is, h.signal) in
-      let e : get_or row m.0 0 ≡ h.place = same_read row m.0 0 h.place m.1 ∙ m.2 in
-      (m.0, subst (λ (x : ℕ). m.0 < x) (sym long) m.1, (m.1, record { entry = h.entry; is = ap (slice_get c.edges) e ∙ h.is; signal = h.signal; root_is = h.root_is })),
-)

@@ -4,39 +4,36 @@ use Rattle.std.specs.List.{Contains}
 use Rattle.std.proofs.lemmas.List.{get_or_past}
 use Rattle.std.proofs.lemmas.Option.{same_Some, slice_get_within}
 use Rattle.vs_design.specs.vs_logic4.specs.declared.digit.Digit.{Digit}
-use Rattle.vs_design.specs.vs_logic4.specs.declared.digit.Digit.TheVariants.{Zero, One, X, Z}
+use Rattle.vs_design.specs.vs_logic4.specs.declared.digit.Digit.TheVariants.{X}
 use Rattle.vs_design.specs.vs_logic4.specs.Edges.{is_edge}
 use Rattle.vs_design.specs.Parts.{Parts}
 use Rattle.vs_rules.specs.Claims.{Claims, EdgeClaim, IsRoot, IsRootOf, IsWide, is_wide}
-use Rattle.vs_rules.specs.Constants.{IsKnown}
 use Rattle.vs_rules.specs.Paths.{IsHeardAtStart}
 use Rattle.vs_rules.specs.Constants as k
 use Rattle.vs_rules.specs.Constants.{bit_of}
 use Rattle.vs_drivers.specs.vs_slots_constants.specs.Givings.{given_here}
 use Rattle.vs_drivers.specs.vs_maps.specs.Ranges.{statement_at}
 use Rattle.vs_drivers.specs.vs_slots_constants.specs.Clocks.{known}
-use Rattle.vs_drivers.proofs.ListLemmas.{contains_at}
-use Rattle.vs_process.specs.Stops.{LeadsIn}
-use Rattle.vs_drivers.proofs.CopyLemmas.{reached_within}
+use Rattle.vs_drivers.specs.vs_slots_constants.proofs.ClockLemmas.{known_back, known_is}
 use Rattle.vs_drivers.specs.Copies.{IsOnly}
 use Rattle.vs_drivers.specs.vs_maps.specs.declared.along.Along.TheVariants.{ZeroTime}
-use Rattle.vs_drivers.specs.vs_maps.specs.Inside.{along_in}
 use Rattle.vs_drivers.specs.vs_maps.specs.Ranges.{HasSignal, later_at}
-use Rattle.vs_drivers.specs.vs_maps.specs.Reaches.{Chart, places, stops_along, InSlot0}
+use Rattle.vs_drivers.specs.vs_maps.specs.Reaches.{Chart, InSlot0}
 use Rattle.vs_rules_of_signals.specs.vs_graph.specs.Rows.{AreRows, row as row_of}
+use Rattle.vs_rules_of_signals.specs.vs_graph.proofs.Sets.{contains_at}
 use Rattle.vs_rules_of_signals.specs.vs_claims.specs.Facts.{AreCharts, IsRootAt}
 use Rattle.vs_drivers.specs.vs_maps.specs.Sites.{UsesAt, site_of}
 use Rattle.vs_drivers.specs.vs_maps.specs.declared.sites.Site.{Site}
 use Rattle.vs_drivers.specs.vs_maps.specs.declared.sites.Use.TheVariants.{Now, Later}
 use Rattle.vs_drivers.specs.vs_maps.proofs.SiteLemmas.{AreSitesOf, written_so}
 use Rattle.vs_drivers.specs.vs_maps.proofs.WalkLemmas.{start_walked}
-use Rattle.vs_cert_roots.specs.First.{SiteAt, HasSite, IsFirst, IsSilent, NamesRoot, WakesBehind, WakesEntry, left_out, StartsSilently, StartsWellIn, StartsWell}
-use Rattle.std.proofs.lemmas.Bool.{eqb-true, eqb-false, ne_eqb}
-use Rattle.vs_design.specs.vs_logic4.proofs.Basics.{same_self}
+use Rattle.vs_cert_roots.specs.First.{SiteAt, HasSite, IsFirst, IsSilent, NamesRoot, WakesFromX, WakesEntry, left_out, StartsSilently, StartsWellIn, StartsWell}
+use Rattle.std.proofs.lemmas.Bool.{eqb-true, eqb-false, ne_eqb, not-true, false_from_ne_true}
+use Rattle.vs_design.specs.vs_logic4.proofs.Basics.{same_self, one_in as in_one}
 use Rattle.vs_rules.specs.Rules.{K10_Signal}
 use Rattle.vs_cert_roots.proofs.FirstLemmas.{first_by_places}
 use Rattle.vs_cert_roots.proofs.EntryLemmas.{no_name}
-use Rattle.vs_cert_roots.proofs.ListLemmas.{in_one, nothing_more, appended}
+use Rattle.vs_cert_roots.proofs.ListLemmas.{nothing_more, appended}
 
 pub row_exact : (has : ℕ → ℕ → Type 0) (m n : ℕ) (table : List (List ℕ)) (v : ℕ) (row : List ℕ) → AreRows has m n table → ((i : ℕ) → has i v → i < m) → v < n → row_of table v ≡ row →
     (i : ℕ) → (Contains row i ↔ has i v)
@@ -51,24 +48,7 @@ root_within d edges v place h = slice_get_within edges place h.1.entry h.1.is
 pub past_root : (d : Parts) (c : Claims) (v : ℕ) → length d.signals ≤ v → IsRoot d c v → ⊥
 past_root d c v past h = no_name d v h.1.entry.root past h.1.root_is
 
--- ---- digits
-
-pub known_one : (o : Option Digit) (digit : Digit) → known o ≡ Some digit → (o ≡ Some digit) × IsKnown digit
-known_one None digit h = cc
-known_one (Some Zero) digit h = (h, subst IsKnown (same_Some Zero digit h) k.zero)
-known_one (Some One) digit h = (h, subst IsKnown (same_Some One digit h) k.one)
-known_one (Some X) digit h = cc
-known_one (Some Z) digit h = cc
-
-pub one_known : (o : Option Digit) (digit : Digit) → o ≡ Some digit → IsKnown digit → known o ≡ Some digit
-one_known o _ e k.zero = ap known e
-one_known o _ e k.one = ap known e
-
 -- ---- silent digits
-
-not_false : (b : Bool) → (b ≡ true → ⊥) → b ≡ false
-not_false true h = absurd (h refl)
-not_false false h = refl
 
 -- a process that is left out is the writer, of the root itself
 left_out_so : (writer root v j : ℕ) → left_out writer root v ≡ Some j → (j ≡ writer) × (v ≡ root)
@@ -89,7 +69,7 @@ silent_is d c writer root digit row are = (into, back) where
   into none j t edge has heard level of seen =
       let v = t.range.signal in
       let at : IsRootAt d c.edges of.place root v = record { entry = of.entry; is = of.is; signal = of.signal; root_is = of.root_is } in
-      not_false (is_edge edge X digit)
+      false_from_ne_true (is_edge edge X digit)
       (λ e. none of.place ((are of.place).1 (v, at)) (
         v,
         at,
@@ -123,9 +103,9 @@ pub other_root_calm : (d : Parts) (c : Claims) (writer place root of v : ℕ) (d
 other_root_calm d c writer place root of v digit f other w = other (ap (λ (x : ℕ × ℕ). x.0) (same_Some (of, v) (root, w.0) ((f root w.0).0 w.1)))
 
 pub entry_calm : (d : Parts) (c : Claims) (writer place root of v : ℕ) (digit : Digit) → ((r u : ℕ) → (IsRootAt d c.edges place r u ↔ ◌≡◌ {A = Option (ℕ × ℕ)} (Some (of, v)) (Some (r, u)))) →
-    of ≡ root → ((WakesBehind d c (left_out writer root v) v digit → ⊥) ↔ (WakesEntry d c writer place root digit → ⊥))
+    of ≡ root → ((WakesFromX d c (left_out writer root v) v digit → ⊥) ↔ (WakesEntry d c writer place root digit → ⊥))
 entry_calm d c writer place root of v digit f same = (
-  λ none w. none (subst (λ (u : ℕ). WakesBehind d c (left_out writer root u) u digit) (sym (ap (λ (x : ℕ × ℕ). x.1) (same_Some (of, v) (root, w.0) ((f root w.0).0 w.1)))) w.2),
+  λ none w. none (subst (λ (u : ℕ). WakesFromX d c (left_out writer root u) u digit) (sym (ap (λ (x : ℕ × ℕ). x.1) (same_Some (of, v) (root, w.0) ((f root w.0).0 w.1)))) w.2),
   λ none w. none (v, (f root v).1 (ap (λ (x : ℕ). Some (x, v)) same), w),
 )
 
@@ -156,9 +136,6 @@ any_claims d edges table root row long are same = by (side root (length d.signal
   by (inr g) = past_claims d edges root g row (same ∙ get_or_past table root [] (subst (λ (n : ℕ). n ≤ root) (sym long) g))
 
 -- ---- what is put
-
-pub slot0_within : (wide : Bool) (t : Chart) → LeadsIn (places t) t.stops → t.start < places t → (p : ℕ) → InSlot0 wide t p → p < places t
-slot0_within wide t leads start p h = reached_within (stops_along (ZeroTime wide) t.stops) (places t) t.start p (along_in (ZeroTime wide) (places t) t.stops leads) start h
 
 pub no_claimed : (d : Parts) (edges : List EdgeClaim) (place : ℕ) → ((root v : ℕ) → (IsRootAt d edges place root v ↔ ◌≡◌ {A = Option (ℕ × ℕ)} None (Some (root, v)))) → (old : List ℕ) (r : ℕ) →
     (Contains old r ↔ (Contains old r ⊎ NamesRoot d edges place r))
@@ -226,14 +203,14 @@ one_site d c writer t v p sites are only = (
 pub silently_is : (d : Parts) (c : Claims) (writer : ℕ) (t : Chart) (v p : ℕ) (digit : Digit) → (HasSignal (later_at t p) v → ⊥) → known (given_here (statement_at t p) (bit_of v)) ≡ Some digit →
     (IsSilent d c writer v digit ↔ StartsSilently d c writer t v p)
 silently_is d c writer t v p digit late e =
-    let k = known_one (given_here (statement_at t p) (bit_of v)) digit e in (
+    let k = known_back (given_here (statement_at t p) (bit_of v)) digit e in (
       λ s. (late, (digit, k.1, k.0, s)),
       λ w. subst (IsSilent d c writer v) (same_Some w.1.0 digit (sym w.1.2 ∙ k.0)) w.1.3,
     )
 
 pub not_silently : (d : Parts) (c : Claims) (writer : ℕ) (t : Chart) (v p : ℕ) → known (given_here (statement_at t p) (bit_of v)) ≡ None → StartsSilently d c writer t v p → ⊥
 not_silently d c writer t v p e w =
-    let f : None ≡ Some w.1.0 = sym e ∙ one_known (given_here (statement_at t p) (bit_of v)) w.1.0 w.1.2 w.1.1 in
+    let f : None ≡ Some w.1.0 = sym e ∙ known_is (given_here (statement_at t p) (bit_of v)) w.1.0 w.1.2 w.1.1 in
     cc
 
 pub well_at : (d : Parts) (c : Claims) (charts : List Chart) (j v : ℕ) (t : Chart) → slice_get charts j ≡ Some t → (StartsWellIn d c j t v ↔ StartsWell d c charts j v)
@@ -272,15 +249,11 @@ within_of_root d c v h = by (cases v (length d.signals)) where
   by (inl l) = l
   by (inr g) = absurd (past_root d c v g h)
 
-not_true : (b : Bool) → not b ≡ true → b ≡ false
-not_true true h = cc
-not_true false h = refl
-
 -- a row that isn't empty tells what all of its numbers do
 pub row_told : (P : ℕ → Type 0) (A : Type 0) (row : List ℕ) (n : ℕ) (b : Bool) → ((k : ℕ) → (Contains row k ↔ P k)) → ((k : ℕ) → P k → A) → (A → (k : ℕ) × P k) → n ≡ length row → b ≡ (n == 0) →
     (not b ≡ true ↔ A)
 row_told P A row n b are into back long told = (
-  λ t. into (get_or row 0 0) ((are (get_or row 0 0)).0 (contains_at row 0 (some (eqb-false n 0 (sym told ∙ not_true b t))))),
+  λ t. into (get_or row 0 0) ((are (get_or row 0 0)).0 (contains_at row 0 (some (eqb-false n 0 (sym told ∙ not-true b t))))),
   λ a. let y = back a in let m = (are y.0).1 y.1 in ap not (told ∙ ne_eqb n 0 (λ z. omega (arith, m.1, long, z))),
 ) where
   some : (n ≡ 0 → ⊥) → 0 < length row

@@ -1,8 +1,7 @@
 -- Lists, and what all their elements do.
-use Rattle.std.proofs.Common.{◌≡◌, ◌⊎◌, ◌↔◌, ◌++◌, inl, inr, List, [], ◌∷◌, sym, subst, arith}
+use Rattle.std.proofs.Common.{◌≡◌, ◌⊎◌, ◌↔◌, ◌++◌, inl, inr, List, [], sym, subst}
 use Rattle.std.specs.List.{Contains}
 use Rattle.std.proofs.lemmas.List.Elements.{Contains-append_left, Contains-append_right, Contains-append_cases}
-use Rattle.vs_drivers.specs.vs_maps.proofs.RangeLemmas.{in_either}
 
 -- a list with more at its end has what both have
 pub appended : {A : Type 0} (old more new : List A) (P : A → Type 0) → new ≡ old ++ more → ((x : A) → (Contains more x ↔ P x)) → (x : A) → (Contains new x ↔ (Contains old x ⊎ P x))
@@ -21,12 +20,6 @@ nothing_more {A = A} old P not x = (λ h. inl h, λ h. by h) where
   by : Contains old x ⊎ P x → Contains old x
   by (inl a) = a
   by (inr b) = absurd (not x b)
-
-pub in_one : {A : Type 0} (y x : A) → Contains (y ∷ []) x → y ≡ x
-in_one y x h = by (in_either y [] x h) where
-  by : (y ≡ x) ⊎ Contains [] x → y ≡ x
-  by (inl e) = e
-  by (inr c) = absurd (omega (arith, c.1))
 
 pub with_bound : (X A B C : Type 0) → B → (X ↔ (A ⊎ C)) → (X ↔ (A ⊎ (B × C)))
 with_bound X A B C b f = (λ x. into (f.0 x), λ y. f.1 (back y)) where

@@ -13,7 +13,7 @@ use Rattle.vs_process.specs.Executions.{is_any}
 use Rattle.vs_rules.specs.Claims.{Claims, is_wide}
 use Rattle.vs_rules.specs.Copies.{IsInverted, SeenAs, opposite}
 use Rattle.vs_drivers.specs.vs_slots_constants.specs.Inverted.{AreInverted}
-use Rattle.vs_cert_roots.specs.First.{WakesSignal, WakesBehind, shown_by}
+use Rattle.vs_cert_roots.specs.First.{WakesSignal, WakesFromX, shown_by}
 
 -- a change from x is the opposite edge where one to the inverse digit is the edge
 turned : (edge : Edge) (digit : Digit) → is_any edge ≡ false → is_edge edge X (not_digit digit) ≡ is_edge (opposite edge) X digit
@@ -34,7 +34,7 @@ inverse_seen : (d : Parts) (wide : Bool) (t : EventTerm) → IsInverted d wide t
 inverse_seen d wide t is = record { plain = λ not. absurd (not is); inverse = λ h. refl }
 
 woken_where : (d : Parts) (c : Claims) (except : Option ℕ) (v : ℕ) (digit : Digit) (mark : Bool) → (mark ≡ true ↔ IsInverted d (is_wide c) v) →
-    (WakesSignal d c except v (if mark then not_digit digit else digit) ↔ WakesBehind d c except v digit)
+    (WakesSignal d c except v (if mark then not_digit digit else digit) ↔ WakesFromX d c except v digit)
 woken_where d c except v digit true is = (
   λ w.
       let here = subst (IsInverted d (is_wide c)) (sym w.of) (is.0 refl) in
@@ -86,5 +86,5 @@ woken_where d c except v digit false is = (
 
 -- a change of the root wakes what one of the signal to the digit that it then shows does
 pub woken_is : (d : Parts) (c : Claims) (except : Option ℕ) (inverted : List Bool) → AreInverted d (is_wide c) inverted → (v : ℕ) (digit : Digit) →
-    (WakesSignal d c except v (shown_by inverted v digit) ↔ WakesBehind d c except v digit)
+    (WakesSignal d c except v (shown_by inverted v digit) ↔ WakesFromX d c except v digit)
 woken_is d c except inverted are v digit = woken_where d c except v digit (get_or inverted v false) (are v)

@@ -1,7 +1,7 @@
 -- The event terms of processes, and the sites that wait for them.
-use Rattle.std.proofs.Common.{◌≡◌, ℕ, ◌<◌, ◌≤◌, ◌⊎◌, ◌↔◌, not, inl, inr, Bool, IsTrue, true, false, Option, Some, None, List, length, slice_get, refl, sym, ◌∙◌, ap, subst, arith}
+use Rattle.std.proofs.Common.{◌≡◌, ℕ, ◌<◌, ◌≤◌, ◌⊎◌, ◌↔◌, not, inl, inr, Bool, IsTrue, true, Option, Some, None, List, length, slice_get, refl, sym, ◌∙◌, ap, subst, arith}
 use Rattle.std.specs.List.{Contains, list_any}
-use Rattle.std.proofs.lemmas.Bool.{and_parts, and_from, false≢true}
+use Rattle.std.proofs.lemmas.Bool.{and_parts, and_from, false≢true, not-true}
 use Rattle.std.proofs.lemmas.List.Folds.{Any-from_list_any, list_any-from_Any}
 use Rattle.std.proofs.lemmas.Option.{same_Some, slice_get_within}
 use Rattle.vs_design.specs.vs_logic4.proofs.Basics.{there}
@@ -12,23 +12,23 @@ use Rattle.vs_process.specs.Places.{Todo}
 use Rattle.vs_process.specs.Steps.{wait}
 use Rattle.vs_process.specs.Ways as ways
 use Rattle.vs_process.specs.Ways.{Pause, next_by}
-use Rattle.vs_process.specs.Stops.{IsText, Stop, stop_at, stop_statement, stops_tos}
+use Rattle.vs_process.specs.Stops.{IsText}
 use Rattle.vs_process.specs.Executions.{is_any, is_level}
 use Rattle.vs_rules.specs.Claims.{IsWide}
 use Rattle.vs_rules.specs.Paths.{HasTerm, IsHeardAtStart, IsSlot0}
 use Rattle.vs_rules.specs.Points.{Goes}
 use Rattle.vs_rules.specs.Rules.{IsEdgeSignal}
 use Rattle.vs_drivers.specs.vs_maps.specs.declared.along.Along.TheVariants.{ZeroTime}
-use Rattle.vs_drivers.specs.vs_maps.specs.Reaches.{Chart, InSlot0, pause_at, pause_of}
+use Rattle.vs_drivers.specs.vs_maps.specs.Reaches.{Chart, InSlot0, pause_at}
 use Rattle.vs_drivers.specs.vs_maps.proofs.WalkLemmas.{start_walked}
 use Rattle.vs_drivers.specs.vs_maps.specs.Ranges.{HasTermAt, pause_terms}
 use Rattle.vs_drivers.specs.vs_maps.specs.Sites.{IsSite, UsesAt, waiting_of}
 use Rattle.vs_drivers.specs.vs_maps.specs.declared.sites.Site.{Site}
 use Rattle.vs_drivers.specs.vs_maps.specs.declared.sites.Use.{Use}
 use Rattle.vs_drivers.specs.vs_maps.specs.declared.sites.Use.TheVariants.{Now, Later, Reads, Shows, Waits}
-use Rattle.vs_drivers.specs.vs_maps.proofs.EachWalk.{terms_exact}
+use Rattle.vs_drivers.specs.vs_maps.proofs.EachWalk.{terms_exact, terms_in, term_way}
 use Rattle.vs_drivers.specs.vs_maps.proofs.SiteLemmas.{AreSitesOf}
-use Rattle.vs_drivers.specs.vs_maps.proofs.Texts.{control_on, from_back, from_on, step_back, step_on}
+use Rattle.vs_drivers.specs.vs_maps.proofs.Texts.{from_back, from_on, step_back, step_on}
 use Rattle.vs_rules_of_signals.specs.vs_claims.specs.Facts.{AreCharts, Case}
 use Rattle.vs_design.specs.vs_logic4.specs.declared.digit.Digit.{Digit}
 use Rattle.vs_design.specs.vs_logic4.specs.declared.digit.Digit.TheVariants.{X}
@@ -115,41 +115,25 @@ terms_so d charts maps v sites are test = (
       list_any-from_Any (λ (s : Site). waits_by test s.usage) sites (c.0, site, c.1, c.2, h.passes)
   back h (inr past) = absurd (no_terms d h.process past h.term h.has)
 
-not_level : (b : Bool) → not b ≡ true → b ≡ false
-not_level true h = cc
-not_level false h = refl
-
 pub edge_signal : (d : Parts) (charts : List Chart) → AreCharts d charts → (v : ℕ) (sites : List Site) → AreSitesOf charts v sites →
     (list_any (λ (s : Site). waits_by is_proper s.usage) sites ≡ true ↔ IsEdgeSignal d v)
 edge_signal d charts maps v sites are =
     let f = terms_so d charts maps v sites are is_proper in (
-      λ h. let y = f.0 h in record { process = y.process; term = y.term; has = y.has; edge = not_level (is_level y.term) y.passes; of = y.of },
+      λ h. let y = f.0 h in record { process = y.process; term = y.term; has = y.has; edge = not-true (is_level y.term) y.passes; of = y.of },
       λ h. f.1 (record { process = h.process; term = h.term; has = h.has; of = h.of; passes = ap not h.edge }),
     )
 
 -- ---- the first slot
-
-wait_in : (pause : Pause) (l : Todo) (number : ℕ) (terms : List EventTerm) (behind : Todo) (term : EventTerm) → next_by pause l ≡ wait number terms behind → Contains terms term →
-    Contains (pause_terms pause) term
-wait_in ways.none l number terms behind term e h = absurd (cc)
-wait_in (ways.delay n ticks) l number terms behind term e h = absurd (cc)
-wait_in (ways.event n ts) l number terms behind term e h = subst (λ (x : List EventTerm). Contains x term) (sym (cc)) h
 
 wait_out : (d : Parts) (i : ℕ) (k l : Todo) (pause : Pause) (term : EventTerm) → IsSlot0 d true i k → Goes k (next_by pause l) → Contains (pause_terms pause) term → IsHeardAtStart d i term
 wait_out d i k l ways.none term first goes h = absurd (omega (arith, h.1))
 wait_out d i k l (ways.delay n ticks) term first goes h = absurd (omega (arith, h.1))
 wait_out d i k l (ways.event n terms) term first goes h = record { control = k; number = n; terms = terms; behind = l; slot0 = first; goes = goes; is = h }
 
-wait_way : (q : Process) (stops : List Stop) (start : ℕ) (t : IsText q.body stops start) (p : ℕ) (pause : Pause) (term : EventTerm) → pause_of (stop_statement (stop_at stops p)) ≡ pause →
-    Contains (pause_terms pause) term → (to : ℕ) × Contains (stops_tos stops p) to
-wait_way q stops start t p ways.none term e h = absurd (omega (arith, h.1))
-wait_way q stops start t p (ways.delay n ticks) term e h = absurd (omega (arith, h.1))
-wait_way q stops start t p (ways.event n terms) term e h = control_on q.body stops start t p (ways.event n terms) e refl
-
 -- a term at a place of the first slot is heard there
 heard_back : (d : Parts) (i : ℕ) (t : Chart) → HasChart d i t → (p : ℕ) (term : EventTerm) → InSlot0 true t p → Contains (pause_terms (pause_at t p)) term → IsHeardAtStart d i term
 heard_back d i t h p term first has =
-    let w = wait_way h.process t.stops t.start h.text p (pause_at t p) term refl has in
+    let w = term_way h.process t.stops t.start h.text p (pause_at t p) term refl has in
     wait_out d i (h.text.at p) (h.text.at w.0) (pause_at t p) term (from_back d i h.process t.stops t.start h.text h.is (ZeroTime true) p first)
     (step_back h.process.body t.stops t.start h.text p w.0 w.1) has
 
@@ -158,7 +142,7 @@ heard_on d i t h term heard =
     let y = from_on d i h.process t.stops t.start h.text h.is (ZeroTime true) heard.control heard.slot0 in
     let next = wait heard.number heard.terms heard.behind in
     let g = step_on h.process.body t.stops t.start h.text y.0 next (subst (λ (z : Todo). Goes z next) (sym y.2) heard.goes) in
-    (y.0, y.1, wait_in (pause_at t y.0) (h.text.at g.0) heard.number heard.terms heard.behind term g.2 heard.is)
+    (y.0, y.1, terms_in (pause_at t y.0) (h.text.at g.0) heard.number heard.terms heard.behind term g.2 heard.is)
 
 -- a site of the first slot that waits is heard there
 site_heard : (d : Parts) (charts : List Chart) → AreCharts d charts → (s : Site) (edge : Edge) → s.usage ≡ Waits edge → IsSite charts s → IsAtStart true charts s →
@@ -186,7 +170,7 @@ woken_so k maps v digit except s (Waits edge) e is of h first =
       term = x;
       has = (terms_at k.design k.charts maps s.process is.chart is.is x).0 (s.place, is.point, uses);
       heard = λ wide. (site_heard k.design k.charts maps s edge e is (first wide).0, (first wide).1);
-      edge = not_level (is_any edge) both.0;
+      edge = not-true (is_any edge) both.0;
       of = of;
       wakes = both.1;
     }

@@ -105,12 +105,12 @@ abbrev pub WakesSignal : Parts → Claims → Option ℕ → ℕ → Digit → T
 WakesSignal d c except v digit = HasWoken d c except v (λ t. is_edge t.edge X digit ≡ true)
 
 -- one that a change of the signal's root from x to the digit wakes
-abbrev pub WakesBehind : Parts → Claims → Option ℕ → ℕ → Digit → Type 0
-WakesBehind d c except v digit = HasWoken d c except v (λ t. (edge : Edge) × SeenAs d (is_wide c) t edge × (is_edge edge X digit ≡ true))
+abbrev pub WakesFromX : Parts → Claims → Option ℕ → ℕ → Digit → Type 0
+WakesFromX d c except v digit = HasWoken d c except v (λ t. (edge : Edge) × SeenAs d (is_wide c) t edge × (is_edge edge X digit ≡ true))
 
 -- the entry of a place has the root, and an edge term of its signal is woken by a change of the root from x to the digit
 abbrev pub WakesEntry : Parts → Claims → ℕ → ℕ → ℕ → Digit → Type 0
-WakesEntry d c writer place root digit = (v : ℕ) × IsRootAt d c.edges place root v × WakesBehind d c (left_out writer root v) v digit
+WakesEntry d c writer place root digit = (v : ℕ) × IsRootAt d c.edges place root v × WakesFromX d c (left_out writer root v) v digit
 
 -- the rule on what a root is given in the first slot is one of the places of maps
 pub record FirstByPlaces : Type 0 where

@@ -1,10 +1,9 @@
 //! The entries of a certificate for the signals of edge terms, and which sites wait for edges.
-ghost use Rattle.std.specs.Prelude.{ℕ, ◌≡◌, ◌<◌, ◌↔◌, ◌⊎◌, length, slice_index, IfOk, OnOk, IsTrue};
+ghost use Rattle.std.specs.Prelude.{ℕ, ◌≡◌, ◌<◌, ◌↔◌, length, IfOk, IsTrue};
 ghost use Rattle.std.specs.List.{Contains, list_any};
 ghost use Rattle.vs_rules.specs.Certificates.{claims_of};
 ghost use Rattle.vs_rules.specs.Claims.{IsRootOf};
 ghost use Rattle.vs_rules.specs.Rules.{IsEdgeSignal};
-ghost use Rattle.vs_rules_of_signals.specs.vs_claims.specs.Facts.{IsRootAt};
 ghost use Rattle.vs_drivers.specs.vs_maps.specs.declared.sites.Site.{Site};
 ghost use Rattle.vs_cert_roots.specs.First.{WakesSignal, WakesSite};
 ghost use Rattle.vs_cert_roots.specs.Entries.{NamesEntry, HasEntries, is_from_x, is_proper, waits_by};
@@ -18,7 +17,7 @@ use vs_drivers::vs_maps::{Site, Use};
 use vs_rules::vs_certificate::Certificate;
 use vs_rules_of_signals::Writes;
 use vs_rules_of_signals::vs_claims::Facts;
-use vs_rules_of_signals::vs_graph::{Family, Rows, gather, index_of};
+use vs_rules_of_signals::vs_graph::{Family, Rows, index_of};
 
 // The signals of the entries.
 #[derive(Drop)]
@@ -81,7 +80,7 @@ fn wakes(facts: &Facts, site: Site, digit: Digit, except: Option<usize>) -> bool
     if !is_woken(site.usage, digit) {
         return false;
     }
-    if facts.version() != 3 {
+    if !facts.is_wide() {
         return true;
     }
     if except == Some(site.process) {
@@ -100,39 +99,6 @@ fn none_wakes(facts: &Facts, sites: &[Site], digit: Digit, except: Option<usize>
         }
     }
     true
-}
-
-// The places of some entries, and a signal of which they may be.
-#[derive(Drop)]
-struct Roots<'a> {
-    facts: &'a Facts<'a>,
-    places: &'a [usize],
-    signal: usize,
-}
-
-impl<'a> Family for Roots<'a> {
-    ghost has = { λ f k r. (k < length f.places.now)
-        × IsRootAt f.facts.now.design f.facts.now.claims.edges (slice_index f.places.now k) r f.signal };
-
-    fn put(&self, _alloc: Global, i: usize, out: &mut Vec<usize>) -> Result<(), AllocError> {
-        if i >= self.places.len() {
-            return Ok(());
-        }
-        put_root(self.facts, self.places[i], self.signal, out)
-    }
-}
-
-// Puts the root of an entry, where the entry is of this signal.
-fn put_root(facts: &Facts, place: usize, v: usize, out: &mut Vec<usize>) -> Result<(), AllocError>
-    ensures { OnOk result ((r : ℕ) → (Contains out.new.items r ↔
-        (Contains out.old.items r ⊎ IsRootAt facts.entry.now.design facts.entry.now.claims.edges place r v))) }
-{
-    if let Some((root, of)) = facts.edge(place) {
-        if of == v {
-            out.push(root)?;
-        }
-    }
-    Ok(())
 }
 
 /// The entries of a certificate for the signals of edge terms, by the number of the signal, and where their writers write signals. A contract sees
@@ -222,14 +188,7 @@ impl<'a> Entries<'a> {
     pub fn roots(&self, alloc: Global, v: usize) -> Result<Vec<usize>, AllocError>
         ensures { IfOk result (λ roots. (r : ℕ) → (Contains roots.items r ↔ IsRootOf self.now.design self.now.claims r v)) }
     {
-        let facts = self.facts();
-        let places = self.places(v);
-        let roots = Roots {
-            facts,
-            places,
-            signal: v,
-        };
-        gather(alloc, &roots, places.len())
+        self.facts().roots(alloc, v)
     }
 
     /// Whether a signal has one entry where an edge term names it, else none.

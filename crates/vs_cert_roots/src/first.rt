@@ -1,5 +1,5 @@
 //! The rule K10 of signals, on what a root is given in the first slot.
-ghost use Rattle.std.specs.Prelude.{ℕ, ◌≡◌, ◌<◌, ◌↔◌, ◌⊎◌, false, Some, length, get_or, slice_get, IfOk, IsTrue};
+ghost use Rattle.std.specs.Prelude.{ℕ, ◌≡◌, ◌<◌, ◌↔◌, ◌⊎◌, false, Some, length, slice_get, IfOk, IsTrue};
 ghost use Rattle.std.specs.List.{Contains};
 ghost use Rattle.vs_rules.specs.Claims.{IsRoot, is_wide};
 ghost use Rattle.vs_rules.specs.Rules.{K10_Signal};
@@ -19,9 +19,9 @@ use std::marker::Model;
 use vs_design::vs_logic4::Digit;
 use vs_drivers::only;
 use vs_drivers::vs_maps::{Site, Tables, is_write};
-use vs_drivers::vs_slots_constants::{Bit, given_by};
+use vs_drivers::vs_slots_constants::{Bit, given_by, known};
 use vs_rules_of_signals::vs_claims::Facts;
-use vs_rules_of_signals::vs_graph::{Family, Rows, index_of};
+use vs_rules_of_signals::vs_graph::{Family, Rows, index_of, is_marked};
 
 // Whether a site is a write at a place that is done in the first slot.
 fn is_first(facts: &Facts, site: Site) -> bool
@@ -119,13 +119,6 @@ impl<'a> Model for FirstWrites<'a> {
     ghost invariant = { λ w. KeepsFirst w.entries.now w.inverted.now w.claimed };
 }
 
-// Whether a signal is marked; one past the end isn't.
-fn is_marked(marks: &[bool], v: usize) -> bool
-    ensures { result ≡ get_or marks.now v false }
-{
-    v < marks.len() && marks[v]
-}
-
 // The digit that a signal shows where its root has one, by which signals show a variable inverted.
 fn shown(inverted: &[bool], v: usize, digit: Digit) -> Digit
     ensures { result ≡ shown_by inverted.now v digit }
@@ -144,17 +137,6 @@ fn left_out(writer: usize, root: usize, v: usize) -> Option<usize>
     if v == root { Some(writer) } else { None }
 }
 
-// The digit that is known.
-fn known_one(digit: Option<Digit>) -> Option<Digit>
-    ensures { result ≡ known digit }
-{
-    match digit {
-        Some(Digit::Zero) => Some(Digit::Zero),
-        Some(Digit::One) => Some(Digit::One),
-        _ => None,
-    }
-}
-
 // The digit 0 or 1 that the statement at a place gives a signal that is no array.
 fn digit_at<'a>(
     alloc: Global,
@@ -164,15 +146,12 @@ fn digit_at<'a>(
 ) -> Result<Option<Digit>, AllocError>
     ensures { IfOk result (λ o. o ≡ known (given_here (statement_at tables.entry.now p) (bit_of v))) }
 {
-    match tables.stop(p) {
+    match tables.statement(p) {
         None => Ok(None),
-        Some(stop) => match stop.statement {
-            None => Ok(None),
-            Some(s) => {
-                let digit = given_by(alloc, s, Bit::lowest(v))?;
-                Ok(known_one(digit))
-            }
-        },
+        Some(s) => {
+            let digit = given_by(alloc, s, Bit::lowest(v))?;
+            Ok(known(digit))
+        }
     }
 }
 

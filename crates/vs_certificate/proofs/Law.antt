@@ -2,7 +2,7 @@
 use Rattle.std.proofs.Common.{◌≡◌, ℕ, ℤ, ◌+◌, ◌^◌, ◌<◌, ◌≤◌, Bool, true, false, not, ◌&&◌, ◌||◌, nat_le, nat_lt, Option, None, Some, option_and_then, List, [], ◌∷◌, map, String, Vec, Global, codes, true≢false, refl, sym, ap, ap₂, ◌∙◌, arith, ltb-true}
 use Rattle.std.specs.Option.{option_map_or}
 use Rattle.serde_json.specs.Find.{get, as_number, as_integer}
-use Rattle.std.proofs.lemmas.Bool.{and_parts, leb-true}
+use Rattle.std.proofs.lemmas.Bool.{and_parts, leb-true, and_from}
 use Rattle.std.proofs.lemmas.Str.{IsUtf8-string_bytes}
 use Rattle.std.specs.List.{list_all}
 use Rattle.json.specs.Tree.{depth}
@@ -370,9 +370,6 @@ only_second : (b : Bool) → (false || b || false) ≡ true → b ≡ true
 only_second true h = refl
 only_second false h = h
 
-both_hold : (a b : Bool) → a ≡ true → b ≡ true → (a && b) ≡ true
-both_hold a b p q = rw (p, q) refl
-
 -- what has the form of a certificate has the words of its version
 words_by : (version : Version) (c : Certificate) → is_certificate is_whole (value_by version c) ≡ true → have_words version c ≡ true
 words_by versions.One c h =
@@ -380,13 +377,13 @@ words_by versions.One c h =
     only_first _ (and_parts (has_shared is_whole (value_by versions.One c)) _ h).1 in
     let parts = and_parts (starter_free c.processes.items) (both_free c.signals.items && mixed_free c.processes.items) own in
     let narrow = and_parts (both_free c.signals.items) (mixed_free c.processes.items) parts.1 in
-    both_hold _ _ (sym (kinds_one c.processes.items) ∙ both_hold _ _ parts.0 narrow.1) (sym (modes_one c.signals.items) ∙ narrow.0)
+    and_from _ _ (sym (kinds_one c.processes.items) ∙ and_from _ _ parts.0 narrow.1) (sym (modes_one c.signals.items) ∙ narrow.0)
 words_by (versions.Two displays) c h =
     let own : (both_free c.signals.items && mixed_free c.processes.items) ≡ true =
     only_second _ (and_parts (has_shared is_whole (value_by (versions.Two displays) c)) _ h).1 in
     let narrow = and_parts (both_free c.signals.items) (mixed_free c.processes.items) own in
-    both_hold _ _ (sym (kinds_two displays c.processes.items) ∙ narrow.1) (sym (modes_two displays c.signals.items) ∙ narrow.0)
-words_by (versions.Three displays) c h = both_hold _ _ (kinds_three displays c.processes.items) (modes_three displays c.signals.items)
+    and_from _ _ (sym (kinds_two displays c.processes.items) ∙ narrow.1) (sym (modes_two displays c.signals.items) ∙ narrow.0)
+words_by (versions.Three displays) c h = and_from _ _ (kinds_three displays c.processes.items) (modes_three displays c.signals.items)
 
 shallow_later : (number : ℕ) (displays : Bool) (c : Certificate) → depth (outline (later_value number displays c)) ≤ max_depth
 shallow_later number displays c =

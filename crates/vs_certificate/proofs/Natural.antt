@@ -1,6 +1,6 @@
 -- Within the limits no number is negative.
 use Rattle.std.proofs.Common.{◌≡◌, inl, inr, List, ℕ, ◌+◌, Bool, true, false, ◌&&◌, ◌||◌, nat_le, nat_lt, Option, Some, None, codes, is_some, option_and_then, true≢false, refl, ap, sym, ◌∙◌}
-use Rattle.std.proofs.lemmas.Bool.{and_parts, or_cases, false_from_ne_true}
+use Rattle.std.proofs.lemmas.Bool.{and_parts, or_cases, false_from_ne_true, or_right}
 use Rattle.std.specs.Option.{option_map_or}
 use Rattle.serde_json.specs.Data.{Data, null, boolean, number, string, array, object, Items, no_items, item}
 use Rattle.serde_json.specs.Find.{get}
@@ -16,10 +16,6 @@ Implied p q r = (d : Data) → p d ≡ true → q d ≡ true → r d ≡ true
 or_next : (b x y : Bool) → (b || x) ≡ true → (x ≡ true → y ≡ true) → (b || y) ≡ true
 or_next true x y h f = refl
 or_next false x y h f = f h
-
-either_second : (a b : Bool) → b ≡ true → (a || b) ≡ true
-either_second true b h = refl
-either_second false b h = h
 
 items_imply : (p q r : Data → Bool) → Implied p q r → (ds : Items) → all_items p ds ≡ true → all_items q ds ≡ true → all_items r ds ≡ true
 items_imply p q r f no_items h k = refl
@@ -76,7 +72,7 @@ timed_natural word most modulus d h k =
 times_natural : (most modulus : ℕ) → Implied (is_times_process is_whole) (passes_at (are_slots most modulus) (codes "slots")) (is_times_process is_natural)
 times_natural most modulus d h k = elim (or_cases (is_timed_process (codes "delay") is_whole d) (is_timed_process (codes "mixed") is_whole d) h) [
   | inl delay ↦ rw (timed_natural (codes "delay") most modulus d delay k) refl
-  | inr mixed ↦ either_second (is_timed_process (codes "delay") is_natural d) (is_timed_process (codes "mixed") is_natural d) (timed_natural (codes "mixed") most modulus d mixed k)
+  | inr mixed ↦ or_right (is_timed_process (codes "delay") is_natural d) (is_timed_process (codes "mixed") is_natural d) (timed_natural (codes "mixed") most modulus d mixed k)
 ]
 
 process_natural : (most modulus : ℕ) → Implied (is_process_entry is_whole) (passes_at (are_slots most modulus) (codes "slots")) (is_process_entry is_natural)

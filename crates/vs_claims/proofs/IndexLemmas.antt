@@ -11,11 +11,11 @@ use Rattle.std.proofs.lemmas.List.{get_or-map, get_or_default, length-map}
 use Rattle.std.proofs.lemmas.List.Elements.{All-cons, All-nil}
 use Rattle.std.proofs.lemmas.List.Sorted.{All-permutation, Contains-permutation, sum_by-IsPermutation}
 use Rattle.std.proofs.lemmas.List.Sums.{sum_by-cons}
-use Rattle.std.proofs.lemmas.Slice.Eq.{bytes_eq-Decides}
 use Rattle.vs_rules.specs.Claims.{Name, times_in}
 use Rattle.vs_claims.specs.Places.{place_in, texts}
 use Rattle.vs_claims.specs.passes.Placed.{Placed, AreInOrder, AreBelow, AreUpTo, placed_cmp, placed_from}
 use Rattle.vs_claims.proofs.OrderLemmas.{lt, later, later_name, same_no, both, same_between, above_no, below_no, up_to_is}
+use Rattle.vs_claims.proofs.PlaceLemmas.{same_name}
 
 -- none of the first names is this one
 abbrev pub NoneYet : List Name → Name → ℕ → Type 0
@@ -105,9 +105,6 @@ placed_at place (n ∷ ns) = All-cons (IsAt place (n ∷ ns)) (n, place) (placed
 
 -- ---- the first place of a name
 
-equal : (a b : Name) → bytes_eq a b ≡ true → a ≡ b
-equal a b h = (bytes_eq-Decides a b).0 h
-
 less : (m n : ℕ) → m < n → is_lt (nat_cmp m n) ≡ true
 less m n l = grind (arith, l)
 
@@ -146,7 +143,7 @@ none_before ns xs order name i m below l is same within k before = by_cases (byt
               let other = same_no x.0.now name e in absurd (cc)
           | inr last ↦
               let apart = later xs order.rises i q x last stands.1 in
-              let named : (get_or ns k m.0).now ≡ m.0.now = equal _ name e ∙ sym (equal m.0.now name same) in
+              let named : (get_or ns k m.0).now ≡ m.0.now = same_name _ name e ∙ sym (same_name m.0.now name same) in
               let lower = earlier x m named before in
               let apart' : is_lt (placed_cmp x m) ≡ false =
               ap (λ (y : Placed). is_lt (placed_cmp y m)) (sym stands.2) ∙ ap (λ (y : Placed). is_lt (placed_cmp (get_or xs q x) y)) (sym (read_at xs i m x l is)) ∙ apart in
@@ -186,7 +183,7 @@ missing_at ns xs order name i below other = missing (texts ns) name (length ns) 
               let m = (other first).0 in
               let m_is = read_at xs i m x first (other first).1 in
               let apart = later_name xs order.rises i q x last l in
-              let named = equal x.0.now name e in
+              let named = same_name x.0.now name e in
               let apart' : lt name m.0.now ≡ false = ap (λ (n : Name). lt n m.0.now) (sym named) ∙ ap (λ (y : Placed). lt y.0.now m.0.now) (sym is) ∙ ap (λ (y : Placed). lt (get_or xs q x).0.now y.0.now) (sym m_is) ∙ apart in
               let not_below : lt m.0.now name ≡ false = ap (λ (y : Placed). lt y.0.now name) (sym m_is) ∙ below.point.1 i x (omega arith) first in
               let up_to : is_le (slice_cmp nat_cmp m.0.now name) ≡ true = up_to_is m.0.now name ∙ ap not apart' in

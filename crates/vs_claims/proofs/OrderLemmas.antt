@@ -11,6 +11,7 @@ use Rattle.std.proofs.lemmas.Cmp.{nat_list_cmp_total, nat_cmp_total, then_total,
 use Rattle.std.proofs.lemmas.List.MinMax.{ranks_by}
 use Rattle.std.proofs.lemmas.List.Sorted.{sorted_far}
 use Rattle.std.proofs.lemmas.Map.Text.{is_eq-slice_cmp}
+use Rattle.std.proofs.lemmas.Bool.{not-true}
 use Rattle.vs_rules.specs.Claims.{Name}
 use Rattle.vs_claims.specs.passes.Placed.{Placed, placed_cmp}
 
@@ -48,10 +49,6 @@ turned a b e = ap is_le e ∙ by_cases b
 pub up_to_is : (a b : Name) → is_le (slice_cmp nat_cmp a b) ≡ not (lt b a)
 up_to_is a b = turned _ _ (nat_list_cmp_total.antisymm a b)
 
-not_true : (b : Bool) → not b ≡ true → b ≡ false
-not_true true h = sym h
-not_true false h = refl
-
 pub parted_below : (xs : List Placed) → IsSorted placed_cmp xs → (name : Name) → IsPartitionedBy (λ (m : Placed). lt m.0.now name) xs
 parted_below xs up name i j d h l passes = by_cases (lt (get_or xs i d).0.now name) refl
   where
@@ -61,7 +58,7 @@ parted_below xs up name i j d h l passes = by_cases (lt (get_or xs i d).0.now na
 
 pub parted_up_to : (xs : List Placed) → IsSorted placed_cmp xs → (name : Name) → IsPartitionedBy (λ (m : Placed). is_le (slice_cmp nat_cmp m.0.now name)) xs
 parted_up_to xs up name i j d h l passes =
-    let above = not_true _ (sym (up_to_is (get_or xs j d).0.now name) ∙ passes) in
+    let above = not-true _ (sym (up_to_is (get_or xs j d).0.now name) ∙ passes) in
     let below = names_rank.chain name (get_or xs j d).0.now (get_or xs i d).0.now above (later_name xs up i j d h l) in
     up_to_is (get_or xs i d).0.now name ∙ ap not below
 

@@ -16,7 +16,7 @@ none_rest false (Some k) h = absurd (cc)
 slice_get_cons : (n : Name) (ns : List Name) (i : ℕ) → slice_get (n ∷ ns) (suc i) ≡ slice_get ns i
 slice_get_cons n ns i = refl
 
-same_name : (n name : Name) → bytes_eq n name ≡ true → n ≡ name
+pub same_name : (n name : Name) → bytes_eq n name ≡ true → n ≡ name
 same_name n name h = (bytes_eq-Decides n name).0 h
 
 place_cases : (n name : Name) (ns : List Name) (i : ℕ) (b : Bool) (o : Option ℕ) → bytes_eq n name ≡ b → ((k : ℕ) → o ≡ Some k → slice_get ns k ≡ Some name) →

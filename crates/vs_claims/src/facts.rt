@@ -4,12 +4,13 @@ ghost use Rattle.std.specs.List.{Contains};
 ghost use Rattle.vs_design.specs.WellFormed.{WellFormed};
 ghost use Rattle.vs_claims.specs.vs_rules.specs.Certificates.{claims_of, mode_from, grain_from, name_unless_empty};
 ghost use Rattle.vs_claims.specs.vs_rules.specs.Claims.{claim_of, mode_in, writer_in, second_in, kind_of, names_process, assign_name, process_name};
-ghost use Rattle.vs_claims.specs.vs_rules.specs.Claims.{place_of, times_in, signal_names, process_names, edge_signals, edge_names};
+ghost use Rattle.vs_claims.specs.vs_rules.specs.Claims.{place_of, times_in, signal_names, process_names, edge_names};
 ghost use Rattle.vs_claims.specs.vs_rules.specs.Claims.{IsSignalNamed, IsProcessNamed, IsAssignNamed, IsWriter, IsSecond, IsBlock, IsEdge, IsDelay, IsMixed, WaitsForEdges, IsSequential, IsRootOf, IsRoot, is_wide};
 ghost use Rattle.vs_claims.specs.vs_rules.specs.Limits.{IsWideCertificate};
 ghost use Rattle.vs_claims.specs.declared.facts.EntriesOf.TheVariants.{One};
 ghost use Rattle.vs_claims.specs.Facts.{AreCharts, AreListsOf, IsRootAt, case_of, seen, kind_seen};
 ghost use Rattle.vs_claims.specs.facts_passes.Kept.{AreEntriesOf, entry_seen};
+ghost use Rattle.vs_maps.specs.Reaches.{Chart, InSlot0};
 ghost use Rattle.vs_maps.specs.Texts.{texts_of};
 
 use crate::names::Names;
@@ -20,6 +21,18 @@ use vs_certificate::{Certificate, ClaimedKind, SignalEntry, SignalMode};
 use vs_design::Design;
 use vs_maps::{Sites, Tables, Uses};
 use vs_process::Grain;
+
+// Whether a place of a text is done in the first slot, by wide rules past a turn that is sure by it alone.
+fn is_early(tables: &Tables, wide: bool, p: usize) -> bool
+    ensures { IsTrue result ↔ InSlot0 wide tables.entry.now p }
+{
+    tables.leads_in();
+    if p < tables.places() {
+        tables.is_slot0(wide, p)
+    } else {
+        false
+    }
+}
 
 // The entries of a signal among those of edge terms.
 #[derive(Clone, Copy)]
@@ -120,6 +133,16 @@ impl<'a> Facts<'a> {
             return None;
         }
         Some(&tables[i])
+    }
+
+    /// Whether a place of a process is done in the first slot, by wide rules past a turn that is sure by it alone.
+    pub fn is_slot0(&self, wide: bool, i: usize, place: usize) -> bool
+        ensures { IsTrue result ↔ ((t : Chart) × (slice_get self.now.charts i ≡ Some t) × InSlot0 wide t place) }
+    {
+        match self.tables(i) {
+            None => false,
+            Some(tables) => is_early(tables, wide, place),
+        }
     }
 
     /// The uses of the signals of the design.
@@ -486,13 +509,6 @@ impl<'a> Facts<'a> {
         ensures { result ≡ times_in name.now (process_names self.now.claims) }
     {
         self.names.claims.processes.times(name)
-    }
-
-    /// How often a name stands among the signals of edge terms.
-    pub fn times_as_edge_signal(&self, name: &[u8]) -> usize
-        ensures { result ≡ times_in name.now (edge_signals self.now.claims) }
-    {
-        self.names.edges.signals.times(name)
     }
 
     /// Whether an entry of an edge term has a name, as its root or as its signal.

@@ -2,9 +2,9 @@
 //! their order.
 #![tactic(auto)]
 
+mod certificate_names;
 mod facts;
 mod index;
-mod listed;
 mod maps;
 mod named;
 mod names;
@@ -12,13 +12,11 @@ mod rule;
 mod subjects;
 mod words;
 
+pub use certificate_names::all_names;
 pub use facts::Facts;
 pub use index::Index;
-pub use listed::all_names;
 pub use maps::{codes, tables, texts};
-pub use rule::{
-    keeps_assign_name, keeps_listed_name, keeps_names, keeps_process_name, keeps_signal_name,
-};
+pub use rule::{keeps_assign_name, keeps_listed_name, keeps_process_name, keeps_signal_name};
 pub use subjects::{Subject, all_subjects, name_of};
 pub use vs_certificate;
 pub use vs_maps;

@@ -2,12 +2,10 @@
 ghost use Rattle.std.specs.Prelude.{◌≡◌, ◌↔◌, ◌⊎◌, IsTrue};
 ghost use Rattle.vs_claims.specs.vs_rules.specs.Claims.{IsBlock, signal_names, process_names, edge_names, times_in};
 ghost use Rattle.vs_claims.specs.vs_rules.specs.Rules.{K1_Signal, K1_Assign, K1_Process, K1_Name, IsListed};
-ghost use Rattle.vs_claims.specs.vs_rules.specs.Verdict.{OfAll};
-ghost use Rattle.vs_claims.specs.Subjects.{subject_view};
 ghost use Rattle.vs_claims.specs.Ordered.{IsOrdered};
 
 use crate::Facts;
-use crate::subjects::{Subject, assign_name, process_name, signal_name};
+use crate::subjects::{assign_name, process_name, signal_name};
 
 // Whether a name stands once among the entries of signals, and neither in the order nor among the entries of processes.
 fn is_listed_signal(facts: &Facts, name: &[u8]) -> bool
@@ -111,16 +109,4 @@ pub fn keeps_listed_name(facts: &Facts, name: &[u8]) -> bool
         return true;
     }
     facts.process_named(name).is_some()
-}
-
-/// Whether a subject keeps the rule K1.
-pub fn keeps_names(facts: &Facts, subject: Subject) -> bool
-    ensures { IsTrue result ↔ OfAll facts.now.design facts.now.claims (subject_view subject.entry) }
-{
-    match subject {
-        Subject::Signal(v) => keeps_signal_name(facts, v),
-        Subject::Assign(j) => keeps_assign_name(facts, j),
-        Subject::Process(i) => keeps_process_name(facts, i),
-        Subject::Listed(name) => keeps_listed_name(facts, name),
-    }
 }

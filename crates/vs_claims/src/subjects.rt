@@ -8,7 +8,7 @@ ghost use Rattle.vs_claims.specs.Places.{texts};
 ghost use Rattle.vs_claims.specs.Subjects.{subject_view};
 
 use crate::Facts;
-use crate::listed::all_names;
+use crate::certificate_names::all_names;
 use std::alloc::{AllocError, Global};
 
 /// What a rule is about.

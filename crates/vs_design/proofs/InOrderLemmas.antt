@@ -1,17 +1,18 @@
 -- Lemmas on the words of a store by one number each.
-use Rattle.std.proofs.Common.{◌≡◌, ℕ, zero, suc, ◌+◌, ◌-◌, ◌<◌, ◌≤◌, ⊎_elim, Bool, true, false, nat_lt, if◌then◌else◌, Some, List, [], ◌∷◌, ◌++◌, map, length, replicate, get_or, slice_get, refl, sym, ◌∙◌, ap, subst, arith}
+use Rattle.std.proofs.Common.{◌≡◌, ℕ, zero, suc, ◌+◌, ◌-◌, ◌<◌, ◌≤◌, ⊎_elim, Bool, true, false, nat_lt, if◌then◌else◌, Some, List, [], ◌∷◌, ◌++◌, map, length, replicate, get_or, slice_get, sym, ◌∙◌, ap, subst, arith}
 use Rattle.std.proofs.lemmas.Bool.{cases_lt, lt-ltb, le-ltb}
 use Rattle.std.proofs.Math.ListN.{get_or-append}
 use Rattle.std.proofs.lemmas.List.{get_or-append-add, get_or-append_right, length-append, length-map, length-replicate}
 use Rattle.std.proofs.lemmas.Option.{none-some, same_Some, slice_get-get_or}
 use Rattle.vs_logic4.specs.declared.digit.Digit.{Digit}
+use Rattle.vs_logic4.proofs.Basics.{same_first, tail_is}
 use Rattle.vs_design.specs.declared.extent.Layout.{Layout}
 use Rattle.vs_design.specs.declared.extent.Spot.{Spot}
 use Rattle.vs_design.specs.declared.signal.Signal.{Signal}
 use Rattle.vs_design.specs.Stores.{Store, changed_at, word_of}
 use Rattle.vs_design.specs.InOrder.{with_word, words_in_order, numbered_word, words_before, word_sizes, sizes_of_signals, IsStoreOf}
 use Rattle.vs_design.specs.passes.Planes.{word_at, words_from, words_of, store_of, spot_of, InTurn, IsWord, AreWords}
-use Rattle.vs_design.proofs.PlanesLemmas.{chosen}
+use Rattle.vs_design.proofs.PlanesLemmas.{chosen, length-words_from}
 
 -- ---- what planes hold
 
@@ -21,10 +22,6 @@ words_read width vs us index (suc n) zero h = let place : index ≡ index + 0 = 
 words_read width vs us index (suc n) (suc k) h =
     let place : suc index + k ≡ index + suc k = omega arith in
     words_read width vs us (suc index) n k (omega arith) ∙ ap (λ m. word_at width vs us m) place
-
-length-words_from : (width : ℕ) (vs us : List ℕ) (index n : ℕ) → length (words_from width vs us index n) ≡ n
-length-words_from width vs us index zero = refl
-length-words_from width vs us index (suc n) = ap suc (length-words_from width vs us (suc index) n)
 
 -- planes have as many words as there are
 pub as_many_words : (es : List Layout) (vs us : List ℕ) (from end : ℕ) → InTurn from es end → from + length (words_in_order (store_of es vs us)) ≡ end
@@ -97,27 +94,21 @@ word_held (e ∷ es) vs us from end index t are low high =
 
 -- ---- where the words of a signal are
 
-same_head : {A : Type 0} (x y : A) (xs ys : List A) → (x ∷ xs) ≡ (y ∷ ys) → x ≡ y
-same_head x y xs ys h = cc
-
-same_tail : {A : Type 0} (x y : A) (xs ys : List A) → (x ∷ xs) ≡ (y ∷ ys) → xs ≡ ys
-same_tail x y xs ys h = cc
-
 -- what is known of a word of a signal
 pub record IsNumbered (signals : List Signal) (store : Store) (signal word : ℕ) (s : Signal) : Type 0 where
   pub below : words_before signals signal + word < length (words_in_order store)
   pub is : word_of store signal word ≡ Some (numbered_word store (words_before signals signal + word))
   pub size : length (numbered_word store (words_before signals signal + word)) ≡ s.width
 
-head_long : (words : List (List Digit)) (s : Signal) → map length words ≡ replicate s.count s.width → length words ≡ s.count
+pub head_long : (words : List (List Digit)) (s : Signal) → map length words ≡ replicate s.count s.width → length words ≡ s.count
 head_long words s h = sym (length-map words length) ∙ ap length h ∙ length-replicate s.count s.width
 
 size_read : (words : List (List Digit)) (n width k : ℕ) → map length words ≡ replicate n width → k < n → length (get_or words k []) ≡ width
 size_read [] zero width k h below = absurd (omega arith)
 size_read [] (suc n) width k h below = cc
 size_read (w ∷ ws) zero width k h below = absurd (omega arith)
-size_read (w ∷ ws) (suc n) width zero h below = same_head (length w) width (map length ws) (replicate n width) h
-size_read (w ∷ ws) (suc n) width (suc k) h below = size_read ws n width k (same_tail (length w) width (map length ws) (replicate n width) h) (omega arith)
+size_read (w ∷ ws) (suc n) width zero h below = same_first (length w) width (map length ws) (replicate n width) h
+size_read (w ∷ ws) (suc n) width (suc k) h below = size_read ws n width k (tail_is (length w) width (map length ws) (replicate n width) h) (omega arith)
 
 pub word_numbered : (signals : List Signal) (store : Store) (signal word : ℕ) (s : Signal) → IsStoreOf signals store → slice_get signals signal ≡ Some s → word < s.count →
     IsNumbered signals store signal word s
@@ -125,7 +116,7 @@ word_numbered [] store signal word s is at below = absurd (none-some s at)
 word_numbered (x ∷ xs) [] signal word s is at below = cc
 word_numbered (x ∷ xs) (ws ∷ rest) zero word s is at below =
     let same = same_Some x s at in
-    let here = subst (λ (y : Signal). map length ws ≡ replicate y.count y.width) same (same_head (map length ws) (replicate x.count x.width) (word_sizes rest) (sizes_of_signals xs) is) in
+    let here = subst (λ (y : Signal). map length ws ≡ replicate y.count y.width) same (same_first (map length ws) (replicate x.count x.width) (word_sizes rest) (sizes_of_signals xs) is) in
     let long : word < length ws = omega (arith, head_long ws s here) in
     let all : length (ws ++ words_in_order rest) ≡ length ws + length (words_in_order rest) = length-append ws (words_in_order rest) in
     let none : 0 + word ≡ word = omega arith in
@@ -137,8 +128,8 @@ word_numbered (x ∷ xs) (ws ∷ rest) zero word s is at below =
       size = ap length read ∙ size_read ws s.count s.width word here below;
     }
 word_numbered (x ∷ xs) (ws ∷ rest) (suc i) word s is at below =
-    let long = head_long ws x (same_head (map length ws) (replicate x.count x.width) (word_sizes rest) (sizes_of_signals xs) is) in
-    let inner = word_numbered xs rest i word s (same_tail (map length ws) (replicate x.count x.width) (word_sizes rest) (sizes_of_signals xs) is) at below in
+    let long = head_long ws x (same_first (map length ws) (replicate x.count x.width) (word_sizes rest) (sizes_of_signals xs) is) in
+    let inner = word_numbered xs rest i word s (tail_is (map length ws) (replicate x.count x.width) (word_sizes rest) (sizes_of_signals xs) is) at below in
     let all : length (ws ++ words_in_order rest) ≡ length ws + length (words_in_order rest) = length-append ws (words_in_order rest) in
     let place : (x.count + words_before xs i) + word ≡ length ws + (words_before xs i + word) = omega (arith, long) in
     let read : get_or (ws ++ words_in_order rest) ((x.count + words_before xs i) + word) [] ≡ get_or (words_in_order rest) (words_before xs i + word) [] =
@@ -156,13 +147,13 @@ word_placed [] store signal word s ds is at below = absurd (none-some s at)
 word_placed (x ∷ xs) [] signal word s ds is at below = cc
 word_placed (x ∷ xs) (ws ∷ rest) zero word s ds is at below =
     let same = same_Some x s at in
-    let here = subst (λ (y : Signal). map length ws ≡ replicate y.count y.width) same (same_head (map length ws) (replicate x.count x.width) (word_sizes rest) (sizes_of_signals xs) is) in
+    let here = subst (λ (y : Signal). map length ws ≡ replicate y.count y.width) same (same_first (map length ws) (replicate x.count x.width) (word_sizes rest) (sizes_of_signals xs) is) in
     let long : 0 + word < length ws = omega (arith, head_long ws s here) in
     let none : 0 + word ≡ word = omega arith in
     with_first ws rest (0 + word) ds true (lt-ltb (0 + word) (length ws) long) ∙ ap (λ k. changed_at (λ (w : List Digit). ds) k ws ∷ rest) none
 word_placed (x ∷ xs) (ws ∷ rest) (suc i) word s ds is at below =
-    let long = head_long ws x (same_head (map length ws) (replicate x.count x.width) (word_sizes rest) (sizes_of_signals xs) is) in
-    let inner = word_placed xs rest i word s ds (same_tail (map length ws) (replicate x.count x.width) (word_sizes rest) (sizes_of_signals xs) is) at below in
+    let long = head_long ws x (same_first (map length ws) (replicate x.count x.width) (word_sizes rest) (sizes_of_signals xs) is) in
+    let inner = word_placed xs rest i word s ds (tail_is (map length ws) (replicate x.count x.width) (word_sizes rest) (sizes_of_signals xs) is) at below in
     let after : length ws ≤ (x.count + words_before xs i) + word = omega (arith, long) in
     let place : ((x.count + words_before xs i) + word) - length ws ≡ words_before xs i + word = omega (arith, long) in
     with_first ws rest ((x.count + words_before xs i) + word) ds false (le-ltb ((x.count + words_before xs i) + word) (length ws) after)
@@ -178,6 +169,6 @@ first_is signals [] from end i e t same at = absurd (none-some e at)
 first_is [] (x ∷ es) from end i e t same at = cc
 first_is (s ∷ ss) (x ∷ es) from end zero e t same at = let whole : from ≡ from + 0 = omega arith in sym (ap (λ (y : Layout). y.first) (same_Some x e at)) ∙ t.0 ∙ whole
 first_is (s ∷ ss) (x ∷ es) from end (suc i) e t same at =
-    let head = same_head x.count s.count (map (λ (y : Layout). y.count) es) (map (λ (y : Signal). y.count) ss) same in
-    let rest = first_is ss es (from + x.count) end i e t.1 (same_tail x.count s.count (map (λ (y : Layout). y.count) es) (map (λ (y : Signal). y.count) ss) same) at in
+    let head = same_first x.count s.count (map (λ (y : Layout). y.count) es) (map (λ (y : Signal). y.count) ss) same in
+    let rest = first_is ss es (from + x.count) end i e t.1 (tail_is x.count s.count (map (λ (y : Layout). y.count) es) (map (λ (y : Signal). y.count) ss) same) at in
     omega (arith, rest, head)

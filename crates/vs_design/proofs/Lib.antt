@@ -1,5 +1,6 @@
 pub mod Drivers
 mod ExtentLemmas
+pub mod FormLemmas
 pub mod InOrderLemmas
 mod Kept
 pub mod LoopLemmas

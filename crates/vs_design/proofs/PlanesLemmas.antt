@@ -101,7 +101,7 @@ word_here width vs us index (suc n) (suc k) h =
     let place : suc index + k ≡ index + suc k = omega arith in
     word_here width vs us (suc index) n k (omega arith) ∙ ap (λ m. Some (word_at width vs us m)) place
 
-length-words_from : (width : ℕ) (vs us : List ℕ) (index n : ℕ) → length (words_from width vs us index n) ≡ n
+pub length-words_from : (width : ℕ) (vs us : List ℕ) (index n : ℕ) → length (words_from width vs us index n) ≡ n
 length-words_from width vs us index zero = refl
 length-words_from width vs us index (suc n) = ap suc (length-words_from width vs us (suc index) n)
 
@@ -347,8 +347,8 @@ module _ (es : List Layout) (vs us : List ℕ) (e : Layout) (ds : List Digit) wh
     same_before : Same vs us more_values more_unknowns 0 (length vs)
     same_before k low high = (filled_below vs e.count (value_plane ds) k high, filled_below us e.count (unknown_plane ds) k (omega (arith, p.as_long)))
 
-    values_behind : (k : ℕ) → k < e.count → slice_index more_values (e.first + k) ≡ value_plane ds
-    values_behind k below = ap (λ n. slice_index more_values (n + k)) first ∙ filled_above vs e.count (value_plane ds) k below
+    option_values : (k : ℕ) → k < e.count → slice_index more_values (e.first + k) ≡ value_plane ds
+    option_values k below = ap (λ n. slice_index more_values (n + k)) first ∙ filled_above vs e.count (value_plane ds) k below
 
     unknowns_behind : (k : ℕ) → k < e.count → slice_index more_unknowns (e.first + k) ≡ unknown_plane ds
     unknowns_behind k below = ap (λ n. slice_index more_unknowns (n + k)) (first ∙ sym p.as_long) ∙ filled_above us e.count (unknown_plane ds) k below
@@ -360,7 +360,7 @@ module _ (es : List Layout) (vs us : List ℕ) (e : Layout) (ds : List Digit) wh
         (sym (same_store vs us more_values more_unknowns es 0 (length vs) p.in_turn same_before))
         (words_alike e.width more_values more_unknowns ds e.first e.count
         (λ k below.
-        ap₂ (digits_of_planes e.width) (values_behind k below) (unknowns_behind k below)
+        ap₂ (digits_of_planes e.width) (option_values k below) (unknowns_behind k below)
         ∙ ap (λ w. digits_of_planes w (value_plane ds) (unknown_plane ds)) width
         ∙ digits_of_planes-of ds))
 
@@ -376,7 +376,7 @@ module _ (es : List Layout) (vs us : List ℕ) (e : Layout) (ds : List Digit) wh
           words =
               words_added es e more_values more_unknowns (same_words_are vs us more_values more_unknowns es 0 (length vs) p.in_turn same_before p.words)
               (λ k below.
-              subst (λ v. ArePlanes e.width v (slice_index more_unknowns (e.first + k))) (sym (values_behind k below))
+              subst (λ v. ArePlanes e.width v (slice_index more_unknowns (e.first + k))) (sym (option_values k below))
               (subst (ArePlanes e.width (value_plane ds)) (sym (unknowns_behind k below)) planes));
         }
 

@@ -9,7 +9,7 @@ use Rattle.vs_logic4.specs.declared.digit.Digit.{Digit}
 use Rattle.vs_logic4.specs.Vectors.{same_digits}
 use Rattle.vs_logic4.specs.Sameness.{same_digits_self, same_digits-true}
 use Rattle.vs_design.specs.declared.write.Part.{Part}
-use Rattle.vs_design.specs.Behind.{behind, is_kept, keeps}
+use Rattle.vs_design.specs.WordWrites.{after_parts, is_kept, keeps}
 use Rattle.vs_design.specs.Stores.{Store, word_in, words_in, word_of, changed_at, put_part, put, overlaid, same_words, is_changed, chosen_bits, changes_nothing}
 use Rattle.vs_design.specs.Uses.{all_words}
 use Rattle.vs_design.specs.Writes.{Write}
@@ -52,7 +52,7 @@ changed_at-past f i xs h = sym (changed_at-kept f i xs (λ x found. absurd (none
 -- ---- a word behind a write
 
 -- a change of one word keeps each other word
-word_keeps : (f : List Digit → List Digit) (i k : ℕ) (o : Option (List (List Digit))) → i ≢ k → word_in (option_map (changed_at f i) o) k ≡ word_in o k
+pub word_keeps : (f : List Digit → List Digit) (i k : ℕ) (o : Option (List (List Digit))) → i ≢ k → word_in (option_map (changed_at f i) o) k ≡ word_in o k
 word_keeps f i k None h = refl
 word_keeps f i k (Some words) h = slice_get-changed_at_other f i k words h
 
@@ -112,19 +112,19 @@ option_twice f g None = refl
 option_twice f g (Some x) = refl
 
 -- a word behind a write, where there is one
-pub word_behind : (w : Write) (store : Store) (signal word : ℕ) → word_of (put store w) signal word ≡ option_map (behind w signal word) (word_of store signal word)
-word_behind [] store signal word = option_same (word_of store signal word)
-word_behind (p ∷ ps) store signal word =
-    word_behind ps (put_part store p) signal word
-    ∙ ap (option_map (behind ps signal word)) (word_after p store signal word)
-    ∙ option_twice (after_part p signal word) (behind ps signal word) (word_of store signal word)
+pub word_after_write : (w : Write) (store : Store) (signal word : ℕ) → word_of (put store w) signal word ≡ option_map (after_parts w signal word) (word_of store signal word)
+word_after_write [] store signal word = option_same (word_of store signal word)
+word_after_write (p ∷ ps) store signal word =
+    word_after_write ps (put_part store p) signal word
+    ∙ ap (option_map (after_parts ps signal word)) (word_after p store signal word)
+    ∙ option_twice (after_part p signal word) (after_parts ps signal word) (word_of store signal word)
 
 pub behind_Some : (w : Write) (store : Store) (signal word : ℕ) (before : List Digit) → word_of store signal word ≡ Some before →
-    Some (behind w signal word before) ≡ word_of (put store w) signal word
-behind_Some w store signal word before h = sym (word_behind w store signal word ∙ ap (option_map (behind w signal word)) h)
+    Some (after_parts w signal word before) ≡ word_of (put store w) signal word
+behind_Some w store signal word before h = sym (word_after_write w store signal word ∙ ap (option_map (after_parts w signal word)) h)
 
 pub behind_None : (w : Write) (store : Store) (signal word : ℕ) → word_of store signal word ≡ None → None ≡ word_of (put store w) signal word
-behind_None w store signal word h = sym (word_behind w store signal word ∙ ap (option_map (behind w signal word)) h)
+behind_None w store signal word h = sym (word_after_write w store signal word ∙ ap (option_map (after_parts w signal word)) h)
 
 -- ---- changes
 
@@ -176,10 +176,10 @@ kept_from f (Some b) h = ap (same_digits b) (same_Some (f b) b h) ∙ same_digit
 abbrev names_word : ℕ → ℕ → Part → Bool
 names_word signal word p = (p.signal == signal) && (p.word == word)
 
-behind_unnamed : (ps : Write) (signal word : ℕ) (b : List Digit) → list_any (names_word signal word) ps ≡ false → behind ps signal word b ≡ b
+behind_unnamed : (ps : Write) (signal word : ℕ) (b : List Digit) → list_any (names_word signal word) ps ≡ false → after_parts ps signal word b ≡ b
 behind_unnamed [] signal word b h = refl
 behind_unnamed (p ∷ ps) signal word b h =
-    ap (λ c. behind ps signal word (if c then overlaid p.low p.digits b else b)) (or_left (names_word signal word p) (list_any (names_word signal word) ps) h)
+    ap (λ c. after_parts ps signal word (if c then overlaid p.low p.digits b else b)) (or_left (names_word signal word p) (list_any (names_word signal word) ps) h)
     ∙ behind_unnamed ps signal word b (or_right (names_word signal word p) (list_any (names_word signal word) ps) h)
 
 map_kept : (f : List Digit → List Digit) (o : Option (List Digit)) → ((b : List Digit) → f b ≡ b) → option_map f o ≡ o
@@ -188,10 +188,10 @@ map_kept f (Some b) h = ap Some (h b)
 
 module _ (store : Store) (w : Write) where
   keeps_true : (p : Part) → keeps store w p ≡ true → word_of (put store w) p.signal p.word ≡ word_of store p.signal p.word
-  keeps_true p h = word_behind w store p.signal p.word ∙ kept_true (behind w p.signal p.word) (word_of store p.signal p.word) h
+  keeps_true p h = word_after_write w store p.signal p.word ∙ kept_true (after_parts w p.signal p.word) (word_of store p.signal p.word) h
 
   keeps_from : (p : Part) → word_of (put store w) p.signal p.word ≡ word_of store p.signal p.word → keeps store w p ≡ true
-  keeps_from p h = kept_from (behind w p.signal p.word) (word_of store p.signal p.word) (sym (word_behind w store p.signal p.word) ∙ h)
+  keeps_from p h = kept_from (after_parts w p.signal p.word) (word_of store p.signal p.word) (sym (word_after_write w store p.signal p.word) ∙ h)
 
   -- of parts that keep their words none names a word, or it is kept
   each_kept : (ps : Write) (signal word : ℕ) → list_all (keeps store w) ps ≡ true →
@@ -210,7 +210,7 @@ module _ (store : Store) (w : Write) where
   all_kept : (signal word : ℕ) → list_all (keeps store w) w ≡ true → word_of store signal word ≡ word_of (put store w) signal word
   all_kept signal word h =
       ⊎_elim
-      (λ none. sym (word_behind w store signal word ∙ map_kept (behind w signal word) (word_of store signal word) (λ b. behind_unnamed w signal word b none)))
+      (λ none. sym (word_after_write w store signal word ∙ map_kept (after_parts w signal word) (word_of store signal word) (λ b. behind_unnamed w signal word b none)))
       (λ kept. sym kept)
       (each_kept w signal word h)
 

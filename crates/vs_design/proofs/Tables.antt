@@ -83,12 +83,12 @@ length-tabled : (number : ℕ) (assigns : List Assign) (table : List (List Reade
 length-tabled number [] table = refl
 length-tabled number (a ∷ rest) table = length-tabled (suc number) rest (all_noted number (reads a.source) table) ∙ length-all_noted number (reads a.source) table
 
-at_changed : {A : Type 0} (f : List A → List A) (i : ℕ) (table : List (List A)) → i < length table → get_or (changed_at f i table) i [] ≡ f (get_or table i [])
+pub at_changed : {A : Type 0} (f : List A → List A) (i : ℕ) (table : List (List A)) → i < length table → get_or (changed_at f i table) i [] ≡ f (get_or table i [])
 at_changed f i [] h = absurd (omega arith)
 at_changed f zero (x ∷ xs) h = refl
 at_changed f (suc i) (x ∷ xs) h = at_changed f i xs (omega arith)
 
-at_other : {A : Type 0} (f : List A → List A) (i j : ℕ) (table : List (List A)) → i ≢ j → get_or (changed_at f i table) j [] ≡ get_or table j []
+pub at_other : {A : Type 0} (f : List A → List A) (i j : ℕ) (table : List (List A)) → i ≢ j → get_or (changed_at f i table) j [] ≡ get_or table j []
 at_other f i j [] h = refl
 at_other f zero zero (x ∷ xs) h = absurd (h refl)
 at_other f zero (suc j) (x ∷ xs) h = refl
@@ -144,7 +144,7 @@ readers-past ss number (a ∷ rest) s h le =
     ap (λ rs. rs ++ readers_from (suc number) rest s) (readings-past (length ss) number (reads a.source) s source.0 le)
     ∙ readers-past ss (suc number) rest s h.1 le
 
-none_at : {A : Type 0} (n s : ℕ) → get_or (empty_rows {A = A} n) s [] ≡ []
+pub none_at : {A : Type 0} (n s : ℕ) → get_or (empty_rows {A = A} n) s [] ≡ []
 none_at zero s = refl
 none_at (suc n) zero = refl
 none_at (suc n) (suc s) = none_at n s

@@ -1,4 +1,4 @@
-pub mod Behind
+pub mod WordWrites
 pub mod Drivers
 pub mod InOrder
 pub mod Kinds

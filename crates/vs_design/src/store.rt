@@ -3,7 +3,7 @@ ghost use Rattle.std.specs.Prelude.{◌≡◌, [], Some, None, IfOk, IfSome, Mat
 ghost use Rattle.vs_design.specs.Stores.{word_of, put, put_part, overlaid, changes_nothing, start_store};
 ghost use Rattle.vs_logic4.specs.Planes.{value_plane, unknown_plane, digits_of_planes, ArePlanes};
 ghost use Rattle.vs_design.specs.InOrder.{numbered_word, with_word};
-ghost use Rattle.vs_design.specs.Behind.{behind, keeps};
+ghost use Rattle.vs_design.specs.WordWrites.{after_parts, keeps};
 ghost use Rattle.vs_design.specs.Drivers.{undriven_word, driven_word, driven_at, driven_by, all_driven, in_copies};
 ghost use Rattle.vs_design.specs.passes.Planes.{AreInTurn, counts_of, widths_of};
 
@@ -143,11 +143,11 @@ impl<'a> Store<'a> {
     }
 
     /// The word of a signal behind a write, where there is one.
-    pub fn word_behind(&self, write: &Write, signal: usize, word: usize) -> Option<Vec4>
+    pub fn word_after_write(&self, write: &Write, signal: usize, word: usize) -> Option<Vec4>
         ensures { result ≡ word_of (put self.now write.now) signal word }
     {
         match self.word(signal, word) {
-            Some(before) => Some(behind(write.parts(), signal, word, before)),
+            Some(before) => Some(after_parts(write.parts(), signal, word, before)),
             None => None,
         }
     }
@@ -169,7 +169,7 @@ impl<'a> Store<'a> {
         ensures { result ≡ keeps self.now write.now part }
     {
         match self.word(part.signal, part.word) {
-            Some(before) => before == behind(write.parts(), part.signal, part.word, before),
+            Some(before) => before == after_parts(write.parts(), part.signal, part.word, before),
             None => true,
         }
     }
@@ -210,8 +210,8 @@ pub fn over(word: Vec4, part: Part) -> Vec4
 }
 
 /// A word of a signal behind parts of a write.
-fn behind(parts: &[Part], signal: usize, word: usize, before: Vec4) -> Vec4
-    ensures { result ≡ behind parts.now signal word before }
+fn after_parts(parts: &[Part], signal: usize, word: usize, before: Vec4) -> Vec4
+    ensures { result ≡ after_parts parts.now signal word before }
 {
     let mut all = before;
     for part in parts {

@@ -17,12 +17,13 @@ use Rattle.vs_maps.proofs.EachPoint.{now_here}
 use Rattle.vs_maps.proofs.Texts.{place_of, place_back}
 use Rattle.vs_maps.specs.Ranges.{HasSignal, now_at}
 use Rattle.vs_maps.specs.Reaches.{Chart, IsPlace, places}
+use Rattle.vs_design.specs.vs_logic4.proofs.Basics.{below_or, none_in}
+use Rattle.vs_maps.specs.vs_graph.proofs.RowLemmas.{head_in, in_either as split}
 use Rattle.vs_drivers.specs.Assigned.{AssignsAt, AssignsIn, IsAssigned}
 use Rattle.vs_drivers.specs.Names.{AreMaps}
 use Rattle.vs_drivers.specs.declared.writers.Written.{Written}
 use Rattle.vs_drivers.specs.Walks.{Passed, Named}
 use Rattle.vs_drivers.specs.Wires.{Wiring, OfWiring, Drives, IsFree, WritesAt, NeedsAt, driver_at, drivers}
-use Rattle.vs_drivers.proofs.ListBasics.{split, none_in, head_in}
 use Rattle.vs_drivers.proofs.Numbers.{AreMarks, of_own, drives_on, drives_back, free_is, driver_cases, block_at}
 use Rattle.vs_rules.proofs.Past.{past_points}
 use Rattle.vs_drivers.proofs.WalkLemmas.{cones_are, passes_are}
@@ -109,9 +110,6 @@ pub assigned_are : (d : Parts) (charts : List Chart) → AreMaps d charts → (u
 assigned_are d charts maps u = (λ y. assigned_on d charts maps y.0 u y.2, assigned_back d charts maps u)
 
 -- ---- numbers that are chosen
-
-below_or : (i n : ℕ) → i < n + 1 → (i < n) ⊎ (i ≡ n)
-below_or i n h = grind (arith, h)
 
 -- those below a number whose marks are set
 abbrev pub AreSet : List Bool → ℕ → List ℕ → Type 0
@@ -201,7 +199,7 @@ pub record AreFreeAmong (x : Wiring) (among : List ℕ) (marks : List Bool) : Ty
   pub long : length marks ≡ length x.design.signals
   pub exact : (u : ℕ) → (IsTrue (get_or marks u false) ↔ (IsFree x u × Contains among u))
 
-unmarked : (n k : ℕ) → IsTrue (get_or (replicate n false) k false) → ⊥
+pub unmarked : (n k : ℕ) → IsTrue (get_or (replicate n false) k false) → ⊥
 unmarked zero k h = false≢true h
 unmarked (suc n) zero h = false≢true h
 unmarked (suc n) (suc k) h = unmarked n k h

@@ -17,6 +17,7 @@ use Rattle.vs_design.specs.declared.statement.Target.{Target}
 use Rattle.vs_design.specs.Parts.{Parts}
 use Rattle.vs_design.specs.Uses.{aim_range, slice_range, writes}
 use Rattle.vs_maps.specs.vs_graph.specs.Reached.{Reached, AreReached, begins, goes_on}
+use Rattle.vs_maps.specs.vs_graph.proofs.RowLemmas.{head_in as first_in}
 use Rattle.vs_slots_constants.specs.vs_rules.specs.Claims.{HasKind}
 use Rattle.vs_slots_constants.specs.vs_rules.specs.Constants.{IsWholeSelect, IsWholeLayer, IsNegationLayer, InvertsLayer, IsWholeTarget}
 use Rattle.vs_slots_constants.specs.vs_rules.specs.Copies.{IsCopyBy, IsOneBit, CopiesRoot}
@@ -25,7 +26,8 @@ use Rattle.vs_slots_constants.specs.vs_rules.specs.Blocks.{CopiesWhole, itself, 
 use Rattle.vs_slots_constants.specs.Wholes.{is_plain}
 use Rattle.vs_slots_constants.proofs.WholeLemmas.{plain_of, plain_by}
 use Rattle.vs_maps.specs.Ranges.{HasSignal}
-use Rattle.vs_maps.proofs.RangeLemmas.{lists_signal, first_in, in_either}
+use Rattle.vs_maps.proofs.RangeLemmas.{lists_signal}
+use Rattle.vs_maps.proofs.Join.{only as in_single}
 use Rattle.vs_drivers.specs.Copies.{IsOnly, NamesTarget, AreDrivers, AreSources, IsOf, IsCopyOf, IsCopied, HaveSameWidth, IsLinked, Leads, here, on, counted, known, ends_of, links_of, source_in}
 
 -- ---- whole signals
@@ -150,12 +152,6 @@ one_more d inverse n old new x so e last = record {
       subst (λ (w : ℕ). (IsCopyOf d inverse w u ↔ source_in new v ≡ Some u)) (sym i) (λ c. f ∙ (last u).0 c, λ g. (last u).1 (sym f ∙ g))
 
 -- ---- chains
-
-in_single : (u a : ℕ) → Contains (u ∷ []) a → u ≡ a
-in_single u a h = by (in_either u [] a h) where
-  by : (u ≡ a) ⊎ Contains [] a → u ≡ a
-  by (inl e) = e
-  by (inr c) = absurd (omega (arith, c.1))
 
 pub ends_in : (o : Option ℕ) (b : ℕ) → Contains (ends_of o) b → o ≡ Some b
 ends_in None b h = absurd (omega (arith, h.1))

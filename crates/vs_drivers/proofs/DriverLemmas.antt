@@ -5,27 +5,23 @@ use Rattle.std.specs.List.{Contains}
 use Rattle.std.specs.declared.vec.Vec.{Vec}
 use Rattle.std.specs.declared.alloc.Global.{Global}
 use Rattle.std.proofs.lemmas.Bool.{cases_lt, false≢true}
-use Rattle.std.proofs.lemmas.List.{get_or_past, take_more, take_all}
+use Rattle.std.proofs.lemmas.List.{get_or_past, take_more, take_all, get_or_default}
 use Rattle.std.proofs.lemmas.List.Elements.{Contains-get_or, Contains-append_left, Contains-append_right, Contains-append_cases}
 use Rattle.std.proofs.lemmas.Option.{none-some, same_Some, slice_get_within}
 use Rattle.vs_design.specs.declared.range.BitRange.{BitRange}
 use Rattle.vs_design.specs.declared.signal.Signal.{Signal}
 use Rattle.vs_design.specs.Kinds.{is_variable}
 use Rattle.vs_maps.specs.vs_graph.specs.Reached.{AreReached}
-use Rattle.vs_maps.specs.vs_graph.proofs.RowLemmas.{row_here}
+use Rattle.vs_maps.specs.vs_graph.proofs.RowLemmas.{row_here, head_in, in_either as split}
 use Rattle.vs_rules.specs.Drivers.{Driver, DriverWrites}
+use Rattle.vs_design.specs.vs_logic4.proofs.Basics.{below_or, none_in}
 use Rattle.vs_drivers.specs.declared.writers.Written.{Written}
 use Rattle.vs_drivers.specs.Walks.{Passed, Named, AreWriters, AreNeeds, all_met, linked, AreFreed}
 use Rattle.vs_drivers.specs.Walks as w
 use Rattle.vs_drivers.specs.Wires.{Wiring, Drives, WritesAt, NeedsAt, IsFree, drivers}
-use Rattle.vs_drivers.proofs.ListBasics.{split, none_in, head_in}
 use Rattle.vs_drivers.proofs.Numbers.{driver_cases, block_at}
 use Rattle.vs_drivers.proofs.WalkLemmas.{passed_below, reached_are}
-
-get_or_same : {A : Type 0} (xs : List A) (k : ℕ) (d e : A) → k < length xs → get_or xs k d ≡ get_or xs k e
-get_or_same [] k d e h = absurd (omega (arith, h))
-get_or_same (x ∷ xs) zero d e h = refl
-get_or_same (x ∷ xs) (suc k) d e h = get_or_same xs k d e (omega (arith, h))
+use Rattle.vs_drivers.proofs.ConeLemmas.{unmarked}
 
 -- ---- rows
 
@@ -190,11 +186,6 @@ pub record AreNamed (x : Wiring) (rs : List BitRange) (n : ℕ) (marks : List Bo
   pub long : length marks ≡ length x.design.signals
   pub exact : (u : ℕ) → (IsTrue (get_or marks u false) ↔ (IsFree x u × NamedBelow x rs n u))
 
-unmarked : (n k : ℕ) → IsTrue (get_or (replicate n false) k false) → ⊥
-unmarked zero k h = false≢true h
-unmarked (suc n) zero h = false≢true h
-unmarked (suc n) (suc k) h = unmarked n k h
-
 pub named_first : (x : Wiring) (rs : List BitRange) (n : ℕ) (old marks : List Bool) → old ≡ replicate n false → length old ≡ length x.design.signals → AreFreed x old rs marks →
     AreNamed x rs 0 marks
 named_first x rs n old marks is long h = record {
@@ -207,9 +198,6 @@ named_first x rs n old marks is long h = record {
     λ y. (h.exact u).1 (elim y.1 [ inl z ↦ inr (y.0, z.0, z.1, z.2) | inr z ↦ absurd (omega (arith, z.2)) ]),
   );
 }
-
-below_or : (i n : ℕ) → i < n + 1 → (i < n) ⊎ (i ≡ n)
-below_or i n h = grind (arith, h)
 
 -- a driver more, to which a walk leads
 pub named_more : (x : Wiring) (rs needs : List BitRange) (n : ℕ) (now new : List Bool) → Passed x rs n → ((r : BitRange) → (Contains needs r ↔ ((n < drivers x.design) × NeedsAt x n r))) →
@@ -274,7 +262,7 @@ NoneBefore row first n = (k : ℕ) (d : Written) → k < n → k < length row �
 pub none_more : (row : List Written) (first n : ℕ) (d : Written) → (get_or row n d).driver < first → NoneBefore row first n → NoneBefore row first (n + 1)
 none_more row first n d here before k e less within = elim (below_or k n less) [
   | inl l ↦ before k e l within
-  | inr s ↦ subst (λ (w : Written). w.driver < first) (get_or_same row k d e within) (subst (λ (j : ℕ). (get_or row j d).driver < first) (sym s) here)
+  | inr s ↦ subst (λ (w : Written). w.driver < first) (get_or_default row k d e within) (subst (λ (j : ℕ). (get_or row j d).driver < first) (sym s) here)
 ]
 
 pub one_here : (row : List Written) (first n : ℕ) (d : Written) → n < length row → first ≤ (get_or row n d).driver → (IsTrue true ↔ ((e : Written) × Contains row e × (first ≤ e.driver)))
@@ -291,4 +279,4 @@ none_here row first n past before = (
 
 -- the mark of a number, as it is read
 pub mark_at : (marks : List Bool) (n : ℕ) (b v : Bool) → n < length marks → b ≡ get_or marks n b → b ≡ v → get_or marks n false ≡ v
-mark_at marks n b v within read is = get_or_same marks n false b within ∙ sym read ∙ is
+mark_at marks n b v within read is = get_or_default marks n false b within ∙ sym read ∙ is

@@ -12,23 +12,18 @@ use Rattle.vs_design.specs.Kinds.{is_variable}
 use Rattle.vs_design.specs.Parts.{Parts}
 use Rattle.vs_maps.specs.vs_graph.specs.Reached.{Reached, AreReached, begins, goes_on}
 use Rattle.vs_maps.specs.vs_graph.specs.Rows.{AreRows, row}
+use Rattle.vs_maps.specs.vs_graph.proofs.RowLemmas.{head_in, tail_in, in_either as split}
+use Rattle.vs_maps.proofs.SignalLemmas.{image_in}
 use Rattle.vs_slots_constants.specs.Inverted.{AreInverted}
 use Rattle.vs_slots_constants.specs.vs_rules.specs.Claims.{HasKind}
 use Rattle.vs_slots_constants.specs.vs_rules.specs.Copies.{IsOneBit, CopiesRoot, itself, copy, inverse, is_odd, IsInverted}
 use Rattle.vs_slots_constants.specs.vs_rules.proofs.Copies.{never_inverted}
+use Rattle.vs_design.specs.vs_logic4.proofs.Basics.{none_in}
 use Rattle.vs_drivers.specs.Copies.{AreSources, IsOf, IsCopyOf, source_in}
-use Rattle.vs_drivers.specs.Inverses.{AreStarts, AreBack, AreWithin, node, behind, mirrored}
+use Rattle.vs_drivers.specs.Inverses.{AreStarts, AreBack, AreWithin, node, copy_nodes, mirrored}
 use Rattle.vs_drivers.proofs.CopyLemmas.{copied_bit, copy_within}
-use Rattle.vs_drivers.proofs.ListBasics.{split, none_in, head_in, tail_in}
 
 -- ---- lists
-
-mapped : {A B : Type 0} (f : A → B) (xs : List A) (b : B) → Contains (map f xs) b → (a : A) × Contains xs a × (f a ≡ b)
-mapped f [] b h = absurd (none_in b h)
-mapped f (x ∷ xs) b h = elim (split (f x) b (map f xs) h) [
-  | inl e ↦ (x, head_in x xs, e)
-  | inr l ↦ let y = mapped f xs b l in (y.0, tail_in x y.0 xs y.1, y.2)
-]
 
 map_has : {A B : Type 0} (f : A → B) (xs : List A) (a : A) → Contains xs a → Contains (map f xs) (f a)
 map_has f [] a h = absurd (none_in a h)
@@ -86,29 +81,29 @@ node_within n false v h = omega (arith, h)
 
 nodes_within : (n : ℕ) (odd : Bool) (table : List (List ℕ)) (u b : ℕ) → AreWithin table n → Contains (map (node n odd) (row table u)) b → b < n + n
 nodes_within n odd table u b inside h =
-    let m = mapped (node n odd) (row table u) b h in
+    let m = image_in (node n odd) (row table u) b h in
     subst (λ (k : ℕ). k < n + n) m.2 (node_within n odd m.0 (inside u m.0 m.1))
 
-behind_within : (copies inverses : List (List ℕ)) (n : ℕ) (odd : Bool) (u b : ℕ) → AreWithin copies n → AreWithin inverses n → Contains (behind copies inverses n odd u) b → b < n + n
-behind_within copies inverses n odd u b these those h = elim (Contains-append_cases (map (node n odd) (row copies u)) (map (node n (not odd)) (row inverses u)) b h) [
+put_headed_within : (copies inverses : List (List ℕ)) (n : ℕ) (odd : Bool) (u b : ℕ) → AreWithin copies n → AreWithin inverses n → Contains (copy_nodes copies inverses n odd u) b → b < n + n
+put_headed_within copies inverses n odd u b these those h = elim (Contains-append_cases (map (node n odd) (row copies u)) (map (node n (not odd)) (row inverses u)) b h) [
   | inl l ↦ nodes_within n odd copies u b these l
   | inr r ↦ nodes_within n (not odd) inverses u b those r
 ]
 
 pub mirrored_within : (copies inverses : List (List ℕ)) (n : ℕ) → AreWithin copies n → AreWithin inverses n → (a b : ℕ) → Contains (mirrored copies inverses n a) b → b < n + n
 mirrored_within copies inverses n these those a b h = by (nat_lt a n) h where
-  by : (c : Bool) → Contains (if c then behind copies inverses n true a else behind copies inverses n false (a - n)) b → b < n + n
-  by true k = behind_within copies inverses n true a b these those k
-  by false k = behind_within copies inverses n false (a - n) b these those k
+  by : (c : Bool) → Contains (if c then copy_nodes copies inverses n true a else copy_nodes copies inverses n false (a - n)) b → b < n + n
+  by true k = put_headed_within copies inverses n true a b these those k
+  by false k = put_headed_within copies inverses n false (a - n) b these those k
 
 -- what lies behind the node of a signal
-mirrored_at : (copies inverses : List (List ℕ)) (n : ℕ) (odd : Bool) (u : ℕ) → u < n → mirrored copies inverses n (node n odd u) ≡ behind copies inverses n odd u
+mirrored_at : (copies inverses : List (List ℕ)) (n : ℕ) (odd : Bool) (u : ℕ) → u < n → mirrored copies inverses n (node n odd u) ≡ copy_nodes copies inverses n odd u
 mirrored_at copies inverses n true u h =
-    ap (λ (c : Bool). if c then behind copies inverses n true u else behind copies inverses n false (u - n)) (lt-ltb u n h)
+    ap (λ (c : Bool). if c then copy_nodes copies inverses n true u else copy_nodes copies inverses n false (u - n)) (lt-ltb u n h)
 mirrored_at copies inverses n false u h =
     let e : n + u - n ≡ u = omega arith in
-    ap (λ (c : Bool). if c then behind copies inverses n true (n + u) else behind copies inverses n false (n + u - n)) (le-ltb (n + u) n (omega arith))
-    ∙ ap (behind copies inverses n false) e
+    ap (λ (c : Bool). if c then copy_nodes copies inverses n true (n + u) else copy_nodes copies inverses n false (n + u - n)) (le-ltb (n + u) n (omega arith))
+    ∙ ap (copy_nodes copies inverses n false) e
 
 -- ---- what is reached
 
@@ -141,12 +136,12 @@ starts_within d seeds starts s h =
 step : (d : Parts) (copies inverses : List (List ℕ)) → AreBack d false copies → AreBack d true inverses → (odd : Bool) (u b : ℕ) → Shows d odd u →
     Contains (map (node (many d) odd) (row copies u)) b ⊎ Contains (map (node (many d) (not odd)) (row inverses u)) b → IsNode d b
 step d copies inverses these those odd u b shows (inl l) =
-    let m = mapped (node (many d) odd) (row copies u) b l in
+    let m = image_in (node (many d) odd) (row copies u) b l in
     let c = (these u m.0).0 m.1 in
     let bit = copied_bit d (IsOf d false) m.0 u c (root_bit d true shows.0 u shows.2) in
     (odd, m.0, bit_within d m.0 bit, m.2, (shows.0, shows.1, copy m.0 u bit c shows.2, shows.3))
 step d copies inverses these those odd u b shows (inr r) =
-    let m = mapped (node (many d) (not odd)) (row inverses u) b r in
+    let m = image_in (node (many d) (not odd)) (row inverses u) b r in
     let c = (those u m.0).0 m.1 in
     let bit = copied_bit d (IsOf d true) m.0 u c (root_bit d true shows.0 u shows.2) in
     (not odd, m.0, bit_within d m.0 bit, m.2, (shows.0, shows.1, inverse m.0 u refl bit c shows.2, ap not shows.3))

@@ -1,5 +1,5 @@
 pub mod Words
-pub mod Listed
+pub mod RangeBits
 pub mod Bits
 pub mod ListLemmas
 pub mod CopyLemmas

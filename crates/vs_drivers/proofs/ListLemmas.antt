@@ -1,14 +1,9 @@
 -- Lists of numbers.
 use Rattle.std.proofs.Common.{◌≡◌, ℕ, ◌<◌, ◌≤◌, ◌↔◌, Some, None, List, length, get_or, sym, ◌∙◌, ap, subst, arith}
 use Rattle.std.specs.List.{Contains}
-use Rattle.std.proofs.lemmas.Option.{same_Some, slice_get-get_or}
+use Rattle.std.proofs.lemmas.Option.{same_Some}
+use Rattle.vs_maps.specs.vs_graph.proofs.Sets.{same_read, contains_at}
 use Rattle.vs_drivers.specs.Copies.{IsOnly}
-
-pub same_read : (xs : List ℕ) (n d e : ℕ) → n < length xs → get_or xs n d ≡ get_or xs n e
-same_read xs n d e h = same_Some (get_or xs n d) (get_or xs n e) (sym (slice_get-get_or xs n d h) ∙ slice_get-get_or xs n e h)
-
-pub contains_at : (xs : List ℕ) (n : ℕ) → n < length xs → Contains xs (get_or xs n 0)
-contains_at xs n h = (n, h, same_read xs n (get_or xs n 0) 0 h)
 
 -- there is none in an empty list
 pub none_only : (xs : List ℕ) → length xs ≡ 0 → (x : ℕ) → (IsOnly (λ y. Contains xs y) x ↔ None ≡ Some x)

@@ -11,8 +11,9 @@ use Rattle.vs_rules.specs.Drivers.{Names}
 use Rattle.vs_maps.specs.Ranges.{HasTermAt}
 use Rattle.vs_maps.specs.Reaches.{Chart}
 use Rattle.vs_maps.proofs.EachWalk.{terms_exact}
+use Rattle.vs_design.specs.vs_logic4.proofs.Basics.{none_in}
+use Rattle.vs_maps.specs.vs_graph.proofs.RowLemmas.{head_in, tail_in, in_either as split}
 use Rattle.vs_drivers.specs.Names.{ranges_of_terms, NamesIn}
-use Rattle.vs_drivers.proofs.ListBasics.{split, none_in, head_in, tail_in}
 
 range_in : (terms : List EventTerm) (t : EventTerm) → Contains terms t → Contains (ranges_of_terms terms) t.range
 range_in [] t h = absurd (none_in t h)

@@ -9,8 +9,8 @@ use Rattle.vs_design.specs.Parts.{Parts}
 use Rattle.vs_rules.specs.Claims.{Claims, IsBlock}
 use Rattle.vs_rules.specs.Drivers.{Driver, assign, block, IsDriver, DriverWrites, IsSource}
 use Rattle.vs_rules.specs.vs_process.specs.BlockDrivers.{outputs_for}
+use Rattle.vs_design.specs.vs_logic4.proofs.Basics.{none_in}
 use Rattle.vs_drivers.specs.Wires.{Wiring, OfWiring, driver_at, drivers, IsMarked, Drives, WritesAt, IsFree}
-use Rattle.vs_drivers.proofs.ListBasics.{none_in}
 
 chosen : (b : Bool) (n : ℕ) (x y : Driver) → ((b ≡ true) × ((if b then x else y) ≡ x)) ⊎ ((b ≡ false) × ((if b then x else y) ≡ y))
 chosen true n x y = inl (refl, refl)

@@ -2,10 +2,10 @@
 use Rattle.std.proofs.Common.{◌≡◌, ℕ, ◌<◌, ◌⊎◌, ◌↔◌, inl, inr, List, [], ◌∷◌, length, get_or, refl, sym, ◌∙◌, ap, subst}
 use Rattle.std.specs.List.{Contains}
 use Rattle.vs_design.specs.declared.range.BitRange.{BitRange}
-use Rattle.vs_maps.specs.vs_graph.proofs.RowLemmas.{length_one, one_has}
+use Rattle.vs_maps.specs.vs_graph.proofs.RowLemmas.{length_one, one_has, head_in, tail_in, in_either as split}
+use Rattle.vs_design.specs.vs_logic4.proofs.Basics.{none_in}
 use Rattle.vs_drivers.specs.declared.writers.Written.{Written}
 use Rattle.vs_drivers.specs.Walks.{noted, all_noted}
-use Rattle.vs_drivers.proofs.ListBasics.{split, none_in, head_in, tail_in}
 
 pub length-all_noted : (n : ℕ) (rs : List BitRange) (t : List (List Written)) → length (all_noted n rs t) ≡ length t
 length-all_noted n [] t = refl

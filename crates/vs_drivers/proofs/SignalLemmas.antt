@@ -11,6 +11,7 @@ use Rattle.std.proofs.lemmas.List.{get_or-drop, get_or-take, length-drop, length
 use Rattle.std.proofs.lemmas.List.Elements.{Contains-append_left, Contains-push, Contains-push_cases}
 use Rattle.std.proofs.lemmas.Map.Lookups.{exact_unsigned}
 use Rattle.std.proofs.lemmas.Map.Views.{btree_set_contains_iff, tells_apart}
+use Rattle.std.proofs.lemmas.Bool.{cases_lt}
 use Rattle.vs_design.specs.declared.range.BitRange.{BitRange}
 use Rattle.vs_drivers.specs.Signals.{AreBelow, AreOf, AreUpTo}
 
@@ -86,9 +87,6 @@ all_put set xs i past so v = subst (λ (l : List ℕ). (Contains set v ↔ Conta
 both : (a b : ℕ) → a ≤ b → b ≤ a → a ≡ b
 both a b h k = omega (arith, h, k)
 
-side : (k n : ℕ) → (k < n) ⊎ (n ≤ k)
-side k n = grind arith
-
 -- those from the first of a signal up to the last one
 part_is : (all rest some : List BitRange) (v first end : ℕ) → AreBelow all v first → rest ≡ drop first all → AreUpTo rest v end → some ≡ take end rest → AreOf all v some
 part_is all rest some v first end low of_rest high is r = (there, back) where
@@ -117,7 +115,7 @@ part_is all rest some v first end low of_rest high is r = (there, back) where
   back : Contains all r × (r.signal ≡ v) → Contains some r
   back y =
       let k = y.0.0 in
-      let after : first ≤ k = elim (side k first) [
+      let after : first ≤ k = elim (cases_lt k first) [
         | inl l ↦
             let less : r.signal < v = subst (λ (x : BitRange). x.signal < v) y.0.2 (low.before k r l) in
             absurd (omega (arith, less, y.1))
@@ -125,7 +123,7 @@ part_is all rest some v first end low of_rest high is r = (there, back) where
       ] in
       let there : first + (k - first) ≡ k = omega (arith, after) in
       let here : get_or rest (k - first) r ≡ r = moved (k - first) ∙ ap (λ (n : ℕ). get_or all n r) there ∙ y.0.2 in
-      let less : k - first < end = elim (side (k - first) end) [
+      let less : k - first < end = elim (cases_lt (k - first) end) [
         | inl l ↦ l
         | inr g ↦
             let more : v < r.signal = subst (λ (x : BitRange). v < x.signal) here (high.others (k - first) r g (omega (arith, after, y.0.1, long_rest))) in

@@ -1,5 +1,5 @@
 -- The tables of drivers, as far as they are made.
-use Rattle.std.proofs.Common.{◌≡◌, ℕ, zero, suc, ◌+◌, ◌<◌, ◌≤◌, ◌⊎◌, ◌↔◌, inl, inr, List, [], ◌∷◌, ◌++◌, length, get_or, refl, sym, ◌∙◌, ap, subst, arith}
+use Rattle.std.proofs.Common.{◌≡◌, ℕ, zero, suc, ◌+◌, ◌<◌, ◌≤◌, ◌↔◌, inl, inr, List, [], ◌∷◌, ◌++◌, length, get_or, refl, sym, ◌∙◌, ap, subst, arith}
 use Rattle.std.specs.List.{Contains}
 use Rattle.std.specs.declared.vec.Vec.{Vec}
 use Rattle.std.specs.declared.alloc.Global.{Global}
@@ -8,15 +8,12 @@ use Rattle.vs_design.specs.declared.range.BitRange.{BitRange}
 use Rattle.vs_design.specs.Tables.{rows}
 use Rattle.vs_maps.specs.vs_graph.specs.Rows.{empty_rows}
 use Rattle.vs_maps.specs.vs_graph.proofs.RowLemmas.{row_empty}
+use Rattle.vs_design.specs.vs_logic4.proofs.Basics.{below_or, none_in}
 use Rattle.vs_drivers.specs.declared.writers.Written.{Written}
 use Rattle.vs_drivers.specs.Walks.{all_noted, AreWriters, AreNeeds}
 use Rattle.vs_drivers.specs.Wires.{Wiring, WritesAt, NeedsAt, drivers}
-use Rattle.vs_drivers.proofs.ListBasics.{none_in}
 use Rattle.vs_drivers.proofs.Numbers.{writes_below}
 use Rattle.vs_drivers.proofs.Rows.{length-all_noted, all_noted_has}
-
-below_or : (i n : ℕ) → i < n + 1 → (i < n) ⊎ (i ≡ n)
-below_or i n h = grind (arith, h)
 
 -- ---- what is written
 

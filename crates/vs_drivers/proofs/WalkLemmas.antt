@@ -12,16 +12,18 @@ use Rattle.vs_design.specs.Tables.{rows}
 use Rattle.vs_design.specs.WellFormed.{width_at}
 use Rattle.vs_rules.specs.vs_process.specs.Bits.{meet_in, common_word, common_place}
 use Rattle.vs_maps.specs.vs_graph.specs.Reached.{Reached, begins, goes_on}
+use Rattle.vs_maps.specs.vs_graph.proofs.RowLemmas.{head_in, in_either as split}
 use Rattle.vs_rules.specs.Claims.{Claims}
 use Rattle.vs_rules.specs.Drivers.{Driver, IsDriver, DriverWrites, DriverNeeds, InCone, Passes}
 use Rattle.vs_rules.specs.Drivers as r
 use Rattle.vs_rules.specs.Paths.{Meet}
+use Rattle.vs_design.specs.vs_logic4.proofs.Basics.{none_in}
 use Rattle.vs_drivers.specs.declared.writers.Written.{Written}
 use Rattle.vs_drivers.specs.Meets.{meet_among}
 use Rattle.vs_drivers.specs.Wires.{Wiring, Drives, driver_at, drivers, WritesAt, NeedsAt, IsFree}
 use Rattle.vs_drivers.specs.Walks.{MeetsAt, Passed, Named, AreWriters, AreNeeds, met, all_met, linked}
 use Rattle.vs_drivers.specs.Walks as w
-use Rattle.vs_drivers.proofs.ListBasics.{split, none_in, head_in, joined_on, joined_back}
+use Rattle.vs_drivers.proofs.ListBasics.{joined_on, joined_back}
 use Rattle.vs_drivers.proofs.Numbers.{AreMarks, number_of, writes_below, drives_on, drives_back, free_is}
 
 -- ---- cones are what walks lead to
@@ -105,12 +107,12 @@ passes_are x c m rs n = (passes_back x c m rs n, λ y. passes_on x c m rs n y.0 
 
 -- ---- tables
 
-word_within : (o : Option Signal) (a b : Option ℕ) → common_word o a b ≡ true → (s : Signal) × (o ≡ Some s)
+pub word_within : (o : Option Signal) (a b : Option ℕ) → common_word o a b ≡ true → (s : Signal) × (o ≡ Some s)
 word_within None a b h = absurd (false≢true h)
 word_within (Some s) a b h = (s, refl)
 
 -- ranges that meet are of one signal of the design
-meet_signal : (d : Parts) (p q : BitRange) → meet_in d p q ≡ true → (p.signal ≡ q.signal) × (p.signal < length d.signals)
+pub meet_signal : (d : Parts) (p q : BitRange) → meet_in d p q ≡ true → (p.signal ≡ q.signal) × (p.signal < length d.signals)
 meet_signal d p q h =
     let all = and_parts ((p.signal == q.signal) && common_word (slice_get d.signals p.signal) p.word q.word)
     (common_place (width_at (slice_get d.signals p.signal)) p.bits q.bits) h in

@@ -13,9 +13,9 @@ use Rattle.vs_process.specs.Writes.{statement_writes}
 use Rattle.vs_rules.specs.Drivers.{Driver, assign, block, DriverWrites, DriverNeeds}
 use Rattle.vs_rules.specs.Paths.{reads_for, text_reads}
 use Rattle.vs_maps.specs.Reaches.{Chart}
+use Rattle.vs_design.specs.vs_logic4.proofs.Basics.{none_in}
 use Rattle.vs_drivers.specs.Names.{NamesIn}
 use Rattle.vs_drivers.specs.Wires.{Wiring, driver_at, IsMarked, Drives, WritesAt, NeedsAt}
-use Rattle.vs_drivers.proofs.ListBasics.{none_in}
 use Rattle.vs_drivers.proofs.NameLemmas.{names_are}
 use Rattle.vs_drivers.proofs.Numbers.{driver_cases, assign_at, block_within}
 

@@ -24,12 +24,12 @@ abbrev pub node : ℕ → Bool → ℕ → ℕ
 node n odd v = if odd then v else n + v
 
 -- the nodes of the nets that copy the signal of a node, or its inverse
-abbrev pub behind : List (List ℕ) → List (List ℕ) → ℕ → Bool → ℕ → List ℕ
-behind copies inverses n odd u = map (node n odd) (row copies u) ++ map (node n (not odd)) (row inverses u)
+abbrev pub copy_nodes : List (List ℕ) → List (List ℕ) → ℕ → Bool → ℕ → List ℕ
+copy_nodes copies inverses n odd u = map (node n odd) (row copies u) ++ map (node n (not odd)) (row inverses u)
 
 -- the same of a node by its number
 abbrev pub mirrored : List (List ℕ) → List (List ℕ) → ℕ → ℕ → List ℕ
-mirrored copies inverses n a = if nat_lt a n then behind copies inverses n true a else behind copies inverses n false (a - n)
+mirrored copies inverses n a = if nat_lt a n then copy_nodes copies inverses n true a else copy_nodes copies inverses n false (a - n)
 
 -- these are the nodes of the variables of one bit
 abbrev pub AreStarts : Parts → List ℕ → Type 0

@@ -15,6 +15,7 @@ use std::alloc::{AllocError, Global};
 use std::marker::Model;
 use vs_design::{BitRange, Design};
 use vs_maps::Tables;
+use vs_maps::vs_graph::is_marked;
 
 /// The drivers of a design, and the cones of what they drive. A contract sees the design, and a mark for each of its processes: whether it is of
 /// kind comb.
@@ -43,13 +44,6 @@ impl<'a> Model for Cones<'a> {
     ghost invariant = { λ s. AreBlocking s.drivers s.blocking.items s.listed.items };
 }
 
-// Whether the mark of a number is set.
-fn is_set(marks: &[bool], u: usize) -> bool
-    ensures { result ≡ slice_index_or marks.now u false }
-{
-    if u < marks.len() { marks[u] } else { false }
-}
-
 // A list of one number, or an empty one.
 fn one_if(alloc: Global, u: usize, yes: bool) -> Result<Vec<usize>, AllocError>
     ensures { IfOk result (λ all. (k : ℕ) → (Contains all.items k ↔ (IsTrue yes × (u ≡ k)))) }
@@ -68,7 +62,7 @@ fn chosen(alloc: Global, among: &[usize], marks: &[bool]) -> Result<Vec<usize>, 
 {
     let mut all = Vec::new(alloc);
     for u in among {
-        if is_set(marks, *u) {
+        if is_marked(marks, *u) {
             all.push(*u)?;
         }
     }
@@ -138,7 +132,7 @@ impl<'a> Cones<'a> {
     pub fn is_blocking(&self, v: usize) -> bool
         ensures { OfWiring self.now (λ d c. (IsTrue result ↔ IsBlocking d c v)) }
     {
-        is_set(&self.blocking, v)
+        is_marked(&self.blocking, v)
     }
 
     /// The sources in the cones of some ranges: a mark for each signal. It takes as long as the texts of the drivers that the cones pass through,
@@ -167,7 +161,7 @@ impl<'a> Cones<'a> {
             (Contains all.items u ↔ (IsBlocking d c u × InCone d c u range)))) }
     {
         if self.drivers.writers(range.signal).is_empty() {
-            return one_if(alloc, range.signal, is_set(&self.blocking, range.signal));
+            return one_if(alloc, range.signal, is_marked(&self.blocking, range.signal));
         }
         let marks = self.drivers.cone(alloc, &[range])?;
         let all = chosen(alloc, &self.listed, &marks)?;

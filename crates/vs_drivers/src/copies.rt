@@ -1,9 +1,8 @@
 //! Which net copies which signal, or its inverse.
-ghost use Rattle.std.specs.Prelude.{ℕ, ◌≡◌, ◌<◌, ◌↔◌, ◌∷◌, [], true, false, Some, length, slice_index_or, ◌++◌, IfOk, OnOk, IsTrue};
+ghost use Rattle.std.specs.Prelude.{ℕ, ◌≡◌, ◌<◌, ◌↔◌, ◌∷◌, [], true, false, Some, length, ◌++◌, IfOk, OnOk, IsTrue};
 ghost use Rattle.vs_maps.specs.vs_graph.specs.Reached.{Reached};
 ghost use Rattle.vs_maps.specs.vs_graph.specs.Rows.{AreRows};
 ghost use Rattle.std.specs.List.{Contains};
-ghost use Rattle.vs_design.specs.declared.signal.Signal.{Signal};
 ghost use Rattle.vs_slots_constants.specs.Inverted.{AreInverted};
 ghost use Rattle.vs_slots_constants.specs.vs_rules.specs.Claims.{HasKind};
 ghost use Rattle.vs_slots_constants.specs.vs_rules.specs.Copies.{IsCopy, IsInverseCopy, CopiesRoot};
@@ -16,7 +15,7 @@ use std::alloc::{AllocError, Global};
 use std::marker::Model;
 use vs_design::{Design, SignalKind, Typed, writes};
 use vs_maps::push_signals;
-use vs_maps::vs_graph::{Family, Graph, Rows, index_of, reach};
+use vs_maps::vs_graph::{Family, Graph, Rows, index_of, is_marked, reach};
 use vs_slots_constants::{inverts, is_plain, whole, whole_target};
 
 // The signals that continuous assignments name on their left sides.
@@ -38,8 +37,8 @@ impl<'a> Family for Targets<'a> {
     }
 }
 
-// Whether a signal is a net.
-pub(crate) fn is_net(design: &Design, v: usize) -> bool
+/// Whether a signal is a net.
+pub fn is_net(design: &Design, v: usize) -> bool
     ensures { IsTrue result ↔ HasKind false design.now v }
 {
     match design.signals().get(v) {
@@ -236,13 +235,6 @@ impl<'a> Graph for Chains<'a> {
     }
 
     ghost inside = { λ g. g.within };
-}
-
-// Whether a number is marked; one past the end isn't.
-fn is_marked(marks: &[bool], g: usize) -> bool
-    ensures { result ≡ slice_index_or marks.now g false }
-{
-    if g < marks.len() { marks[g] } else { false }
 }
 
 // Whether walks from nets to the signals that they copy, or whose inverses they do, lead from a signal to another one.

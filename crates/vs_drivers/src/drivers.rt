@@ -44,8 +44,8 @@ impl<'a> Model for Drivers<'a> {
     ghost invariant = { λ s. AreDrivers (wiring s.design.now s.blocks.now) s.needs.items s.writers };
 }
 
-// Whether a signal is declared as a variable.
-fn is_variable(kind: SignalKind) -> bool
+/// Whether a signal is declared as a variable.
+pub fn is_variable(kind: SignalKind) -> bool
     ensures { result ≡ is_variable kind }
 {
     match kind {

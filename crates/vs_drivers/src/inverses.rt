@@ -4,7 +4,7 @@ ghost use Rattle.std.specs.List.{Contains};
 ghost use Rattle.vs_maps.specs.vs_graph.specs.Rows.{row};
 ghost use Rattle.vs_slots_constants.specs.Inverted.{AreInverted};
 ghost use Rattle.vs_drivers.specs.Copies.{AreSources, source_in};
-ghost use Rattle.vs_drivers.specs.Inverses.{IsStart, AreStarts, AreBack, AreWithin, node, behind, mirrored};
+ghost use Rattle.vs_drivers.specs.Inverses.{IsStart, AreStarts, AreBack, AreWithin, node, copy_nodes, mirrored};
 
 use crate::copies::{is_net, source_in};
 use std::alloc::{AllocError, Global};
@@ -97,8 +97,8 @@ struct Mirrored {
 
 impl Mirrored {
     // Puts the nodes behind the node of a signal at a list's end.
-    fn put_behind(&self, odd: bool, u: usize, out: &mut Vec<usize>) -> Result<(), AllocError>
-        ensures { OnOk result (out.new.items ≡ out.old.items ++ behind self.now.copies self.now.inverses self.now.count odd u) }
+    fn put_copy_nodes(&self, odd: bool, u: usize, out: &mut Vec<usize>) -> Result<(), AllocError>
+        ensures { OnOk result (out.new.items ≡ out.old.items ++ copy_nodes self.now.copies self.now.inverses self.now.count odd u) }
     {
         put_nodes(self.count, odd, self.copies.row(u), out)?;
         put_nodes(self.count, !odd, self.inverses.row(u), out)
@@ -116,9 +116,9 @@ impl Graph for Mirrored {
 
     fn put_nexts(&self, node: usize, todo: &mut Vec<usize>) -> Result<(), AllocError> {
         if node < self.count {
-            self.put_behind(true, node, todo)
+            self.put_copy_nodes(true, node, todo)
         } else {
-            self.put_behind(false, node - self.count, todo)
+            self.put_copy_nodes(false, node - self.count, todo)
         }
     }
 

@@ -21,13 +21,14 @@ mod writers;
 
 pub use common::meets;
 pub use cones::Cones;
-pub use copies::Copies;
+pub use copies::{Copies, is_net};
 pub use covering::covers;
+pub use drivers::is_variable;
 pub use lists::only;
 pub use once::distinct;
 pub use ranges::BySignal;
 pub use set::SignalSet;
-pub use shares::{has, share};
+pub use shares::{has, has_place, has_word, share};
 pub use vs_maps;
 pub use vs_process;
 pub use vs_rules;

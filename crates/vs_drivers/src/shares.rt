@@ -6,8 +6,8 @@ ghost use Rattle.vs_drivers.specs.Ranges.{Share};
 
 use vs_design::{BitRange, Bits, Design};
 
-// Whether a range has this word.
-fn has_word(words: Option<usize>, word: usize) -> bool
+/// Whether a range has this word.
+pub fn has_word(words: Option<usize>, word: usize) -> bool
     ensures { result ≡ has_word words word }
 {
     match words {
@@ -16,8 +16,8 @@ fn has_word(words: Option<usize>, word: usize) -> bool
     }
 }
 
-// Whether a range has the bit at this place.
-fn has_place(bits: Option<Bits>, place: u32) -> bool
+/// Whether a range has the bit at this place.
+pub fn has_place(bits: Option<Bits>, place: u32) -> bool
     ensures { result ≡ has_bit bits place }
 {
     match bits {

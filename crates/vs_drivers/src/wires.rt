@@ -11,6 +11,7 @@ use crate::once::distinct;
 use std::alloc::{AllocError, Global};
 use std::marker::Model;
 use vs_design::{BitRange, Design, reads, writes};
+use vs_maps::vs_graph::is_marked;
 use vs_maps::{Tables, terms, text_reads};
 use vs_process::statement_writes;
 
@@ -50,11 +51,7 @@ impl<'a> Wires<'a> {
     fn is_block(&self, i: usize) -> bool
         ensures { result ≡ slice_index_or self.now.blocks i false }
     {
-        if i < self.blocks.len() {
-            self.blocks[i]
-        } else {
-            false
-        }
+        is_marked(self.blocks, i)
     }
 
     // What the driver of a number writes.

@@ -18,13 +18,13 @@ use Rattle.vs_scopes.specs.vs_widths.specs.declared.constants.Const.{Const}
 use Rattle.vs_scopes.specs.vs_widths.specs.declared.faults.WidthReason.{WidthReason}
 use Rattle.vs_scopes.specs.vs_widths.specs.declared.faults.WidthReason.TheVariants.{TooWide, Unknown, NotConstant, WrongKind}
 use Rattle.vs_scopes.specs.vs_widths.specs.Environment.{Environment}
-use Rattle.vs_scopes.specs.vs_widths.specs.Findings.{Finding, Has, Lacks, stands, too_wide}
+use Rattle.vs_scopes.specs.vs_widths.specs.Findings.{Finding, Has, Lacks, has_width_fault, too_wide}
 use Rattle.vs_scopes.specs.vs_widths.specs.Meants.{Meant, own}
 use Rattle.vs_scopes.specs.vs_widths.specs.Constants.{where_none, constant_finding, whole_at}
 use Rattle.vs_widths.specs.Expressions.{meant}
 use Rattle.vs_widths.specs.Names.{meaning_of, Binds}
-use Rattle.vs_widths.proofs.MeasuringLemmas.{stands_alone}
 use Rattle.vs_widths.proofs.SettledLemmas.{settled}
+use Rattle.vs_widths.proofs.AimLemmas.{stands_alone}
 use Rattle.vs_scopes.specs.Ranges.{number_fault, bound_of, bound_fault, both_bounds, shape_with, distance_or, is_over}
 use Rattle.vs_scopes.specs.Parameters.{Parameter, Given, Takes, neither, takes_by, vector_takes, takes_fault, constant_by, constant_given, own_fault, outer_fault, any_fault, with_given, bound_given, known_after}
 use Rattle.vs_scopes.specs.Declarations.{Bindings}
@@ -36,13 +36,13 @@ use Rattle.vs_elab_constants.proofs.ValueLemmas.{bound_under}
 
 -- ---- a parameter where more names have values
 
-number_waits : (f : Finding) (o : Option ℤ) → stands NotConstant f ≡ true → number_fault NotConstant f o ≡ true
+number_waits : (f : Finding) (o : Option ℤ) → has_width_fault NotConstant f ≡ true → number_fault NotConstant f o ≡ true
 number_waits (Has width signed) o h = absurd (true≢false (sym h))
 number_waits (Lacks faults) o h = h
 
 module _ (a b : Environment) (below : Below a b) where
   -- a constant means the same
-  constant_same : (e : Expr) → stands NotConstant (constant_finding (meant a e)) ≡ false → meant a e ≡ meant b e
+  constant_same : (e : Expr) → has_width_fault NotConstant (constant_finding (meant a e)) ≡ false → meant a e ≡ meant b e
   constant_same e h =
       ⊎_elim (λ same. same) (λ waits. absurd (true≢false (sym (stands_alone (where_none (meant a e).reads) (meant a e).finding NotConstant waits) ∙ h))) (settled a b below e)
 
@@ -81,7 +81,7 @@ module _ (a b : Environment) (below : Below a b) where
       let means : meant a p.value ≡ meant b p.value = constant_same p.value (or_parts _ _ (h.own NotConstant)).1 in
       record {
         outer = h.outer;
-        own = λ w. ap₂ (λ t m. takes_fault w t || stands w (constant_finding m)) (sym takes) (sym means) ∙ h.own w;
+        own = λ w. ap₂ (λ t m. takes_fault w t || has_width_fault w (constant_finding m)) (sym takes) (sym means) ∙ h.own w;
         value = h.value ∙ ap₂ constant_by takes means;
       }
   given_stays around p (Some e) c h =
@@ -94,7 +94,7 @@ module _ (a b : Environment) (below : Below a b) where
 
   -- a parameter that is no constant for no name has the same faults
   pub fault_same : (g : Given) → own_fault NotConstant a g ≡ false → (w : WidthReason) → own_fault w a g ≡ own_fault w b g
-  fault_same (p, None) h w = ap₂ (λ t m. takes_fault w t || stands w (constant_finding m)) (takes_same p.form (or_parts _ _ h).0) (constant_same p.value (or_parts _ _ h).1)
+  fault_same (p, None) h w = ap₂ (λ t m. takes_fault w t || has_width_fault w (constant_finding m)) (takes_same p.form (or_parts _ _ h).0) (constant_same p.value (or_parts _ _ h).1)
   fault_same (p, Some e) h w = ap (takes_fault w) (takes_same p.form h)
 
   pub stays : (around : Environment) (g : Given) (c : Const) → IsGiven around a g c → IsGiven around b g c
@@ -121,7 +121,8 @@ below_both a b h k = fun_ext (λ n. by n (h n) (k n))
 pub none_any : (f : WidthReason → Bool) → ((w : WidthReason) → f w ≡ false) → any_fault f ≡ false
 none_any f h = rw (h TooWide, h Unknown, h NotConstant, h WrongKind) refl
 
-no_any : (f : WidthReason → Bool) → any_fault f ≡ false → (w : WidthReason) → f w ≡ false
+-- where no fault stands, none does
+pub no_any : (f : WidthReason → Bool) → any_fault f ≡ false → (w : WidthReason) → f w ≡ false
 no_any f h TooWide = (or_parts _ _ (or_parts _ _ (or_parts _ _ h).0).0).0
 no_any f h Unknown = (or_parts _ _ (or_parts _ _ (or_parts _ _ h).0).0).1
 no_any f h NotConstant = (or_parts _ _ (or_parts _ _ h).0).1

@@ -11,7 +11,7 @@ use Rattle.vs_scopes.specs.vs_widths.specs.declared.faults.WidthReason.{WidthRea
 use Rattle.vs_scopes.specs.vs_widths.specs.declared.faults.WidthReason.TheVariants.{TooWide, Unknown, NotConstant, WrongKind}
 use Rattle.vs_scopes.specs.vs_widths.specs.Environment.{Environment}
 use Rattle.vs_widths.specs.Names.{meaning_of, by_bytes}
-use Rattle.vs_scopes.specs.Parameters.{Given, constant_given, own_fault, own_faults, outer_faults, with_given, bound_given, known_after, known_behind}
+use Rattle.vs_scopes.specs.Parameters.{Given, constant_given, own_fault, own_faults, outer_faults, with_given, bound_given, known_after, known_in_module}
 use Rattle.vs_scopes.specs.Declarations.{Bindings}
 use Rattle.vs_elab_constants.specs.declared.evaluating.ParameterValues.{ParameterValues}
 use Rattle.vs_elab_constants.specs.passes.Values.{IsGiven, AddsConstants}
@@ -37,10 +37,10 @@ module _ (around env : Environment) (outward : Bindings) (gs : List Given) (vs :
   here = fun_ext found.named
 
   -- after the last round no less is known
-  found_last : Below (found_names gs vs env) (known_behind around env gs)
+  found_last : Below (found_names gs vs env) (known_in_module around env gs)
   found_last =
       let most : count_found vs ≤ length vs = count_most vs in
-      below_then (found_names gs vs env) (known_after (count_found vs) around env gs) (known_behind around env gs) found.below (rounds_below around env gs (count_found vs) (length gs - count_found vs) (length gs) (omega (arith, all, most)))
+      below_then (found_names gs vs env) (known_after (count_found vs) around env gs) (known_in_module around env gs) found.below (rounds_below around env gs (count_found vs) (length gs - count_found vs) (length gs) (omega (arith, all, most)))
 
   -- where each other parameter has a fault, no round knows more
   stuck_below : AreFaulty (meaning_of (known ++ outward)) gs vs (length gs) → (k : ℕ) → Below (known_after k around env gs) (found_names gs vs env)
@@ -61,24 +61,24 @@ module _ (around env : Environment) (outward : Bindings) (gs : List Given) (vs :
           let is : IsGiven around last g c = found.given k g c i j in
           inl (b.bound ∙ ap (λ z. Constant z) (late.value ∙ sym is.value))
 
-  stuck_same : AreFaulty (meaning_of (known ++ outward)) gs vs (length gs) → known_behind around env gs ≡ meaning_of (known ++ outward)
-  stuck_same faulty = below_both (known_behind around env gs) (found_names gs vs env) (stuck_below faulty (length gs)) found_last ∙ sym here
+  stuck_same : AreFaulty (meaning_of (known ++ outward)) gs vs (length gs) → known_in_module around env gs ≡ meaning_of (known ++ outward)
+  stuck_same faulty = below_both (known_in_module around env gs) (found_names gs vs env) (stuck_below faulty (length gs)) found_last ∙ sym here
 
   -- where none has another fault than that it is no constant, a parameter has this one or none
-  stuck_each : known_behind around env gs ≡ meaning_of (known ++ outward) → AreWaiting (meaning_of (known ++ outward)) gs vs NotConstant (length gs) →
-      (k : ℕ) (g : Given) → slice_get gs k ≡ Some g → (own_fault NotConstant (known_behind around env gs) g ≡ true) ⊎ IsSound around (known_behind around env gs) g
+  stuck_each : known_in_module around env gs ≡ meaning_of (known ++ outward) → AreWaiting (meaning_of (known ++ outward)) gs vs NotConstant (length gs) →
+      (k : ℕ) (g : Given) → slice_get gs k ≡ Some g → (own_fault NotConstant (known_in_module around env gs) g ≡ true) ⊎ IsSound around (known_in_module around env gs) g
   stuck_each same waiting k g at = by (slice_get vs k) refl
     where
       within : k < length gs
       within = slice_get_within gs k g at
 
-      by : (o : Option (Option Const)) → slice_get vs k ≡ o → (own_fault NotConstant (known_behind around env gs) g ≡ true) ⊎ IsSound around (known_behind around env gs) g
+      by : (o : Option (Option Const)) → slice_get vs k ≡ o → (own_fault NotConstant (known_in_module around env gs) g ≡ true) ⊎ IsSound around (known_in_module around env gs) g
       by None e = absurd (none-some (get_or vs k None) (sym e ∙ slice_get-get_or vs k None (omega (arith, all, within))))
       by (Some None) e = inl (ap (λ (z : Environment). own_fault NotConstant z g) same ∙ waiting refl k g within at e)
       by (Some (Some c)) e =
           let most : count_found vs ≤ length vs = count_most vs in
           let below = rounds_below around env gs (count_found vs) (length gs - count_found vs) (length gs) (omega (arith, all, most)) in
-          let is : IsGiven around (known_behind around env gs) g c = stays (known_after (count_found vs) around env gs) (known_behind around env gs) below around g c (found.given k g c at e) in
+          let is : IsGiven around (known_in_module around env gs) g c = stays (known_after (count_found vs) around env gs) (known_in_module around env gs) below around g c (found.given k g c at e) in
           inr (record { own = is.own; outer = is.outer })
 
   -- a fault where no other value is found is one of the parameters
@@ -150,7 +150,7 @@ pub all_added : (around : Environment) (outward : Bindings) (gs : List Given) (v
     by_bytes new.constants.items ≡ by_bytes old.constants.items ++ found_constants gs vs → AddsConstants around outward gs old new
 all_added around outward gs vs old new h all found is =
     let env : Environment = meaning_of (old.known ++ outward) in
-    let last : Environment = known_behind around env gs in
+    let last : Environment = known_in_module around env gs in
     let count : count_found vs ≡ length gs = count_all gs vs h all in
     let given : AreGiven around last gs vs = subst (λ n. AreGiven around (known_after n around env gs) gs vs) count found.given in
     let below : Below (found_names gs vs env) last = subst (λ n. Below (found_names gs vs env) (known_after n around env gs)) count found.below in

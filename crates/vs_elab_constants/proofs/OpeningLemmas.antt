@@ -12,7 +12,7 @@ use Rattle.vs_scopes.specs.declared.scope.ScopePiece.{ScopePiece as FoundPiece}
 use Rattle.vs_scopes.specs.declared.faults.BodyFault.{BodyFault}
 use Rattle.vs_scopes.specs.declared.faults.Reason.{Reason}
 use Rattle.vs_scopes.specs.declared.faults.Reason.TheVariants.{Width, Endless, Unnamed}
-use Rattle.vs_scopes.specs.Generate.{Inner, Taken, takes, refused, taken_fault, choice_inner, generates, genvar_number, name_of_block, turns_inner, loop_inner, is_nameless, Turns, turns, faulty, endless, turns_fault, construct_fault, constructs_fault, inner_in, inner_from, behind_piece}
+use Rattle.vs_scopes.specs.Generate.{Inner, Taken, takes, refused, taken_fault, choice_inner, generates, genvar_number, name_of_block, turns_inner, loop_inner, is_nameless, Turns, turns, faulty, endless, turns_fault, construct_fault, constructs_fault, inner_in, inner_from, after_piece}
 use Rattle.vs_scopes.specs.scopes_passes.Answers.{Refuses}
 use Rattle.vs_scopes.proofs.AnswerLemmas.{refused_by}
 use Rattle.vs_scopes.proofs.PassLemmas.{map_at, moved_by}
@@ -147,12 +147,12 @@ module _ (p : ℕ) (names : List (List ℕ)) (k : ℕ) (t : Taken) where
 -- ---- pieces
 
 -- the number behind a construct, and behind another piece
-pub construct_next : (k next : ℕ) (t : Bool) (p : Piece) → ((n : ℕ) → behind_piece n p ≡ cond t (suc n) n) → next ≡ k + 1 → t ≡ true → next ≡ behind_piece k p
+pub construct_next : (k next : ℕ) (t : Bool) (p : Piece) → ((n : ℕ) → after_piece n p ≡ cond t (suc n) n) → next ≡ k + 1 → t ≡ true → next ≡ after_piece k p
 construct_next k next t p h e is =
     let more : k + 1 ≡ suc k = omega arith in
     e ∙ more ∙ sym (h k ∙ ap (λ z. cond z (suc k) k) is)
 
-pub plain_next : (k next : ℕ) (t : Bool) (p : Piece) → ((n : ℕ) → behind_piece n p ≡ cond t (suc n) n) → next ≡ k → t ≡ false → next ≡ behind_piece k p
+pub plain_next : (k next : ℕ) (t : Bool) (p : Piece) → ((n : ℕ) → after_piece n p ≡ cond t (suc n) n) → next ≡ k → t ≡ false → next ≡ after_piece k p
 plain_next k next t p h e is = e ∙ sym (h k ∙ ap (λ z. cond z (suc k) k) is)
 
 module _ (env : Environment) (names : List (List ℕ)) (k next : ℕ) (xs : List FoundPiece) (i : ℕ) (x : FoundPiece) (below : i < length xs) (is : x ≡ get_or xs i x) where
@@ -160,20 +160,20 @@ module _ (env : Environment) (names : List (List ℕ)) (k next : ℕ) (xs : List
   at = map_at read_piece xs i x below is
 
   -- one piece more, which has no fault
-  pub fault_on : (r : Reason) (whole : Bool) → next ≡ behind_piece k (read_piece x) → construct_fault r env names k (read_piece x) ≡ false → constructs_fault r env names k (map read_piece (drop i xs)) ≡ whole →
+  pub fault_on : (r : Reason) (whole : Bool) → next ≡ after_piece k (read_piece x) → construct_fault r env names k (read_piece x) ≡ false → constructs_fault r env names k (map read_piece (drop i xs)) ≡ whole →
       constructs_fault r env names next (map read_piece (drop (i + 1) xs)) ≡ whole
   fault_on r whole n h e =
       ap (λ z. constructs_fault r env names z (map read_piece (drop (i + 1) xs))) n
-      ∙ ap (λ t. t || constructs_fault r env names (behind_piece k (read_piece x)) (map read_piece (drop (i + 1) xs))) (sym h)
+      ∙ ap (λ t. t || constructs_fault r env names (after_piece k (read_piece x)) (map read_piece (drop (i + 1) xs))) (sym h)
       ∙ sym (ap (constructs_fault r env names k) at) ∙ e
 
   -- what it opens
-  pub inner_on : (old new whole : List Inner) → next ≡ behind_piece k (read_piece x) → new ≡ old ++ inner_in i env names k (read_piece x) → old ++ inner_from i env names k (map read_piece (drop i xs)) ≡ whole →
+  pub inner_on : (old new whole : List Inner) → next ≡ after_piece k (read_piece x) → new ≡ old ++ inner_in i env names k (read_piece x) → old ++ inner_from i env names k (map read_piece (drop i xs)) ≡ whole →
       new ++ inner_from (i + 1) env names next (map read_piece (drop (i + 1) xs)) ≡ whole
   inner_on old new whole n h e =
       let more : i + 1 ≡ suc i = omega arith in
       ap₂ (λ (z j : ℕ). new ++ inner_from j env names z (map read_piece (drop (i + 1) xs))) n more
-      ∙ moved_by old new (inner_in i env names k (read_piece x)) (inner_from i env names k (map read_piece (drop i xs))) (inner_from (suc i) env names (behind_piece k (read_piece x)) (map read_piece (drop (i + 1) xs))) whole h (ap (inner_from i env names k) at) e
+      ∙ moved_by old new (inner_in i env names k (read_piece x)) (inner_from i env names k (map read_piece (drop i xs))) (inner_from (suc i) env names (after_piece k (read_piece x)) (map read_piece (drop (i + 1) xs))) whole h (ap (inner_from i env names k) at) e
 
   -- a fault of a piece is one of all
   pub fault_at : (whole : Reason → Bool) (e : BodyFault) → ((r : Reason) → constructs_fault r env names k (map read_piece (drop i xs)) ≡ whole r) → Refuses (λ r. construct_fault r env names k (read_piece x)) e → Refuses whole e

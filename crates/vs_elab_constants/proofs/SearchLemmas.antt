@@ -1,8 +1,7 @@
 -- Parameters one after another, whose values are looked for.
-use Rattle.std.proofs.Common.{◌≡◌, ℕ, zero, suc, ◌+◌, ◌<◌, ◌≤◌, ◌⊎◌, inl, inr, Bool, true, false, true≢false, not, ◌||◌, cond, is_some, List, [], ◌∷◌, Option, Some, None, option_map, length, map, drop, get_or, slice_get, refl, ap, ap₂, sym, subst, ◌∙◌, ⊎_elim, arith}
+use Rattle.std.proofs.Common.{◌≡◌, ℕ, zero, suc, ◌+◌, ◌<◌, ◌≤◌, Bool, true, false, true≢false, not, ◌||◌, cond, is_some, List, [], ◌∷◌, Option, Some, None, option_map, length, map, drop, get_or, slice_get, refl, ap, ap₂, sym, subst, ◌∙◌, ⊎_elim, arith}
 use Rattle.std.specs.List.{list_any}
 use Rattle.std.specs.Str.{bytes_eq}
-use Rattle.std.proofs.lemmas.Bool.{cases_lt}
 use Rattle.std.proofs.lemmas.List.{length-map}
 use Rattle.std.proofs.lemmas.Option.{none-some, same_Some, slice_get_read, slice_get-get_or, get_or_from_slice_get}
 use Rattle.vs_scopes.specs.vs_widths.specs.declared.bindings.Binding.TheVariants.{Pending}
@@ -20,9 +19,9 @@ use Rattle.vs_scopes.specs.scopes_passes.Declared.{first_of}
 use Rattle.vs_scopes.specs.scopes_passes.Parts.{read_given}
 use Rattle.vs_scopes.proofs.DeclaredLemmas.{bytes_eq-sym}
 use Rattle.vs_scopes.proofs.PassLemmas.{map_at}
-use Rattle.vs_design.specs.vs_logic4.proofs.Basics.{front_of as drop_at}
+use Rattle.vs_design.specs.vs_logic4.proofs.Basics.{front_of as drop_at, below_or}
 use Rattle.vs_elab_constants.specs.passes.Values.{RefusesValues, IsGiven}
-use Rattle.vs_elab_constants.specs.passes.Finding.{number_of, found_constants, AreAll, AreFaulty, told_of, AreWaiting, IsNext, IsStuck}
+use Rattle.vs_elab_constants.specs.passes.Finding.{number_of, found_constants, AreAll, AreFaulty, reported_fault, AreWaiting, IsNext, IsStuck}
 use Rattle.std.proofs.lemmas.Map.Keys.{any_passes_from_place as any_true_at}
 use Rattle.vs_design.specs.vs_logic4.proofs.Basics.{at_place as get_map}
 
@@ -82,17 +81,14 @@ pub record IsSearched (env : Environment) (gs : List Given) (vs : List (Option C
 pub searched_none : (env : Environment) (gs : List Given) (vs : List (Option Const)) → IsSearched env gs vs None 0
 searched_none env gs vs = record { none = λ h k l. absurd (omega (arith, l)); stands = λ w h. absurd (none-some w h); faulty = λ k g l. absurd (omega (arith, l)); waiting = λ w h. absurd (none-some w h) }
 
-last_or : (k n : ℕ) → k < n + 1 → (k < n) ⊎ (k ≡ n)
-last_or k n h = ⊎_elim (λ l. inl l) (λ l. inr (omega (arith, h, l))) (cases_lt k n)
-
 -- one more that is found
 pub searched_found : (env : Environment) (gs : List Given) (vs : List (Option Const)) (fault : Option WidthReason) (n : ℕ) (c : Const) → slice_get vs n ≡ Some (Some c) → IsSearched env gs vs fault n → IsSearched env gs vs fault (n + 1)
 searched_found env gs vs fault n c at h = record {
-  none = λ e k l i. ⊎_elim (λ m. h.none e k m i) (λ m. none-some c (same_Some None (Some c) (sym i ∙ ap (slice_get vs) m ∙ at))) (last_or k n l);
+  none = λ e k l i. ⊎_elim (λ m. h.none e k m i) (λ m. none-some c (same_Some None (Some c) (sym i ∙ ap (slice_get vs) m ∙ at))) (below_or k n l);
   stands = h.stands;
-  faulty = λ k g l i j. ⊎_elim (λ m. h.faulty k g m i j) (λ m. absurd (none-some c (same_Some None (Some c) (sym j ∙ ap (slice_get vs) m ∙ at)))) (last_or k n l);
+  faulty = λ k g l i j. ⊎_elim (λ m. h.faulty k g m i j) (λ m. absurd (none-some c (same_Some None (Some c) (sym j ∙ ap (slice_get vs) m ∙ at)))) (below_or k n l);
   waiting = λ w e f k g l i j.
-      ⊎_elim (λ m. h.waiting w e f k g m i j) (λ m. absurd (none-some c (same_Some None (Some c) (sym j ∙ ap (slice_get vs) m ∙ at)))) (last_or k n l);
+      ⊎_elim (λ m. h.waiting w e f k g m i j) (λ m. absurd (none-some c (same_Some None (Some c) (sym j ∙ ap (slice_get vs) m ∙ at)))) (below_or k n l);
 }
 
 -- one more that has a fault
@@ -101,13 +97,13 @@ module _ (env : Environment) (gs : List Given) (vs : List (Option Const)) (n : �
   one_stands u e = any_true_at (own_fault u env) gs n g at (ap (λ z. own_fault z env g) (sym e) ∙ bad)
 
   one_faulty : AreFaulty env gs vs n → AreFaulty env gs vs (n + 1)
-  one_faulty h k x l i j = ⊎_elim (λ m. h k x m i j) (λ m. record { reason = w; stands = ap (own_fault w env) (same_Some x g (sym i ∙ ap (slice_get gs) m ∙ at)) ∙ bad }) (last_or k n l)
+  one_faulty h k x l i j = ⊎_elim (λ m. h k x m i j) (λ m. record { reason = w; stands = ap (own_fault w env) (same_Some x g (sym i ∙ ap (slice_get gs) m ∙ at)) ∙ bad }) (below_or k n l)
 
   one_waiting : AreWaiting env gs vs NotConstant n → AreWaiting env gs vs w (n + 1)
   one_waiting h e k x l i j =
-      ⊎_elim (λ m. h refl k x m i j) (λ m. ap (own_fault NotConstant env) (same_Some x g (sym i ∙ ap (slice_get gs) m ∙ at)) ∙ ap (λ z. own_fault z env g) (sym e) ∙ bad) (last_or k n l)
+      ⊎_elim (λ m. h refl k x m i j) (λ m. ap (own_fault NotConstant env) (same_Some x g (sym i ∙ ap (slice_get gs) m ∙ at)) ∙ ap (λ z. own_fault z env g) (sym e) ∙ bad) (below_or k n l)
 
-  pub searched_faulty : (fault : Option WidthReason) → IsSearched env gs vs fault n → IsSearched env gs vs (Some (told_of fault w)) (n + 1)
+  pub searched_faulty : (fault : Option WidthReason) → IsSearched env gs vs fault n → IsSearched env gs vs (Some (reported_fault fault w)) (n + 1)
   searched_faulty None h = record {
     none = λ e. absurd (none-some w (sym e));
     stands = λ u e. one_stands u (same_Some w u e);

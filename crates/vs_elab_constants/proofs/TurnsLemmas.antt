@@ -1,10 +1,10 @@
 -- Turns of generate loops, one after another.
-use Rattle.std.proofs.Common.{◌≡◌, ℕ, ℤ, zero, suc, ◌+◌, ◌-◌, ◌<◌, ◌≤◌, cond, Bool, true, false, true≢false, ◌&&◌, not, max, List, [], ◌∷◌, ◌++◌, Option, Some, None, is_none, length, take, replicate, refl, ap, ap₂, sym, ◌∙◌, arith}
+use Rattle.std.proofs.Common.{◌≡◌, ℕ, ℤ, zero, suc, ◌+◌, ◌-◌, ◌<◌, ◌≤◌, cond, Bool, true, false, true≢false, ◌&&◌, not, max, List, [], ◌∷◌, ◌++◌, Option, Some, None, is_none, length, take, refl, ap, ap₂, sym, ◌∙◌, arith}
 use Rattle.std.specs.Str.{bytes_eq}
 use Rattle.std.proofs.Math.Path.{fun_ext}
 use Rattle.std.proofs.lemmas.List.{append-nil}
 use Rattle.vs_design.specs.vs_logic4.specs.declared.digit.Digit.{Digit}
-use Rattle.vs_design.specs.vs_logic4.specs.Vectors.{resized, extension_digit}
+use Rattle.vs_design.specs.vs_logic4.specs.Vectors.{resized}
 use Rattle.vs_design.specs.declared.range.BitRange.{BitRange}
 use Rattle.vs_syntax.specs.declared.tree.Expr.{Expr}
 use Rattle.vs_syntax.specs.declared.tree.LoopHeader.{LoopHeader}
@@ -14,7 +14,7 @@ use Rattle.vs_scopes.specs.vs_widths.specs.declared.constants.Const.{Const}
 use Rattle.vs_scopes.specs.vs_widths.specs.declared.faults.WidthReason.{WidthReason}
 use Rattle.vs_scopes.specs.vs_widths.specs.declared.faults.WidthReason.TheVariants.{NotConstant}
 use Rattle.vs_scopes.specs.vs_widths.specs.Environment.{Environment}
-use Rattle.vs_scopes.specs.vs_widths.specs.Findings.{Finding, Has, Lacks, stands, alone, not_constant}
+use Rattle.vs_scopes.specs.vs_widths.specs.Findings.{Finding, Has, Lacks, has_width_fault, alone, not_constant}
 use Rattle.vs_scopes.specs.vs_widths.specs.Meants.{Meant}
 use Rattle.vs_scopes.specs.vs_widths.specs.Constants.{where_none, constant_finding, constant_in}
 use Rattle.vs_scopes.specs.vs_widths.specs.Selects.{size_found}
@@ -31,8 +31,9 @@ use Rattle.vs_scopes.specs.scopes_passes.Answers.{Refuses}
 use Rattle.vs_scopes.specs.scopes_passes.Sizes.{width_faults}
 use Rattle.std.proofs.lemmas.Bool.{or_from as both_false}
 use Rattle.vs_scopes.proofs.SizeLemmas.{no_faults}
-use Rattle.vs_elab_constants.specs.generate_passes.Turns.{turn_fault, expression_fault, step_fault, next_value, behind, is_found, IsGenvarValue}
+use Rattle.vs_elab_constants.specs.generate_passes.Turns.{turn_fault, expression_fault, step_fault, next_value, with_turns, is_found, IsGenvarValue}
 use Rattle.vs_elab_constants.proofs.FaultLemmas.{none_any, some_any, width_refused}
+use Rattle.vs_elab_constants.proofs.ValueLemmas.{cut}
 use Rattle.vs_design.specs.vs_logic4.proofs.Basics.{and_false as neither_true, none_left, one_less}
 
 -- ---- headers
@@ -49,19 +50,14 @@ header_known env h found n p q t f e k s a b is =
 
 -- ---- values of genvars
 
-cut : (w : ℕ) (v : List Digit) → w ≤ length v → resized false w v ≡ take w v
-cut w v h =
-    let none : w - length v ≡ 0 = omega arith in
-    ap (λ n. take w v ++ replicate n (extension_digit false v)) none ∙ append-nil (take w v)
-
-found_none : (reads : List BitRange) (found : Finding) (size : ℕ) (signed : Bool) → found ≡ Has size signed → ((w : WidthReason) → stands w (alone (where_none reads) found) ≡ false) →
+found_none : (reads : List BitRange) (found : Finding) (size : ℕ) (signed : Bool) → found ≡ Has size signed → ((w : WidthReason) → has_width_fault w (alone (where_none reads) found) ≡ false) →
     is_found (alone (where_none reads) found) ≡ true
 found_none [] (Has width sign) size signed h k = refl
 found_none (r ∷ rs) (Has width sign) size signed h k = absurd (true≢false (k NotConstant))
 found_none rs (Lacks faults) size signed h k = cc
 
 -- an expression without faults whose own size was found is a constant
-is_constant : (m : Meant) (size : ℕ) (signed : Bool) → m.finding ≡ Has size signed → ((w : WidthReason) → stands w (constant_finding m) ≡ false) → is_found (constant_finding m) ≡ true
+is_constant : (m : Meant) (size : ℕ) (signed : Bool) → m.finding ≡ Has size signed → ((w : WidthReason) → has_width_fault w (constant_finding m) ≡ false) → is_found (constant_finding m) ≡ true
 is_constant m size signed h k = found_none m.reads m.finding size signed h k
 
 -- a value at the larger size, cut to that of a genvar
@@ -73,7 +69,7 @@ assigned_is m env size w signed v r has wide at long given =
     let A : ℕ → Bool → Const = λ n g. K (take 32 (m.at [] 0 n g)) in
     ap K (given ∙ cut 32 v fits) ∙ ap (λ z. K (take 32 z)) (sym at) ∙ ap₂ A (wide ∙ ap (λ z. max 32 (size_found z)) (sym has)) (ap sign_found (sym has))
 
-pub is_assigned : (m : Meant) (env : Environment) (e : Expr) (size w : ℕ) (signed : Bool) (v r : List Digit) → m ≡ meant env e → ((q : WidthReason) → stands q (constant_finding m) ≡ false) → m.finding ≡ Has size signed →
+pub is_assigned : (m : Meant) (env : Environment) (e : Expr) (size w : ℕ) (signed : Bool) (v r : List Digit) → m ≡ meant env e → ((q : WidthReason) → has_width_fault q (constant_finding m) ≡ false) → m.finding ≡ Has size signed →
     w ≡ max 32 size → m.at [] 0 w signed ≡ v → length v ≡ w → r ≡ resized false 32 v → IsGenvarValue env e (constant_in None true r)
 is_assigned m env e size w signed v r is k has wide at long given = record {
   found = ap (λ z. is_found (constant_finding z)) (sym is) ∙ is_constant m size signed has k;
@@ -148,27 +144,27 @@ step_refused env h t e k is g = width_refused (genvar_fault env h.step) (step_fa
 
 -- ---- turns behind others
 
-behind_push : (cs : List Const) (c : Const) (t : Turns) → behind (cs ++ c ∷ []) t ≡ behind cs (one_more c t)
+behind_push : (cs : List Const) (c : Const) (t : Turns) → with_turns (cs ++ c ∷ []) t ≡ with_turns cs (one_more c t)
 behind_push [] c t = refl
 behind_push (x ∷ xs) c t = ap (one_more x) (behind_push xs c t)
 
-behind_turns : (cs ds : List Const) → behind cs (turns ds) ≡ turns (cs ++ ds)
+behind_turns : (cs ds : List Const) → with_turns cs (turns ds) ≡ turns (cs ++ ds)
 behind_turns [] ds = refl
 behind_turns (c ∷ cs) ds = ap (one_more c) (behind_turns cs ds)
 
-behind_faulty : (cs : List Const) (f : WidthReason → Bool) → behind cs (faulty f) ≡ faulty f
+behind_faulty : (cs : List Const) (f : WidthReason → Bool) → with_turns cs (faulty f) ≡ faulty f
 behind_faulty [] f = refl
 behind_faulty (c ∷ cs) f = ap (one_more c) (behind_faulty cs f)
 
-behind_endless : (cs : List Const) → behind cs endless ≡ endless
+behind_endless : (cs : List Const) → with_turns cs endless ≡ endless
 behind_endless [] = refl
 behind_endless (c ∷ cs) = ap (one_more c) (behind_endless cs)
 
 -- a fault of turns is one of them behind others
-behind_fault : (cs : List Const) (t : Turns) (r : Reason) → turn_fault t r ≡ true → turn_fault (behind cs t) r ≡ true
-behind_fault cs (turns ds) r h = absurd (true≢false (sym h))
-behind_fault cs (faulty f) r h = ap (λ t. turn_fault t r) (behind_faulty cs f) ∙ h
-behind_fault cs endless r h = ap (λ t. turn_fault t r) (behind_endless cs) ∙ h
+after_fault : (cs : List Const) (t : Turns) (r : Reason) → turn_fault t r ≡ true → turn_fault (with_turns cs t) r ≡ true
+after_fault cs (turns ds) r h = absurd (true≢false (sym h))
+after_fault cs (faulty f) r h = ap (λ t. turn_fault t r) (behind_faulty cs f) ∙ h
+after_fault cs endless r h = ap (λ t. turn_fault t r) (behind_endless cs) ∙ h
 
 -- the turns where the condition doesn't hold
 turns_end : (n : ℕ) (env : Environment) (h : LoopHeader) (c : Const) → any_fault (condition_fault (with_constant env h.name.items c) h.condition) ≡ false → holds (with_constant env h.name.items c) h.condition ≡ false →
@@ -201,20 +197,20 @@ turn_stands n env h c w k =
     let inner : Environment = with_constant env h.name.items c in
     stands_in (any_fault (condition_fault inner h.condition)) (holds inner h.condition) (condition_fault inner h.condition) (genvar_fault inner h.step) (one_more c (turns_from n env h (genvar_value inner h.step))) w k
 
-turn_refused : (cs : List Const) (n : ℕ) (env : Environment) (h : LoopHeader) (c : Const) (t : Turns) (e : BodyFault) → behind cs (turns_from (suc n) env h c) ≡ t → Refuses (step_fault (with_constant env h.name.items c) h) e →
+turn_refused : (cs : List Const) (n : ℕ) (env : Environment) (h : LoopHeader) (c : Const) (t : Turns) (e : BodyFault) → with_turns cs (turns_from (suc n) env h c) ≡ t → Refuses (step_fault (with_constant env h.name.items c) h) e →
     Refuses (turn_fault t) e
 turn_refused cs n env h c t e k =
-    width_refused (expression_fault (with_constant env h.name.items c) h) (turn_fault t) e (λ w s. ap (λ z. turn_fault z (Width w)) (sym k) ∙ behind_fault cs (turns_from (suc n) env h c) (Width w) (turn_stands n env h c w s))
+    width_refused (expression_fault (with_constant env h.name.items c) h) (turn_fault t) e (λ w s. ap (λ z. turn_fault z (Width w)) (sym k) ∙ after_fault cs (turns_from (suc n) env h c) (Width w) (turn_stands n env h c w s))
 
 -- a fault of the condition where no more turns are left
 last_stands : (env : Environment) (h : LoopHeader) (c : Const) (w : WidthReason) → condition_fault (with_constant env h.name.items c) h.condition w ≡ true → turn_fault (turns_from zero env h c) (Width w) ≡ true
 unfolding turns_from
 last_stands env h c w k = rw (some_any (condition_fault (with_constant env h.name.items c) h.condition) w k) k
 
-last_refused : (cs : List Const) (env : Environment) (h : LoopHeader) (c : Const) (t : Turns) (e : BodyFault) → behind cs (turns_from zero env h c) ≡ t → Refuses (width_faults (condition_fault (with_constant env h.name.items c) h.condition)) e →
+last_refused : (cs : List Const) (env : Environment) (h : LoopHeader) (c : Const) (t : Turns) (e : BodyFault) → with_turns cs (turns_from zero env h c) ≡ t → Refuses (width_faults (condition_fault (with_constant env h.name.items c) h.condition)) e →
     Refuses (turn_fault t) e
 last_refused cs env h c t e k =
-    width_refused (condition_fault (with_constant env h.name.items c) h.condition) (turn_fault t) e (λ w s. ap (λ z. turn_fault z (Width w)) (sym k) ∙ behind_fault cs (turns_from zero env h c) (Width w) (last_stands env h c w s))
+    width_refused (condition_fault (with_constant env h.name.items c) h.condition) (turn_fault t) e (λ w s. ap (λ z. turn_fault z (Width w)) (sym k) ∙ after_fault cs (turns_from zero env h c) (Width w) (last_stands env h c w s))
 
 goes_in : (x y z : Bool) (f g : WidthReason → Bool) (t : Turns) → x ≡ false → y ≡ true → z ≡ false → cond x (faulty f) (cond (not y) (turns []) (cond z (faulty g) t)) ≡ t
 goes_in x y z f g t h k l = rw (h, k, l) refl
@@ -257,41 +253,41 @@ turns_over n env h c k e =
 
 -- a turn more
 pub more_turns : (limit i : ℕ) (env : Environment) (h : LoopHeader) (c next : Const) (o : Option Const) (done new : List Const) (t : Turns) → i < limit → new ≡ done ++ c ∷ [] →
-    ((r : Reason) → step_fault (with_constant env h.name.items c) h r ≡ false) × (o ≡ next_value (with_constant env h.name.items c) h) → o ≡ Some next → behind done (turns_from (limit - i) env h c) ≡ t →
-    behind new (turns_from (limit - (i + 1)) env h next) ≡ t
+    ((r : Reason) → step_fault (with_constant env h.name.items c) h r ≡ false) × (o ≡ next_value (with_constant env h.name.items c) h) → o ≡ Some next → with_turns done (turns_from (limit - i) env h c) ≡ t →
+    with_turns new (turns_from (limit - (i + 1)) env h next) ≡ t
 more_turns limit i env h c next o done new t less pushed k is inv =
-    ap (λ ds. behind ds (turns_from (limit - (i + 1)) env h next)) pushed ∙ behind_push done c (turns_from (limit - (i + 1)) env h next)
-    ∙ ap (behind done) (sym (turns_more (limit - (i + 1)) env h c next k.0 (sym is ∙ k.1)))
-    ∙ ap (λ n. behind done (turns_from n env h c)) (sym (one_less limit i less)) ∙ inv
+    ap (λ ds. with_turns ds (turns_from (limit - (i + 1)) env h next)) pushed ∙ behind_push done c (turns_from (limit - (i + 1)) env h next)
+    ∙ ap (with_turns done) (sym (turns_more (limit - (i + 1)) env h c next k.0 (sym is ∙ k.1)))
+    ∙ ap (λ n. with_turns done (turns_from n env h c)) (sym (one_less limit i less)) ∙ inv
 
 -- no turn more
 pub over_turns : (n : ℕ) (env : Environment) (h : LoopHeader) (c : Const) (o : Option Const) (done : List Const) (t : Turns) →
-    ((r : Reason) → step_fault (with_constant env h.name.items c) h r ≡ false) × (o ≡ next_value (with_constant env h.name.items c) h) → o ≡ None → behind done (turns_from n env h c) ≡ t → t ≡ turns done
+    ((r : Reason) → step_fault (with_constant env h.name.items c) h r ≡ false) × (o ≡ next_value (with_constant env h.name.items c) h) → o ≡ None → with_turns done (turns_from n env h c) ≡ t → t ≡ turns done
 over_turns n env h c o done t k is inv =
-    sym inv ∙ ap (behind done) (turns_over n env h c k.0 (sym is ∙ k.1)) ∙ behind_turns done [] ∙ ap turns (append-nil done)
+    sym inv ∙ ap (with_turns done) (turns_over n env h c k.0 (sym is ∙ k.1)) ∙ behind_turns done [] ∙ ap turns (append-nil done)
 
 -- a fault of a turn
-pub fault_of_turn : (limit i : ℕ) (env : Environment) (h : LoopHeader) (c : Const) (done : List Const) (t : Turns) (e : BodyFault) → i < limit → behind done (turns_from (limit - i) env h c) ≡ t →
+pub fault_of_turn : (limit i : ℕ) (env : Environment) (h : LoopHeader) (c : Const) (done : List Const) (t : Turns) (e : BodyFault) → i < limit → with_turns done (turns_from (limit - i) env h c) ≡ t →
     Refuses (step_fault (with_constant env h.name.items c) h) e → Refuses (turn_fault t) e
 fault_of_turn limit i env h c done t e less inv k =
-    turn_refused done (limit - (i + 1)) env h c t e (ap (λ n. behind done (turns_from n env h c)) (sym (one_less limit i less)) ∙ inv) k
+    turn_refused done (limit - (i + 1)) env h c t e (ap (λ n. with_turns done (turns_from n env h c)) (sym (one_less limit i less)) ∙ inv) k
 
 -- a fault of the condition behind the last turn that there may be
-pub fault_of_last : (limit i : ℕ) (env : Environment) (h : LoopHeader) (c : Const) (done : List Const) (t : Turns) (e : BodyFault) → limit ≤ i → behind done (turns_from (limit - i) env h c) ≡ t →
+pub fault_of_last : (limit i : ℕ) (env : Environment) (h : LoopHeader) (c : Const) (done : List Const) (t : Turns) (e : BodyFault) → limit ≤ i → with_turns done (turns_from (limit - i) env h c) ≡ t →
     Refuses (width_faults (condition_fault (with_constant env h.name.items c) h.condition)) e → Refuses (turn_fault t) e
-fault_of_last limit i env h c done t e most inv k = last_refused done env h c t e (ap (λ n. behind done (turns_from n env h c)) (sym (none_left limit i most)) ∙ inv) k
+fault_of_last limit i env h c done t e most inv k = last_refused done env h c t e (ap (λ n. with_turns done (turns_from n env h c)) (sym (none_left limit i most)) ∙ inv) k
 
 -- the condition holds behind the last turn that there may be
-pub endless_turns : (limit i : ℕ) (env : Environment) (h : LoopHeader) (c : Const) (done : List Const) (t : Turns) → limit ≤ i → behind done (turns_from (limit - i) env h c) ≡ t →
+pub endless_turns : (limit i : ℕ) (env : Environment) (h : LoopHeader) (c : Const) (done : List Const) (t : Turns) → limit ≤ i → with_turns done (turns_from (limit - i) env h c) ≡ t →
     ((r : Reason) → width_faults (condition_fault (with_constant env h.name.items c) h.condition) r ≡ false) → holds (with_constant env h.name.items c) h.condition ≡ true → turn_fault t Endless ≡ true
 endless_turns limit i env h c done t most inv k on =
-    ap (λ z. turn_fault z Endless) (sym inv ∙ ap (λ n. behind done (turns_from n env h c)) (none_left limit i most) ∙ ap (behind done) (turns_endless env h c (λ w. k (Width w)) on) ∙ behind_endless done)
+    ap (λ z. turn_fault z Endless) (sym inv ∙ ap (λ n. with_turns done (turns_from n env h c)) (none_left limit i most) ∙ ap (with_turns done) (turns_endless env h c (λ w. k (Width w)) on) ∙ behind_endless done)
 
 -- the condition doesn't hold behind the last turn that there may be
-pub all_turns : (limit i : ℕ) (env : Environment) (h : LoopHeader) (c : Const) (done : List Const) (t : Turns) → limit ≤ i → behind done (turns_from (limit - i) env h c) ≡ t →
+pub all_turns : (limit i : ℕ) (env : Environment) (h : LoopHeader) (c : Const) (done : List Const) (t : Turns) → limit ≤ i → with_turns done (turns_from (limit - i) env h c) ≡ t →
     ((r : Reason) → width_faults (condition_fault (with_constant env h.name.items c) h.condition) r ≡ false) → holds (with_constant env h.name.items c) h.condition ≡ false → t ≡ turns done
 all_turns limit i env h c done t most inv k off =
-    sym inv ∙ ap (λ n. behind done (turns_from n env h c)) (none_left limit i most) ∙ ap (behind done) (turns_last env h c (λ w. k (Width w)) off) ∙ behind_turns done [] ∙ ap turns (append-nil done)
+    sym inv ∙ ap (λ n. with_turns done (turns_from n env h c)) (none_left limit i most) ∙ ap (with_turns done) (turns_last env h c (λ w. k (Width w)) off) ∙ behind_turns done [] ∙ ap turns (append-nil done)
 
 -- turns that are known have no fault
 pub no_fault : (t : Turns) (cs : List Const) → t ≡ turns cs → (r : Reason) → turn_fault t r ≡ false

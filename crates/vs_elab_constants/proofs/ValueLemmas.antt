@@ -18,12 +18,13 @@ use Rattle.vs_scopes.specs.vs_widths.specs.declared.faults.WidthReason.{WidthRea
 use Rattle.vs_scopes.specs.vs_widths.specs.declared.faults.WidthFault.{WidthFault}
 use Rattle.vs_scopes.specs.vs_widths.specs.declared.faults.WidthFault.TheVariants as f
 use Rattle.vs_scopes.specs.vs_widths.specs.Environment.{Environment}
-use Rattle.vs_scopes.specs.vs_widths.specs.Findings.{Finding, Has, Lacks, Refuses, stands, alone}
+use Rattle.vs_scopes.specs.vs_widths.specs.Findings.{Finding, Has, Lacks, Refuses, has_width_fault, alone}
 use Rattle.vs_scopes.specs.vs_widths.specs.Meants.{Meant, own}
 use Rattle.vs_scopes.specs.vs_widths.specs.Selects.{size_found}
 use Rattle.vs_scopes.specs.vs_widths.specs.Constants.{where_none, constant_finding, constant_in}
 use Rattle.vs_widths.specs.Expressions.{meant}
 use Rattle.vs_widths.specs.Names.{meaning_of, by_bytes, Binds}
+use Rattle.vs_widths.proofs.AimLemmas.{stands_alone as stands_too}
 use Rattle.vs_scopes.specs.declared.sizes.Size.{Size}
 use Rattle.vs_scopes.specs.declared.faults.BodyFault.{BodyFault}
 use Rattle.vs_scopes.specs.declared.faults.Reason.{Reason}
@@ -33,7 +34,7 @@ use Rattle.vs_scopes.specs.declared.faults.ParameterRefusal.TheVariants as r
 use Rattle.vs_elab_constants.specs.declared.evaluating.Taking.{Taking}
 use Rattle.vs_elab_constants.specs.declared.evaluating.Taking.TheVariants.{TheSize, Shaped}
 use Rattle.vs_scopes.specs.Ranges.{sized_as}
-use Rattle.vs_scopes.specs.Parameters.{Parameter, parameters_of, parameters_among, Given, given_from, given_to, overriding, is_override_mismatch, takes_by, vector_takes, takes_fault, sign_found, own_fault, outer_fault, own_faults, outer_faults, constants_of, known_behind, with_constant}
+use Rattle.vs_scopes.specs.Parameters.{Parameter, parameters_of, parameters_among, Given, given_from, given_to, overriding, is_override_mismatch, takes_by, vector_takes, takes_fault, sign_found, own_fault, outer_fault, own_faults, outer_faults, constants_of, known_in_module, with_constant}
 use Rattle.vs_scopes.specs.Ports.{ModulePort, ports_of}
 use Rattle.vs_scopes.specs.scopes_passes.Answers.{Refuses as RefusesBody}
 use Rattle.vs_scopes.specs.scopes_passes.Sizes.{width_faults, IsSize}
@@ -47,7 +48,6 @@ use Rattle.vs_scopes.specs.Scopes.{nowhere, outward, early, block_given, with_co
 use Rattle.vs_scopes.proofs.DeclaredLemmas.{first_none, said_first, meaning_of-append}
 use Rattle.vs_scopes.proofs.PassLemmas.{map_at, moved_by}
 use Rattle.std.proofs.lemmas.Bool.{or_from as both_false, or_left as left_true, or_right as right_true}
-use Rattle.vs_widths.proofs.MeasuringLemmas.{stands_alone as stands_too}
 
 -- ---- what a parameter takes
 
@@ -65,13 +65,13 @@ pub refused_too : (m : Meant) (e : WidthFault) → Refuses m.finding e → Refus
 refused_too m f.Memory h = tt
 refused_too m (f.Refused r) h = stands_too (where_none m.reads) m.finding r h
 
-cut : (w : ℕ) (v : List Digit) → w ≤ length v → resized false w v ≡ take w v
+pub cut : (w : ℕ) (v : List Digit) → w ≤ length v → resized false w v ≡ take w v
 cut w v h =
     let none : w - length v ≡ 0 = omega arith in
     ap (λ n. take w v ++ replicate n (extension_digit false v)) none ∙ append-nil (take w v)
 
 -- a value at the larger size, cut to that of the parameter
-pub shaped_is : (m : Meant) (s : Size) (size w : ℕ) (signed : Bool) (v r : List Digit) → ((q : WidthReason) → stands q (constant_finding m) ≡ false) → m.finding ≡ Has size signed → w ≡ max s.shape.width size →
+pub shaped_is : (m : Meant) (s : Size) (size w : ℕ) (signed : Bool) (v r : List Digit) → ((q : WidthReason) → has_width_fault q (constant_finding m) ≡ false) → m.finding ≡ Has size signed → w ≡ max s.shape.width size →
     m.at [] 0 w signed ≡ v → length v ≡ w → r ≡ resized false s.shape.width v → IsGivenBy (Shaped s) m (constant_in s.bounds s.shape.signed r)
 shaped_is m s size w signed v r sound has wide at long given =
     let n = s.shape.width in
@@ -93,7 +93,7 @@ pub sized_is : (m : Meant) (g : Bool) (c : Const) → constant_finding m ≡ Has
 sized_is m g c has at =
     let sign : sign_found m.finding ≡ c.signed = none_read m.reads m.finding (length c.value) c.signed has in
     let K : List Digit → Bool → Const = λ z t. constant_in None (g || t) z in
-    record { sound = λ w. ap (stands w) has; value = ap₂ K (sym at) (sym sign) }
+    record { sound = λ w. ap (has_width_fault w) has; value = ap₂ K (sym at) (sym sign) }
 
 -- ---- one parameter after another
 
@@ -127,7 +127,7 @@ values_are around o m gs v new fits fit empty start h =
       outer = λ w. ap (outer_faults w around) (sym fit) ∙ h.outer w;
       own = λ w. ap₂ (own_faults w around) (sym start) (sym fit) ∙ h.own w;
       constants = h.constants ∙ ap (λ z. by_bytes z ++ constants_of around (meaning_of (v.known ++ [])) gs) empty ∙ ap₂ (constants_of around) start fit;
-      known = λ n. ap (λ z. meaning_of z n) (sym (append-nil new.known)) ∙ h.known n ∙ ap₂ (λ (z : Environment) (ys : List Given). known_behind around z ys n) start fit;
+      known = λ n. ap (λ z. meaning_of z n) (sym (append-nil new.known)) ∙ h.known n ∙ ap₂ (λ (z : Environment) (ys : List Given). known_in_module around z ys n) start fit;
     }
 
 pub values_refused : (around : Environment) (o : Option Connections) (m : Module) (gs : List Given) (first : Environment) (e : ParameterRefusal) → gs ≡ given_to o m → first ≡ early m →
@@ -153,7 +153,7 @@ block_are outer cs ps gs first v new fit empty b start h =
     record {
       own = λ w. ap₂ (own_faults w nowhere) (sym start) (sym fit) ∙ h.own w;
       constants = h.constants ∙ ap (λ z. z ++ constants_of nowhere (meaning_of (v.known ++ outer)) gs) (b.constants ∙ ap (λ z. by_bytes z ++ cs) empty) ∙ ap (λ z. cs ++ z) (ap₂ (constants_of nowhere) start fit);
-      known = λ n. h.known n ∙ ap₂ (λ (z : Environment) (ys : List Given). known_behind nowhere z ys n) start fit;
+      known = λ n. h.known n ∙ ap₂ (λ (z : Environment) (ys : List Given). known_in_module nowhere z ys n) start fit;
     }
 
 -- parameters that nothing overrides have no fault around their module
@@ -187,19 +187,19 @@ module _ (cs : List (Bor (List ℕ) × Const)) (i : ℕ) (x : Bor (List ℕ) × 
 
 -- ---- refusals
 
-pub refuses_own : (around env : Environment) (p : Parameter) (o : Option Expr) (e : ParameterRefusal) → o ≡ None → RefusesValues false (λ w. false) (λ w. stands w (constant_finding (meant env p.value))) e → RefusesValues false (λ w. outer_fault w around (p, o)) (λ w. own_fault w env (p, o)) e
+pub refuses_own : (around env : Environment) (p : Parameter) (o : Option Expr) (e : ParameterRefusal) → o ≡ None → RefusesValues false (λ w. false) (λ w. has_width_fault w (constant_finding (meant env p.value))) e → RefusesValues false (λ w. outer_fault w around (p, o)) (λ w. own_fault w env (p, o)) e
 refuses_own around env p o e h k = subst (λ z. RefusesValues false (λ w. outer_fault w around (p, z)) (λ w. own_fault w env (p, z)) e) (sym h) (by e k)
   where
-    by : (q : ParameterRefusal) → RefusesValues false (λ w. false) (λ w. stands w (constant_finding (meant env p.value))) q → RefusesValues false (λ w. outer_fault w around (p, None)) (λ w. own_fault w env (p, None)) q
+    by : (q : ParameterRefusal) → RefusesValues false (λ w. false) (λ w. has_width_fault w (constant_finding (meant env p.value))) q → RefusesValues false (λ w. outer_fault w around (p, None)) (λ w. own_fault w env (p, None)) q
     by r.Memory x = tt
     by r.Mismatch x = x
     by (r.Outer w) x = absurd (true≢false (sym x))
     by (r.Own w) x = right_true _ _ x
 
-pub refuses_outer : (around env : Environment) (p : Parameter) (o : Option Expr) (y : Expr) (e : ParameterRefusal) → o ≡ Some y → RefusesValues false (λ w. stands w (constant_finding (meant around y))) (λ w. false) e → RefusesValues false (λ w. outer_fault w around (p, o)) (λ w. own_fault w env (p, o)) e
+pub refuses_outer : (around env : Environment) (p : Parameter) (o : Option Expr) (y : Expr) (e : ParameterRefusal) → o ≡ Some y → RefusesValues false (λ w. has_width_fault w (constant_finding (meant around y))) (λ w. false) e → RefusesValues false (λ w. outer_fault w around (p, o)) (λ w. own_fault w env (p, o)) e
 refuses_outer around env p o y e h k = subst (λ z. RefusesValues false (λ w. outer_fault w around (p, z)) (λ w. own_fault w env (p, z)) e) (sym h) (by e k)
   where
-    by : (q : ParameterRefusal) → RefusesValues false (λ w. stands w (constant_finding (meant around y))) (λ w. false) q → RefusesValues false (λ w. outer_fault w around (p, Some y)) (λ w. own_fault w env (p, Some y)) q
+    by : (q : ParameterRefusal) → RefusesValues false (λ w. has_width_fault w (constant_finding (meant around y))) (λ w. false) q → RefusesValues false (λ w. outer_fault w around (p, Some y)) (λ w. own_fault w env (p, Some y)) q
     by r.Memory x = tt
     by r.Mismatch x = x
     by (r.Outer w) x = x

@@ -34,7 +34,7 @@ fn piece_turns<'s, 'o>(
 
 /// How many turns there are behind those of the loops among pieces, where there are so many before them; none where these are more than a design
 /// may have (IEEE 1364-2005, clause 12.4.1).
-pub fn turns_behind<'s, 'o>(
+pub fn turns_after<'s, 'o>(
     alloc: Global,
     names: &Levels<'s, 'o>,
     pieces: &[ScopePiece<'s>],

@@ -3,7 +3,7 @@ ghost use Rattle.std.specs.Prelude.{◌≡◌, ◌++◌, ◌∷◌, [], Bool, fa
 ghost use Rattle.vs_scopes.specs.Pieces.{pieces_of};
 ghost use Rattle.vs_scopes.specs.Reads.{read_piece};
 ghost use Rattle.vs_scopes.specs.vs_widths.specs.Constants.{constant_finding};
-ghost use Rattle.vs_scopes.specs.vs_widths.specs.Findings.{Finding, Lacks, Refuses, stands};
+ghost use Rattle.vs_scopes.specs.vs_widths.specs.Findings.{Finding, Lacks, Refuses, has_width_fault};
 ghost use Rattle.vs_scopes.specs.vs_widths.specs.declared.faults.WidthReason.{WidthReason};
 ghost use Rattle.vs_widths.specs.Names.{meaning_of, nested_names, by_bytes, Binds};
 ghost use Rattle.vs_widths.specs.Expressions.{meant};
@@ -47,7 +47,7 @@ pub enum Taking {
 /// A fault of an expression of the module.
 fn own(fault: WidthFault) -> ParameterRefusal
     ensures { (found : Finding) → Refuses found fault
-        → RefusesValues false (λ w. false) (λ w. stands w found) result }
+        → RefusesValues false (λ w. false) (λ w. has_width_fault w found) result }
 {
     match fault {
         WidthFault::Memory => ParameterRefusal::Memory,
@@ -58,7 +58,7 @@ fn own(fault: WidthFault) -> ParameterRefusal
 /// A fault of an expression of the scope around.
 fn outer(fault: WidthFault) -> ParameterRefusal
     ensures { (found : Finding) → Refuses found fault
-        → RefusesValues false (λ w. stands w found) (λ w. false) result }
+        → RefusesValues false (λ w. has_width_fault w found) (λ w. false) result }
 {
     match fault {
         WidthFault::Memory => ParameterRefusal::Memory,

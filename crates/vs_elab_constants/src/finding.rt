@@ -7,7 +7,7 @@ ghost use Rattle.vs_widths.specs.Names.{meaning_of, nested_names, by_bytes};
 ghost use Rattle.vs_scopes.specs.Declarations.{Bindings};
 ghost use Rattle.vs_scopes.specs.Parameters.{outer_fault, outer_faults, own_faults, with_given};
 ghost use Rattle.vs_scopes.specs.scopes_passes.Parts.{read_given};
-ghost use Rattle.vs_elab_constants.specs.passes.Finding.{number_of, is_number, AreNumbers, AreNamed, AreFound, AreAll, IsTried, told_of, Comes, found_constants};
+ghost use Rattle.vs_elab_constants.specs.passes.Finding.{number_of, is_number, AreNumbers, AreNamed, AreFound, AreAll, IsTried, reported_fault, Comes, found_constants};
 ghost use Rattle.vs_elab_constants.specs.passes.Values.{RefusesValues, AddsConstants};
 
 use crate::evaluating::{ParameterValues, bind, constant_given, push_constant};
@@ -183,8 +183,8 @@ fn find_each<'s>(
 }
 
 /// The fault that is told of parameters, with one more that has a fault: another one than that it is no constant, where there is one.
-fn told_of(before: Option<WidthReason>, reason: WidthReason) -> WidthReason
-    ensures { result ≡ told_of before reason }
+fn reported_fault(before: Option<WidthReason>, reason: WidthReason) -> WidthReason
+    ensures { result ≡ reported_fault before reason }
 {
     match before {
         None | Some(WidthReason::NotConstant) => reason,
@@ -212,7 +212,7 @@ fn next_value<'s>(
         if values[number].is_none() {
             match try_value(alloc, around, &*outer, &*known, &list[number])? {
                 Tried::Is(constant) => return Ok(Round::Value(number, constant)),
-                Tried::Not(reason) => fault = Some(told_of(fault, reason)),
+                Tried::Not(reason) => fault = Some(reported_fault(fault, reason)),
             }
         }
     }

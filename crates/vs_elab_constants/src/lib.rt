@@ -16,7 +16,7 @@ mod order;
 
 pub use branches::chosen;
 pub use conditions::holds;
-pub use counting::turns_behind;
+pub use counting::turns_after;
 pub use early::{SignalNames, early_names};
 pub use evaluating::{ParameterValues, block_values, values};
 pub use loops::turns;

@@ -4,7 +4,7 @@ ghost use Rattle.vs_widths.specs.Names.{meaning_of};
 ghost use Rattle.vs_scopes.specs.Pieces.{unboxed, blocks_of, loop, choice};
 ghost use Rattle.vs_scopes.specs.Reads.{read_block, read_piece, referred};
 ghost use Rattle.vs_scopes.specs.Declarations.{use_of, uses_by_item};
-ghost use Rattle.vs_scopes.specs.Generate.{instance, named, name_of_block, inner_in, inner_from, behind_piece, construct_fault, constructs_fault};
+ghost use Rattle.vs_scopes.specs.Generate.{instance, named, name_of_block, inner_in, inner_from, after_piece, construct_fault, constructs_fault};
 ghost use Rattle.vs_scopes.specs.scopes_passes.Answers.{Elaborates};
 ghost use Rattle.vs_scopes.specs.scopes_passes.Names.{read_part};
 ghost use Rattle.vs_elab_constants.specs.Reads.{read_inners};
@@ -242,7 +242,7 @@ fn add_piece<'s, 'o>(
 
 /// Whether a piece is a generate construct, which has a number of its own (IEEE 1364-2005, clause 12.4.3).
 fn is_construct(piece: ScopePiece) -> bool
-    ensures { (k : ℕ) → behind_piece k (read_piece piece.entry) ≡ (if result then suc k else k) }
+    ensures { (k : ℕ) → after_piece k (read_piece piece.entry) ≡ (if result then suc k else k) }
 {
     match piece {
         ScopePiece::Loop(_, _) => true,

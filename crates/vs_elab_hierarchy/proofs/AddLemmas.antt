@@ -8,18 +8,18 @@ use Rattle.std.proofs.lemmas.List.Elements.{All-append, All-nil, All-cons}
 use Rattle.std.proofs.lemmas.Option.{none-some, same_Some}
 use Rattle.vs_syntax.specs.declared.tree.Module.{Module}
 use Rattle.vs_scopes.specs.vs_widths.specs.declared.constants.Const.{Const}
-use Rattle.vs_elab_listed.specs.vs_scopes.specs.Pieces.{Piece, block_pieces, pieces_of}
+use Rattle.vs_elab_signals.specs.vs_scopes.specs.Pieces.{Piece, block_pieces, pieces_of}
 use Rattle.vs_scopes.specs.Printed.{PathName, plainly, Path}
 use Rattle.vs_scopes.specs.Parameters.{any_fault}
 use Rattle.vs_scopes.specs.Declarations.{Use, Bindings}
 use Rattle.vs_scopes.specs.Generate.{Inner, instance, generated}
 use Rattle.vs_scopes.specs.Generate as g
 use Rattle.vs_scopes.specs.Nets.{permits_nets}
-use Rattle.vs_scopes.specs.Scopes.{Scope, Before, before, behind, is_instance, environment, declarations_of, turns_in, signal_count, instance_count, turn_count, module_named, opened, opened_instance, instance_scope, block_scope, is_inside, has_no_values, block_fault}
-use Rattle.vs_elab_listed.specs.declared.opened.ListedScope.{ListedScope as FoundScope}
-use Rattle.vs_elab_listed.specs.declared.opened.Numbering.{Numbering}
-use Rattle.vs_elab_listed.specs.Opened.{IsEntered}
-use Rattle.vs_elab_listed.specs.Outlines.{declared, signal_of, signals_of}
+use Rattle.vs_scopes.specs.Scopes.{Scope, Before, before, before_following, is_instance, environment, declarations_of, turns_in, signal_count, instance_count, turn_count, module_named, opened, opened_instance, instance_scope, block_scope, is_inside, has_no_values, block_fault}
+use Rattle.vs_elab_signals.specs.declared.opened.ElabScope.{ElabScope as FoundScope}
+use Rattle.vs_elab_signals.specs.declared.opened.Numbering.{Numbering}
+use Rattle.vs_elab_signals.specs.Opened.{IsScopeOf}
+use Rattle.vs_elab_signals.specs.Outlines.{declared, signal_of, signals_of}
 use Rattle.vs_elab_hierarchy.specs.passes.Entering.{before_next, Enters, IsShallow, EntersNot}
 use Rattle.vs_elab_hierarchy.specs.scope_passes.Adding.{with_names, IsPlanned, IsNext, CountsOne, AddsScope, AddsInner, AddsInnerNot}
 use Rattle.vs_elab_hierarchy.specs.scope_passes.Own.{IsSoundOwn, HasFewTurns, OpensOwn, HoldsOwn}
@@ -28,37 +28,39 @@ use Rattle.vs_design.specs.vs_logic4.proofs.Basics.{filter_append as count_appen
 use Rattle.vs_elab_hierarchy.proofs.SeatLemmas.{opened_many, opened_push, seated_push, entered_around, entered_home, opened_here}
 use Rattle.vs_elab_hierarchy.proofs.OwnLemmas.{is_few}
 use Rattle.vs_scopes.specs.declared.faults.ElabFault.{ElabFault}
-use Rattle.vs_scopes.specs.scopes_passes.Answers.{Told}
+use Rattle.vs_scopes.specs.scopes_passes.Answers.{IsReported}
 use Rattle.vs_scopes.proofs.AnswerLemmas.{told_by}
 
 -- ---- what stands before scopes
 
-same_before : (a b : Before) → a.scopes ≡ b.scopes → a.signals ≡ b.signals → a.instances ≡ b.instances → a.turns ≡ b.turns → a ≡ b
+pub same_before : (a b : Before) → a.scopes ≡ b.scopes → a.signals ≡ b.signals → a.instances ≡ b.instances → a.turns ≡ b.turns → a ≡ b
 same_before a b h k l m =
     ap₂ (λ x y. record { scopes = x; signals = y; instances = a.instances; turns = a.turns }) h k
     ∙ ap₂ (λ x y. record { scopes = b.scopes; signals = b.signals; instances = x; turns = y }) l m
 
-signals_append : (xs ys : List Scope) → signal_count (xs ++ ys) ≡ signal_count xs + signal_count ys
+pub signals_append : (xs ys : List Scope) → signal_count (xs ++ ys) ≡ signal_count xs + signal_count ys
 signals_append xs ys = ap length (flat_map-append declarations_of xs ys) ∙ length-append (flat_map declarations_of xs) (flat_map declarations_of ys)
 
-turns_append : (xs ys : List Scope) → turn_count (xs ++ ys) ≡ turn_count xs + turn_count ys
+pub turns_append : (xs ys : List Scope) → turn_count (xs ++ ys) ≡ turn_count xs + turn_count ys
 turns_append xs ys = sum-map turns_in (xs ++ ys) ∙ sum_by-append turns_in xs ys ∙ ap₂ (λ m n. m + n) (sym (sum-map turns_in xs)) (sym (sum-map turns_in ys))
 
-pub behind_append : (at : Before) (xs ys : List Scope) → behind at (xs ++ ys) ≡ behind (behind at xs) ys
+-- what stands behind some scopes and others behind them
+pub behind_append : (at : Before) (xs ys : List Scope) → before_following at (xs ++ ys) ≡ before_following (before_following at xs) ys
 behind_append at xs ys =
-    same_before (behind at (xs ++ ys)) (behind (behind at xs) ys)
+    same_before (before_following at (xs ++ ys)) (before_following (before_following at xs) ys)
     (omega (arith, length-append xs ys))
     (omega (arith, signals_append xs ys))
     (omega (arith, count_append (λ (s : Scope). is_instance s.kind) xs ys))
     (omega (arith, turns_append xs ys))
 
-pub behind_none : (at : Before) → behind at [] ≡ at
-behind_none at = same_before (behind at []) at (omega arith) (omega arith) (omega arith) (omega arith)
+pub behind_none : (at : Before) → before_following at [] ≡ at
+behind_none at = same_before (before_following at []) at (omega arith) (omega arith) (omega arith) (omega arith)
 
 -- nothing stands before it
 abbrev nothing_before : Before
 nothing_before = record { scopes = 0; signals = 0; instances = 0; turns = 0 }
 
+-- how many signals scopes have
 pub signals_shown : (ss : List Scope) → length (flat_map signals_of ss) ≡ signal_count ss
 signals_shown [] = refl
 signals_shown (s ∷ ss) =
@@ -66,22 +68,22 @@ signals_shown (s ∷ ss) =
     ∙ sym (length-append (declarations_of s) (flat_map declarations_of ss))
 
 -- what stands before the next scope of a list
-pub planned_before : (list : List FoundScope) (plan : Numbering) (ss : List Scope) → IsPlanned list plan ss → before_next list plan ≡ behind nothing_before ss
+pub planned_before : (list : List FoundScope) (plan : Numbering) (ss : List Scope) → IsPlanned list plan ss → before_next list plan ≡ before_following nothing_before ss
 planned_before list plan ss h =
-    same_before (before_next list plan) (behind nothing_before ss)
+    same_before (before_next list plan) (before_following nothing_before ss)
     (opened_many list ss h.opened ∙ sym (zero-add (length ss)))
     (sym (length-map plan.signals.items declared) ∙ ap length h.shown ∙ signals_shown ss ∙ sym (zero-add (signal_count ss)))
     (h.instances ∙ sym (zero-add (instance_count ss)))
     (h.turns ∙ sym (zero-add (turn_count ss)))
 
 -- the same, behind more scopes
-pub planned_behind : (list new : List FoundScope) (old plan : Numbering) (ss more : List Scope) (at : Before) → IsPlanned list old ss → before_next list old ≡ at → IsPlanned new plan (ss ++ more) → before_next new plan ≡ behind at more
+pub planned_behind : (list new : List FoundScope) (old plan : Numbering) (ss more : List Scope) (at : Before) → IsPlanned list old ss → before_next list old ≡ at → IsPlanned new plan (ss ++ more) → before_next new plan ≡ before_following at more
 planned_behind list new old plan ss more at h e k =
-    planned_before new plan (ss ++ more) k ∙ behind_append nothing_before ss more ∙ ap (λ z. behind z more) (sym (planned_before list old ss h) ∙ e)
+    planned_before new plan (ss ++ more) k ∙ behind_append nothing_before ss more ∙ ap (λ z. before_following z more) (sym (planned_before list old ss h) ∙ e)
 
 -- ---- a scope that is listed
 
-with_names_entered : (ss : List Scope) (o : FoundScope) (s : Scope) (ns : Bindings) → IsEntered ss o s → IsEntered ss (with_names o ns) s
+with_names_entered : (ss : List Scope) (o : FoundScope) (s : Scope) (ns : Bindings) → IsScopeOf ss o s → IsScopeOf ss (with_names o ns) s
 with_names_entered ss o s ns h = record {
   title = h.title;
   kind = h.kind;
@@ -224,8 +226,8 @@ shallow list plan ss place s h e o f =
     let small = (all_at IsSoundOwn ss place s h.sound e).shallow in
     omega (arith, depth, small)
 
-pub enters_told : (ms : List Module) (s : Scope) (at : Before) (x : Inner) (e : ElabFault) → Told (EntersNot ms s x) e → Told (AddsInnerNot ms s at x) e
+pub enters_told : (ms : List Module) (s : Scope) (at : Before) (x : Inner) (e : ElabFault) → IsReported (EntersNot ms s x) e → IsReported (AddsInnerNot ms s at x) e
 enters_told ms s at x e h = told_by (EntersNot ms s x) (AddsInnerNot ms s at x) e (λ r p k. inl k) h
 
-pub added_told : (ms : List Module) (s : Scope) (at : Before) (x : Inner) (inner : Scope) (e : ElabFault) → opened ms s at x ≡ Some inner → Told (HoldsOwn inner) e → Told (AddsInnerNot ms s at x) e
+pub added_told : (ms : List Module) (s : Scope) (at : Before) (x : Inner) (inner : Scope) (e : ElabFault) → opened ms s at x ≡ Some inner → IsReported (HoldsOwn inner) e → IsReported (AddsInnerNot ms s at x) e
 added_told ms s at x inner e o h = told_by (HoldsOwn inner) (AddsInnerNot ms s at x) e (λ r p k. inr (inner, o, k)) h

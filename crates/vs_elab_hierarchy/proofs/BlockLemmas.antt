@@ -13,11 +13,11 @@ use Rattle.vs_scopes.specs.declared.printed.PathName.{PathName as FoundName}
 use Rattle.vs_scopes.specs.Printed.{plainly}
 use Rattle.vs_scopes.specs.Scopes.{Scope, named, named_at, scopes_of}
 use Rattle.vs_scopes.specs.scopes_passes.Names.{read_part, read_title}
-use Rattle.vs_elab_listed.specs.declared.opened.ListedScope.{ListedScope as FoundScope}
-use Rattle.vs_elab_listed.specs.declared.opened.Hierarchy.{Hierarchy}
-use Rattle.vs_elab_listed.specs.declared.opened.Numbering.{Numbering}
-use Rattle.vs_elab_listed.specs.Opened.{StandsAround, IsEntered, IsOpened, AreOpened, AreSeated, HasBlocks, OpensAll}
-use Rattle.vs_elab_listed.specs.Outlines.{declared, IsEntry, outline_of}
+use Rattle.vs_elab_signals.specs.declared.opened.ElabScope.{ElabScope as FoundScope}
+use Rattle.vs_elab_signals.specs.declared.opened.Hierarchy.{Hierarchy}
+use Rattle.vs_elab_signals.specs.declared.opened.Numbering.{Numbering}
+use Rattle.vs_elab_signals.specs.Opened.{HasParentScope, IsScopeOf, IsOpened, AreOpened, AreSeated, HasBlocks, OpensAll}
+use Rattle.vs_elab_signals.specs.Outlines.{declared, IsEntry, outline_of}
 use Rattle.vs_elab_hierarchy.specs.passes.Blocks.{named_text, text_name, HasIndex, HasNoBlocks, with_blocks, IsIndexed, AreIndexedUpTo, AddsBlock, AreIndexed, HasInside, AreNamed}
 use Rattle.vs_elab_hierarchy.specs.hierarchy_passes.Opens.{Made}
 use Rattle.vs_elab_hierarchy.proofs.ListLemmas.{same_at, all_at, zip_by}
@@ -166,7 +166,7 @@ module _ (place around : ℕ) (list : List FoundScope) (o one : FoundScope) (n :
 
 -- ---- what all of them are told
 
-with_blocks_entered : (ss : List Scope) (o : FoundScope) (s : Scope) (bs : List (List ℕ × ℕ)) → IsEntered ss o s → IsEntered ss (with_blocks o bs) s
+with_blocks_entered : (ss : List Scope) (o : FoundScope) (s : Scope) (bs : List (List ℕ × ℕ)) → IsScopeOf ss o s → IsScopeOf ss (with_blocks o bs) s
 with_blocks_entered ss o s bs h = record {
   title = h.title;
   kind = h.kind;
@@ -216,7 +216,7 @@ title_plain p (Some v) n e = absurd (none-some n e)
 plain_read : (x : FoundName) (n : List ℕ) → text_name x ≡ Some n → read_title x ≡ plainly n
 plain_read x n h = title_plain x.name x.turn n h
 
-within_named : (ss : List Scope) (place : ℕ) (o : Option ℕ) (s t : Scope) (n : List ℕ) → o ≡ Some place → slice_get ss place ≡ Some s → t.title ≡ plainly n → StandsAround ss o t → t.path ≡ named s n
+within_named : (ss : List Scope) (place : ℕ) (o : Option ℕ) (s t : Scope) (n : List ℕ) → o ≡ Some place → slice_get ss place ≡ Some s → t.title ≡ plainly n → HasParentScope ss o t → t.path ≡ named s n
 within_named ss place None s t n e f p h = absurd (none-some place e)
 within_named ss place (Some k) s t n e f p h =
     let same : k ≡ place = same_Some k place e in

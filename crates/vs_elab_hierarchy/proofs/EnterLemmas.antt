@@ -1,5 +1,5 @@
 -- The scopes that instances and blocks open.
-use Rattle.std.proofs.Common.{◌≡◌, ℕ, suc, ◌<◌, Bool, true, false, ◌||◌, cond, List, [], ◌∷◌, ◌++◌, Option, Some, None, inl, inr, length, map, get_or, option_map, refl, ap, sym, subst, ◌∙◌, arith}
+use Rattle.std.proofs.Common.{◌≡◌, ℕ, suc, ◌<◌, Bool, true, false, ◌||◌, cond, List, [], ◌∷◌, ◌++◌, Option, Some, None, inl, inr, length, map, option_map, refl, ap, sym, subst, ◌∙◌, arith}
 use Rattle.std.proofs.Math.Path.{fun_ext}
 use Rattle.std.specs.List.{slice_get}
 use Rattle.std.specs.Str.{bytes_eq}
@@ -7,7 +7,6 @@ use Rattle.std.specs.Borrow.{Bor}
 use Rattle.std.specs.declared.vec.Vec.{Vec}
 use Rattle.std.specs.declared.alloc.Global.{Global}
 use Rattle.std.proofs.lemmas.Bool.{or_parts}
-use Rattle.std.proofs.lemmas.Option.{slice_get-get_or}
 use Rattle.vs_syntax.specs.declared.tree.LocalDeclaration.{LocalDeclaration}
 use Rattle.vs_syntax.specs.declared.tree.Module.{Module}
 use Rattle.vs_syntax.specs.declared.tree.ModuleItem.{ModuleItem}
@@ -24,44 +23,40 @@ use Rattle.vs_elab_constants.specs.vs_widths.specs.Names.{meaning_of, by_bytes}
 use Rattle.vs_scopes.specs.Pieces.{NamedBlock, Piece, local, inside, pieces_of, block_pieces, blocks_among}
 use Rattle.vs_scopes.specs.Reads.{read_piece}
 use Rattle.vs_scopes.specs.declared.scope.ScopePiece.{ScopePiece as FoundPiece}
-use Rattle.vs_elab_listed.specs.vs_scopes.specs.declared.faults.Reason.{Reason}
-use Rattle.vs_elab_listed.specs.vs_scopes.specs.declared.faults.Reason.TheVariants.{NoModule, Inside, PortMismatch, ParameterMismatch, DeclaredTwice, DrivenTwice, Limit, Width, Endless, Unnamed, Timescales, Format}
-use Rattle.vs_elab_listed.specs.vs_scopes.specs.declared.faults.ElabFault.{ElabFault}
-use Rattle.vs_elab_listed.specs.vs_scopes.specs.declared.faults.ParameterRefusal.{ParameterRefusal}
-use Rattle.vs_elab_listed.specs.vs_scopes.specs.declared.faults.ParameterRefusal.TheVariants as refusal
-use Rattle.vs_elab_listed.specs.vs_scopes.specs.declared.printed.PathName.{PathName as FoundName}
-use Rattle.vs_elab_listed.specs.vs_scopes.specs.Printed.{PathName, plainly, Path}
-use Rattle.vs_elab_listed.specs.vs_scopes.specs.Parameters.{said, given_from, parameters_among, is_override_mismatch, any_fault, own_faults, known_behind, constants_of}
-use Rattle.vs_elab_listed.specs.vs_scopes.specs.Ports.{ports_of}
-use Rattle.vs_elab_listed.specs.vs_scopes.specs.Declarations.{Use, Bindings, valueless_of, early_names}
-use Rattle.vs_elab_listed.specs.vs_scopes.specs.Nets.{nothing_seen, permits_nets}
-use Rattle.vs_elab_listed.specs.vs_scopes.specs.Generate.{instance, generated}
-use Rattle.vs_elab_listed.specs.vs_scopes.specs.Generate as g
-use Rattle.vs_elab_listed.specs.vs_scopes.specs.Scopes.{Scope, Before, nowhere, outward, environment, named, named_at, module_named, instance_scope, block_scope, early_block, text_of, block_text, sight_in, block_given, with_constants, has_no_values, is_inside, is_port_mismatch, block_fault, opened_instance, opened_block}
-use Rattle.vs_elab_listed.specs.vs_scopes.specs.scopes_passes.Answers.{borrowed, Told, IsFaultAt}
-use Rattle.vs_elab_listed.specs.vs_scopes.specs.scopes_passes.Names.{read_title}
-use Rattle.vs_elab_listed.specs.vs_scopes.specs.scopes_passes.Parts.{read_port, read_ends}
+use Rattle.vs_elab_signals.specs.vs_scopes.specs.declared.faults.Reason.{Reason}
+use Rattle.vs_elab_signals.specs.vs_scopes.specs.declared.faults.Reason.TheVariants.{NoModule, Inside, PortMismatch, ParameterMismatch, DeclaredTwice, DrivenTwice, Limit, Width, Endless, Unnamed, Timescales, Format}
+use Rattle.vs_elab_signals.specs.vs_scopes.specs.declared.faults.ElabFault.{ElabFault}
+use Rattle.vs_elab_signals.specs.vs_scopes.specs.declared.faults.ParameterRefusal.{ParameterRefusal}
+use Rattle.vs_elab_signals.specs.vs_scopes.specs.declared.faults.ParameterRefusal.TheVariants as refusal
+use Rattle.vs_elab_signals.specs.vs_scopes.specs.declared.printed.PathName.{PathName as FoundName}
+use Rattle.vs_elab_signals.specs.vs_scopes.specs.Printed.{PathName, plainly, Path}
+use Rattle.vs_elab_signals.specs.vs_scopes.specs.Parameters.{said, given_from, parameters_among, is_override_mismatch, any_fault, own_faults, known_in_module, constants_of}
+use Rattle.vs_elab_signals.specs.vs_scopes.specs.Ports.{ports_of}
+use Rattle.vs_elab_signals.specs.vs_scopes.specs.Declarations.{Use, Bindings, valueless_of, early_names}
+use Rattle.vs_elab_signals.specs.vs_scopes.specs.Nets.{nothing_seen, permits_nets}
+use Rattle.vs_elab_signals.specs.vs_scopes.specs.Generate.{instance, generated}
+use Rattle.vs_elab_signals.specs.vs_scopes.specs.Generate as g
+use Rattle.vs_elab_signals.specs.vs_scopes.specs.Scopes.{Scope, Before, nowhere, outward, environment, named, named_at, module_named, instance_scope, block_scope, early_block, text_of, block_text, sight_in, block_given, with_constants, has_no_values, is_inside, is_port_mismatch, block_fault, opened_instance, opened_block}
+use Rattle.vs_elab_signals.specs.vs_scopes.specs.scopes_passes.Answers.{borrowed, IsReported, IsFaultAt}
+use Rattle.vs_elab_signals.specs.vs_scopes.specs.scopes_passes.Names.{read_title}
+use Rattle.vs_elab_signals.specs.vs_scopes.specs.scopes_passes.Parts.{read_port, read_ends}
 use Rattle.std.proofs.lemmas.Bool.{or_from as both_false}
-use Rattle.vs_elab_listed.specs.vs_scopes.proofs.AnswerLemmas.{told_at, told_by}
-use Rattle.vs_elab_listed.specs.vs_elab_constants.specs.declared.evaluating.ParameterValues.{ParameterValues}
-use Rattle.vs_elab_listed.specs.vs_elab_constants.specs.passes.Values.{AreValues, AreNoValues, AreBlockValues, early_inside, block_faults}
-use Rattle.vs_elab_listed.specs.declared.opened.ListedScope.{ListedScope as FoundScope}
-use Rattle.vs_elab_listed.specs.declared.members.Members.{Members}
-use Rattle.vs_elab_listed.specs.nets_passes.Nets.{AreMembers}
-use Rattle.vs_elab_listed.specs.Opened.{IsWithin, StandsAround, IsSeenFrom, HasSight, sight_from, IsHome, SaysModules, IsEntered, AreOpened}
-use Rattle.vs_elab_listed.specs.ScopeFaults.{of_module, parameter_fault, override_fault}
-use Rattle.vs_elab_listed.specs.listed_passes.Connecting.{ConnectsTo}
+use Rattle.vs_elab_signals.specs.vs_scopes.proofs.AnswerLemmas.{told_at, told_by}
+use Rattle.vs_elab_signals.specs.vs_elab_constants.specs.declared.evaluating.ParameterValues.{ParameterValues}
+use Rattle.vs_elab_signals.specs.vs_elab_constants.specs.passes.Values.{AreValues, AreNoValues, AreBlockValues, early_inside, block_faults}
+use Rattle.vs_elab_signals.specs.declared.opened.ElabScope.{ElabScope as FoundScope}
+use Rattle.vs_elab_signals.specs.declared.members.Members.{Members}
+use Rattle.vs_elab_signals.specs.nets_passes.Nets.{AreMembers}
+use Rattle.vs_elab_signals.specs.Opened.{IsWithin, HasParentScope, IsSeenFrom, HasSight, sight_from, IsHome, SaysModules, IsScopeOf, AreOpened}
+use Rattle.vs_elab_signals.specs.ScopeFaults.{of_module, parameter_fault, override_fault}
+use Rattle.vs_elab_signals.specs.signal_passes.Connecting.{ConnectsTo}
 use Rattle.vs_elab_hierarchy.specs.passes.Blocks.{text_name}
 use Rattle.vs_elab_hierarchy.specs.declared.entering.NamedModule.{NamedModule}
 use Rattle.vs_elab_hierarchy.specs.passes.Entering.{Lists, IsParameterFault, EntersInstance, EntersInstanceNot, IsBlockRefusal, EntersBlock, EntersBlockNot, Enters, EntersNot}
 use Rattle.vs_design.specs.vs_logic4.proofs.Basics.{slice_front, at_end as slice_end}
-use Rattle.vs_elab_listed.proofs.SiteLemmas.{home_more}
+use Rattle.vs_elab_signals.proofs.SiteLemmas.{home_more}
 use Rattle.vs_elab_hierarchy.proofs.SeatLemmas.{opened_here}
-use Rattle.vs_elab_listed.proofs.SiteLemmas.{meaning_behind}
-
--- what was read stands at its place
-pub got : {A : Type 0} (xs : List A) (i : ℕ) (x : A) → i < length xs → x ≡ get_or xs i x → slice_get xs i ≡ Some x
-got xs i x h e = slice_get-get_or xs i x h ∙ ap Some (sym e)
+use Rattle.vs_elab_signals.proofs.SiteLemmas.{meaning_behind}
 
 -- ---- names outward
 
@@ -96,8 +91,8 @@ has_values s u m fits own outer =
     both_false _ _ fits (both_false _ _ (both_false _ _ (both_false _ _ (each TooWide) (each Unknown)) (each NotConstant)) (each WrongKind))
 
 module _ (ss : List Scope) (s : Scope) (place : ℕ) (at : Before) (stands : slice_get ss place ≡ Some s) (many : at.scopes ≡ length ss) (below : place < length ss) where
-  around_here : (inner : Scope) (o : Option ℕ) → inner.number ≡ at.scopes → inner.path ≡ named_at s inner.title → inner.around ≡ s.path → inner.outer ≡ environment s → o ≡ Some place → StandsAround (ss ++ inner ∷ []) o inner
-  around_here inner o n p a e w = subst (λ z. StandsAround (ss ++ inner ∷ []) z inner) (sym w) within
+  around_here : (inner : Scope) (o : Option ℕ) → inner.number ≡ at.scopes → inner.path ≡ named_at s inner.title → inner.around ≡ s.path → inner.outer ≡ environment s → o ≡ Some place → HasParentScope (ss ++ inner ∷ []) o inner
+  around_here inner o n p a e w = subst (λ z. HasParentScope (ss ++ inner ∷ []) z inner) (sym w) within
     where
       within : IsWithin (ss ++ inner ∷ []) place inner
       within = record { outer_scope = s; stands = slice_front ss (inner ∷ []) place s stands; before = omega (arith, n, many, below); path = p; around = a; outer = e }
@@ -179,7 +174,7 @@ module _ (ss : List Scope) (s : Scope) (place : ℕ) (at : Before) (stands : sli
             ports = ap (map read_port) ports;
             pieces = ap (λ (z : Vec FoundPiece Global). map read_piece z.items) pieces ∙ members.pieces;
             constants = ap (λ (z : Vec (Bor (List ℕ) × Const) Global). by_bytes z.items) constants ∙ values.constants ∙ ap (λ (z : Environment). cs ++ constants_of nowhere z (block_given ps)) same_early;
-            known = λ k. ap (λ z. said z (meaning_of o.known k)) (sym (env k)) ∙ sym (meaning_behind o.known outer k) ∙ ap (λ (z : Bindings). meaning_of (z ++ outer) k) known ∙ values.known k ∙ ap (λ (z : Environment). known_behind nowhere z (block_given ps) k) same_early;
+            known = λ k. ap (λ z. said z (meaning_of o.known k)) (sym (env k)) ∙ sym (meaning_behind o.known outer k) ∙ ap (λ (z : Bindings). meaning_of (z ++ outer) k) known ∙ values.known k ∙ ap (λ (z : Environment). known_in_module nowhere z (block_given ps) k) same_early;
             within = tt;
             home = record { home_scope = one.home_scope; stands = one.stands; kind = one.kind; path = one.path; within = one.within };
             around = around_here inner o.around refl refl refl refl around;
@@ -195,19 +190,19 @@ module _ (ss : List Scope) (s : Scope) (place : ℕ) (at : Before) (stands : sli
 
 -- why it isn't
 pub block_told : (s : Scope) (n : FoundName) (cs : List (List ℕ × Const)) (ps : List Piece) (outer : Bindings) (f : WidthFault) (e : ElabFault) → ((k : List ℕ) → meaning_of outer k ≡ environment s k) → Refuses (Lacks (block_faults outer cs ps)) f → IsBlockRefusal s (read_title n) f e →
-    Told (EntersBlockNot s (read_title n) cs ps) e
-block_told s n cs ps outer width.Memory e env h k = subst (Told (EntersBlockNot s (read_title n) cs ps)) (sym k) tt
+    IsReported (EntersBlockNot s (read_title n) cs ps) e
+block_told s n cs ps outer width.Memory e env h k = subst (IsReported (EntersBlockNot s (read_title n) cs ps)) (sym k) tt
 block_told s n cs ps outer (width.Refused w) e env h k =
     let same : early_inside outer cs ps ≡ early_block s cs ps = ap (λ (z : Environment). with_constants (outward (early_names valueless_of (parameters_among ps) [] ps) z) cs) (fun_ext env) in
     told_at (EntersBlockNot s (read_title n) cs ps) (Width w) (named_at s (read_title n)) e (ap (λ (z : Environment). own_faults w nowhere z (block_given ps)) (sym same) ∙ h, refl) k
 
-pub parameters_told : (s : Scope) (u : Use) (m : Module) (r : ParameterRefusal) (e : ElabFault) → AreNoValues (environment s) u.overrides m r → IsParameterFault s u.name r e → Told (EntersInstanceNot s u m) e
-parameters_told s u m refusal.Memory e h k = subst (Told (EntersInstanceNot s u m)) (sym k) tt
+pub parameters_told : (s : Scope) (u : Use) (m : Module) (r : ParameterRefusal) (e : ElabFault) → AreNoValues (environment s) u.overrides m r → IsParameterFault s u.name r e → IsReported (EntersInstanceNot s u m) e
+parameters_told s u m refusal.Memory e h k = subst (IsReported (EntersInstanceNot s u m)) (sym k) tt
 parameters_told s u m refusal.Mismatch e h k = told_at (EntersInstanceNot s u m) ParameterMismatch (named s u.name) e (h, refl) k
 parameters_told s u m (refusal.Outer w) e h k = told_at (EntersInstanceNot s u m) (Width w) s.path e (inr (h, refl)) k
 parameters_told s u m (refusal.Own w) e h k = told_at (EntersInstanceNot s u m) (Width w) (named s u.name) e (inl (h, refl)) k
 
-pub ports_told : (s : Scope) (u : Use) (m : Module) (e : ElabFault) → ConnectsTo u (ports_of m) None → IsFaultAt PortMismatch (named s u.name) e → Told (EntersInstanceNot s u m) e
+pub ports_told : (s : Scope) (u : Use) (m : Module) (e : ElabFault) → ConnectsTo u (ports_of m) None → IsFaultAt PortMismatch (named s u.name) e → IsReported (EntersInstanceNot s u m) e
 ports_told s u m e h k = told_at (EntersInstanceNot s u m) PortMismatch (named s u.name) e (h, refl) k
 
 -- ---- what opens scopes
@@ -246,7 +241,7 @@ module _ (ms : List Module) (ss : List Scope) (s : Scope) (place : ℕ) (at : Be
   pub enters_named : (n : FoundName) (x : NamedBlock) (ps : List Piece) (o : FoundScope) → ps ≡ block_pieces x → read_title n ≡ plainly x.name → text_name n ≡ Some x.name → EntersBlock 0 ss s place at n [] ps o → Enters ms ss s place at (g.named x) o
   enters_named n x ps o e t w h =
       let k : EntersBlock 0 ss s place at n [] (block_pieces x) o = subst (λ z. EntersBlock 0 ss s place at n [] z o) e h in
-      let P : PathName → Type 0 = λ z. IsEntered (ss ++ block_scope 0 s at z [] (block_pieces x) ∷ []) o (block_scope 0 s at z [] (block_pieces x)) in
+      let P : PathName → Type 0 = λ z. IsScopeOf (ss ++ block_scope 0 s at z [] (block_pieces x) ∷ []) o (block_scope 0 s at z [] (block_pieces x)) in
       record {
         sound = k.parameters;
         inner = block_scope 0 s at (plainly x.name) [] (block_pieces x);
@@ -260,7 +255,7 @@ module _ (ms : List Module) (ss : List Scope) (s : Scope) (place : ℕ) (at : Be
 -- ---- faults of what opens scopes
 
 -- an instance of this module
-pub use_told : (ms : List Module) (s : Scope) (u : Use) (m : Module) (e : ElabFault) → module_named ms u.of ≡ Some m → Told (EntersInstanceNot s u m) e → Told (EntersNot ms s (instance u)) e
+pub use_told : (ms : List Module) (s : Scope) (u : Use) (m : Module) (e : ElabFault) → module_named ms u.of ≡ Some m → IsReported (EntersInstanceNot s u m) e → IsReported (EntersNot ms s (instance u)) e
 use_told ms s u m e found h = told_by (EntersInstanceNot s u m) (EntersNot ms s (instance u)) e by h
   where
     by : (r : Reason) (p : Path) → EntersInstanceNot s u m r p → EntersNot ms s (instance u) r p
@@ -284,11 +279,11 @@ found_some ms n names m l h = sym (l.found n) ∙ ap (option_map (λ (z : NamedM
 pub found_none : (ms : List Module) (n : List ℕ) (names : List (List ℕ × NamedModule)) → Lists ms names → None ≡ meaning_of names n → module_named ms n ≡ None
 found_none ms n names l h = sym (l.found n) ∙ ap (option_map (λ (z : NamedModule). z.«module».now)) (sym h)
 
-pub none_told : (ms : List Module) (s : Scope) (u : Use) (e : ElabFault) → module_named ms u.of ≡ None → IsFaultAt NoModule (named s u.name) e → Told (EntersNot ms s (instance u)) e
+pub none_told : (ms : List Module) (s : Scope) (u : Use) (e : ElabFault) → module_named ms u.of ≡ None → IsFaultAt NoModule (named s u.name) e → IsReported (EntersNot ms s (instance u)) e
 none_told ms s u e h f = told_at (EntersNot ms s (instance u)) NoModule (named s u.name) e (h, refl) f
 
-pub inside_told : (ms : List Module) (s : Scope) (u : Use) (m : Module) (e : ElabFault) → module_named ms u.of ≡ Some m → is_inside s m ≡ true → IsFaultAt Inside (named s u.name) e → Told (EntersNot ms s (instance u)) e
-inside_told ms s u m e found h f = told_at (EntersNot ms s (instance u)) Inside (named s u.name) e (ap (of_module (is_inside s)) found ∙ h, refl) f
+pub inside_by_flags : (ms : List Module) (s : Scope) (u : Use) (m : Module) (e : ElabFault) → module_named ms u.of ≡ Some m → is_inside s m ≡ true → IsFaultAt Inside (named s u.name) e → IsReported (EntersNot ms s (instance u)) e
+inside_by_flags ms s u m e found h f = told_at (EntersNot ms s (instance u)) Inside (named s u.name) e (ap (of_module (is_inside s)) found ∙ h, refl) f
 
 -- a named block has no parameters
 no_parameters : (ls : List LocalDeclaration) (bs : List NamedBlock) → parameters_among (map local ls ++ map inside bs) ≡ []
@@ -299,10 +294,10 @@ no_parameters (l ∷ ls) bs = no_parameters ls bs
 named_sound : (s : Scope) (x : NamedBlock) (w : WidthReason) → block_fault s [] (block_pieces x) w ≡ false
 named_sound s x w = ap (λ z. own_faults w nowhere (early_block s [] (block_pieces x)) (given_from z [])) (no_parameters x.locals (blocks_among x.statements))
 
-pub generated_told : (ms : List Module) (s : Scope) (i : ℕ) (n : FoundName) (cs : List (List ℕ × Const)) (xs : List ModuleItem) (ps : List Piece) (e : ElabFault) → ps ≡ pieces_of xs → Told (EntersBlockNot s (read_title n) cs ps) e → Told (EntersNot ms s (generated i (read_title n) cs xs)) e
-generated_told ms s i n cs xs ps e q h = subst (λ z. Told (EntersBlockNot s (read_title n) cs z) e) q h
+pub generated_told : (ms : List Module) (s : Scope) (i : ℕ) (n : FoundName) (cs : List (List ℕ × Const)) (xs : List ModuleItem) (ps : List Piece) (e : ElabFault) → ps ≡ pieces_of xs → IsReported (EntersBlockNot s (read_title n) cs ps) e → IsReported (EntersNot ms s (generated i (read_title n) cs xs)) e
+generated_told ms s i n cs xs ps e q h = subst (λ z. IsReported (EntersBlockNot s (read_title n) cs z) e) q h
 
-pub named_told : (ms : List Module) (s : Scope) (n : PathName) (x : NamedBlock) (ps : List Piece) (e : ElabFault) → ps ≡ block_pieces x → Told (EntersBlockNot s n [] ps) e → Told (EntersNot ms s (g.named x)) e
+pub named_told : (ms : List Module) (s : Scope) (n : PathName) (x : NamedBlock) (ps : List Piece) (e : ElabFault) → ps ≡ block_pieces x → IsReported (EntersBlockNot s n [] ps) e → IsReported (EntersNot ms s (g.named x)) e
 named_told ms s n x ps e q h = told_by (EntersBlockNot s n [] ps) (EntersNot ms s (g.named x)) e by h
   where
     by : (r : Reason) (p : Path) → EntersBlockNot s n [] ps r p → ⊥

@@ -9,7 +9,7 @@ use Rattle.vs_syntax.specs.declared.tree.Module.{Module}
 use Rattle.vs_syntax.specs.declared.tree.ModuleItem.{ModuleItem}
 use Rattle.vs_scopes.specs.vs_widths.specs.declared.constants.Const.{Const}
 use Rattle.vs_scopes.specs.vs_widths.specs.Environment.{Environment}
-use Rattle.vs_elab_listed.specs.vs_scopes.specs.Pieces.{NamedBlock, blocks_of, Piece, plain, loop, choice, local, inside, net, Content, nothing, block, content_of}
+use Rattle.vs_elab_signals.specs.vs_scopes.specs.Pieces.{NamedBlock, blocks_of, Piece, plain, loop, choice, local, inside, net, Content, nothing, block, content_of}
 use Rattle.vs_scopes.specs.declared.faults.Reason.{Reason}
 use Rattle.vs_scopes.specs.declared.faults.Reason.TheVariants.{NoModule, Inside, PortMismatch, ParameterMismatch, DeclaredTwice, DrivenTwice, Limit, Width, Endless, Unnamed, Timescales, Format}
 use Rattle.vs_scopes.specs.declared.faults.BodyFault.{BodyFault}
@@ -17,14 +17,14 @@ use Rattle.vs_scopes.specs.declared.faults.ElabFault.{ElabFault}
 use Rattle.vs_scopes.specs.Printed.{PathName, Path}
 use Rattle.vs_scopes.specs.Parameters.{is_override_mismatch}
 use Rattle.vs_scopes.specs.Declarations.{Use, uses_in, uses_by_item, uses_among, is_unlike}
-use Rattle.vs_scopes.specs.Generate.{Inner, instance, generated, Turns, turns, faulty, endless, Taken, takes, refused, turns_of, chosen, name_of_block, generates, content_inner, turns_inner, loop_inner, choice_inner, genvar_number, inner_in, inner_from, behind_piece, turns_fault, taken_fault, construct_fault, constructs_fault}
+use Rattle.vs_scopes.specs.Generate.{Inner, instance, generated, Turns, turns, faulty, endless, Taken, takes, refused, turns_of, chosen, name_of_block, generates, content_inner, turns_inner, loop_inner, choice_inner, genvar_number, inner_in, inner_from, after_piece, turns_fault, taken_fault, construct_fault, constructs_fault}
 use Rattle.vs_scopes.specs.Generate as g
-use Rattle.vs_scopes.specs.Scopes.{Scope, Before, behind, within_first, all_names_of, text_names, environment, uses_of, inner_of, is_named_as_net, opened, listed, below, scopes_within, is_inside, is_port_mismatch}
-use Rattle.vs_scopes.specs.scopes_passes.Answers.{Told, Refuses, IsRefusal}
+use Rattle.vs_scopes.specs.Scopes.{Scope, Before, before_following, within_first, all_names_of, text_names, environment, uses_of, inner_of, is_named_as_net, opened, of_opened, below, scopes_within, is_inside, is_port_mismatch}
+use Rattle.vs_scopes.specs.scopes_passes.Answers.{IsReported, Refuses, IsRefusal}
 use Rattle.vs_scopes.proofs.Folds.{any_false_at}
 use Rattle.vs_scopes.proofs.AnswerLemmas.{told_by, told_part}
-use Rattle.vs_elab_listed.specs.ScopeFaults.{Repeated, of_module, AtInstance, parameter_fault, override_fault, HasConstructFault, PassesLimit, PassesTurns, HoldsOpening, HoldsOpeningIn}
-use Rattle.vs_elab_hierarchy.specs.vs_elab_listed.specs.nets_passes.Nets.{IsNamedAsNet}
+use Rattle.vs_elab_signals.specs.ScopeFaults.{Repeated, of_module, AtInstance, parameter_fault, override_fault, HasConstructFault, PassesLimit, PassesTurns, HoldsOpening, HoldsOpeningIn}
+use Rattle.vs_elab_hierarchy.specs.vs_elab_signals.specs.nets_passes.Nets.{IsNamedAsNet}
 use Rattle.vs_elab_hierarchy.specs.passes.Entering.{IsSoundUse, IsSoundInner, EntersNot}
 use Rattle.vs_elab_hierarchy.specs.scope_passes.Own.{IsSoundOwn, HoldsOwn}
 use Rattle.vs_elab_hierarchy.specs.scope_passes.Adding.{AddsInnerNot}
@@ -102,8 +102,8 @@ module _ (env : Environment) (names : List (List ℕ)) where
   inner_use at k [] i u h = absurd (none-some (instance u) h)
   inner_use at k (p ∷ ps) i u h =
       ⊎_elim (λ q. (let one = piece_use at k p i u q.1 in (one.0, slice_front (uses_in p) (uses_among ps) one.0 u one.1)))
-      (λ q. (let rest = inner_use (suc at) (behind_piece k p) ps q.0 u q.2 in (length (uses_in p) + rest.0, slice_back (uses_in p) (uses_among ps) rest.0 ∙ rest.1)))
-      (slice_either (inner_in at env names k p) (inner_from (suc at) env names (behind_piece k p) ps) i (instance u) h)
+      (λ q. (let rest = inner_use (suc at) (after_piece k p) ps q.0 u q.2 in (length (uses_in p) + rest.0, slice_back (uses_in p) (uses_among ps) rest.0 ∙ rest.1)))
+      (slice_either (inner_in at env names k p) (inner_from (suc at) env names (after_piece k p) ps) i (instance u) h)
 
   use_piece : (at k : ℕ) (p : Piece) (j : ℕ) (u : Use) → slice_get (uses_in p) j ≡ Some u → (i : ℕ) × (slice_get (inner_in at env names k p) i ≡ Some (instance u))
   use_piece at k (plain x) j u h = (j, slice_front (map instance (uses_by_item x)) (map g.named (blocks_of x)) j (instance u) (slice_get-map instance (uses_by_item x) j ∙ ap (option_map instance) h))
@@ -118,9 +118,9 @@ module _ (env : Environment) (names : List (List ℕ)) where
   use_inner at k [] j u h = absurd (none-some u h)
   use_inner at k (p ∷ ps) j u h =
       let own = inner_in at env names k p in
-      let others = inner_from (suc at) env names (behind_piece k p) ps in
+      let others = inner_from (suc at) env names (after_piece k p) ps in
       ⊎_elim (λ q. (let one = use_piece at k p j u q.1 in (one.0, slice_front own others one.0 (instance u) one.1)))
-      (λ q. (let rest = use_inner (suc at) (behind_piece k p) ps q.0 u q.2 in (length own + rest.0, slice_back own others rest.0 ∙ rest.1)))
+      (λ q. (let rest = use_inner (suc at) (after_piece k p) ps q.0 u q.2 in (length own + rest.0, slice_back own others rest.0 ∙ rest.1)))
       (slice_either (uses_in p) (uses_among ps) j u h)
 
 -- ---- where faults stand
@@ -222,7 +222,7 @@ construct_quiet r q env names k (net n) = refl
 constructs_quiet : (r : Reason) → Quiet r → (env : Environment) (names : List (List ℕ)) (k : ℕ) (ps : List Piece) → constructs_fault r env names k ps ≡ false
 constructs_quiet r q env names k [] = refl
 constructs_quiet r q env names k (p ∷ ps) =
-    ap (λ z. z || constructs_fault r env names (behind_piece k p) ps) (construct_quiet r q env names k p) ∙ constructs_quiet r q env names (behind_piece k p) ps
+    ap (λ z. z || constructs_fault r env names (after_piece k p) ps) (construct_quiet r q env names k p) ∙ constructs_quiet r q env names (after_piece k p) ps
 
 construct_holds : (ms : List Module) (s : Scope) (r : Reason) (p : Path) → HasConstructFault s r p → HoldsOpening ms s r p
 construct_holds ms s (Width w) p h = inr (inr (inr (inl h)))
@@ -239,7 +239,7 @@ construct_holds ms s DrivenTwice p h = absurd (true≢false (sym h.0 ∙ constru
 construct_holds ms s Limit p h = absurd (true≢false (sym h.0 ∙ constructs_quiet Limit tt (environment s) (text_names s) 1 s.pieces))
 
 -- a construct's fault, as it is told
-pub construct_told : (s : Scope) (f : BodyFault) (e : ElabFault) → Refuses (λ r. constructs_fault r (environment s) (text_names s) 1 s.pieces) f → IsRefusal s.path f e → Told (HasConstructFault s) e
+pub construct_told : (s : Scope) (f : BodyFault) (e : ElabFault) → Refuses (λ r. constructs_fault r (environment s) (text_names s) 1 s.pieces) f → IsRefusal s.path f e → IsReported (HasConstructFault s) e
 construct_told s f e h k = told_part (HasConstructFault s) (λ r. constructs_fault r (environment s) (text_names s) 1 s.pieces) s.path f e (λ r q. (q, refl)) h k
 
 -- ---- among scopes
@@ -257,7 +257,7 @@ holds_right ms (x ∷ xs) ys r p h = inr (holds_right ms xs ys r p h)
 scope_holds : (room : ℕ) (ms : List Module) (s : Scope) (r : Reason) (p : Path) → HoldsOpening ms s r p → HoldsOpeningIn ms (scopes_within room ms s) r p
 scope_holds room ms s r p h = subst (λ z. HoldsOpeningIn ms z r p) (sym (within_inside room ms s)) (inl h)
 
-pub own_told : (room : ℕ) (ms : List Module) (s : Scope) (e : ElabFault) → Told (HoldsOwn s) e → Told (HoldsOpeningIn ms (scopes_within room ms s)) e
+pub own_told : (room : ℕ) (ms : List Module) (s : Scope) (e : ElabFault) → IsReported (HoldsOwn s) e → IsReported (HoldsOpeningIn ms (scopes_within room ms s)) e
 own_told room ms s e h = told_by (HoldsOwn s) (HoldsOpeningIn ms (scopes_within room ms s)) e (λ r p k. scope_holds room ms s r p (own_holds ms s r p k)) h
 
 blocks_hold : (ms : List Module) (s : Scope) (r : Reason) (p : Path) → IsNamedAsNet s (inner_of s) r p → HoldsOpening ms s r p
@@ -276,27 +276,27 @@ blocks_hold ms s Timescales p h = absurd h
 blocks_hold ms s (Format wrong) p h = absurd h
 
 -- why nothing is opened in it
-pub inner_not_told : (room : ℕ) (ms : List Module) (s : Scope) (e : ElabFault) → Told (HasInnerNot s) e → Told (HoldsOpeningIn ms (scopes_within room ms s)) e
+pub inner_not_told : (room : ℕ) (ms : List Module) (s : Scope) (e : ElabFault) → IsReported (HasInnerNot s) e → IsReported (HoldsOpeningIn ms (scopes_within room ms s)) e
 inner_not_told room ms s e h = told_by (HasInnerNot s) (HoldsOpeningIn ms (scopes_within room ms s)) e (λ r p k. scope_holds room ms s r p (⊎_elim (construct_holds ms s r p) (blocks_hold ms s r p) k)) h
 
-module _ (n : ℕ) (ms : List Module) (s : Scope) (done : List Inner) (x : Inner) (rest : List Inner) (whole : (done ++ x ∷ []) ++ rest ≡ inner_of s) (at : Before) (here : at ≡ behind (within_first s) (below ms (scopes_within n ms) s (within_first s) done)) where
+module _ (n : ℕ) (ms : List Module) (s : Scope) (done : List Inner) (x : Inner) (rest : List Inner) (whole : (done ++ x ∷ []) ++ rest ≡ inner_of s) (at : Before) (here : at ≡ before_following (within_first s) (below ms (scopes_within n ms) s (within_first s) done)) where
   -- a fault in a scope that one of them opens
   inner_holds : (inner : Scope) (r : Reason) (p : Path) → opened ms s at x ≡ Some inner → HoldsOpeningIn ms (scopes_within n ms inner) r p → HoldsOpeningIn ms (scopes_within (suc n) ms s) r p
   inner_holds inner r p o h =
       let F = scopes_within n ms in
       let first = within_first s in
       let these = below ms F s first done in
-      let one : F inner ++ below ms F s (behind at (F inner)) rest ≡ below ms F s at (x ∷ rest) = ap (λ z. listed F z ++ below ms F s (behind at (listed F z)) rest) (sym o) in
+      let one : F inner ++ below ms F s (before_following at (F inner)) rest ≡ below ms F s at (x ∷ rest) = ap (λ z. of_opened F z ++ below ms F s (before_following at (of_opened F z)) rest) (sym o) in
       let all : these ++ below ms F s at (x ∷ rest) ≡ below ms F s first (inner_of s) =
       ap (λ z. these ++ below ms F s z (x ∷ rest)) here ∙ sym (below_append ms F s first done (x ∷ rest)) ∙ ap (below ms F s first) (split done ∙ whole) in
       subst (λ z. HoldsOpeningIn ms z r p) (sym (within_inside (suc n) ms s)) (inr (subst (λ z. HoldsOpeningIn ms z r p) all (holds_right ms these (below ms F s at (x ∷ rest)) r p
-      (subst (λ z. HoldsOpeningIn ms z r p) one (holds_left ms (F inner) (below ms F s (behind at (F inner)) rest) r p h)))))
+      (subst (λ z. HoldsOpeningIn ms z r p) one (holds_left ms (F inner) (below ms F s (before_following at (F inner)) rest) r p h)))))
     where
       split : (ys : List Inner) → ys ++ (x ∷ rest) ≡ (ys ++ x ∷ []) ++ rest
       split [] = refl
       split (y ∷ ys) = ap (λ z. y ∷ z) (split ys)
 
-  pub inner_told : (inner : Scope) (e : ElabFault) → opened ms s at x ≡ Some inner → Told (HoldsOpeningIn ms (scopes_within n ms inner)) e → Told (HoldsOpeningIn ms (scopes_within (suc n) ms s)) e
+  pub inner_told : (inner : Scope) (e : ElabFault) → opened ms s at x ≡ Some inner → IsReported (HoldsOpeningIn ms (scopes_within n ms inner)) e → IsReported (HoldsOpeningIn ms (scopes_within (suc n) ms s)) e
   inner_told inner e o h = told_by (HoldsOpeningIn ms (scopes_within n ms inner)) (HoldsOpeningIn ms (scopes_within (suc n) ms s)) e (λ r p k. inner_holds inner r p o k) h
 
   stands_here : slice_get (inner_of s) (length done) ≡ Some x
@@ -307,7 +307,7 @@ module _ (n : ℕ) (ms : List Module) (s : Scope) (done : List Inner) (x : Inner
       at_end (y ∷ ys) = at_end ys
 
   -- one that wasn't added
-  pub adds_told : (e : ElabFault) → Told (AddsInnerNot ms s at x) e → Told (HoldsOpeningIn ms (scopes_within (suc n) ms s)) e
+  pub adds_told : (e : ElabFault) → IsReported (AddsInnerNot ms s at x) e → IsReported (HoldsOpeningIn ms (scopes_within (suc n) ms s)) e
   adds_told e h = told_by (AddsInnerNot ms s at x) (HoldsOpeningIn ms (scopes_within (suc n) ms s)) e by h
     where
       by : (r : Reason) (p : Path) → AddsInnerNot ms s at x r p → HoldsOpeningIn ms (scopes_within (suc n) ms s) r p

@@ -5,22 +5,22 @@ use Rattle.std.proofs.lemmas.List.{same_from_push}
 use Rattle.vs_design.specs.declared.design.Entry.TheVariants.{Leave}
 use Rattle.vs_scopes.specs.declared.faults.ElabFault.{ElabFault}
 use Rattle.vs_scopes.specs.Scopes.{Scope}
-use Rattle.vs_scopes.specs.scopes_passes.Answers.{Told}
-use Rattle.vs_elab_listed.specs.vs_elab_constants.specs.declared.opening.Inner.{Inner as FoundInner}
-use Rattle.vs_elab_listed.specs.vs_elab_constants.specs.Reads.{read_inner}
-use Rattle.vs_elab_listed.specs.declared.opened.ListedScope.{ListedScope as FoundScope}
-use Rattle.vs_elab_listed.specs.declared.opened.Numbering.{Numbering}
+use Rattle.vs_scopes.specs.scopes_passes.Answers.{IsReported}
+use Rattle.vs_elab_signals.specs.vs_elab_constants.specs.declared.opening.Inner.{Inner as FoundInner}
+use Rattle.vs_elab_signals.specs.vs_elab_constants.specs.Reads.{read_inner}
+use Rattle.vs_elab_signals.specs.declared.opened.ElabScope.{ElabScope as FoundScope}
+use Rattle.vs_elab_signals.specs.declared.opened.Numbering.{Numbering}
 use Rattle.vs_elab_hierarchy.specs.declared.entering.NamedModule.{NamedModule}
 use Rattle.vs_elab_hierarchy.specs.passes.Entering.{before_next}
 use Rattle.vs_elab_hierarchy.specs.scope_passes.Adding.{AddsInnerAt, AddsInnerNot, IsHolding}
-use Rattle.vs_elab_listed.specs.Opened.{AreOpened, AreSeated}
+use Rattle.vs_elab_signals.specs.Opened.{AreOpened, AreSeated}
 use Rattle.vs_elab_hierarchy.proofs.SeatLemmas.{opened_place}
 use Rattle.vs_syntax.specs.declared.tree.Module.{Module}
 use Rattle.vs_elab_hierarchy.specs.declared.opening.Opening.{Opening}
 use Rattle.vs_elab_hierarchy.specs.hierarchy_passes.Opens.{HasInner, HasInnerNot, IsReady}
 use Rattle.vs_elab_hierarchy.specs.hierarchy_passes.InHand.{Asked, HasFault, HasOpened, InHand, IsFor, IsOpenedWhole, Wait, for_none, for_one, none_left, some_left}
 use Rattle.vs_elab_hierarchy.proofs.FaultLemmas.{inner_not_told}
-use Rattle.vs_elab_hierarchy.proofs.InsideLemmas.{so_far, holding_start, holding_end, holding_here, add_told, room_inside, ready_inside, inside_told, holding_next}
+use Rattle.vs_elab_hierarchy.proofs.InsideLemmas.{so_far, holding_start, holding_end, holding_here, add_told, room_inside, ready_inside, inside_by_flags, holding_next}
 
 -- the innermost scope, and those that wait for it
 pub record Top (call : Asked) (modules : List (List ℕ × NamedModule)) (rest : List Opening) (o : Opening) (list : List FoundScope) (new : Numbering) : Type 0 where
@@ -82,7 +82,7 @@ module _ (a : Asked) (modules : List (List ℕ × NamedModule)) (o : Opening) (i
         (holding_here a.depth_left is.some a.ms a.ss a.s a.place modules a.start a.old is.ready o.inner.items is.inner o.opened x l e list1 p1 has)
 
     -- it has a fault of its own members
-    pub not_added : (f : ElabFault) → Told (AddsInnerNot a.ms a.s (before_next list1 p1) (read_inner x)) f → HasFault a f
+    pub not_added : (f : ElabFault) → IsReported (AddsInnerNot a.ms a.s (before_next list1 p1) (read_inner x)) f → HasFault a f
     not_added f h = add_told a.depth_left is.some a.ms a.ss a.s a.place modules a.start a.old is.ready o.inner.items is.inner o.opened x l e list1 p1 has f h
 
     module _ (list2 : List FoundScope) (p2 : Numbering) (next : ℕ) (adds : AddsInnerAt a.ms far a.s a.place (before_next list1 p1) (read_inner x) list1 list2 p1 p2 next) where
@@ -96,10 +96,10 @@ module _ (a : Asked) (modules : List (List ℕ × NamedModule)) (o : Opening) (i
 
       pub inside_fault : (f : ElabFault) → HasFault inside f → HasFault a f
       inside_fault f h =
-          inside_told a.depth_left is.some a.ms a.ss a.s a.place modules a.start a.old is.ready o.inner.items is.inner o.opened x l e list1 p1 has list2 p2 next adds f h
+          inside_by_flags a.depth_left is.some a.ms a.ss a.s a.place modules a.start a.old is.ready o.inner.items is.inner o.opened x l e list1 p1 has list2 p2 next adds f h
 
       -- what opens scopes in it has a fault
-      pub not_found : (f : ElabFault) → Told (HasInnerNot adds.1.inner) f → HasFault a f
+      pub not_found : (f : ElabFault) → IsReported (HasInnerNot adds.1.inner) f → HasFault a f
       not_found f h = inside_fault f (inner_not_told (a.depth_left - 1) a.ms adds.1.inner f h)
 
       -- it is the innermost one then
@@ -145,7 +145,7 @@ module _ (call : Asked) (modules : List (List ℕ × NamedModule)) (rest : List 
     pub adds_here : IsHolding top.a.ms around top.a.s modules list1 p1 o.place
     adds_here = may_add top.a modules o top.is list1 p1 top.has x next.0 next.1
 
-    pub adds_not : (f : ElabFault) → Told (AddsInnerNot top.a.ms top.a.s (before_next list1 p1) (read_inner x)) f → HasFault call f
+    pub adds_not : (f : ElabFault) → IsReported (AddsInnerNot top.a.ms top.a.s (before_next list1 p1) (read_inner x)) f → HasFault call f
     adds_not f h = fault_told call modules rest top.a top.waits f (not_added top.a modules o top.is list1 p1 top.has x next.0 next.1 f h)
 
     module _ (list2 : List FoundScope) (p2 : Numbering) (place : ℕ) (added : AddsInnerAt top.a.ms around top.a.s o.place (before_next list1 p1) (read_inner x) list1 list2 p1 p2 place) where
@@ -163,7 +163,7 @@ module _ (call : Asked) (modules : List (List ℕ × NamedModule)) (rest : List 
           subst (λ z. (place < length z) × AreSeated z × AreOpened z (around ++ within ∷ [])) (sym e)
           (opened_place list2 (around ++ within ∷ []) place within within_ready.planned.opened within_ready.stands, within_ready.planned.seated, within_ready.planned.opened)
 
-      pub finds_not : (f : ElabFault) → Told (HasInnerNot within) f → HasFault call f
+      pub finds_not : (f : ElabFault) → IsReported (HasInnerNot within) f → HasFault call f
       finds_not f h = fault_told call modules rest top.a top.waits f (not_found top.a modules o top.is list1 p1 top.has x next.0 next.1 list2 p2 place adds f h)
 
       pub goes_on : (c : Opening) → c.place ≡ place → c.opened ≡ 0 → HasInner within (map read_inner c.inner.items) →

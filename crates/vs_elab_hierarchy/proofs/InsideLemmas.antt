@@ -6,25 +6,25 @@ use Rattle.vs_syntax.specs.declared.tree.Module.{Module}
 use Rattle.vs_design.specs.declared.design.Entry.TheVariants.{Leave}
 use Rattle.vs_scopes.specs.vs_widths.specs.Environment.{Environment}
 use Rattle.vs_elab_constants.specs.vs_widths.specs.Names.{meaning_of}
-use Rattle.vs_elab_listed.specs.vs_scopes.specs.Pieces.{Piece}
-use Rattle.vs_elab_listed.specs.vs_elab_constants.specs.declared.opening.Inner.{Inner as FoundInner}
-use Rattle.vs_elab_listed.specs.vs_elab_constants.specs.Reads.{read_inner}
-use Rattle.vs_elab_listed.specs.vs_elab_constants.specs.generate_passes.Numbering.{AreNames}
+use Rattle.vs_elab_signals.specs.vs_scopes.specs.Pieces.{Piece}
+use Rattle.vs_elab_signals.specs.vs_elab_constants.specs.declared.opening.Inner.{Inner as FoundInner}
+use Rattle.vs_elab_signals.specs.vs_elab_constants.specs.Reads.{read_inner}
+use Rattle.vs_elab_signals.specs.vs_elab_constants.specs.generate_passes.Numbering.{AreNames}
 use Rattle.vs_scopes.specs.declared.faults.Reason.{Reason}
 use Rattle.vs_scopes.specs.declared.faults.BodyFault.{BodyFault}
 use Rattle.vs_scopes.specs.declared.faults.ElabFault.{ElabFault}
 use Rattle.vs_scopes.specs.Parameters.{said}
 use Rattle.vs_scopes.specs.Declarations.{Bindings}
 use Rattle.vs_scopes.specs.Generate.{Inner, inner_from, constructs_fault}
-use Rattle.vs_scopes.specs.Scopes.{Scope, behind, within_first, text_names, environment, seen_from, inner_of, below, scopes_within}
-use Rattle.vs_scopes.specs.scopes_passes.Answers.{Told, Refuses, IsRefusal}
+use Rattle.vs_scopes.specs.Scopes.{Scope, before_following, within_first, text_names, environment, seen_from, inner_of, below, scopes_within}
+use Rattle.vs_scopes.specs.scopes_passes.Answers.{IsReported, Refuses, IsRefusal}
 use Rattle.vs_design.specs.vs_logic4.proofs.Basics.{take_push}
 use Rattle.vs_scopes.proofs.AnswerLemmas.{refused_by}
-use Rattle.vs_elab_listed.specs.declared.opened.ListedScope.{ListedScope as FoundScope}
-use Rattle.vs_elab_listed.specs.declared.opened.Numbering.{Numbering}
-use Rattle.vs_elab_listed.specs.Opened.{IsOpened}
-use Rattle.vs_elab_listed.specs.ScopeFaults.{HasConstructFault, HoldsOpeningIn}
-use Rattle.vs_elab_listed.proofs.BindLemmas.{is_key}
+use Rattle.vs_elab_signals.specs.declared.opened.ElabScope.{ElabScope as FoundScope}
+use Rattle.vs_elab_signals.specs.declared.opened.Numbering.{Numbering}
+use Rattle.vs_elab_signals.specs.Opened.{IsOpened}
+use Rattle.vs_elab_signals.specs.ScopeFaults.{HasConstructFault, HoldsOpeningIn}
+use Rattle.vs_elab_signals.proofs.BindLemmas.{is_key}
 use Rattle.vs_elab_hierarchy.specs.declared.entering.NamedModule.{NamedModule}
 use Rattle.vs_elab_hierarchy.specs.passes.Entering.{before_next}
 use Rattle.vs_elab_hierarchy.specs.scope_passes.Own.{IsSoundOwn}
@@ -58,7 +58,7 @@ module _ (s : Scope) (env : Environment) (ps : List Piece) (e : env ≡ environm
     same = k ∙ ap (λ z. inner_from 0 z (text_names s) 1 ps) e ∙ ap (inner_from 0 (environment s) (text_names s) 1) p;
   }
 
-  pub fault_found : (f : BodyFault) (b : ElabFault) → Refuses (λ r. constructs_fault r env (text_names s) 1 ps) f → IsRefusal s.path f b → Told (HasConstructFault s) b
+  pub fault_found : (f : BodyFault) (b : ElabFault) → Refuses (λ r. constructs_fault r env (text_names s) 1 ps) f → IsRefusal s.path f b → IsReported (HasConstructFault s) b
   fault_found f b h k = construct_told s f b (refused_by (λ r. constructs_fault r env (text_names s) 1 ps) (λ r. constructs_fault r (environment s) (text_names s) 1 s.pieces) f (λ q g. sym (faults_same q) ∙ g) h) k
 
 -- ---- the loop
@@ -104,13 +104,13 @@ module _ (depth_left : ℕ) (some : 0 < depth_left) (ms : List Module) (ss : Lis
       whole : (map read_inner (take i items) ++ read_inner x ∷ []) ++ map read_inner (drop (i + 1) items) ≡ inner_of s
       whole = inner_split items i x l e ∙ inner.found.same
 
-      here : before_next list1 p1 ≡ behind (within_first s) (below ms (scopes_within (depth_left - 1) ms) s (within_first s) (map read_inner (take i items)))
+      here : before_next list1 p1 ≡ before_following (within_first s) (below ms (scopes_within (depth_left - 1) ms) s (within_first s) (map read_inner (take i items)))
       here = planned_behind list0 list1 p0 p1 ss (below ms (scopes_within (depth_left - 1) ms) s (within_first s) (map read_inner (take i items))) (within_first s) ready.planned ready.next holds.planned
 
       -- one that isn't added
-      pub add_told : (f : ElabFault) → Told (AddsInnerNot ms s (before_next list1 p1) (read_inner x)) f → Told (OpensInsideNot depth_left ms s) f
+      pub add_told : (f : ElabFault) → IsReported (AddsInnerNot ms s (before_next list1 p1) (read_inner x)) f → IsReported (OpensInsideNot depth_left ms s) f
       add_told f h =
-          subst (λ r. Told (HoldsOpeningIn ms (scopes_within r ms s)) f) one_level
+          subst (λ r. IsReported (HoldsOpeningIn ms (scopes_within r ms s)) f) one_level
           (adds_told (depth_left - 1) ms s (map read_inner (take i items)) (read_inner x) (map read_inner (drop (i + 1) items)) whole (before_next list1 p1) here f h)
 
       module _ (list2 : List FoundScope) (p2 : Numbering) (next : ℕ) (adds : AddsInnerAt ms (ss ++ below ms (scopes_within (depth_left - 1) ms) s (within_first s) (map read_inner (take i items))) s place (before_next list1 p1) (read_inner x) list1 list2 p1 p2 next) where
@@ -137,9 +137,9 @@ module _ (depth_left : ℕ) (some : 0 < depth_left) (ms : List Module) (ss : Lis
         }
 
         -- a fault inside it
-        pub inside_told : (f : ElabFault) → Told (OpensInsideNot (depth_left - 1) ms adds.1.inner) f → Told (OpensInsideNot depth_left ms s) f
-        inside_told f h =
-            subst (λ r. Told (HoldsOpeningIn ms (scopes_within r ms s)) f) one_level
+        pub inside_by_flags : (f : ElabFault) → IsReported (OpensInsideNot (depth_left - 1) ms adds.1.inner) f → IsReported (OpensInsideNot depth_left ms s) f
+        inside_by_flags f h =
+            subst (λ r. IsReported (HoldsOpeningIn ms (scopes_within r ms s)) f) one_level
             (inner_told (depth_left - 1) ms s (map read_inner (take i items)) (read_inner x) (map read_inner (drop (i + 1) items)) whole (before_next list1 p1) here adds.1.inner f adds.1.opens h)
 
         -- one more

@@ -6,13 +6,13 @@ use Rattle.std.proofs.lemmas.List.Elements.{All-append, All-nil, All-cons}
 use Rattle.std.proofs.lemmas.Option.{none-some, same_Some}
 use Rattle.vs_syntax.specs.declared.tree.Module.{Module}
 use Rattle.vs_design.specs.declared.design.Entry.TheVariants.{Leave}
-use Rattle.vs_elab_listed.specs.vs_scopes.specs.Pieces.{NamedBlock}
+use Rattle.vs_elab_signals.specs.vs_scopes.specs.Pieces.{NamedBlock}
 use Rattle.vs_scopes.specs.Generate.{Inner}
 use Rattle.vs_scopes.specs.Generate as g
-use Rattle.vs_scopes.specs.Scopes.{Scope, Before, behind, within_first, inner_of, is_named_as_net, opened, listed, below, scopes_within}
-use Rattle.vs_elab_listed.specs.declared.opened.ListedScope.{ListedScope as FoundScope}
-use Rattle.vs_elab_listed.specs.declared.opened.Numbering.{Numbering}
-use Rattle.vs_elab_listed.specs.Outlines.{declared, Line, leave, outline_within, outline_below, IsEntry}
+use Rattle.vs_scopes.specs.Scopes.{Scope, Before, before_following, within_first, inner_of, is_named_as_net, opened, of_opened, below, scopes_within}
+use Rattle.vs_elab_signals.specs.declared.opened.ElabScope.{ElabScope as FoundScope}
+use Rattle.vs_elab_signals.specs.declared.opened.Numbering.{Numbering}
+use Rattle.vs_elab_signals.specs.Outlines.{declared, Line, leave, outline_within, outline_below, IsEntry}
 use Rattle.vs_elab_hierarchy.specs.passes.Blocks.{text_name, IsTitled, HasInside, HasEachNamed, AreNamed, Extends}
 use Rattle.vs_elab_hierarchy.specs.passes.Entering.{before_next, IsSoundInner}
 use Rattle.vs_elab_hierarchy.specs.scope_passes.Adding.{IsPlanned, AddsInner}
@@ -25,26 +25,26 @@ use Rattle.vs_elab_hierarchy.proofs.AddLemmas.{behind_append, behind_none, plann
 -- ---- the scopes below what opens them
 
 module _ (ms : List Module) (f : Scope → List Scope) (s : Scope) where
-  pub below_append : (at : Before) (xs ys : List Inner) → below ms f s at (xs ++ ys) ≡ below ms f s at xs ++ below ms f s (behind at (below ms f s at xs)) ys
+  pub below_append : (at : Before) (xs ys : List Inner) → below ms f s at (xs ++ ys) ≡ below ms f s at xs ++ below ms f s (before_following at (below ms f s at xs)) ys
   below_append at [] ys = ap (λ z. below ms f s z ys) (sym (behind_none at))
   below_append at (x ∷ xs) ys =
-      let inner = listed f (opened ms s at x) in
-      let rest = below ms f s (behind at inner) xs in
-      ap (λ z. inner ++ z) (below_append (behind at inner) xs ys)
+      let inner = of_opened f (opened ms s at x) in
+      let rest = below ms f s (before_following at inner) xs in
+      ap (λ z. inner ++ z) (below_append (before_following at inner) xs ys)
       ∙ ap (λ z. inner ++ (rest ++ below ms f s z ys)) (sym (behind_append at inner rest))
-      ∙ sym (append_assoc inner rest (below ms f s (behind at (inner ++ rest)) ys))
+      ∙ sym (append_assoc inner rest (below ms f s (before_following at (inner ++ rest)) ys))
 
   module _ (g : Scope → List Line) where
-    pub lines_append : (at : Before) (xs ys : List Inner) → outline_below ms f g s at (xs ++ ys) ≡ outline_below ms f g s at xs ++ outline_below ms f g s (behind at (below ms f s at xs)) ys
+    pub lines_append : (at : Before) (xs ys : List Inner) → outline_below ms f g s at (xs ++ ys) ≡ outline_below ms f g s at xs ++ outline_below ms f g s (before_following at (below ms f s at xs)) ys
     lines_append at [] ys = ap (λ z. outline_below ms f g s z ys) (sym (behind_none at))
     lines_append at (x ∷ xs) ys =
-        let inner = listed f (opened ms s at x) in
-        let lines = listed g (opened ms s at x) in
-        let rest = below ms f s (behind at inner) xs in
-        let more = outline_below ms f g s (behind at inner) xs in
-        ap (λ z. lines ++ z) (lines_append (behind at inner) xs ys)
+        let inner = of_opened f (opened ms s at x) in
+        let lines = of_opened g (opened ms s at x) in
+        let rest = below ms f s (before_following at inner) xs in
+        let more = outline_below ms f g s (before_following at inner) xs in
+        ap (λ z. lines ++ z) (lines_append (before_following at inner) xs ys)
         ∙ ap (λ z. lines ++ (more ++ outline_below ms f g s z ys)) (sym (behind_append at inner rest))
-        ∙ sym (append_assoc lines more (outline_below ms f g s (behind at (inner ++ rest)) ys))
+        ∙ sym (append_assoc lines more (outline_below ms f g s (before_following at (inner ++ rest)) ys))
 
 pub within_inside : (n : ℕ) (ms : List Module) (s : Scope) → scopes_within n ms s ≡ s ∷ scopes_inside n ms s
 unfolding scopes_within
@@ -120,24 +120,24 @@ module _ (n : ℕ) (ms : List Module) (ss : List Scope) (s : Scope) (place : ℕ
   }
 
   -- the scopes below one more
-  pub below_one : (done : List Inner) (x : Inner) (at : Before) (inner : Scope) → at ≡ behind (within_first s) (below_these done) → opened ms s at x ≡ Some inner → below_these (done ++ x ∷ []) ≡ below_these done ++ scopes_within n ms inner
+  pub below_one : (done : List Inner) (x : Inner) (at : Before) (inner : Scope) → at ≡ before_following (within_first s) (below_these done) → opened ms s at x ≡ Some inner → below_these (done ++ x ∷ []) ≡ below_these done ++ scopes_within n ms inner
   below_one done x at inner e o =
       let F = scopes_within n ms in
       below_append ms F s (within_first s) done (x ∷ [])
       ∙ ap (λ z. below_these done ++ below ms F s z (x ∷ [])) (sym e)
-      ∙ ap (λ z. below_these done ++ (listed F z ++ [])) o ∙ ap (λ z. below_these done ++ z) (append-nil (scopes_within n ms inner))
+      ∙ ap (λ z. below_these done ++ (of_opened F z ++ [])) o ∙ ap (λ z. below_these done ++ z) (append-nil (scopes_within n ms inner))
 
-  pub lines_one : (done : List Inner) (x : Inner) (at : Before) (inner : Scope) → at ≡ behind (within_first s) (below_these done) → opened ms s at x ≡ Some inner → lines_below (done ++ x ∷ []) ≡ lines_below done ++ outline_within n ms inner
+  pub lines_one : (done : List Inner) (x : Inner) (at : Before) (inner : Scope) → at ≡ before_following (within_first s) (below_these done) → opened ms s at x ≡ Some inner → lines_below (done ++ x ∷ []) ≡ lines_below done ++ outline_within n ms inner
   lines_one done x at inner e o =
       let F = scopes_within n ms in
       let G = outline_within n ms in
       lines_append ms F s G (within_first s) done (x ∷ [])
       ∙ ap (λ z. lines_below done ++ outline_below ms F G s z (x ∷ [])) (sym e)
-      ∙ ap (λ z. lines_below done ++ (listed G z ++ [])) o ∙ ap (λ z. lines_below done ++ z) (append-nil (outline_within n ms inner))
+      ∙ ap (λ z. lines_below done ++ (of_opened G z ++ [])) o ∙ ap (λ z. lines_below done ++ z) (append-nil (outline_within n ms inner))
 
   module _ (done : List Inner) (x : Inner) (list0 list1 list2 : List FoundScope) (p0 p1 p2 : Numbering) (long : length ss ≡ suc place) (planned : IsPlanned list0 p0 ss) (first : before_next list0 p0 ≡ within_first s)
       (h : HoldsInner n ms ss s place done list0 list1 p0 p1) (k : AddsInner ms (ss ++ below_these done) s place (before_next list1 p1) x list1 list2 p1 p2) where
-    pub behind_these : before_next list1 p1 ≡ behind (within_first s) (below_these done)
+    pub behind_these : before_next list1 p1 ≡ before_following (within_first s) (below_these done)
     behind_these = planned_behind list0 list1 p0 p1 ss (below_these done) (within_first s) planned first h.planned
 
     pub below_more : below_these (done ++ x ∷ []) ≡ below_these done ++ scopes_within n ms k.inner

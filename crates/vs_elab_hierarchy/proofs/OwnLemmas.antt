@@ -4,7 +4,7 @@ use Rattle.std.specs.List.{slice_get, list_any, flat_map, AllZip, IsDistinct}
 use Rattle.std.specs.Str.{bytes_eq}
 use Rattle.std.specs.declared.vec.Vec.{Vec}
 use Rattle.std.specs.declared.alloc.Global.{Global}
-use Rattle.std.proofs.lemmas.Bool.{ltb-true, ltb-false, or_parts}
+use Rattle.std.proofs.lemmas.Bool.{ltb-true, ltb-false, or_parts, and_parts}
 use Rattle.std.proofs.lemmas.List.{append-nil, map-append, length-append, length-map, take_all}
 use Rattle.std.proofs.lemmas.Option.{none-some, slice_get-map, slice_get-get_or}
 use Rattle.vs_syntax.specs.declared.tree.Declarator.{Declarator}
@@ -21,7 +21,7 @@ use Rattle.vs_design.specs.declared.signal.SignalKind.TheVariants as k
 use Rattle.vs_scopes.specs.vs_widths.specs.declared.bindings.Binding.{Binding}
 use Rattle.vs_scopes.specs.vs_widths.specs.declared.bindings.Binding.TheVariants as b
 use Rattle.vs_scopes.specs.vs_widths.specs.Environment.{Environment}
-use Rattle.vs_elab_listed.specs.vs_scopes.specs.Pieces.{Piece, plain, loop, choice, local, inside, net}
+use Rattle.vs_elab_signals.specs.vs_scopes.specs.Pieces.{Piece, plain, loop, choice, local, inside, net}
 use Rattle.vs_scopes.specs.declared.faults.Reason.{Reason}
 use Rattle.vs_scopes.specs.declared.faults.Reason.TheVariants.{NoModule, Inside, PortMismatch, ParameterMismatch, DeclaredTwice, DrivenTwice, Limit, Width, Endless, Unnamed, Timescales, Format}
 use Rattle.vs_scopes.specs.declared.faults.ElabFault.{ElabFault}
@@ -30,7 +30,7 @@ use Rattle.vs_scopes.specs.Ranges.{Sized, sized_as, words_as}
 use Rattle.vs_scopes.specs.Ports.{ModulePort, PortSource, port_names, names_where, is_joined, without_name, left_over, ports_again, port_names_among, has_stray_port}
 use Rattle.vs_scopes.specs.Declarations.{Bindings, DeclaredName, declaration_fault, declared_by_port, declared_by, declared_by_item, declared_local, declared_locally, declared_in, declared_among, names_in, not_joined, bound_to, genvars_in, inner_names_among, is_unlike}
 use Rattle.vs_scopes.specs.Scopes.{Scope, environment, is_instance, deepest, bindings_of, keys, all_names_of, constant_names, numbered_names, declarations_of, late_nets, named}
-use Rattle.vs_scopes.specs.scopes_passes.Answers.{Told, IsFaultAt}
+use Rattle.vs_scopes.specs.scopes_passes.Answers.{IsReported, IsFaultAt}
 use Rattle.vs_scopes.specs.scopes_passes.Names.{read_title, read_path}
 use Rattle.vs_scopes.specs.scopes_passes.Parts.{read_port}
 use Rattle.vs_scopes.specs.declared.ports.ModulePort.{ModulePort as FoundPort}
@@ -38,21 +38,22 @@ use Rattle.vs_scopes.specs.declared.printed.PathName.{PathName as FoundName}
 use Rattle.vs_scopes.proofs.Folds.{any_false_at}
 use Rattle.std.proofs.lemmas.Bool.{or_from as both_false}
 use Rattle.vs_design.specs.vs_logic4.proofs.Basics.{take_push}
-use Rattle.vs_elab_hierarchy.specs.vs_elab_listed.specs.nets_passes.Nets.{IsLate}
+use Rattle.vs_elab_hierarchy.specs.vs_elab_signals.specs.nets_passes.Nets.{IsLate}
 use Rattle.vs_scopes.proofs.AnswerLemmas.{told_at, told_by}
-use Rattle.vs_elab_listed.specs.passes.Counting.{Counts}
+use Rattle.vs_elab_signals.specs.passes.Counting.{Counts}
 use Rattle.vs_scopes.specs.Generate.{turns_among}
-use Rattle.vs_elab_listed.specs.vs_elab_constants.specs.generate_passes.Turns.{CountsTurns}
-use Rattle.vs_elab_listed.specs.declared.opened.ListedScope.{ListedScope as FoundScope}
-use Rattle.vs_elab_listed.specs.declared.opened.Numbering.{Numbering}
-use Rattle.vs_elab_listed.specs.declared.declarations.Declared.{Declared as Declaring}
-use Rattle.vs_elab_listed.specs.Outlines.{declared, signal_of, signals_of, declare_from, IsEntry}
-use Rattle.vs_elab_listed.specs.ScopeFaults.{Repeated, PassesLimit}
-use Rattle.vs_elab_listed.specs.Opened.{IsWithin, StandsAround, IsEntered}
-use Rattle.vs_elab_listed.specs.listed_passes.Sites.{outward_place, passes_limit}
-use Rattle.vs_elab_listed.specs.listed_passes.Naming.{Bound, BoundNot}
-use Rattle.vs_elab_listed.specs.listed_passes.Declaring.{Keeps, KeepsNot, DeclaresPorts, DeclaresPortsNot, Declares, DeclaresNot, joined_names}
-use Rattle.vs_elab_listed.proofs.BindLemmas.{place_of_any, repeated_more, numbered_keys}
+use Rattle.vs_elab_signals.specs.vs_elab_constants.specs.generate_passes.Turns.{CountsTurns}
+use Rattle.vs_elab_signals.specs.declared.opened.ElabScope.{ElabScope as FoundScope}
+use Rattle.vs_elab_signals.specs.declared.opened.Numbering.{Numbering}
+use Rattle.vs_elab_signals.specs.declared.declarations.Declared.{Declared as Declaring}
+use Rattle.vs_elab_signals.specs.Outlines.{declared, signal_of, signals_of, declare_from, IsEntry}
+use Rattle.vs_elab_signals.specs.ScopeFaults.{Repeated, PassesLimit}
+use Rattle.vs_elab_signals.specs.Opened.{IsWithin, HasParentScope, IsScopeOf}
+use Rattle.vs_elab_signals.specs.signal_passes.Sites.{outward_place, passes_limit}
+use Rattle.vs_elab_signals.specs.signal_passes.Naming.{Bound, BoundNot}
+use Rattle.vs_elab_signals.specs.signal_passes.Declaring.{Keeps, KeepsNot, DeclaresPorts, DeclaresPortsNot, Declares, DeclaresNot, joined_names}
+use Rattle.vs_elab_signals.proofs.BindLemmas.{place_of_any, repeated_more, numbered_keys}
+use Rattle.vs_elab_signals.proofs.DeclareLemmas.{keeps_none}
 use Rattle.vs_elab_hierarchy.specs.scope_passes.Own.{AreAlike, HasFewTurns, OpensNames, HoldsOwn, IsFitting, HasFittingPieces, IsAgainNot, DeclaresAll, DeclaresAllNot, Binds, BindsNot, OpensOwn, EntersLast}
 use Rattle.vs_elab_hierarchy.proofs.SeatLemmas.{within_front}
 use Rattle.vs_elab_hierarchy.proofs.ListLemmas.{slice_push, any_append, any_right, any_none_map}
@@ -60,10 +61,6 @@ use Rattle.vs_design.specs.vs_logic4.proofs.Basics.{slice_front, slice_back, any
 use Rattle.vs_design.specs.vs_logic4.proofs.Basics.{any_map, not_false}
 
 -- ---- limits
-
-and_parts : (a b : Bool) → (a && b) ≡ true → (a ≡ true) × (b ≡ true)
-and_parts true b h = (refl, h)
-and_parts false b h = absurd (true≢false (sym h))
 
 -- a scope that passes a limit
 pub limit_passed : (s : Scope) → passes_limit s.kind s.instances (length s.path) ≡ true → PassesLimit s s.path
@@ -91,12 +88,12 @@ pub is_few : (s : Scope) → passes_limit s.kind s.instances (length s.path) ≡
 is_few s h e = few_by (is_instance s.kind) s.instances (passes_none s h).1 e
 
 -- the limits of what stands for a scope
-pub limit_same : (ss : List Scope) (o : FoundScope) (s : Scope) (path : List FoundName) (n : ℕ) → IsEntered ss o s → read_path path ≡ s.path → n ≡ length path → passes_limit o.kind o.instances n ≡ passes_limit s.kind s.instances (length s.path)
+pub limit_same : (ss : List Scope) (o : FoundScope) (s : Scope) (path : List FoundName) (n : ℕ) → IsScopeOf ss o s → read_path path ≡ s.path → n ≡ length path → passes_limit o.kind o.instances n ≡ passes_limit s.kind s.instances (length s.path)
 limit_same ss o s path n e q h =
     ap (λ z. passes_limit z o.instances n) e.kind ∙ ap (λ z. passes_limit s.kind z n) e.instances ∙ ap (passes_limit s.kind s.instances) (h ∙ sym (length-map path read_title) ∙ ap length q)
 
 -- one that stands in too many instances
-pub deep_told : (ss : List Scope) (o : FoundScope) (s : Scope) (e : ElabFault) → IsEntered ss o s → 64 < o.depth → IsFaultAt Limit s.home e → Told (HoldsOwn s) e
+pub deep_told : (ss : List Scope) (o : FoundScope) (s : Scope) (e : ElabFault) → IsScopeOf ss o s → 64 < o.depth → IsFaultAt Limit s.home e → IsReported (HoldsOwn s) e
 deep_told ss o s e h deep f = told_at (HoldsOwn s) Limit s.home e (inl (inl (subst (λ n. 64 < n) h.depth deep, refl))) f
 
 -- ---- the scopes around a scope
@@ -220,17 +217,6 @@ module _ (r : Reason) (a : Apart r) (env : Environment) where
 
 -- ---- names that get signals
 
-pub keeps_none : (s : Scope) (names : Bindings) (plan : Numbering) → Bound names (constant_names s.constants) → length plan.signals.items ≤ 65536 → Keeps s names plan plan []
-keeps_none s names plan h room = record {
-  bound = subst (Bound names) (sym (append-nil (constant_names s.constants))) h;
-  shown = sym (append-nil (map declared plan.signals.items));
-  lines = [];
-  outline = sym (append-nil plan.outline.items);
-  lines_mean = tt;
-  room = room;
-  same = record { instances = refl; turns = refl };
-}
-
 pub declares_ports_none : (s : Scope) (names : Bindings) (plan : Numbering) → Bound names (constant_names s.constants) → length plan.signals.items ≤ 65536 → DeclaresPorts s names plan plan []
 declares_ports_none s names plan h room = record { keeps = keeps_none s names plan h room; sized = λ r. refl }
 
@@ -249,7 +235,7 @@ declares_all s to names middle plan start h k = record {
 
 module _ (s : Scope) (start : Numbering) (e : ElabFault) where
   -- a parameter's name that is declared twice
-  pub constants_told : (at : Path) (cs : Bindings) → at ≡ s.path → cs ≡ constant_names s.constants → Told (BoundNot at [] cs) e → Told (DeclaresAllNot s start) e
+  pub constants_told : (at : Path) (cs : Bindings) → at ≡ s.path → cs ≡ constant_names s.constants → IsReported (BoundNot at [] cs) e → IsReported (DeclaresAllNot s start) e
   constants_told at cs a q h = told_by (BoundNot at [] cs) (DeclaresAllNot s start) e by h
     where
       by : (r : Reason) (p : Path) → BoundNot at [] cs r p → DeclaresAllNot s start r p
@@ -267,7 +253,7 @@ module _ (s : Scope) (start : Numbering) (e : ElabFault) where
       by (Format wrong) p h = absurd h
 
   -- a port's name that can't be declared
-  pub ports_told : Told (DeclaresPortsNot s start (map (declared_by_port s.known) s.ports)) e → Told (DeclaresAllNot s start) e
+  pub ports_told : IsReported (DeclaresPortsNot s start (map (declared_by_port s.known) s.ports)) e → IsReported (DeclaresAllNot s start) e
   ports_told h = told_by (DeclaresPortsNot s start ds) (DeclaresAllNot s start) e by h
     where
       ds : List DeclaredName
@@ -306,7 +292,7 @@ module _ (s : Scope) (start : Numbering) (e : ElabFault) where
       by (Format wrong) p (inr h) = none (Format wrong) tt h.0
 
   -- a name of a piece that can't be declared
-  pub pieces_told : Told (DeclaresNot s start (declared_among s.known s.pieces)) e → Told (DeclaresAllNot s start) e
+  pub pieces_told : IsReported (DeclaresNot s start (declared_among s.known s.pieces)) e → IsReported (DeclaresAllNot s start) e
   pieces_told h = told_by (DeclaresNot s start ds) (DeclaresAllNot s start) e by h
     where
       ports : List DeclaredName
@@ -357,7 +343,7 @@ module _ (s : Scope) (base : ℕ) (same : base ≡ s.base) (gs os : Bindings) (g
       ∙ ap (λ z. (front_names s s.base ++ bound_to b.Genvar (flat_map genvars_in s.pieces)) ++ z) o
 
   module _ (e : ElabFault) (at : Path) (a : at ≡ s.path) where
-    pub genvars_told : Told (BoundNot at [] (front_names s base ++ gs)) e → Told (BindsNot s) e
+    pub genvars_told : IsReported (BoundNot at [] (front_names s base ++ gs)) e → IsReported (BindsNot s) e
     genvars_told h = told_by (BoundNot at [] (front_names s base ++ gs)) (BindsNot s) e by h
       where
         by : (r : Reason) (p : Path) → BoundNot at [] (front_names s base ++ gs) r p → BindsNot s r p
@@ -374,7 +360,7 @@ module _ (s : Scope) (base : ℕ) (same : base ≡ s.base) (gs os : Bindings) (g
         by Timescales p h = absurd h
         by (Format wrong) p h = absurd h
 
-    pub others_told : Told (BoundNot at [] ((front_names s base ++ gs) ++ os)) e → Told (BindsNot s) e
+    pub others_told : IsReported (BoundNot at [] ((front_names s base ++ gs) ++ os)) e → IsReported (BindsNot s) e
     others_told h = told_by (BoundNot at [] ((front_names s base ++ gs) ++ os)) (BindsNot s) e by h
       where
         by : (r : Reason) (p : Path) → BoundNot at [] ((front_names s base ++ gs) ++ os) r p → BindsNot s r p
@@ -391,7 +377,7 @@ module _ (s : Scope) (base : ℕ) (same : base ≡ s.base) (gs os : Bindings) (g
         by Timescales p h = absurd h
         by (Format wrong) p h = absurd h
 
-pub declares_told : (s : Scope) (start : Numbering) (e : ElabFault) → s.base ≡ length start.signals.items → Told (DeclaresAllNot s start) e → Told (BindsNot s) e
+pub declares_told : (s : Scope) (start : Numbering) (e : ElabFault) → s.base ≡ length start.signals.items → IsReported (DeclaresAllNot s start) e → IsReported (BindsNot s) e
 declares_told s start e base h = told_by (DeclaresAllNot s start) (BindsNot s) e by h
   where
     by : (r : Reason) (p : Path) → DeclaresAllNot s start r p → BindsNot s r p
@@ -482,7 +468,7 @@ again_repeated s n stray h =
     slice_within (y ∷ ys) zero x e = omega arith
     slice_within (y ∷ ys) (suc k) x e = let rest = slice_within ys k x e in omega (arith, rest)
 
-pub again_told : (s : Scope) (at : Path) (e : ElabFault) → at ≡ s.path → has_stray_port s.ports s.pieces ≡ false → Told (IsAgainNot at s.ports s.pieces) e → Told (HoldsOwn s) e
+pub again_told : (s : Scope) (at : Path) (e : ElabFault) → at ≡ s.path → has_stray_port s.ports s.pieces ≡ false → IsReported (IsAgainNot at s.ports s.pieces) e → IsReported (HoldsOwn s) e
 again_told s at e a stray h = told_by (IsAgainNot at s.ports s.pieces) (HoldsOwn s) e by h
   where
     by : (r : Reason) (p : Path) → IsAgainNot at s.ports s.pieces r p → HoldsOwn s r p
@@ -500,7 +486,7 @@ again_told s at e a stray h = told_by (IsAgainNot at s.ports s.pieces) (HoldsOwn
     by (Format wrong) p h = absurd h
 
 -- a name that can't be bound
-pub binds_told : (s : Scope) (e : ElabFault) → Told (BindsNot s) e → Told (HoldsOwn s) e
+pub binds_told : (s : Scope) (e : ElabFault) → IsReported (BindsNot s) e → IsReported (HoldsOwn s) e
 binds_told s e h = told_by (BindsNot s) (HoldsOwn s) e by h
   where
     by : (r : Reason) (p : Path) → BindsNot s r p → HoldsOwn s r p
@@ -555,13 +541,13 @@ opens_names s names old new base fits pieces nets h = opens_own s names old new 
 pub turns_counted : (s : Scope) (env : Environment) (ps : List Piece) (before n : ℕ) → env ≡ environment s → ps ≡ s.pieces → before ≡ s.turns → CountsTurns before (turns_among env ps) (Some n) → HasFewTurns s n
 turns_counted s env ps before n e p b h = record { count = h.0 ∙ ap₂ (λ m k. m + k) b (ap₂ turns_among e p); few = h.1 }
 
-pub turns_told : (s : Scope) (env : Environment) (ps : List Piece) (before : ℕ) (e : ElabFault) → env ≡ environment s → ps ≡ s.pieces → before ≡ s.turns → CountsTurns before (turns_among env ps) None → IsFaultAt Limit s.path e → Told (HoldsOwn s) e
+pub turns_told : (s : Scope) (env : Environment) (ps : List Piece) (before : ℕ) (e : ElabFault) → env ≡ environment s → ps ≡ s.pieces → before ≡ s.turns → CountsTurns before (turns_among env ps) None → IsFaultAt Limit s.path e → IsReported (HoldsOwn s) e
 turns_told s env ps before e i p b h f = told_at (HoldsOwn s) Limit s.path e (inr (inl (subst (λ n. 65536 < n) (ap₂ (λ m k. m + k) b (ap₂ turns_among i p)) h, refl))) f
 
 -- ---- nets
 
 -- a net that is declared behind its use
-pub nets_told : (s : Scope) (e : ElabFault) → Told (IsLate (late_nets s)) e → Told (HoldsOwn s) e
+pub nets_told : (s : Scope) (e : ElabFault) → IsReported (IsLate (late_nets s)) e → IsReported (HoldsOwn s) e
 nets_told s e h = told_by (IsLate (late_nets s)) (HoldsOwn s) e by h
   where
     by : (r : Reason) (p : Path) → IsLate (late_nets s) r p → HoldsOwn s r p
@@ -615,7 +601,7 @@ module _ (env : Environment) (ps : List Piece) (ports : List FoundPort) where
         ap (λ z. list_any (is_unlike z s.pieces) s.ports) (sym known) ∙ ap (λ z. list_any (is_unlike env z) s.ports) (sym pieces) ∙ ap (list_any (is_unlike env ps)) (sym same)
         ∙ ap (λ z. list_any (is_unlike env ps) (map read_port z)) (sym (take_all i ports h)) ∙ k
 
-    pub unlike_told : (at : Path) (i : ℕ) (x : FoundPort) (e : ElabFault) → at ≡ s.path → i < length ports → x ≡ get_or ports i x → is_unlike env ps (read_port x) ≡ true → IsFaultAt DeclaredTwice (at ++ plainly x.name.now ∷ []) e → Told (HoldsOwn s) e
+    pub unlike_told : (at : Path) (i : ℕ) (x : FoundPort) (e : ElabFault) → at ≡ s.path → i < length ports → x ≡ get_or ports i x → is_unlike env ps (read_port x) ≡ true → IsFaultAt DeclaredTwice (at ++ plainly x.name.now ∷ []) e → IsReported (HoldsOwn s) e
     unlike_told at i x e path h g u f =
         let stands : slice_get s.ports i ≡ Some (read_port x) = ap (λ z. slice_get z i) (sym same) ∙ slice_get-map read_port ports i ∙ ap (option_map read_port) (slice_get-get_or ports i x h ∙ ap Some (sym g)) in
         told_at (HoldsOwn s) DeclaredTwice (named s x.name.now) e (inr (inl (record { place = i; port = read_port x; stands = stands; unlike = sym (unlike_same (read_port x)) ∙ u; path = refl }))) (subst (λ z. IsFaultAt DeclaredTwice (z ++ plainly x.name.now ∷ []) e) path f)

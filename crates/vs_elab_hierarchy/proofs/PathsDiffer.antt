@@ -15,7 +15,7 @@ use Rattle.vs_syntax.specs.declared.tree.Module.{Module}
 use Rattle.vs_scopes.specs.Printed.{PathName, plainly, Path, same_turn, same_part, same_path}
 use Rattle.vs_scopes.specs.Generate.{Inner}
 use Rattle.vs_scopes.specs.Nets.{permits_nets}
-use Rattle.vs_scopes.specs.Scopes.{Scope, named, named_at, names_of, all_names_of, module_named, Before, behind, within_first, inner_of, opened, listed, below, scopes_within, deepest, opened_top, scopes_of}
+use Rattle.vs_scopes.specs.Scopes.{Scope, named, named_at, names_of, all_names_of, module_named, Before, before_following, within_first, inner_of, opened, of_opened, below, scopes_within, deepest, opened_top, scopes_of}
 use Rattle.vs_elab_hierarchy.specs.Laws.{PathsDiffer}
 use Rattle.vs_elab_hierarchy.proofs.PathsLists.{each_more, each_append, each_left, each_right, distinct_append}
 use Rattle.vs_elab_hierarchy.proofs.PathsOpened.{title_of, what_is_opened, what_is_opened_top}
@@ -48,7 +48,7 @@ paths_not_same p q h e = true≢false (sym ((pointwise_decides part_decides p q)
 parts_apart : (m n : PathName) → same_part m n ≡ false → m ≡ n → ⊥
 parts_apart m n h e = true≢false (sym ((part_decides m n).1 e) ∙ h)
 
-first_same : (m n : PathName) (ms ns : Path) → m ∷ ms ≡ n ∷ ns → m ≡ n
+pub first_same : (m n : PathName) (ms ns : Path) → m ∷ ms ≡ n ∷ ns → m ≡ n
 first_same m n ms ns e = cc
 
 -- a path that goes so many names on from another one, or more
@@ -91,21 +91,21 @@ module _ (more : ℕ) (g : Scope → List Path) (own : (s : Scope) → AllByRecu
     is : IsBelow more (named_at s name) q
 
   module _ (ms : List Module) (f : Scope → List Scope) (inside : (t : Scope) → AllByRecursion (IsBelow more t.path) (flat_map g (f t))) (s : Scope) where
-    opened_inside : (at : Before) (x : Inner) (o : Option Scope) → opened ms s at x ≡ o → AllByRecursion (IsBelow more (named_at s (title_of x))) (flat_map g (listed f o))
+    opened_inside : (at : Before) (x : Inner) (o : Option Scope) → opened ms s at x ≡ o → AllByRecursion (IsBelow more (named_at s (title_of x))) (flat_map g (of_opened f o))
     opened_inside at x None e = tt
     opened_inside at x (Some t) e = subst (λ p. AllByRecursion (IsBelow more p) (flat_map g (f t))) (what_is_opened ms s at x t e).path (inside t)
 
     below_under : (P : PathName → Type 0) (at : Before) (xs : List Inner) → AllByRecursion P (map title_of xs) → AllByRecursion (IsUnder s P) (flat_map g (below ms f s at xs))
     below_under P at [] h = tt
     below_under P at (x ∷ xs) h =
-        let inner = listed f (opened ms s at x) in
-        let others = below ms f s (behind at inner) xs in
+        let inner = of_opened f (opened ms s at x) in
+        let others = below ms f s (before_following at inner) xs in
         let here = each_more (IsBelow more (named_at s (title_of x))) (IsUnder s P) (λ q b. record { name = title_of x; such = h.0; is = b }) (flat_map g inner) (opened_inside at x (opened ms s at x) refl) in
         subst (AllByRecursion (IsUnder s P)) (sym (flat_map-append g inner others))
-        (each_append (IsUnder s P) (flat_map g inner) (flat_map g others) here (below_under P (behind at inner) xs h.1))
+        (each_append (IsUnder s P) (flat_map g inner) (flat_map g others) here (below_under P (before_following at inner) xs h.1))
 
     module _ (apart : (t : Scope) → AllByRecursion IsGood (f t) → IsDistinct same_path (flat_map g (f t))) where
-      opened_differ : (o : Option Scope) → AllByRecursion IsGood (listed f o) → IsDistinct same_path (flat_map g (listed f o))
+      opened_differ : (o : Option Scope) → AllByRecursion IsGood (of_opened f o) → IsDistinct same_path (flat_map g (of_opened f o))
       unfolding IsDistinct
       opened_differ None h = tt
       opened_differ (Some t) h = apart t h
@@ -115,16 +115,16 @@ module _ (more : ℕ) (g : Scope → List Path) (own : (s : Scope) → AllByRecu
       below_differ at [] d h = tt
       below_differ at (x ∷ xs) d h =
           let o = opened ms s at x in
-          let inner = listed f o in
-          let others = below ms f s (behind at inner) xs in
+          let inner = of_opened f o in
+          let others = below ms f s (before_following at inner) xs in
           subst (IsDistinct same_path) (sym (flat_map-append g inner others))
           (distinct_append same_path (IsBelow more (named_at s (title_of x))) (IsUnder s (λ n. same_part (title_of x) n ≡ false))
           (λ y z a b. below_apart more s.path (title_of x) b.name y z b.such a b.is)
           (flat_map g inner) (flat_map g others)
           (opened_differ o (each_left IsGood inner others h))
-          (below_differ (behind at inner) xs d.1 (each_right IsGood inner others h))
+          (below_differ (before_following at inner) xs d.1 (each_right IsGood inner others h))
           (opened_inside at x o refl)
-          (below_under (λ n. same_part (title_of x) n ≡ false) (behind at inner) xs d.0))
+          (below_under (λ n. same_part (title_of x) n ≡ false) (before_following at inner) xs d.0))
 
   at_below : (p q : Path) → IsAt more p q → IsBelow more p q
   at_below p q a = record { rest = a.rest; is = a.is; long = omega (arith, a.long) }
@@ -159,7 +159,7 @@ module _ (more : ℕ) (g : Scope → List Path) (own : (s : Scope) → AllByRecu
       (own s)
       (below_under ms (scopes_within n ms) (within_inside n ms) s (λ n. Unit {0}) (within_first s) (inner_of s) (any_name (map title_of (inner_of s))))
 
-  opened_paths_differ : (n : ℕ) (ms : List Module) (o : Option Scope) → AllByRecursion IsGood (listed (scopes_within n ms) o) → IsDistinct same_path (flat_map g (listed (scopes_within n ms) o))
+  opened_paths_differ : (n : ℕ) (ms : List Module) (o : Option Scope) → AllByRecursion IsGood (of_opened (scopes_within n ms) o) → IsDistinct same_path (flat_map g (of_opened (scopes_within n ms) o))
   unfolding IsDistinct
   opened_paths_differ n ms None h = tt
   opened_paths_differ n ms (Some s) h = within_differ n ms s h
@@ -195,22 +195,22 @@ all_good (s ∷ ss) h k t = (record { once = h.0; few = k.0; text = t.0 }, all_g
 -- ---- the names of what opens scopes
 
 module _ (ms : List Module) (f : Scope → List Scope) (inside : (t : Scope) → HasText t → AllByRecursion HasText (f t)) (s : Scope) where
-  opened_text : (at : Before) (x : Inner) (o : Option Scope) → opened ms s at x ≡ o → AllByRecursion HasText (listed f o)
+  opened_text : (at : Before) (x : Inner) (o : Option Scope) → opened ms s at x ≡ o → AllByRecursion HasText (of_opened f o)
   opened_text at x None e = tt
   opened_text at x (Some t) e = inside t (what_is_opened ms s at x t e).text
 
   below_text : (at : Before) (xs : List Inner) → AllByRecursion HasText (below ms f s at xs)
   below_text at [] = tt
   below_text at (x ∷ xs) =
-      let inner = listed f (opened ms s at x) in
-      each_append HasText inner (below ms f s (behind at inner) xs) (opened_text at x (opened ms s at x) refl) (below_text (behind at inner) xs)
+      let inner = of_opened f (opened ms s at x) in
+      each_append HasText inner (below ms f s (before_following at inner) xs) (opened_text at x (opened ms s at x) refl) (below_text (before_following at inner) xs)
 
 within_text : (n : ℕ) (ms : List Module) (s : Scope) → HasText s → AllByRecursion HasText (scopes_within n ms s)
 unfolding scopes_within
 within_text zero ms s h = (h, tt)
 within_text (suc n) ms s h = (h, below_text ms (scopes_within n ms) (within_text n ms) s (within_first s) (inner_of s))
 
-top_text : (n : ℕ) (ms : List Module) (nets : Bool) (o : Option Module) (t : Option Scope) → opened_top nets o ≡ t → AllByRecursion HasText (listed (scopes_within n ms) t)
+top_text : (n : ℕ) (ms : List Module) (nets : Bool) (o : Option Module) (t : Option Scope) → opened_top nets o ≡ t → AllByRecursion HasText (of_opened (scopes_within n ms) t)
 top_text n ms nets o None e = tt
 top_text n ms nets o (Some s) e = within_text n ms s (what_is_opened_top nets o s e).1.text
 

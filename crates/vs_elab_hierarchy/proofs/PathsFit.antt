@@ -6,7 +6,7 @@ use Rattle.vs_syntax.specs.declared.tree.Module.{Module}
 use Rattle.vs_scopes.specs.Printed.{PathName, plainly, Path}
 use Rattle.vs_scopes.specs.Generate.{Inner}
 use Rattle.vs_scopes.specs.Nets.{permits_nets}
-use Rattle.vs_scopes.specs.Scopes.{Scope, named, names_of, module_named, Before, behind, within_first, inner_of, opened, listed, below, scopes_within, deepest, opened_top, signal_paths, scopes_of}
+use Rattle.vs_scopes.specs.Scopes.{Scope, named, names_of, module_named, Before, before_following, within_first, inner_of, opened, of_opened, below, scopes_within, deepest, opened_top, signal_paths, scopes_of}
 use Rattle.vs_elab_hierarchy.specs.Laws.{FitsTurn, HasTurnsThatFit, scope_paths, TurnsFit}
 use Rattle.vs_elab_hierarchy.proofs.PathsLists.{each_more, each_append}
 use Rattle.vs_elab_hierarchy.proofs.PathsOpened.{title_of, what_is_opened, what_is_opened_top}
@@ -24,22 +24,22 @@ one_further : (p : Path) (n : PathName) → Fits p → FitsTurn n.turn → Fits 
 one_further p n h k = each_append (λ (n : PathName). FitsTurn n.turn) p (n ∷ []) h (k, tt)
 
 module _ (ms : List Module) (f : Scope → List Scope) (inside : (t : Scope) → Fitting t → AllByRecursion Fitting (f t)) (s : Scope) (own : Fitting s) where
-  opened_fit : (at : Before) (x : Inner) (o : Option Scope) → opened ms s at x ≡ o → FitsTurn (title_of x).turn → AllByRecursion Fitting (listed f o)
+  opened_fit : (at : Before) (x : Inner) (o : Option Scope) → opened ms s at x ≡ o → FitsTurn (title_of x).turn → AllByRecursion Fitting (of_opened f o)
   opened_fit at x None e h = tt
   opened_fit at x (Some t) e h = inside t (subst Fits (sym (what_is_opened ms s at x t e).path) (one_further s.path (title_of x) own h))
 
   below_fit : (at : Before) (xs : List Inner) → AllByRecursion (λ (n : PathName). FitsTurn n.turn) (map title_of xs) → AllByRecursion Fitting (below ms f s at xs)
   below_fit at [] h = tt
   below_fit at (x ∷ xs) h =
-      let inner = listed f (opened ms s at x) in
-      each_append Fitting inner (below ms f s (behind at inner) xs) (opened_fit at x (opened ms s at x) refl h.0) (below_fit (behind at inner) xs h.1)
+      let inner = of_opened f (opened ms s at x) in
+      each_append Fitting inner (below ms f s (before_following at inner) xs) (opened_fit at x (opened ms s at x) refl h.0) (below_fit (before_following at inner) xs h.1)
 
 within_fit : (n : ℕ) (ms : List Module) (s : Scope) → Fitting s → AllByRecursion Fitting (scopes_within n ms s)
 unfolding scopes_within
 within_fit zero ms s h = (h, tt)
 within_fit (suc n) ms s h = (h, below_fit ms (scopes_within n ms) (within_fit n ms) s h (within_first s) (inner_of s) (titles_fit s))
 
-top_fit : (n : ℕ) (ms : List Module) (nets : Bool) (o : Option Module) (t : Option Scope) → opened_top nets o ≡ t → AllByRecursion Fitting (listed (scopes_within n ms) t)
+top_fit : (n : ℕ) (ms : List Module) (nets : Bool) (o : Option Module) (t : Option Scope) → opened_top nets o ≡ t → AllByRecursion Fitting (of_opened (scopes_within n ms) t)
 top_fit n ms nets o None e = tt
 top_fit n ms nets o (Some s) e = within_fit n ms s (subst Fits (sym (what_is_opened_top nets o s e).1.path) (tt, tt))
 

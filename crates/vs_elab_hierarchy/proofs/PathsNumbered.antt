@@ -1,79 +1,51 @@
 -- Scopes are numbered in design order, and so are their signals, instances and turns.
-use Rattle.std.proofs.Common.{◌≡◌, ℕ, zero, suc, ◌+◌, Bool, true, false, List, [], ◌∷◌, ◌++◌, Option, Some, None, length, take, filter, refl, ap, ap₂, sym, subst, ◌∙◌, zero-add, arith}
-use Rattle.std.specs.List.{flat_map, slice_get}
+use Rattle.std.proofs.Common.{◌≡◌, ℕ, zero, suc, Bool, true, false, List, [], ◌∷◌, ◌++◌, Option, Some, None, length, take, filter, refl, ap, sym, subst, ◌∙◌, zero-add}
+use Rattle.std.specs.List.{slice_get}
 use Rattle.std.proofs.lemmas.Option.{none-some, same_Some}
-use Rattle.std.proofs.lemmas.List.{length-append}
-use Rattle.std.proofs.lemmas.List.Concat.{flat_map-append}
-use Rattle.std.proofs.lemmas.List.Sums.{sum-map, sum_by-append}
 use Rattle.vs_syntax.specs.declared.tree.Module.{Module}
 use Rattle.vs_scopes.specs.Generate.{Inner}
 use Rattle.vs_scopes.specs.Nets.{permits_nets}
-use Rattle.vs_scopes.specs.Scopes.{Scope, is_instance, Before, before, behind, within_first, inner_of, declarations_of, turns_in, module_named, opened, listed, below, scopes_within, signal_count, instance_count, turn_count, deepest, opened_top, scopes_of}
+use Rattle.vs_scopes.specs.Scopes.{Scope, Before, before, before_following, within_first, inner_of, module_named, opened, of_opened, below, scopes_within, signal_count, instance_count, turn_count, deepest, opened_top, scopes_of}
 use Rattle.vs_elab_hierarchy.specs.Laws.{ScopesAreNumbered}
 use Rattle.vs_elab_hierarchy.proofs.PathsOpened.{what_is_opened, nothing_before, what_is_opened_top}
-use Rattle.vs_design.specs.vs_logic4.proofs.Basics.{filter_append}
-
--- ---- what stands before scopes
-
-same_before : (a b : Before) → a.scopes ≡ b.scopes → a.signals ≡ b.signals → a.instances ≡ b.instances → a.turns ≡ b.turns → a ≡ b
-same_before a b h k l m =
-    ap₂ (λ x y. record { scopes = x; signals = y; instances = a.instances; turns = a.turns }) h k
-    ∙ ap₂ (λ x y. record { scopes = b.scopes; signals = b.signals; instances = x; turns = y }) l m
-
-signals_append : (xs ys : List Scope) → signal_count (xs ++ ys) ≡ signal_count xs + signal_count ys
-signals_append xs ys = ap length (flat_map-append declarations_of xs ys) ∙ length-append (flat_map declarations_of xs) (flat_map declarations_of ys)
-
-turns_append : (xs ys : List Scope) → turn_count (xs ++ ys) ≡ turn_count xs + turn_count ys
-turns_append xs ys = sum-map turns_in (xs ++ ys) ∙ sum_by-append turns_in xs ys ∙ ap₂ (λ m n. m + n) (sym (sum-map turns_in xs)) (sym (sum-map turns_in ys))
-
--- what stands behind some scopes and others behind them
-pub behind_append : (at : Before) (xs ys : List Scope) → behind at (xs ++ ys) ≡ behind (behind at xs) ys
-behind_append at xs ys =
-    same_before (behind at (xs ++ ys)) (behind (behind at xs) ys)
-    (omega (arith, length-append xs ys))
-    (omega (arith, signals_append xs ys))
-    (omega (arith, filter_append (λ (s : Scope). is_instance s.kind) xs ys))
-    (omega (arith, turns_append xs ys))
-
-pub behind_none : (at : Before) → behind at [] ≡ at
-behind_none at = same_before (behind at []) at (omega arith) (omega arith) (omega arith) (omega arith)
+use Rattle.vs_elab_hierarchy.proofs.AddLemmas.{behind_append, behind_none}
 
 -- ---- numbered scopes
 
 -- scopes with so much before the first of them
 abbrev pub AreNumbered : Before → List Scope → Type 0
 AreNumbered at [] = Unit
-AreNumbered at (s ∷ ss) = (before s ≡ at) × AreNumbered (behind at (s ∷ [])) ss
+AreNumbered at (s ∷ ss) = (before s ≡ at) × AreNumbered (before_following at (s ∷ [])) ss
 
-numbered_append : (at : Before) (xs ys : List Scope) → AreNumbered at xs → AreNumbered (behind at xs) ys → AreNumbered at (xs ++ ys)
+numbered_append : (at : Before) (xs ys : List Scope) → AreNumbered at xs → AreNumbered (before_following at xs) ys → AreNumbered at (xs ++ ys)
 numbered_append at [] ys h k = subst (λ b. AreNumbered b ys) (behind_none at) k
-numbered_append at (x ∷ xs) ys h k = (h.0, numbered_append (behind at (x ∷ [])) xs ys h.1 (subst (λ b. AreNumbered b ys) (behind_append at (x ∷ []) xs) k))
+numbered_append at (x ∷ xs) ys h k = (h.0, numbered_append (before_following at (x ∷ [])) xs ys h.1 (subst (λ b. AreNumbered b ys) (behind_append at (x ∷ []) xs) k))
 
 module _ (ms : List Module) (f : Scope → List Scope) (inside : (t : Scope) → AreNumbered (before t) (f t)) (s : Scope) where
-  opened_numbered : (at : Before) (x : Inner) (o : Option Scope) → opened ms s at x ≡ o → AreNumbered at (listed f o)
+  opened_numbered : (at : Before) (x : Inner) (o : Option Scope) → opened ms s at x ≡ o → AreNumbered at (of_opened f o)
   opened_numbered at x None e = tt
   opened_numbered at x (Some t) e = subst (λ b. AreNumbered b (f t)) (what_is_opened ms s at x t e).before (inside t)
 
   below_numbered : (at : Before) (xs : List Inner) → AreNumbered at (below ms f s at xs)
   below_numbered at [] = tt
   below_numbered at (x ∷ xs) =
-      let inner = listed f (opened ms s at x) in
-      numbered_append at inner (below ms f s (behind at inner) xs) (opened_numbered at x (opened ms s at x) refl) (below_numbered (behind at inner) xs)
+      let inner = of_opened f (opened ms s at x) in
+      numbered_append at inner (below ms f s (before_following at inner) xs) (opened_numbered at x (opened ms s at x) refl) (below_numbered (before_following at inner) xs)
 
 pub within_numbered : (n : ℕ) (ms : List Module) (s : Scope) → AreNumbered (before s) (scopes_within n ms s)
 unfolding scopes_within
 within_numbered zero ms s = (refl, tt)
 within_numbered (suc n) ms s = (refl, below_numbered ms (scopes_within n ms) (within_numbered n ms) s (within_first s) (inner_of s))
 
-top_numbered : (n : ℕ) (ms : List Module) (nets : Bool) (o : Option Module) (t : Option Scope) → opened_top nets o ≡ t → AreNumbered nothing_before (listed (scopes_within n ms) t)
+top_numbered : (n : ℕ) (ms : List Module) (nets : Bool) (o : Option Module) (t : Option Scope) → opened_top nets o ≡ t → AreNumbered nothing_before (of_opened (scopes_within n ms) t)
 top_numbered n ms nets o None e = tt
 top_numbered n ms nets o (Some s) e = subst (λ b. AreNumbered b (scopes_within n ms s)) (what_is_opened_top nets o s e).1.before (within_numbered n ms s)
 
 -- what stands before the scope at a place
-numbers_at : (at : Before) (ss : List Scope) (i : ℕ) (s : Scope) → AreNumbered at ss → slice_get ss i ≡ Some s → before s ≡ behind at (take i ss)
+numbers_at : (at : Before) (ss : List Scope) (i : ℕ) (s : Scope) → AreNumbered at ss → slice_get ss i ≡ Some s → before s ≡ before_following at (take i ss)
 numbers_at at [] i s h e = absurd (none-some s e)
-numbers_at at (x ∷ ss) zero s h e = subst (λ z. before z ≡ behind at []) (same_Some x s e) (h.0 ∙ sym (behind_none at))
-numbers_at at (x ∷ ss) (suc i) s h e = numbers_at (behind at (x ∷ [])) ss i s h.1 e ∙ sym (behind_append at (x ∷ []) (take i ss))
+numbers_at at (x ∷ ss) zero s h e = subst (λ z. before z ≡ before_following at []) (same_Some x s e) (h.0 ∙ sym (behind_none at))
+numbers_at at (x ∷ ss) (suc i) s h e = numbers_at (before_following at (x ∷ [])) ss i s h.1 e ∙ sym (behind_append at (x ∷ []) (take i ss))
 
 -- how many scopes stand before a place
 place_of : {A : Type 0} (xs : List A) (i : ℕ) (x : A) → slice_get xs i ≡ Some x → length (take i xs) ≡ i

@@ -5,8 +5,8 @@ use Rattle.std.proofs.lemmas.Option.{none-some, same_Some}
 use Rattle.vs_syntax.specs.declared.tree.Module.{Module}
 use Rattle.vs_scopes.specs.Generate.{Inner}
 use Rattle.vs_scopes.specs.Nets.{permits_nets}
-use Rattle.vs_scopes.specs.Scopes.{Scope, Before, behind, within_first, inner_of, module_named, opened, listed, below, scopes_within, deepest, opened_top, scopes_of}
-use Rattle.vs_elab_hierarchy.specs.Laws.{IsWithin, IsTop, ScopesStandInScopes}
+use Rattle.vs_scopes.specs.Scopes.{Scope, Before, before_following, within_first, inner_of, module_named, opened, of_opened, below, scopes_within, deepest, opened_top, scopes_of}
+use Rattle.vs_elab_hierarchy.specs.Laws.{IsWithin, IsTop, ScopesAreNested}
 use Rattle.vs_elab_hierarchy.proofs.PathsOpened.{what_is_opened, what_is_opened_top}
 
 -- a scope stands at a place of a list
@@ -50,7 +50,7 @@ abbrev AreAmong : List Scope → List Scope → Type 0
 AreAmong ss all = (s : Scope) → IsListed ss s → IsListed all s
 
 module _ (ms : List Module) (all : List Scope) (f : Scope → List Scope) (inside : (t : Scope) → AreAmong (f t) all → IsPlaced all t → (s : Scope) → IsListed (f t) s → IsPlaced all s) (s : Scope) (known : IsListed all s) where
-  opened_placed : (at : Before) (x : Inner) (o : Option Scope) → opened ms s at x ≡ o → AreAmong (listed f o) all → (t : Scope) → IsListed (listed f o) t → IsPlaced all t
+  opened_placed : (at : Before) (x : Inner) (o : Option Scope) → opened ms s at x ≡ o → AreAmong (of_opened f o) all → (t : Scope) → IsListed (of_opened f o) t → IsPlaced all t
   opened_placed at x None e among t h = absurd (none-some t h.is)
   opened_placed at x (Some z) e among t h =
       inside z among (inr (record { outer = s; around = known; is = (what_is_opened ms s at x z e).within })) t h
@@ -59,10 +59,10 @@ module _ (ms : List Module) (all : List Scope) (f : Scope → List Scope) (insid
   below_placed at [] among t h = absurd (none-some t h.is)
   below_placed at (x ∷ xs) among t h =
       let o = opened ms s at x in
-      let inner = listed f o in
-      let others = below ms f s (behind at inner) xs in
+      let inner = of_opened f o in
+      let others = below ms f s (before_following at inner) xs in
       ⊎_elim (opened_placed at x o refl (λ z k. among z (listed_left inner others z k)) t)
-      (below_placed (behind at inner) xs (λ z k. among z (listed_right inner others z k)) t)
+      (below_placed (before_following at inner) xs (λ z k. among z (listed_right inner others z k)) t)
       (listed_either inner others t h.place h.is)
 
 first_placed : (all ss : List Scope) (s t : Scope) → IsPlaced all s → (IsListed ss t → IsPlaced all t) → (i : ℕ) → slice_get (s ∷ ss) i ≡ Some t → IsPlaced all t
@@ -77,11 +77,11 @@ within_placed (suc n) ms all s among p t h =
     let known : IsListed all s = among s (record { place = zero; is = refl }) in
     first_placed all scopes s t p (below_placed ms all (scopes_within n ms) (within_placed n ms all) s known (within_first s) (inner_of s) (λ x k. among x (listed_later s scopes x k)) t) h.place h.is
 
-top_placed : (n : ℕ) (ms : List Module) (nets : Bool) (o : Option Module) (t : Option Scope) → opened_top nets o ≡ t → (s : Scope) → IsListed (listed (scopes_within n ms) t) s → IsPlaced (listed (scopes_within n ms) t) s
+top_placed : (n : ℕ) (ms : List Module) (nets : Bool) (o : Option Module) (t : Option Scope) → opened_top nets o ≡ t → (s : Scope) → IsListed (of_opened (scopes_within n ms) t) s → IsPlaced (of_opened (scopes_within n ms) t) s
 top_placed n ms nets o None e s h = absurd (none-some s h.is)
 top_placed n ms nets o (Some t) e s h = within_placed n ms (scopes_within n ms t) t (λ x k. k) (inl (what_is_opened_top nets o t e).1.top) s h
 
-pub scopes_stand_in_scopes : ScopesStandInScopes
-scopes_stand_in_scopes ms top i s e =
+pub scopes_are_nested : ScopesAreNested
+scopes_are_nested ms top i s e =
     ⊎_elim (λ t. inl t) (λ (t : StandsIn (scopes_of ms top) s). inr (t.around.place, t.outer, t.around.is, t.is))
     (top_placed deepest ms (permits_nets ms top) (module_named ms top) (opened_top (permits_nets ms top) (module_named ms top)) refl s (record { place = i; is = e }))

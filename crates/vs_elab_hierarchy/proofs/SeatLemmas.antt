@@ -2,10 +2,10 @@
 use Rattle.std.proofs.Common.{◌≡◌, ℕ, ◌<◌, ◌≤◌, ⊎_elim, List, [], ◌∷◌, ◌++◌, Option, Some, None, length, ap, sym, subst, ◌∙◌, arith}
 use Rattle.std.specs.List.{slice_get}
 use Rattle.std.proofs.lemmas.Option.{none-some, slice_get_within, same_Some}
-use Rattle.vs_elab_listed.specs.vs_scopes.specs.Scopes.{Scope}
-use Rattle.vs_elab_listed.specs.declared.opened.ListedScope.{ListedScope as FoundScope}
-use Rattle.vs_elab_listed.specs.Opened.{IsWithin, StandsAround, HasSight, IsEntered, IsOpened, AreOpened, AreSeated}
-use Rattle.vs_elab_listed.proofs.SiteLemmas.{opened_more}
+use Rattle.vs_elab_signals.specs.vs_scopes.specs.Scopes.{Scope}
+use Rattle.vs_elab_signals.specs.declared.opened.ElabScope.{ElabScope as FoundScope}
+use Rattle.vs_elab_signals.specs.Opened.{IsWithin, HasParentScope, HasSight, IsScopeOf, IsOpened, AreOpened, AreSeated}
+use Rattle.vs_elab_signals.proofs.SiteLemmas.{opened_more}
 use Rattle.vs_elab_hierarchy.proofs.ListLemmas.{slice_push, same_at, zip_length, zip_right, zip_left, zip_map}
 use Rattle.vs_design.specs.vs_logic4.proofs.Basics.{zip_append}
 
@@ -63,11 +63,11 @@ within_front ss s k n h = record {
   outer = h.outer;
 }
 
-pub around_front : (ss : List Scope) (s : Scope) (o : Option ℕ) → s.number ≡ length ss → StandsAround (ss ++ s ∷ []) o s → StandsAround ss o s
+pub around_front : (ss : List Scope) (s : Scope) (o : Option ℕ) → s.number ≡ length ss → HasParentScope (ss ++ s ∷ []) o s → HasParentScope ss o s
 around_front ss s None n h = h
 around_front ss s (Some k) n h = within_front ss s k n h
 
-pub sight_front : (ss : List Scope) (s : Scope) (o : Option ℕ) (piece : ℕ) → s.number ≡ length ss → StandsAround (ss ++ s ∷ []) o s → HasSight (ss ++ s ∷ []) o piece s → HasSight ss o piece s
+pub sight_front : (ss : List Scope) (s : Scope) (o : Option ℕ) (piece : ℕ) → s.number ≡ length ss → HasParentScope (ss ++ s ∷ []) o s → HasSight (ss ++ s ∷ []) o piece s → HasSight ss o piece s
 sight_front ss s None piece n h k = k
 sight_front ss s (Some p) piece n h k = record {
   outer_scope = k.outer_scope;
@@ -75,14 +75,14 @@ sight_front ss s (Some p) piece n h k = record {
   sight = k.sight;
 }
 
-around_below : (ss : List Scope) (s : Scope) (o : Option ℕ) (k : ℕ) → StandsAround ss o s → o ≡ Some k → k < s.number
+around_below : (ss : List Scope) (s : Scope) (o : Option ℕ) (k : ℕ) → HasParentScope ss o s → o ≡ Some k → k < s.number
 around_below ss s None k h e = absurd (none-some k e)
 around_below ss s (Some j) k h e = let same : j ≡ k = same_Some j k e in omega (arith, same, h.before)
 
 -- the scope around a scope stands before it
-pub entered_around : (ss : List Scope) (o : FoundScope) (s : Scope) (k : ℕ) → IsEntered ss o s → o.around ≡ Some k → k < s.number
+pub entered_around : (ss : List Scope) (o : FoundScope) (s : Scope) (k : ℕ) → IsScopeOf ss o s → o.around ≡ Some k → k < s.number
 entered_around ss o s k h e = around_below ss s o.around k h.around e
 
 -- the instance that a scope stands in is one of those before it, or itself
-pub entered_home : (ss : List Scope) (o : FoundScope) (s : Scope) → IsEntered (ss ++ s ∷ []) o s → o.home ≤ length ss
+pub entered_home : (ss : List Scope) (o : FoundScope) (s : Scope) → IsScopeOf (ss ++ s ∷ []) o s → o.home ≤ length ss
 entered_home ss o s h = ⊎_elim (λ p. (let l = p.0 in omega (arith, l))) (λ p. (let l = p.0 in omega (arith, l))) (slice_push ss s h.home.home_scope o.home h.home.stands)

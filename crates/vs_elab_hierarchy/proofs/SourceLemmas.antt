@@ -15,21 +15,21 @@ use Rattle.vs_design.specs.declared.design.ScopeKind.TheVariants as opened_by
 use Rattle.vs_scopes.specs.vs_widths.specs.declared.constants.Const.{Const}
 use Rattle.vs_scopes.specs.vs_widths.specs.declared.faults.WidthReason.{WidthReason}
 use Rattle.vs_scopes.specs.vs_widths.specs.declared.faults.WidthReason.TheVariants.{TooWide, Unknown, NotConstant, WrongKind}
-use Rattle.vs_scopes.specs.vs_widths.specs.Environment.{Environment}
 use Rattle.vs_elab_constants.specs.vs_widths.specs.Names.{meaning_of, by_bytes, Declares as NamesDeclare}
-use Rattle.vs_elab_listed.specs.vs_scopes.specs.Pieces.{pieces_of}
-use Rattle.vs_elab_listed.specs.vs_scopes.specs.Reads.{read_piece}
-use Rattle.vs_elab_listed.specs.vs_scopes.specs.declared.scope.ScopePiece.{ScopePiece as FoundPiece}
+use Rattle.vs_elab_constants.proofs.ValueLemmas.{none_outer}
+use Rattle.vs_elab_signals.specs.vs_scopes.specs.Pieces.{pieces_of}
+use Rattle.vs_elab_signals.specs.vs_scopes.specs.Reads.{read_piece}
+use Rattle.vs_elab_signals.specs.vs_scopes.specs.declared.scope.ScopePiece.{ScopePiece as FoundPiece}
 use Rattle.vs_scopes.specs.declared.faults.Reason.{Reason}
 use Rattle.vs_scopes.specs.declared.faults.Reason.TheVariants.{NoModule, Inside, PortMismatch, ParameterMismatch, DeclaredTwice, DrivenTwice, Limit, Width, Endless, Unnamed, Timescales, Format}
 use Rattle.vs_scopes.specs.declared.faults.ElabFault.{ElabFault}
 use Rattle.vs_scopes.specs.Printed.{plainly, Path}
-use Rattle.vs_scopes.specs.Parameters.{Parameter, given_from, given_to, own_faults, outer_faults, parameters_of}
+use Rattle.vs_scopes.specs.Parameters.{given_to, own_faults, outer_faults, parameters_of}
 use Rattle.vs_scopes.specs.Ports.{ModulePort, ports_of}
 use Rattle.vs_scopes.specs.Declarations.{Bindings}
-use Rattle.vs_scopes.specs.Nets.{nothing_seen, permits_behind, permits_from, permits_nets}
-use Rattle.vs_scopes.specs.Scopes.{nowhere, text_of, early, has_no_values, has_wrong_end, module_named, top_scope, opened_top, listed, scopes_within, scopes_of, deepest}
-use Rattle.vs_scopes.specs.scopes_passes.Answers.{borrowed, Told, IsFaultAt}
+use Rattle.vs_scopes.specs.Nets.{nothing_seen, permits_after, permits_from, permits_nets}
+use Rattle.vs_scopes.specs.Scopes.{nowhere, text_of, early, has_no_values, has_wrong_end, module_named, top_scope, opened_top, of_opened, scopes_within, scopes_of, deepest}
+use Rattle.vs_scopes.specs.scopes_passes.Answers.{borrowed, IsReported, IsFaultAt}
 use Rattle.vs_scopes.specs.scopes_passes.Names.{read_title}
 use Rattle.vs_scopes.specs.scopes_passes.Parts.{read_port, read_ends}
 use Rattle.std.proofs.lemmas.Bool.{or_from as both_false}
@@ -37,15 +37,15 @@ use Rattle.vs_design.specs.vs_logic4.proofs.Basics.{take_push}
 use Rattle.vs_scopes.proofs.AnswerLemmas.{told_at, told_by}
 use Rattle.vs_elab_constants.specs.declared.evaluating.ParameterValues.{ParameterValues}
 use Rattle.vs_elab_constants.specs.passes.Values.{AreValues}
-use Rattle.vs_elab_listed.specs.declared.opened.ListedScope.{ListedScope as FoundScope}
-use Rattle.vs_elab_listed.specs.declared.opened.Numbering.{Numbering}
-use Rattle.vs_elab_listed.specs.Opened.{IsHome, StandsAround, HasSight, AreOpened}
-use Rattle.vs_elab_listed.specs.Outlines.{declared, outline_within, outline_of, IsEntry}
-use Rattle.vs_elab_listed.specs.ScopeFaults.{Repeated, of_module, top_fault, HoldsOpeningIn, StandsOpening}
-use Rattle.vs_elab_listed.proofs.BindLemmas.{bytes_eq_equiv, place_of_any}
+use Rattle.vs_elab_signals.specs.declared.opened.ElabScope.{ElabScope as FoundScope}
+use Rattle.vs_elab_signals.specs.declared.opened.Numbering.{Numbering}
+use Rattle.vs_elab_signals.specs.Opened.{IsHome, HasParentScope, HasSight, AreOpened}
+use Rattle.vs_elab_signals.specs.Outlines.{declared, outline_within, outline_of, IsEntry}
+use Rattle.vs_elab_signals.specs.ScopeFaults.{Repeated, of_module, top_fault, HoldsOpeningIn, HasOpeningFault}
+use Rattle.vs_elab_signals.proofs.BindLemmas.{bytes_eq_equiv, place_of_any}
 use Rattle.vs_design.specs.vs_logic4.proofs.Basics.{left_false, right_false}
-use Rattle.vs_elab_hierarchy.specs.vs_elab_listed.specs.declared.members.Members.{Members}
-use Rattle.vs_elab_hierarchy.specs.vs_elab_listed.specs.nets_passes.Nets.{AreMembers}
+use Rattle.vs_elab_hierarchy.specs.vs_elab_signals.specs.declared.members.Members.{Members}
+use Rattle.vs_elab_hierarchy.specs.vs_elab_signals.specs.nets_passes.Nets.{AreMembers}
 use Rattle.vs_elab_hierarchy.specs.declared.entering.NamedModule.{NamedModule}
 use Rattle.vs_elab_hierarchy.specs.passes.Blocks.{AreNamed}
 use Rattle.vs_elab_hierarchy.specs.passes.Entering.{module_names, Lists, ListsNot}
@@ -118,32 +118,32 @@ known_is_named ms names n l = sym (some_now (meaning_of names n)) ∙ ap is_some
 -- whether undeclared names are nets behind these modules
 abbrev pub permits_all : Bool → List Module → Bool
 permits_all before [] = before
-permits_all before (m ∷ ms) = permits_all (permits_behind before m.directives.items) ms
+permits_all before (m ∷ ms) = permits_all (permits_after before m.directives.items) ms
 
-pub permits_push : (before : Bool) (ms : List Module) (m : Module) → permits_all before (ms ++ m ∷ []) ≡ permits_behind (permits_all before ms) m.directives.items
+pub permits_push : (before : Bool) (ms : List Module) (m : Module) → permits_all before (ms ++ m ∷ []) ≡ permits_after (permits_all before ms) m.directives.items
 permits_push before [] m = refl
-permits_push before (x ∷ ms) m = permits_push (permits_behind before x.directives.items) ms m
+permits_push before (x ∷ ms) m = permits_push (permits_after before x.directives.items) ms m
 
-pub permits_more : (ms : List Module) (i : ℕ) (m : Module) (b : Bool) → i < length ms → m ≡ get_or ms i m → b ≡ permits_behind (permits_all true (take i ms)) m.directives.items → b ≡ permits_all true (take (i + 1) ms)
+pub permits_more : (ms : List Module) (i : ℕ) (m : Module) (b : Bool) → i < length ms → m ≡ get_or ms i m → b ≡ permits_after (permits_all true (take i ms)) m.directives.items → b ≡ permits_all true (take (i + 1) ms)
 permits_more ms i m b h k e = e ∙ sym (permits_push true (take i ms) m) ∙ ap (permits_all true) (sym (take_push ms i m h k))
 
 -- in a module that is the last, and in one before it
 permits_last : (before : Bool) (ms : List Module) (m : Module) (n : List ℕ) → list_any (bytes_eq n) (module_names ms) ≡ false → permits_from before (ms ++ m ∷ []) n ≡ permits_all before (ms ++ m ∷ [])
 permits_last before [] m n h = by (bytes_eq n m.name.items)
   where
-    by : (t : Bool) → cond t (permits_behind before m.directives.items) (permits_behind before m.directives.items) ≡ permits_behind before m.directives.items
+    by : (t : Bool) → cond t (permits_after before m.directives.items) (permits_after before m.directives.items) ≡ permits_after before m.directives.items
     by true = refl
     by false = refl
 permits_last before (x ∷ ms) m n h =
-    ap (λ t. cond t (permits_behind before x.directives.items) (permits_from (permits_behind before x.directives.items) (ms ++ m ∷ []) n)) (left_false (bytes_eq n x.name.items) _ h)
-    ∙ permits_last (permits_behind before x.directives.items) ms m n (right_false (bytes_eq n x.name.items) _ h)
+    ap (λ t. cond t (permits_after before x.directives.items) (permits_from (permits_after before x.directives.items) (ms ++ m ∷ []) n)) (left_false (bytes_eq n x.name.items) _ h)
+    ∙ permits_last (permits_after before x.directives.items) ms m n (right_false (bytes_eq n x.name.items) _ h)
 
 permits_known : (before : Bool) (ms : List Module) (m : Module) (n : List ℕ) → list_any (bytes_eq n) (module_names ms) ≡ true → permits_from before (ms ++ m ∷ []) n ≡ permits_from before ms n
 permits_known before [] m n h = absurd (true≢false (sym h))
-permits_known before (x ∷ ms) m n h = by (bytes_eq n x.name.items) h (permits_known (permits_behind before x.directives.items) ms m n)
+permits_known before (x ∷ ms) m n h = by (bytes_eq n x.name.items) h (permits_known (permits_after before x.directives.items) ms m n)
   where
     now : Bool
-    now = permits_behind before x.directives.items
+    now = permits_after before x.directives.items
 
     by : (t : Bool) → (t || list_any (bytes_eq n) (module_names ms)) ≡ true → (list_any (bytes_eq n) (module_names ms) ≡ true → permits_from now (ms ++ m ∷ []) n ≡ permits_from now ms n) →
         cond t now (permits_from now (ms ++ m ∷ []) n) ≡ cond t now (permits_from now ms n)
@@ -179,7 +179,7 @@ lists_more ms i m n b names new h k e w v l d =
 
 -- a module whose name another has
 pub listed_twice : (ms : List Module) (i : ℕ) (m : Module) (n : List ℕ) (names : List (List ℕ × NamedModule)) (e : ElabFault) → i < length ms → m ≡ get_or ms i m → n ≡ m.name.items → Lists (take i ms) names → IsSome (meaning_of names n) →
-    IsFaultAt DeclaredTwice (plainly m.name.items ∷ []) e → Told (ListsNot ms) e
+    IsFaultAt DeclaredTwice (plainly m.name.items ∷ []) e → IsReported (ListsNot ms) e
 listed_twice ms i m n names e h k q l s f =
     let found = place_of_any (module_names (take i ms)) n (sym (known_is_named (take i ms) names n l) ∙ s) in
     let repeated = repeated_at (λ (z : Module). z.name.items) ms i m found.0 h k (found.1 ∙ ap Some q) in
@@ -213,7 +213,7 @@ entered_top nets m o v x title kind number base instances turns depth net ports 
         known = λ n. said_none (meaning_of o.known n) ∙ ap (λ (z : Bindings). meaning_of z n) known ∙ values.known n;
         within = within;
         home = subst (λ k. IsHome (s ∷ []) k s) (sym home) (record { home_scope = s; stands = refl; kind = refl; path = refl; within = refl });
-        around = subst (λ k. StandsAround (s ∷ []) k s) (sym around) (record { kind = refl; path = refl; around = refl; outer = refl });
+        around = subst (λ k. HasParentScope (s ∷ []) k s) (sym around) (record { kind = refl; path = refl; around = refl; outer = refl });
         sight = subst (λ k. HasSight (s ∷ []) k o.piece s) (sym around) refl;
         ends = ap read_ends ends;
         lefts = none (ports_of m);
@@ -226,21 +226,12 @@ entered_top nets m o v x title kind number base instances turns depth net ports 
     none [] = refl
     none (p ∷ ps) = refl
 
--- nothing overrides the parameters of the top
-no_given : (w : WidthReason) (around : Environment) (ps : List Parameter) → outer_faults w around (given_from ps []) ≡ false
-no_given w around [] = refl
-no_given w around (p ∷ ps) = by p.fixed (no_given w around ps)
-  where
-    by : (b : Bool) → outer_faults w around (given_from ps []) ≡ false → outer_faults w around (cond b ((p, None) ∷ given_from ps []) ((p, None) ∷ given_from ps [])) ≡ false
-    by true h = h
-    by false h = h
-
 -- the top scope is opened where its parameters have values
-top_opens : (nets : Bool) (m : Module) → ((w : WidthReason) → top_fault w m ≡ false) → opened_top nets (Some m) ≡ Some (top_scope nets m)
+pub top_opens : (nets : Bool) (m : Module) → ((w : WidthReason) → top_fault w m ≡ false) → opened_top nets (Some m) ≡ Some (top_scope nets m)
 top_opens nets m h =
     let own = λ (w : WidthReason). own_faults w nowhere (early m) (given_to None m) in
     let outer = λ (w : WidthReason). outer_faults w nowhere (given_to None m) in
-    let each : (w : WidthReason) → (own w || outer w) ≡ false = λ w. both_false _ _ (h w) (no_given w nowhere (parameters_of m)) in
+    let each : (w : WidthReason) → (own w || outer w) ≡ false = λ w. both_false _ _ (h w) (none_outer w nowhere (parameters_of m)) in
     let none : has_no_values nowhere None m ≡ false = both_false _ _ refl (both_false _ _ (both_false _ _ (both_false _ _ (each TooWide) (each Unknown)) (each NotConstant)) (each WrongKind)) in
     ap (λ (z : Bool). cond z None (Some (top_scope nets m))) none
 
@@ -272,10 +263,10 @@ module _ (ms : List Module) (top : List ℕ) (m : Module) (found : module_named 
   is_opened = ap (λ z. opened_top z (module_named ms top)) (sym permits) ∙ ap (opened_top nets) found ∙ top_opens nets m fine
 
   pub all_scopes : scopes_of ms top ≡ scopes_within deepest ms (top_scope nets m)
-  all_scopes = ap (listed (scopes_within deepest ms)) is_opened
+  all_scopes = ap (of_opened (scopes_within deepest ms)) is_opened
 
   all_lines : outline_of ms top ≡ outline_within deepest ms (top_scope nets m)
-  all_lines = ap (listed (outline_within deepest ms)) is_opened
+  all_lines = ap (of_opened (outline_within deepest ms)) is_opened
 
   -- the top is about to be opened
   pub top_ready : (names : List (List ℕ × NamedModule)) (list0 list : List FoundScope) (p0 p1 : Numbering) (o : FoundScope) → Lists ms names → AddsScope [] (top_scope nets m) o list0 list p0 p1 → IsReady ms (top_scope nets m ∷ []) (top_scope nets m) names list p1 0 16448
@@ -308,18 +299,18 @@ module _ (ms : List Module) (top : List ℕ) (m : Module) (found : module_named 
       }
 
   -- a fault of the top's scope, or of one inside it, is one of the source
-  pub opening_told : (e : ElabFault) → Told (HoldsOpeningIn ms (scopes_within deepest ms (top_scope nets m))) e → Told (StandsOpening ms top) e
-  opening_told e h = told_by (HoldsOpeningIn ms (scopes_within deepest ms (top_scope nets m))) (StandsOpening ms top) e (λ r p k. inr (subst (λ z. HoldsOpeningIn ms z r p) (sym all_scopes) k)) h
+  pub opening_told : (e : ElabFault) → IsReported (HoldsOpeningIn ms (scopes_within deepest ms (top_scope nets m))) e → IsReported (HasOpeningFault ms top) e
+  opening_told e h = told_by (HoldsOpeningIn ms (scopes_within deepest ms (top_scope nets m))) (HasOpeningFault ms top) e (λ r p k. inr (subst (λ z. HoldsOpeningIn ms z r p) (sym all_scopes) k)) h
 
-  pub top_own_told : (e : ElabFault) → Told (HoldsOwn (top_scope nets m)) e → Told (StandsOpening ms top) e
+  pub top_own_told : (e : ElabFault) → IsReported (HoldsOwn (top_scope nets m)) e → IsReported (HasOpeningFault ms top) e
   top_own_told e h = opening_told e (own_told deepest ms (top_scope nets m) e h)
 
 -- ---- faults above scopes
 
-pub modules_told : (ms : List Module) (top : List ℕ) (e : ElabFault) → Told (ListsNot ms) e → Told (StandsOpening ms top) e
-modules_told ms top e h = told_by (ListsNot ms) (StandsOpening ms top) e by h
+pub modules_told : (ms : List Module) (top : List ℕ) (e : ElabFault) → IsReported (ListsNot ms) e → IsReported (HasOpeningFault ms top) e
+modules_told ms top e h = told_by (ListsNot ms) (HasOpeningFault ms top) e by h
   where
-    by : (r : Reason) (p : Path) → ListsNot ms r p → StandsOpening ms top r p
+    by : (r : Reason) (p : Path) → ListsNot ms r p → HasOpeningFault ms top r p
     by DeclaredTwice p h = inl h
     by NoModule p h = absurd h
     by Inside p h = absurd h
@@ -333,8 +324,8 @@ modules_told ms top e h = told_by (ListsNot ms) (StandsOpening ms top) e by h
     by Timescales p h = absurd h
     by (Format wrong) p h = absurd h
 
-pub nothing_told : (ms : List Module) (top : List ℕ) (e : ElabFault) → module_named ms top ≡ None → IsFaultAt NoModule (plainly top ∷ []) e → Told (StandsOpening ms top) e
-nothing_told ms top e h f = told_at (StandsOpening ms top) NoModule (plainly top ∷ []) e (inl (h, refl)) f
+pub nothing_told : (ms : List Module) (top : List ℕ) (e : ElabFault) → module_named ms top ≡ None → IsFaultAt NoModule (plainly top ∷ []) e → IsReported (HasOpeningFault ms top) e
+nothing_told ms top e h f = told_at (HasOpeningFault ms top) NoModule (plainly top ∷ []) e (inl (h, refl)) f
 
 -- the module that was found has the name that was looked for
 found_named : (ms : List Module) (n : List ℕ) (m : Module) → module_named ms n ≡ Some m → m.name.items ≡ n
@@ -345,10 +336,10 @@ found_named (x ∷ ms) n m h = by (bytes_eq n x.name.items) refl (found_named ms
     by true e rest g = ap (λ (z : Module). z.name.items) (sym (same_Some x m g)) ∙ sym ((bytes_eq-Decides n x.name.items).0 e)
     by false e rest g = rest g
 
-pub top_told : (ms : List Module) (top : List ℕ) (m : Module) (e : ElabFault) → module_named ms top ≡ Some m → Told (TopNot m) e → Told (StandsOpening ms top) e
-top_told ms top m e f h = told_by (TopNot m) (StandsOpening ms top) e by h
+pub top_told : (ms : List Module) (top : List ℕ) (m : Module) (e : ElabFault) → module_named ms top ≡ Some m → IsReported (TopNot m) e → IsReported (HasOpeningFault ms top) e
+top_told ms top m e f h = told_by (TopNot m) (HasOpeningFault ms top) e by h
   where
-    by : (r : Reason) (p : Path) → TopNot m r p → StandsOpening ms top r p
+    by : (r : Reason) (p : Path) → TopNot m r p → HasOpeningFault ms top r p
     by (Width w) p h = inl (ap (of_module (top_fault w)) f ∙ h.0, h.1 ∙ ap (λ z. plainly z ∷ []) (found_named ms top m f))
     by NoModule p h = absurd h
     by Inside p h = absurd h
@@ -363,7 +354,7 @@ top_told ms top m e f h = told_by (TopNot m) (StandsOpening ms top) e by h
     by (Format wrong) p h = absurd h
 
 -- no fault stands in a source whose scopes were listed
-pub none_stands : (ms : List Module) (top : List ℕ) (list : List FoundScope) (plan : Numbering) → Made ms top list plan → (r : Reason) (p : Path) → StandsOpening ms top r p → ⊥
+pub none_stands : (ms : List Module) (top : List ℕ) (list : List FoundScope) (plan : Numbering) → Made ms top list plan → (r : Reason) (p : Path) → HasOpeningFault ms top r p → ⊥
 none_stands ms top list plan h r p (inr k) = none_in ms (scopes_of ms top) h.planned.sound h.sound r p k
 none_stands ms top list plan h NoModule p (inl k) = none-some h.body (sym k.0 ∙ h.found)
 none_stands ms top list plan h DeclaredTwice p (inl k) = not_repeated (module_names ms) k.name h.modules k.repeated

@@ -21,7 +21,7 @@ use Rattle.vs_scopes.specs.vs_widths.specs.declared.bindings.Binding.TheVariants
 use Rattle.vs_scopes.specs.Ports.{ports_again}
 use Rattle.vs_scopes.specs.Declarations.{Bindings, DeclaredName, names_in, Use, uses_by_item, genvars_in, inner_names_in, inner_names_among, each_once, bound_to}
 use Rattle.vs_scopes.specs.Scopes.{Scope, declarations_of, names_of, numbered_names, constant_names, bindings_of, keys, all_names_of, text_names, environment, inner_of}
-use Rattle.vs_scopes.specs.Generate.{genvar_number, Turns, turns, faulty, endless, turns_of, Taken, takes, refused, chosen, numbered_name, free_name, unnamed_name, name_of_block, Inner, instance, generates, content_inner, turns_inner, loop_inner, choice_inner, inner_in, behind_piece, inner_from}
+use Rattle.vs_scopes.specs.Generate.{genvar_number, Turns, turns, faulty, endless, turns_of, Taken, takes, refused, chosen, numbered_name, free_name, unnamed_name, name_of_block, Inner, instance, generates, content_inner, turns_inner, loop_inner, choice_inner, inner_in, after_piece, inner_from}
 use Rattle.vs_scopes.specs.Generate as g
 use Rattle.vs_elab_hierarchy.specs.Laws.{FitsTurn, IsTurn}
 use Rattle.vs_elab_hierarchy.proofs.PathsLists.{each_more, each_append, each_right, distinct_append, distinct_left, distinct_right}
@@ -278,7 +278,7 @@ module _ (env : Environment) (names : List (List ℕ)) where
       }
   choice_titled i k ns (refused w) h = none_titled ns k (suc k)
 
-  piece_titled : (i k : ℕ) (p : Piece) → HaveTitles (inner_names_in p) k (behind_piece k p) (inner_in i env names k p)
+  piece_titled : (i k : ℕ) (p : Piece) → HaveTitles (inner_names_in p) k (after_piece k p) (inner_in i env names k p)
   piece_titled i k (plain x) = plain_titled i k x
   piece_titled i k (loop h x) = loop_titled i k h (content_of x) (turns_of env h) refl
   piece_titled i k (choice e x o) = choice_titled i k (each_once (branch_names x ++ other_names o)) (chosen env e x o) (chosen_named env e x o)
@@ -290,7 +290,7 @@ module _ (env : Environment) (names : List (List ℕ)) where
     low : k ≤ j
     high : j ≤ suc k
 
-  behind_is : (k : ℕ) (p : Piece) → IsBehind k (behind_piece k p)
+  behind_is : (k : ℕ) (p : Piece) → IsBehind k (after_piece k p)
   behind_is k (plain x) = record { low = omega arith; high = omega arith }
   behind_is k (loop h x) = record { low = omega arith; high = omega arith }
   behind_is k (choice e x o) = record { low = omega arith; high = omega arith }
@@ -301,7 +301,7 @@ module _ (env : Environment) (names : List (List ℕ)) where
   titles_from : (i k : ℕ) (ps : List Piece) → AllByRecursion (IsTitle (inner_names_among ps) k (k + length ps)) (map title_of (inner_from i env names k ps))
   titles_from i k [] = tt
   titles_from i k (p ∷ ps) =
-      let j = behind_piece k p in
+      let j = after_piece k p in
       let is = behind_is k p in
       let here = inner_in i env names k p in
       let others = inner_from (suc i) env names j ps in
@@ -317,7 +317,7 @@ module _ (env : Environment) (names : List (List ℕ)) where
   unfolding IsDistinct
   titles_differ_from i k [] small d known = tt
   titles_differ_from i k (p ∷ ps) small d known =
-      let j = behind_piece k p in
+      let j = after_piece k p in
       let is = behind_is k p in
       let here = inner_in i env names k p in
       let others = inner_from (suc i) env names j ps in

@@ -13,15 +13,15 @@ use Rattle.vs_scopes.specs.Declarations.{Bindings}
 use Rattle.vs_scopes.specs.Nets.{permits_nets}
 use Rattle.vs_scopes.specs.Parameters.{parameters_of}
 use Rattle.vs_scopes.specs.Scopes.{nowhere, module_named, top_scope, deepest}
-use Rattle.vs_scopes.specs.scopes_passes.Answers.{Told, IsFaultAt}
+use Rattle.vs_scopes.specs.scopes_passes.Answers.{IsReported, IsFaultAt}
 use Rattle.vs_scopes.proofs.AnswerLemmas.{told_at}
 use Rattle.vs_elab_constants.specs.declared.evaluating.ParameterValues.{ParameterValues}
 use Rattle.vs_elab_constants.specs.passes.Values.{AreValues, AreNoValues}
 use Rattle.vs_elab_constants.proofs.ValueLemmas.{none_outer}
-use Rattle.vs_elab_listed.specs.declared.opened.ListedScope.{ListedScope as FoundScope}
-use Rattle.vs_elab_listed.specs.declared.opened.Numbering.{Numbering}
-use Rattle.vs_elab_listed.specs.Opened.{AreSeated}
-use Rattle.vs_elab_listed.specs.ScopeFaults.{top_fault, StandsOpening}
+use Rattle.vs_elab_signals.specs.declared.opened.ElabScope.{ElabScope as FoundScope}
+use Rattle.vs_elab_signals.specs.declared.opened.Numbering.{Numbering}
+use Rattle.vs_elab_signals.specs.Opened.{AreSeated}
+use Rattle.vs_elab_signals.specs.ScopeFaults.{top_fault, HasOpeningFault}
 use Rattle.vs_elab_hierarchy.specs.declared.entering.NamedModule.{NamedModule}
 use Rattle.vs_elab_hierarchy.specs.passes.Blocks.{text_name, HasIndex, with_blocks, AddsBlock, AreIndexedUpTo, AreIndexed}
 use Rattle.vs_elab_hierarchy.specs.passes.Entering.{Lists}
@@ -42,7 +42,7 @@ module_permits ms top names m l h = l.nets top m (sym h)
 pub top_values : (m : Module) (bs : Bindings) (v : ParameterValues) → bs ≡ [] → AreValues (meaning_of bs) None m v → AreValues nowhere None m v
 top_values m bs v e h = subst (λ (z : Bindings). AreValues (meaning_of z) None m v) e h
 
-pub top_refused : (m : Module) (bs : Bindings) (w : WidthReason) (e : ElabFault) → bs ≡ [] → AreNoValues (meaning_of bs) None m (refusal.Own w) → IsFaultAt (Width w) (plainly m.name.items ∷ []) e → Told (TopNot m) e
+pub top_refused : (m : Module) (bs : Bindings) (w : WidthReason) (e : ElabFault) → bs ≡ [] → AreNoValues (meaning_of bs) None m (refusal.Own w) → IsFaultAt (Width w) (plainly m.name.items ∷ []) e → IsReported (TopNot m) e
 top_refused m bs w e eo h f = told_at (TopNot m) (Width w) (plainly m.name.items ∷ []) e (subst (λ (z : Bindings). AreNoValues (meaning_of z) None m (refusal.Own w)) eo h, refl) f
 
 -- nothing overrides the parameters of the top
@@ -56,7 +56,7 @@ no_outer m bs w h = true≢false (sym h ∙ none_outer w (meaning_of bs) (parame
 
 module _ (ms : List Module) (top : List ℕ) (m : Module) (found : module_named ms top ≡ Some m) (nets : Bool) (permits : nets ≡ permits_nets ms top) (fine : (w : WidthReason) → top_fault w m ≡ false) where
   -- a fault of the top's own members is one of the source
-  pub top_own : (e : ElabFault) → Told (HoldsOwn (top_scope nets m)) e → Told (StandsOpening ms top) e
+  pub top_own : (e : ElabFault) → IsReported (HoldsOwn (top_scope nets m)) e → IsReported (HasOpeningFault ms top) e
   top_own e h = opening_told ms top m found nets permits fine e (own_told deepest ms (top_scope nets m) e h)
 
   -- so many levels may be inside the top
@@ -68,8 +68,8 @@ module _ (ms : List Module) (top : List ℕ) (m : Module) (found : module_named 
   made_with depth_left names list0 list1 list p0 p1 plan o e l empty a h =
       top_made ms top m found nets permits fine names list0 list1 list p0 p1 plan o l empty a (subst (λ k. OpensInside k ms (top_scope nets m ∷ []) (top_scope nets m) 0 list1 list p1 plan) e h)
 
-  pub opening_with : (depth_left : ℕ) (e : ElabFault) → depth_left ≡ deepest → Told (OpensInsideNot depth_left ms (top_scope nets m)) e → Told (StandsOpening ms top) e
-  opening_with depth_left e k h = opening_told ms top m found nets permits fine e (subst (λ n. Told (OpensInsideNot n ms (top_scope nets m)) e) k h)
+  pub opening_with : (depth_left : ℕ) (e : ElabFault) → depth_left ≡ deepest → IsReported (OpensInsideNot depth_left ms (top_scope nets m)) e → IsReported (HasOpeningFault ms top) e
+  opening_with depth_left e k h = opening_told ms top m found nets permits fine e (subst (λ n. IsReported (OpensInsideNot n ms (top_scope nets m)) e) k h)
 
 -- ---- the index
 

@@ -3,7 +3,7 @@ use Rattle.vs_scopes.specs.Printed.{same_turn}
 use Rattle.std.proofs.Common.{◌≡◌, ℕ, zero, suc, ◌^◌, ◌<◌, ◌≤◌, max, ℤ, pos, negsuc, ◌-ℤ◌, Bool, true, false, ◌||◌, not, cond, is_none, List, [], ◌∷◌, Option, Some, None, length, take, map, refl, ap, ap₂, sym, subst, ◌∙◌, true≢false, is_some, arith}
 use Rattle.std.specs.List.{AllByRecursion, IsDistinct}
 use Rattle.std.specs.Int.Signed.{mag}
-use Rattle.std.proofs.lemmas.Bool.{or_parts, false_from_ne_true}
+use Rattle.std.proofs.lemmas.Bool.{false_from_ne_true}
 use Rattle.std.proofs.lemmas.Bool.Decides.{Decides-int_eq}
 use Rattle.std.proofs.lemmas.Int.{ints}
 use Rattle.std.proofs.lemmas.Option.{none-some, same_Some}
@@ -20,7 +20,7 @@ use Rattle.vs_syntax.specs.declared.tree.Expr.{Expr}
 use Rattle.vs_syntax.specs.declared.tree.LoopHeader.{LoopHeader}
 use Rattle.vs_scopes.specs.vs_widths.specs.declared.constants.Const.{Const}
 use Rattle.vs_scopes.specs.vs_widths.specs.declared.faults.WidthReason.{WidthReason}
-use Rattle.vs_scopes.specs.vs_widths.specs.declared.faults.WidthReason.TheVariants.{TooWide, Unknown, NotConstant, WrongKind}
+use Rattle.vs_scopes.specs.vs_widths.specs.declared.faults.WidthReason.TheVariants.{NotConstant}
 use Rattle.vs_scopes.specs.vs_widths.specs.Environment.{Environment}
 use Rattle.vs_scopes.specs.vs_widths.specs.Findings.{Finding, Has, Lacks}
 use Rattle.vs_scopes.specs.vs_widths.specs.Meants.{Meant}
@@ -30,17 +30,11 @@ use Rattle.vs_widths.specs.Expressions.{meant}
 use Rattle.vs_scopes.specs.Ranges.{number_fault}
 use Rattle.vs_scopes.specs.Parameters.{sign_found, with_constant, any_fault}
 use Rattle.vs_scopes.specs.Generate.{holds, condition_fault, genvar_value, genvar_number, genvar_fault, Turns, turns, faulty, endless, one_more, turns_from, header_fault, turn_limit}
+use Rattle.vs_elab_constants.proofs.FindingLemmas.{no_any}
 use Rattle.vs_elab_hierarchy.specs.Laws.{FitsTurn, IsTurn, TurnsDiffer}
 use Rattle.vs_elab_hierarchy.proofs.ValueLemmas.{IsSound, IsFound, found_alone, sound_constant, meant_full}
 
 -- ---- values of genvars
-
--- where no fault stands, none does
-no_fault : (g : WidthReason → Bool) → any_fault g ≡ false → (w : WidthReason) → g w ≡ false
-no_fault g h TooWide = (or_parts (g TooWide) (g Unknown) (or_parts (g TooWide || g Unknown) (g NotConstant) (or_parts (g TooWide || g Unknown || g NotConstant) (g WrongKind) h).0).0).0
-no_fault g h Unknown = (or_parts (g TooWide) (g Unknown) (or_parts (g TooWide || g Unknown) (g NotConstant) (or_parts (g TooWide || g Unknown || g NotConstant) (g WrongKind) h).0).0).1
-no_fault g h NotConstant = (or_parts (g TooWide || g Unknown) (g NotConstant) (or_parts (g TooWide || g Unknown || g NotConstant) (g WrongKind) h).0).1
-no_fault g h WrongKind = (or_parts (g TooWide || g Unknown || g NotConstant) (g WrongKind) h).1
 
 -- a value of 32 digits with a number
 pub record IsNumber (c : Const) : Type 0 where
@@ -62,7 +56,7 @@ cut_long : (ds : List Digit) (n : ℕ) → length ds ≡ max 32 n → length (ta
 cut_long ds n h = omega (arith, length-take 32 ds, h)
 
 value_is : (env : Environment) (e : Expr) → any_fault (genvar_fault env e) ≡ false → IsNumber (genvar_value env e)
-value_is env e h = by (constant_finding m) refl (sound_constant m (meant_full env e).sound) (no_fault (genvar_fault env e) h)
+value_is env e h = by (constant_finding m) refl (sound_constant m (meant_full env e).sound) (no_any (genvar_fault env e) h)
   where
     m : Meant
     m = meant env e

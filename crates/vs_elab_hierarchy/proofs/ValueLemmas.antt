@@ -3,15 +3,13 @@ use Rattle.std.proofs.Common.{◌≡◌, ℕ, suc, ℤ, ◌-ℤ◌, unsigned_abs
 use Rattle.std.specs.List.{list_any}
 use Rattle.std.proofs.lemmas.Bool.{or_left}
 use Rattle.vs_design.specs.vs_logic4.specs.declared.digit.Digit.{Digit}
-use Rattle.vs_design.specs.vs_logic4.specs.declared.digit.Digit.TheVariants.{Zero, One, X, Z}
 use Rattle.vs_design.specs.vs_logic4.specs.declared.operators.Unary.{Unary}
 use Rattle.vs_design.specs.vs_logic4.specs.declared.operators.Binary.{Binary}
 use Rattle.vs_design.specs.vs_logic4.specs.declared.operators.Sizing.{Sizing}
 use Rattle.vs_design.specs.vs_logic4.specs.declared.operators.Sizing.TheVariants.{Alike, Shift, Comparison, Logical}
-use Rattle.vs_design.specs.vs_logic4.specs.Tables.{merged_digit}
 use Rattle.vs_design.specs.vs_logic4.specs.Comparisons.{truth}
 use Rattle.vs_design.specs.vs_logic4.specs.Extensions.{length-resized}
-use Rattle.vs_design.specs.vs_logic4.specs.Lengths.{length-all_unknown, length-digitwise, length-unary, length-binary}
+use Rattle.vs_design.specs.vs_logic4.specs.Lengths.{length-all_unknown, length-unary, length-binary}
 use Rattle.vs_design.specs.vs_logic4.specs.Operators.{gives_bit, sizing_of, is_one_bit, is_even}
 use Rattle.vs_design.specs.vs_logic4.specs.Vectors.{resized}
 use Rattle.vs_syntax.specs.declared.tree.Expr.{Expr, Expr-F, roll-Expr, map-Expr, ind-Expr, fold-roll-Expr}
@@ -22,7 +20,8 @@ use Rattle.vs_syntax.specs.declared.tree.PartSelect.TheVariants as p
 use Rattle.vs_design.specs.declared.range.BitRange.{BitRange}
 use Rattle.vs_design.specs.declared.signal.Bounds.{Bounds}
 use Rattle.vs_design.specs.Stores.{Store, word_of}
-use Rattle.vs_scopes.specs.vs_widths.specs.vs_eval.specs.Values.{left_side, right_side, operand_value, picked, chosen}
+use Rattle.vs_scopes.specs.vs_widths.specs.vs_eval.specs.Values.{left_side, right_side, operand_value, chosen}
+use Rattle.vs_scopes.specs.vs_widths.specs.vs_eval.proofs.MeantLemmas.{picked_long}
 use Rattle.vs_scopes.specs.vs_widths.specs.declared.shape.Shape.{Shape}
 use Rattle.vs_scopes.specs.vs_widths.specs.Operations.{operated}
 use Rattle.vs_scopes.specs.vs_widths.specs.declared.constants.Const.{Const}
@@ -35,7 +34,7 @@ use Rattle.vs_scopes.specs.vs_widths.specs.Environment.{Environment}
 use Rattle.vs_scopes.specs.vs_widths.specs.Findings.{Finding, Has, Lacks, unknown, wrong_kind, not_constant, too_wide, together, alone, alike, linked_shape, second, unsigned, beside, repeated}
 use Rattle.vs_scopes.specs.vs_widths.specs.Meants.{Meant, own}
 use Rattle.vs_scopes.specs.vs_widths.specs.Constants.{where_none, constant_finding, whole_of, natural_of, positive, where_some, count_finding}
-use Rattle.vs_scopes.specs.vs_widths.specs.Selects.{Select, stands_in, refused, is_reversed, between, counted, base_finding, select_span, span_of, in_array, of_words, named, constant_span, operand_meant, select_meant}
+use Rattle.vs_scopes.specs.vs_widths.specs.Selects.{Select, select_has_fault, refused, is_reversed, between, counted, base_finding, select_span, span_of, in_array, of_words, named, constant_span, operand_meant, select_meant}
 use Rattle.vs_widths.specs.Expressions.{meant, meant_step, signal_finding, name_meant, unary_meant, linked_meant, chain_meant, linked_value, choice_finding, choice_meant, sum_finding, concat_meant}
 
 -- ---- findings
@@ -113,7 +112,7 @@ SoundSelects [] = Unit {0}
 SoundSelects (x ∷ xs) = SoundSelect x × SoundSelects xs
 
 sound_refused : (g : WidthReason → Bool) (w : WidthReason) (ss : List Select) → g w ≡ true → IsSound (refused g ss)
-sound_refused g w ss h = (w, or_left (g w) (list_any (stands_in w) ss) h)
+sound_refused g w ss h = (w, or_left (g w) (list_any (select_has_fault w) ss) h)
 
 sound_between : (b : Bounds) (x y : Option ℤ) → IsSound (between b x y)
 sound_between b None y = (NotConstant, refl)
@@ -241,14 +240,6 @@ linked_full a l h k = record {
   sound = sound_together (linked_shape (sizing_of l.0)) a.finding l.1.finding (sound_linked (sizing_of l.0)) h k;
   long = λ found store time width signed. linked_long (sizing_of l.0) l.0 a l.1 store time width signed refl;
 }
-
--- ---- choices
-
-picked_long : (d : Digit) (v w : List Digit) (n : ℕ) → length v ≡ n → length w ≡ n → length (picked d v w) ≡ n
-picked_long One v w n h k = h
-picked_long Zero v w n h k = k
-picked_long X v w n h k = length-digitwise merged_digit v (resized false (length v) w) (sym (length-resized false (length v) w)) ∙ h
-picked_long Z v w n h k = length-digitwise merged_digit v (resized false (length v) w) (sym (length-resized false (length v) w)) ∙ h
 
 -- ---- expressions
 

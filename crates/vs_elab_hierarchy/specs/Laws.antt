@@ -94,6 +94,6 @@ pub record IsTop (s : Scope) : Type 0 where
   pub depth : s.depth ≡ 1
 
 -- Each scope of a source is its top, or stands in another scope of the source (clauses 12.1.2, 12.4 and 9.8.3).
-abbrev pub ScopesStandInScopes : Type 0
-ScopesStandInScopes = (ms : List Module) (top : List ℕ) (i : ℕ) (s : Scope) → slice_get (scopes_of ms top) i ≡ Some s →
+abbrev pub ScopesAreNested : Type 0
+ScopesAreNested = (ms : List Module) (top : List ℕ) (i : ℕ) (s : Scope) → slice_get (scopes_of ms top) i ≡ Some s →
     IsTop s ⊎ ((j : ℕ) × (outer : Scope) × (slice_get (scopes_of ms top) j ≡ Some outer) × IsWithin outer s)

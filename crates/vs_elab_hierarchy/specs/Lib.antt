@@ -1,7 +1,7 @@
 pub mod Laws
 pub use Rattle.vs_scopes
 pub mod passes
-pub use Rattle.vs_elab_listed
+pub use Rattle.vs_elab_signals
 pub mod scope_passes
 pub use Rattle.vs_scopes.specs.Printed
 pub use Rattle.vs_scopes.specs.Ranges
@@ -11,7 +11,7 @@ pub use Rattle.vs_scopes.specs.Ports
 pub use Rattle.vs_scopes.specs.Declarations
 pub use Rattle.vs_scopes.specs.Generate
 pub use Rattle.vs_scopes.specs.Scopes
-pub use Rattle.vs_elab_listed.specs.Outlines
-pub use Rattle.vs_elab_listed.specs.ScopeFaults
-pub use Rattle.vs_elab_listed.specs.Opened
+pub use Rattle.vs_elab_signals.specs.Outlines
+pub use Rattle.vs_elab_signals.specs.ScopeFaults
+pub use Rattle.vs_elab_signals.specs.Opened
 pub mod hierarchy_passes

@@ -7,15 +7,15 @@ ghost use Rattle.vs_elab_constants.specs.vs_widths.specs.Names.{by_bytes};
 ghost use Rattle.vs_scopes.specs.Reads.{read_piece};
 ghost use Rattle.vs_scopes.specs.Pieces.{pieces_of};
 ghost use Rattle.vs_elab_constants.specs.Reads.{read_use, read_constant, read_inner};
-ghost use Rattle.vs_elab_listed.specs.vs_scopes.specs.Generate.{instance, generated};
-ghost use Rattle.vs_elab_listed.specs.vs_scopes.specs.Ports.{ports_of};
-ghost use Rattle.vs_elab_listed.specs.vs_scopes.specs.Printed.{plainly};
-ghost use Rattle.vs_elab_listed.specs.vs_scopes.specs.Scopes.{Scope, environment, named};
-ghost use Rattle.vs_elab_listed.specs.vs_scopes.specs.scopes_passes.Answers.{borrowed, IsFaultAt, Told};
-ghost use Rattle.vs_elab_listed.specs.vs_scopes.specs.scopes_passes.Names.{read_title};
-ghost use Rattle.vs_elab_listed.specs.vs_scopes.specs.scopes_passes.Parts.{read_end, read_port};
-ghost use Rattle.vs_elab_listed.specs.vs_elab_constants.specs.passes.Values.{AreValues, AreNoValues};
-ghost use Rattle.vs_elab_listed.specs.Opened.{AreOpened, AreSeated};
+ghost use Rattle.vs_elab_signals.specs.vs_scopes.specs.Generate.{instance, generated};
+ghost use Rattle.vs_elab_signals.specs.vs_scopes.specs.Ports.{ports_of};
+ghost use Rattle.vs_elab_signals.specs.vs_scopes.specs.Printed.{plainly};
+ghost use Rattle.vs_elab_signals.specs.vs_scopes.specs.Scopes.{Scope, environment, named};
+ghost use Rattle.vs_elab_signals.specs.vs_scopes.specs.scopes_passes.Answers.{borrowed, IsFaultAt, IsReported};
+ghost use Rattle.vs_elab_signals.specs.vs_scopes.specs.scopes_passes.Names.{read_title};
+ghost use Rattle.vs_elab_signals.specs.vs_scopes.specs.scopes_passes.Parts.{read_end, read_port};
+ghost use Rattle.vs_elab_signals.specs.vs_elab_constants.specs.passes.Values.{AreValues, AreNoValues};
+ghost use Rattle.vs_elab_signals.specs.Opened.{AreOpened, AreSeated};
 ghost use Rattle.vs_elab_hierarchy.specs.passes.Blocks.{text_name};
 ghost use Rattle.vs_elab_hierarchy.specs.passes.Entering.{Lists, before_next, IsParameterFault, IsBlockRefusal, EntersInstance, EntersInstanceNot, EntersBlock, EntersBlockNot, Enters, EntersNot, IsShallow};
 
@@ -24,12 +24,12 @@ use std::slice;
 use vs_design::ScopeKind;
 use vs_elab_constants::vs_widths::{Levels, Names};
 use vs_elab_constants::{Inner, Use};
-use vs_elab_listed::vs_elab_constants::{ParameterValues, block_values, values};
-use vs_elab_listed::vs_scopes::{
+use vs_elab_signals::vs_elab_constants::{ParameterValues, block_values, values};
+use vs_elab_signals::vs_scopes::{
     ElabFault, ModulePort, ParameterRefusal, PartName, PathName, Reason, module_ports, with_first,
 };
-use vs_elab_listed::{
-    Enclosing, ListedScope, Numbering, block_members, connections, fault_at, module_members,
+use vs_elab_signals::{
+    ElabScope, Enclosing, Numbering, block_members, connections, fault_at, module_members,
     named_fault, names_outward, path_inside, scope_fault,
 };
 use vs_scopes::{ScopePiece, block_pieces, pieces};
@@ -60,7 +60,7 @@ fn is_among(names: &[&[u8]], name: &[u8]) -> bool
 /// The fault of an instance of this name in the scope at a place, whose parameters have no values.
 fn parameter_refusal(
     alloc: Global,
-    list: &[ListedScope],
+    list: &[ElabScope],
     place: usize,
     name: &[u8],
     refusal: ParameterRefusal,
@@ -85,7 +85,7 @@ fn parameter_refusal(
 /// The fault of a block of this name in the scope at a place, whose parameters have no values.
 fn block_refusal<'s>(
     alloc: Global,
-    list: &[ListedScope<'s>],
+    list: &[ElabScope<'s>],
     place: usize,
     title: PathName<'s>,
     fault: WidthFault,
@@ -108,7 +108,7 @@ fn block_refusal<'s>(
 #[inline(never)]
 fn instance_values<'s>(
     alloc: Global,
-    list: &[ListedScope<'s>],
+    list: &[ElabScope<'s>],
     place: usize,
     module: &'s Module,
     ports: &[ModulePort<'s>],
@@ -134,18 +134,18 @@ fn instance_values<'s>(
 fn module_scope<'s>(
     alloc: Global,
     listed: NamedModule<'s>,
-    list: &[ListedScope<'s>],
+    list: &[ElabScope<'s>],
     plan: &Numbering,
     place: usize,
     one: &Use<'s>,
-) -> Result<ListedScope<'s>, ElabFault>
+) -> Result<ElabScope<'s>, ElabFault>
     requires place { place < length list.now }
     requires seated { AreSeated list.now }
     requires depth { IsShallow list.now place }
     ensures { (ss : List Scope) (s : Scope) → AreOpened list.now ss → slice_get ss place ≡ Some s →
         MatchResult result
         (EntersInstance listed.entry.nets ss s place (before_next list.now plan.now) (read_use one.now) listed.entry.«module».now)
-        (Told (EntersInstanceNot s (read_use one.now) listed.entry.«module».now)) }
+        (IsReported (EntersInstanceNot s (read_use one.now) listed.entry.«module».now)) }
 {
     let module = listed.module;
     let pieces = pieces(alloc, &module.items)?;
@@ -166,7 +166,7 @@ fn module_scope<'s>(
     let members = module_members(alloc, listed.nets, around, module, &ports, pieces)?;
     let home = list[place].home;
     let within = with_first(alloc, &module.name, &list[home].within)?;
-    Ok(ListedScope {
+    Ok(ElabScope {
         title: plain_title(one.name),
         kind: ScopeKind::Module,
         number: list.len(),
@@ -207,17 +207,17 @@ pub fn plain_title<'s>(name: &'s [u8]) -> PathName<'s>
 fn enter_instance<'s>(
     alloc: Global,
     modules: &Names<'s, NamedModule<'s>>,
-    list: &[ListedScope<'s>],
+    list: &[ElabScope<'s>],
     plan: &Numbering,
     place: usize,
     one: &Use<'s>,
-) -> Result<ListedScope<'s>, ElabFault>
+) -> Result<ElabScope<'s>, ElabFault>
     requires place { place < length list.now }
     requires seated { AreSeated list.now }
     requires depth { IsShallow list.now place }
     ensures { (ms : List Tree) (ss : List Scope) (s : Scope) → Lists ms modules.now → AreOpened list.now ss → slice_get ss place ≡ Some s →
         MatchResult result (Enters ms ss s place (before_next list.now plan.now) (instance (read_use one.now)))
-        (Told (EntersNot ms s (instance (read_use one.now)))) }
+        (IsReported (EntersNot ms s (instance (read_use one.now)))) }
 {
     let Some(listed) = modules.find(one.of) else {
         return Err(named_fault(alloc, list, place, one.name, Reason::NoModule));
@@ -233,21 +233,21 @@ fn enter_instance<'s>(
 #[inline(never)]
 fn block_scope<'s>(
     alloc: Global,
-    list: &[ListedScope<'s>],
+    list: &[ElabScope<'s>],
     plan: &Numbering,
     place: usize,
     piece: usize,
     title: PathName<'s>,
     constants: &[(&'s [u8], Const)],
     pieces: Vec<ScopePiece<'s>>,
-) -> Result<ListedScope<'s>, ElabFault>
+) -> Result<ElabScope<'s>, ElabFault>
     requires place { place < length list.now }
     requires seated { AreSeated list.now }
     ensures { (ss : List Scope) (s : Scope) → AreOpened list.now ss → slice_get ss place ≡ Some s →
         MatchResult result
         (EntersBlock piece ss s place (before_next list.now plan.now) title.entry (by_bytes constants.now)
         (map read_piece pieces.entry.items))
-        (Told (EntersBlockNot s (read_title title.entry) (by_bytes constants.now) (map read_piece pieces.entry.items))) }
+        (IsReported (EntersBlockNot s (read_title title.entry) (by_bytes constants.now) (map read_piece pieces.entry.items))) }
 {
     let outer = names_outward(alloc, list, place)?;
     let values = match block_values(alloc, &outer, constants, &pieces) {
@@ -262,7 +262,7 @@ fn block_scope<'s>(
     };
     let nets = list[place].nets;
     let members = block_members(alloc, nets, around, constants, pieces)?;
-    Ok(ListedScope {
+    Ok(ElabScope {
         title,
         kind: ScopeKind::Begin,
         number: list.len(),
@@ -292,21 +292,21 @@ fn block_scope<'s>(
 #[inline(never)]
 fn enter_generated<'s>(
     alloc: Global,
-    list: &[ListedScope<'s>],
+    list: &[ElabScope<'s>],
     plan: &Numbering,
     place: usize,
     piece: usize,
     title: PathName<'s>,
     turn: &Option<(&'s [u8], Const)>,
     items: &'s [ModuleItem],
-) -> Result<ListedScope<'s>, ElabFault>
+) -> Result<ElabScope<'s>, ElabFault>
     requires place { place < length list.now }
     requires seated { AreSeated list.now }
     ensures { (ms : List Tree) (ss : List Scope) (s : Scope) → AreOpened list.now ss → slice_get ss place ≡ Some s →
         MatchResult result
         (Enters ms ss s place (before_next list.now plan.now)
         (generated piece (read_title title.entry) (read_constant turn.now) items.entry.now))
-        (Told (EntersNot ms s (generated piece (read_title title.entry) (read_constant turn.now) items.entry.now))) }
+        (IsReported (EntersNot ms s (generated piece (read_title title.entry) (read_constant turn.now) items.entry.now))) }
 {
     let pieces = pieces(alloc, items)?;
     match turn {
@@ -331,17 +331,17 @@ fn enter_generated<'s>(
 pub fn enter<'s>(
     alloc: Global,
     modules: &Names<'s, NamedModule<'s>>,
-    list: &[ListedScope<'s>],
+    list: &[ElabScope<'s>],
     plan: &Numbering,
     place: usize,
     one: &Inner<'s>,
-) -> Result<ListedScope<'s>, ElabFault>
+) -> Result<ElabScope<'s>, ElabFault>
     requires place { place < length list.now }
     requires seated { AreSeated list.now }
     requires depth { IsShallow list.now place }
     ensures { (ms : List Tree) (ss : List Scope) (s : Scope) → Lists ms modules.now → AreOpened list.now ss → slice_get ss place ≡ Some s →
         MatchResult result (Enters ms ss s place (before_next list.now plan.now) (read_inner one.now))
-        (Told (EntersNot ms s (read_inner one.now))) }
+        (IsReported (EntersNot ms s (read_inner one.now))) }
 {
     match one {
         Inner::Instance(one) => enter_instance(alloc, modules, list, plan, place, one),

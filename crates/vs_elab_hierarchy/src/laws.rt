@@ -1,5 +1,5 @@
 //! Laws of paths and scopes: each is the contract of a function that does nothing.
-ghost use Rattle.vs_elab_hierarchy.specs.Laws.{PrintedPathsDiffer, PrintedPartsDiffer, TurnsDiffer, PathsDiffer, TurnsFit, ScopesAreNumbered, ScopesStandInScopes};
+ghost use Rattle.vs_elab_hierarchy.specs.Laws.{PrintedPathsDiffer, PrintedPartsDiffer, TurnsDiffer, PathsDiffer, TurnsFit, ScopesAreNumbered, ScopesAreNested};
 
 /// Paths that are printed alike are equal.
 pub fn printed_paths_differ()
@@ -32,6 +32,6 @@ pub fn scopes_are_numbered()
 {}
 
 /// Each scope of a source is its top, or stands in another scope of the source.
-pub fn scopes_stand_in_scopes()
-    ensures { ScopesStandInScopes }
+pub fn scopes_are_nested()
+    ensures { ScopesAreNested }
 {}

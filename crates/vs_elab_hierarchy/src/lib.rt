@@ -12,9 +12,9 @@ mod source;
 pub use adding::{add, list_scope};
 pub use entering::{NamedModule, enter, plain_title};
 pub use laws::{
-    paths_differ, printed_parts_differ, printed_paths_differ, scopes_are_numbered,
-    scopes_stand_in_scopes, turns_differ, turns_fit,
+    paths_differ, printed_parts_differ, printed_paths_differ, scopes_are_nested,
+    scopes_are_numbered, turns_differ, turns_fit,
 };
 pub use source::open_all;
-pub use vs_elab_listed;
+pub use vs_elab_signals;
 pub use vs_scopes;

@@ -1,25 +1,25 @@
 //! The scopes inside a scope, in design order.
 ghost use Rattle.std.specs.Prelude.{◌≡◌, ◌<◌, ◌+◌, ◌-◌, ◌*◌, ◌^◌, List, Some, [], ◌∷◌, ◌++◌, length, map, slice_get, MatchResult, OnOk};
 ghost use Rattle.vs_syntax.specs.declared.tree.Module.{Module as Tree};
-ghost use Rattle.vs_elab_listed.specs.vs_elab_constants.specs.Reads.{read_inner};
+ghost use Rattle.vs_elab_signals.specs.vs_elab_constants.specs.Reads.{read_inner};
 ghost use Rattle.vs_scopes.specs.Scopes.{Scope};
-ghost use Rattle.vs_scopes.specs.scopes_passes.Answers.{IsRefusal, Told};
-ghost use Rattle.vs_elab_listed.specs.Opened.{AreOpened, AreSeated};
-ghost use Rattle.vs_elab_listed.specs.ScopeFaults.{HasConstructFault};
+ghost use Rattle.vs_scopes.specs.scopes_passes.Answers.{IsRefusal, IsReported};
+ghost use Rattle.vs_elab_signals.specs.Opened.{AreOpened, AreSeated};
+ghost use Rattle.vs_elab_signals.specs.ScopeFaults.{HasConstructFault};
 ghost use Rattle.vs_elab_hierarchy.specs.hierarchy_passes.Opens.{FindsInner, HasInner, HasInnerNot, IsReady, OpensInside, OpensInsideNot};
 ghost use Rattle.vs_elab_hierarchy.specs.hierarchy_passes.InHand.{Asked, InHand};
 
-use crate::vs_elab_listed::check_blocks;
+use crate::vs_elab_signals::check_blocks;
 use crate::{NamedModule, add};
 use std::alloc::Global;
 use vs_design::Entry;
 use vs_elab_constants::vs_widths::{Levels, Names};
-use vs_elab_listed::vs_elab_constants::{Inner, inners};
-use vs_elab_listed::{ListedScope, Numbering, names_around, scope_fault};
+use vs_elab_signals::vs_elab_constants::{Inner, inners};
+use vs_elab_signals::{ElabScope, Numbering, names_around, scope_fault};
 use vs_scopes::{BodyFault, ElabFault};
 
 /// A fault of a generate construct of the scope at a place.
-fn construct_fault(alloc: Global, list: &[ListedScope], place: usize, fault: BodyFault) -> ElabFault
+fn construct_fault(alloc: Global, list: &[ElabScope], place: usize, fault: BodyFault) -> ElabFault
     requires place { place < length list.now }
     requires seated { AreSeated list.now }
     ensures { (ss : List Scope) (s : Scope) → AreOpened list.now ss → slice_get ss place ≡ Some s → IsRefusal s.path fault result }
@@ -33,13 +33,13 @@ fn construct_fault(alloc: Global, list: &[ListedScope], place: usize, fault: Bod
 /// What opens scopes in the one at a place, in the order of the text (IEEE 1364-2005, clauses 9.8.3, 12.1.2 and 12.4).
 fn found_at<'s>(
     alloc: Global,
-    list: &[ListedScope<'s>],
+    list: &[ElabScope<'s>],
     place: usize,
 ) -> Result<Vec<Inner<'s>>, ElabFault>
     requires place { place < length list.now }
     requires seated { AreSeated list.now }
     ensures { (ss : List Scope) (s : Scope) → AreOpened list.now ss → slice_get ss place ≡ Some s →
-        MatchResult result (λ v. FindsInner s (map read_inner v.items)) (Told (HasConstructFault s)) }
+        MatchResult result (λ v. FindsInner s (map read_inner v.items)) (IsReported (HasConstructFault s)) }
 {
     let scope = &list[place];
     let outer = names_around(alloc, list, scope.kind, scope.around)?;
@@ -53,13 +53,13 @@ fn found_at<'s>(
 /// The same, where no generate block has the name of an implicit net (IEEE 1364-2005, clauses 4.5 and 12.4.3).
 fn inner_at<'s>(
     alloc: Global,
-    list: &[ListedScope<'s>],
+    list: &[ElabScope<'s>],
     place: usize,
 ) -> Result<Vec<Inner<'s>>, ElabFault>
     requires place { place < length list.now }
     requires seated { AreSeated list.now }
     ensures { (ss : List Scope) (s : Scope) → AreOpened list.now ss → slice_get ss place ≡ Some s →
-        MatchResult result (λ v. HasInner s (map read_inner v.items)) (Told (HasInnerNot s)) }
+        MatchResult result (λ v. HasInner s (map read_inner v.items)) (IsReported (HasInnerNot s)) }
 {
     let inner = found_at(alloc, list, place)?;
     check_blocks(alloc, list, place, &inner)?;
@@ -80,12 +80,12 @@ fn open_next<'s>(
     modules: &Names<'s, NamedModule<'s>>,
     scope: Opening<'s>,
     stack: &mut Vec<Opening<'s>>,
-    list: &mut Vec<ListedScope<'s>>,
+    list: &mut Vec<ElabScope<'s>>,
     plan: &mut Numbering,
 ) -> Result<(), ElabFault>
     requires { (a : Asked) × InHand a modules.now (stack.old.items ++ scope ∷ []) list.old.items plan.old }
     ensures in_hand { (a : Asked) → InHand a modules.now (stack.old.items ++ scope.entry ∷ []) list.old.items plan.old →
-        MatchResult result (λ _. InHand a modules.now stack.new.items list.new.items plan.new) (Told (OpensInsideNot a.depth_left a.ms a.s)) }
+        MatchResult result (λ _. InHand a modules.now stack.new.items list.new.items plan.new) (IsReported (OpensInsideNot a.depth_left a.ms a.s)) }
     ensures less { OnOk result (2 * (2 ^ 64 - length list.new.items) + length stack.new.items <
         2 * (2 ^ 64 - length list.old.items) + length stack.old.items + 1) }
 {
@@ -119,7 +119,7 @@ pub fn open_inside<'s>(
     modules: &Names<'s, NamedModule<'s>>,
     depth_left: u32,
     place: usize,
-    list: &mut Vec<ListedScope<'s>>,
+    list: &mut Vec<ElabScope<'s>>,
     plan: &mut Numbering,
 ) -> Result<(), ElabFault>
     requires depth_left { 0 < depth_left }
@@ -127,7 +127,7 @@ pub fn open_inside<'s>(
         IsReady ms ss s modules.now list.old.items plan.old place depth_left }
     ensures { (ms : List Tree) (ss : List Scope) (s : Scope) → IsReady ms ss s modules.now list.old.items plan.old place depth_left →
         MatchResult result (λ _. OpensInside depth_left ms ss s place list.old.items list.new.items plan.old plan.new)
-        (Told (OpensInsideNot depth_left ms s)) }
+        (IsReported (OpensInsideNot depth_left ms s)) }
 {
     let _ = depth_left;
     let inner = inner_at(alloc, list, place)?;

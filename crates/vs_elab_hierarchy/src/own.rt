@@ -1,24 +1,24 @@
 //! The names and signals of a scope.
 ghost use Rattle.std.specs.Prelude.{◌≡◌, ◌<◌, ◌≤◌, ◌∷◌, ◌++◌, [], List, Some, length, map, IfOk, OnOk, MatchResult};
 ghost use Rattle.vs_widths.specs.Names.{meaning_of};
-ghost use Rattle.vs_elab_listed.specs.vs_scopes.specs.Reads.{read_piece};
+ghost use Rattle.vs_elab_signals.specs.vs_scopes.specs.Reads.{read_piece};
 ghost use Rattle.vs_scopes.specs.Ports.{names_where, is_joined, ports_again};
 ghost use Rattle.vs_scopes.specs.Scopes.{Scope};
-ghost use Rattle.vs_scopes.specs.scopes_passes.Answers.{borrowed, IsFaultAt, Told};
+ghost use Rattle.vs_scopes.specs.scopes_passes.Answers.{borrowed, IsFaultAt, IsReported};
 ghost use Rattle.vs_scopes.specs.scopes_passes.Names.{read_path};
 ghost use Rattle.vs_scopes.specs.scopes_passes.Parts.{read_port, read_source};
-ghost use Rattle.vs_elab_listed.specs.Opened.{AreOpened, AreSeated, IsEntered};
-ghost use Rattle.vs_elab_listed.specs.listed_passes.Sites.{IsSite};
-ghost use Rattle.vs_elab_listed.specs.listed_passes.Declaring.{IsAt};
+ghost use Rattle.vs_elab_signals.specs.Opened.{AreOpened, AreSeated, IsScopeOf};
+ghost use Rattle.vs_elab_signals.specs.signal_passes.Sites.{IsSite};
+ghost use Rattle.vs_elab_signals.specs.signal_passes.Declaring.{IsAt};
 ghost use Rattle.vs_elab_hierarchy.specs.scope_passes.Own.{HoldsOwn, IsFitting, HasFittingPieces, HasFewTurns, NamesMean, HasTimelyNets, block_has_parameter, AreAlike, IsAgainNot, DeclaresAll, DeclaresAllNot, Binds, BindsNot, OpensNames, OpensOwn, EntersLast, HasOuter};
 
-use crate::vs_elab_listed::{Enclosing, check_late};
+use crate::vs_elab_signals::{Enclosing, check_late};
 use std::alloc::{AllocError, Global};
 use vs_design::{Entry, ScopeKind};
-use vs_elab_listed::vs_elab_constants::turns_behind;
-use vs_elab_listed::vs_scopes::ScopePiece;
-use vs_elab_listed::{
-    Declared, LEVELS, ListedScope, Numbering, Site, bind_all, bind_constants, counted,
+use vs_elab_signals::vs_elab_constants::turns_after;
+use vs_elab_signals::vs_scopes::ScopePiece;
+use vs_elab_signals::{
+    Declared, ElabScope, LEVELS, Numbering, Site, bind_all, bind_constants, counted,
     declare_pieces, declare_ports, fault_at, genvars, has_parameter, has_stray_port,
     has_wrong_port, inner_names, is_unlike, member_fault, names_around, passes_limit, ports_again,
     scope_fault,
@@ -65,13 +65,13 @@ fn joined_names<'s>(alloc: Global, ports: &[ModulePort<'s>]) -> Result<Vec<&'s [
 #[inline(never)]
 fn check_scope(
     alloc: Global,
-    list: &[ListedScope],
+    list: &[ElabScope],
     path: &[PathName],
-    scope: &ListedScope,
+    scope: &ElabScope,
 ) -> Result<(), ElabFault>
     requires { AreSeated list.now }
     ensures { (ss : List Scope) (s : Scope) → AreOpened list.now ss → EntersLast ss scope.now s → read_path path.now ≡ s.path →
-        MatchResult result (λ _. IsFitting s) (Told (HoldsOwn s)) }
+        MatchResult result (λ _. IsFitting s) (IsReported (HoldsOwn s)) }
 {
     if scope.depth > LEVELS {
         return Err(home_fault(alloc, list, path, scope, Reason::Limit));
@@ -88,9 +88,9 @@ fn check_scope(
 /// A fault at the instance that a scope of this path stands in, which may be the scope itself.
 fn home_fault(
     alloc: Global,
-    list: &[ListedScope],
+    list: &[ElabScope],
     path: &[PathName],
-    scope: &ListedScope,
+    scope: &ElabScope,
     reason: Reason,
 ) -> ElabFault
     requires { AreSeated list.now }
@@ -118,13 +118,13 @@ fn has_block_parameter(kind: ScopeKind, pieces: &[ScopePiece]) -> bool
 #[inline(never)]
 fn check_pieces(
     alloc: Global,
-    list: &[ListedScope],
+    list: &[ElabScope],
     path: &[PathName],
-    scope: &ListedScope,
+    scope: &ElabScope,
 ) -> Result<(), ElabFault>
     requires { AreSeated list.now }
     ensures { (ss : List Scope) (s : Scope) → AreOpened list.now ss → EntersLast ss scope.now s → read_path path.now ≡ s.path →
-        MatchResult result (λ _. HasFittingPieces s) (Told (HoldsOwn s)) }
+        MatchResult result (λ _. HasFittingPieces s) (IsReported (HoldsOwn s)) }
 {
     if has_stray_port(alloc, &scope.ports, &scope.pieces)? {
         return Err(home_fault(alloc, list, path, scope, Reason::PortMismatch));
@@ -145,7 +145,7 @@ fn check_alike<'s>(
 ) -> Result<(), ElabFault>
     requires { 0 < length site.path.now }
     ensures { (s : Scope) → IsAt s site.entry → map read_port ports.now ≡ s.ports → map read_piece pieces.now ≡ s.pieces →
-        MatchResult result (λ _. AreAlike s) (Told (HoldsOwn s)) }
+        MatchResult result (λ _. AreAlike s) (IsReported (HoldsOwn s)) }
 {
     let kinds = kinds_said(alloc, pieces)?;
     for port in ports {
@@ -166,7 +166,7 @@ fn check_again<'s>(
 ) -> Result<(), ElabFault>
     requires { 0 < length path.now }
     ensures { MatchResult result (λ _. ports_again (map read_port ports.now) (map read_piece pieces.now) ≡ [])
-        (Told (IsAgainNot (read_path path.now) (map read_port ports.now) (map read_piece pieces.now))) }
+        (IsReported (IsAgainNot (read_path path.now) (map read_port ports.now) (map read_piece pieces.now))) }
 {
     let again = ports_again(alloc, ports, pieces)?;
     match again.first() {
@@ -180,13 +180,13 @@ fn check_again<'s>(
 fn declare<'s>(
     alloc: Global,
     site: Site,
-    scope: &ListedScope<'s>,
+    scope: &ElabScope<'s>,
     plan: &mut Numbering,
 ) -> Result<Names<'s, Binding>, ElabFault>
     requires rooted { 0 < length site.path.now }
     requires room { length plan.old.signals.items ≤ 65536 }
-    ensures { (ss : List Scope) (s : Scope) → IsEntered ss scope.now s → IsAt s site.entry →
-        MatchResult result (λ names. DeclaresAll s names plan.new plan.old) (Told (DeclaresAllNot s plan.old)) }
+    ensures { (ss : List Scope) (s : Scope) → IsScopeOf ss scope.now s → IsAt s site.entry →
+        MatchResult result (λ names. DeclaresAll s names plan.new plan.old) (IsReported (DeclaresAllNot s plan.old)) }
 {
     let mut names = Names::new(alloc);
     bind_constants(alloc, site.path, &scope.constants, &mut names)?;
@@ -203,13 +203,13 @@ fn declare<'s>(
 fn begin<'s>(
     alloc: Global,
     site: Site,
-    scope: &ListedScope<'s>,
+    scope: &ElabScope<'s>,
     plan: &mut Numbering,
 ) -> Result<Names<'s, Binding>, ElabFault>
     requires rooted { 0 < length site.path.now }
     requires room { length plan.old.signals.items ≤ 65536 }
-    ensures { (ss : List Scope) (s : Scope) → IsEntered ss scope.now s → IsAt s site.entry → s.base ≡ length plan.old.signals.items →
-        MatchResult result (λ names. Binds s names plan.old plan.new) (Told (BindsNot s)) }
+    ensures { (ss : List Scope) (s : Scope) → IsScopeOf ss scope.now s → IsAt s site.entry → s.base ≡ length plan.old.signals.items →
+        MatchResult result (λ names. Binds s names plan.old plan.new) (IsReported (BindsNot s)) }
 {
     let title = print_title(alloc, scope.title)?;
     plan.outline.push(Entry::Enter(scope.kind, title))?;
@@ -225,15 +225,15 @@ fn begin<'s>(
 #[inline(never)]
 fn check_nets(
     alloc: Global,
-    list: &[ListedScope],
+    list: &[ElabScope],
     path: &[PathName],
-    scope: &ListedScope,
+    scope: &ElabScope,
 ) -> Result<(), ElabFault>
     requires rooted { 0 < length path.now }
     requires around { HasOuter list.now scope.now }
     requires seated { AreSeated list.now }
     ensures { (ss : List Scope) (s : Scope) → AreOpened list.now ss → EntersLast ss scope.now s → read_path path.now ≡ s.path →
-        MatchResult result (λ _. HasTimelyNets s) (Told (HoldsOwn s)) }
+        MatchResult result (λ _. HasTimelyNets s) (IsReported (HoldsOwn s)) }
 {
     let around = Enclosing {
         list,
@@ -250,15 +250,15 @@ fn open_names<'a, 's, 'o>(
     alloc: Global,
     path: &'a [PathName<'s>],
     known: &'a Levels<'s, 'o>,
-    scope: &ListedScope<'s>,
+    scope: &ElabScope<'s>,
     plan: &mut Numbering,
 ) -> Result<Names<'s, Binding>, ElabFault>
     requires rooted { 0 < length path.now }
     requires room { length plan.old.signals.items ≤ 65536 }
-    ensures { (ss : List Scope) (s : Scope) → IsEntered ss scope.now s → IsSite s (read_path path.entry.now) (meaning_of known.entry.now)
+    ensures { (ss : List Scope) (s : Scope) → IsScopeOf ss scope.now s → IsSite s (read_path path.entry.now) (meaning_of known.entry.now)
         → HasFittingPieces s →
         s.base ≡ length plan.old.signals.items →
-        MatchResult result (λ names. OpensNames s names plan.old plan.new) (Told (HoldsOwn s)) }
+        MatchResult result (λ names. OpensNames s names plan.old plan.new) (IsReported (HoldsOwn s)) }
 {
     let site = Site { path, known };
     check_alike(alloc, site, &scope.ports, &scope.pieces)?;
@@ -272,9 +272,9 @@ fn open_names<'a, 's, 'o>(
 #[inline(never)]
 pub fn list_members<'s>(
     alloc: Global,
-    list: &[ListedScope<'s>],
+    list: &[ElabScope<'s>],
     path: &[PathName<'s>],
-    scope: &ListedScope<'s>,
+    scope: &ElabScope<'s>,
     plan: &mut Numbering,
 ) -> Result<Names<'s, Binding>, ElabFault>
     requires rooted { 0 < length path.now }
@@ -283,7 +283,7 @@ pub fn list_members<'s>(
     requires room { length plan.old.signals.items ≤ 65536 }
     ensures { (ss : List Scope) (s : Scope) → AreOpened list.now ss → EntersLast ss scope.now s → read_path path.now ≡ s.path →
         s.base ≡ length plan.old.signals.items →
-        MatchResult result (λ names. OpensOwn s names plan.old plan.new) (Told (HoldsOwn s)) }
+        MatchResult result (λ names. OpensOwn s names plan.old plan.new) (IsReported (HoldsOwn s)) }
 {
     check_scope(alloc, list, path, scope)?;
     check_pieces(alloc, list, path, scope)?;
@@ -297,9 +297,9 @@ pub fn list_members<'s>(
 #[inline(never)]
 pub fn count_turns<'s>(
     alloc: Global,
-    list: &[ListedScope<'s>],
+    list: &[ElabScope<'s>],
     path: &[PathName<'s>],
-    scope: &ListedScope<'s>,
+    scope: &ElabScope<'s>,
     names: &Names<'s, Binding>,
     before: usize,
 ) -> Result<usize, ElabFault>
@@ -308,11 +308,11 @@ pub fn count_turns<'s>(
     requires seated { AreSeated list.now }
     ensures { (ss : List Scope) (s : Scope) → AreOpened list.now ss → EntersLast ss scope.now s → read_path path.now ≡ s.path →
         before ≡ s.turns → NamesMean s names.now →
-        MatchResult result (HasFewTurns s) (Told (HoldsOwn s)) }
+        MatchResult result (HasFewTurns s) (IsReported (HoldsOwn s)) }
 {
     let outer = names_around(alloc, list, scope.kind, scope.around)?;
     let levels = Levels::new(names, &outer);
-    match turns_behind(alloc, &levels, &scope.pieces, before)? {
+    match turns_after(alloc, &levels, &scope.pieces, before)? {
         Some(turns) => Ok(turns),
         None => Err(fault_at(alloc, path, Reason::Limit)),
     }

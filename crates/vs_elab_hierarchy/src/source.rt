@@ -4,27 +4,27 @@ ghost use Rattle.std.specs.List.{All};
 ghost use Rattle.vs_scopes.specs.Printed.{plainly};
 ghost use Rattle.vs_scopes.specs.Ports.{ports_of};
 ghost use Rattle.vs_scopes.specs.Scopes.{nowhere};
-ghost use Rattle.vs_scopes.specs.scopes_passes.Answers.{IsFaultAt, Told};
+ghost use Rattle.vs_scopes.specs.scopes_passes.Answers.{IsFaultAt, IsReported};
 ghost use Rattle.vs_scopes.specs.scopes_passes.Parts.{read_port};
 ghost use Rattle.vs_elab_constants.specs.passes.Values.{AreValues};
-ghost use Rattle.vs_elab_listed.specs.Opened.{AreSeated, OpensAll};
-ghost use Rattle.vs_elab_listed.specs.ScopeFaults.{StandsOpening};
+ghost use Rattle.vs_elab_signals.specs.Opened.{AreSeated, OpensAll};
+ghost use Rattle.vs_elab_signals.specs.ScopeFaults.{HasOpeningFault};
 ghost use Rattle.vs_elab_hierarchy.specs.passes.Entering.{Lists, ListsNot};
-ghost use Rattle.vs_elab_listed.specs.vs_scopes.specs.Pieces.{pieces_of};
-ghost use Rattle.vs_elab_listed.specs.vs_scopes.specs.Reads.{read_piece, referred};
+ghost use Rattle.vs_elab_signals.specs.vs_scopes.specs.Pieces.{pieces_of};
+ghost use Rattle.vs_elab_signals.specs.vs_scopes.specs.Reads.{read_piece, referred};
 ghost use Rattle.vs_elab_hierarchy.specs.passes.Blocks.{text_name, HasIndex, HasNoBlocks, AddsBlock, AreIndexed};
 ghost use Rattle.vs_elab_hierarchy.specs.scope_passes.Adding.{IsPlanned};
 ghost use Rattle.vs_elab_hierarchy.specs.hierarchy_passes.Opens.{IsTop, TopNot, Made};
 
 use crate::opening::open_inside;
-use crate::vs_elab_listed::{Enclosing, module_members, permits_behind};
+use crate::vs_elab_signals::{Enclosing, module_members, permits_after};
 use crate::{NamedModule, list_scope, plain_title};
 use std::alloc::{AllocError, Global};
 use vs_design::ScopeKind;
 use vs_elab_constants::vs_widths::{Levels, Names};
 use vs_elab_constants::{ParameterValues, values};
-use vs_elab_listed::vs_scopes::{ScopePiece, pieces};
-use vs_elab_listed::{DEEPEST, Hierarchy, ListedScope, Numbering, fault_at};
+use vs_elab_signals::vs_scopes::{ScopePiece, pieces};
+use vs_elab_signals::{DEEPEST, ElabScope, Hierarchy, Numbering, fault_at};
 use vs_scopes::{
     ElabFault, ModulePort, ParameterRefusal, PartName, PathName, Reason, module_ports,
 };
@@ -42,12 +42,12 @@ fn list_modules<'s>(
     alloc: Global,
     modules: &'s [Module],
 ) -> Result<Names<'s, NamedModule<'s>>, ElabFault>
-    ensures { MatchResult result (Lists modules.entry.now) (Told (ListsNot modules.entry.now)) }
+    ensures { MatchResult result (Lists modules.entry.now) (IsReported (ListsNot modules.entry.now)) }
 {
     let mut names = Names::new(alloc);
     let mut nets = true;
     for module in modules {
-        nets = permits_behind(nets, &module.directives);
+        nets = permits_after(nets, &module.directives);
         if !names.declare(&module.name, NamedModule { module, nets })? {
             return Err(module_fault(alloc, &module.name, Reason::DeclaredTwice));
         }
@@ -65,7 +65,7 @@ fn top_values<'s>(
 ) -> Result<ParameterValues<'s>, ElabFault>
     requires ports { map read_port ports.now ≡ ports_of «module».now }
     requires pieces { map read_piece pieces.now ≡ pieces_of «module».now.items.items }
-    ensures { MatchResult result (AreValues nowhere None «module».entry.now) (Told (TopNot «module».entry.now)) }
+    ensures { MatchResult result (AreValues nowhere None «module».entry.now) (IsReported (TopNot «module».entry.now)) }
 {
     let nothing = Names::new(alloc);
     let around = Levels::alone(&nothing);
@@ -82,8 +82,8 @@ fn top_values<'s>(
 
 /// The scope of the top module (IEEE 1364-2005, clause 12.1.1).
 #[inline(never)]
-fn top_scope<'s>(alloc: Global, listed: NamedModule<'s>) -> Result<ListedScope<'s>, ElabFault>
-    ensures { MatchResult result (IsTop listed.entry.nets listed.entry.«module».now) (Told (TopNot listed.entry.«module».now)) }
+fn top_scope<'s>(alloc: Global, listed: NamedModule<'s>) -> Result<ElabScope<'s>, ElabFault>
+    ensures { MatchResult result (IsTop listed.entry.nets listed.entry.«module».now) (IsReported (TopNot listed.entry.«module».now)) }
 {
     let module = listed.module;
     let pieces = pieces(alloc, &module.items)?;
@@ -98,7 +98,7 @@ fn top_scope<'s>(alloc: Global, listed: NamedModule<'s>) -> Result<ListedScope<'
         piece: 0,
     };
     let members = module_members(alloc, listed.nets, around, module, &ports, pieces)?;
-    Ok(ListedScope {
+    Ok(ElabScope {
         title: plain_title(&module.name),
         kind: ScopeKind::Module,
         number: 0,
@@ -128,14 +128,14 @@ fn open_top<'s>(
     alloc: Global,
     modules: &'s [Module],
     top: &[u8],
-    list: &mut Vec<ListedScope<'s>>,
+    list: &mut Vec<ElabScope<'s>>,
     plan: &mut Numbering,
 ) -> Result<(), ElabFault>
     requires empty { list.old.items ≡ [] }
     requires planned { IsPlanned list.old.items plan.old [] }
     requires outline { plan.old.outline.items ≡ [] }
     ensures { MatchResult result (λ _. Made modules.entry.now top.now list.new.items plan.new)
-        (Told (StandsOpening modules.entry.now top.now)) }
+        (IsReported (HasOpeningFault modules.entry.now top.now)) }
 {
     let names = list_modules(alloc, modules)?;
     let Some(listed) = names.find(top) else {
@@ -160,7 +160,7 @@ fn text_name<'s>(title: PathName<'s>) -> Option<&'s [u8]>
 }
 
 /// Tells the scope around the one at a place that it stands there.
-fn index_one<'s>(place: usize, list: &mut [ListedScope<'s>]) -> Result<(), AllocError>
+fn index_one<'s>(place: usize, list: &mut [ElabScope<'s>]) -> Result<(), AllocError>
     requires { HasIndex list.old place }
     ensures { OnOk result (AddsBlock place list.old list.new) }
 {
@@ -177,7 +177,7 @@ fn index_one<'s>(place: usize, list: &mut [ListedScope<'s>]) -> Result<(), Alloc
 }
 
 /// Tells each scope of a list the places of the scopes in it, by their names.
-fn index_all<'s>(list: &mut [ListedScope<'s>]) -> Result<(), AllocError>
+fn index_all<'s>(list: &mut [ElabScope<'s>]) -> Result<(), AllocError>
     requires places { (place : ℕ) → place < length list.old → HasIndex list.old place }
     requires none { All HasNoBlocks list.old }
     ensures { OnOk result (AreIndexed list.old list.new) }
@@ -197,7 +197,7 @@ pub fn open_all<'s>(
     modules: &'s [Module],
     top: &[u8],
 ) -> Result<Hierarchy<'s>, ElabFault>
-    ensures opens { MatchResult result (OpensAll modules.entry.now top.now) (Told (StandsOpening modules.entry.now top.now)) }
+    ensures opens { MatchResult result (OpensAll modules.entry.now top.now) (IsReported (HasOpeningFault modules.entry.now top.now)) }
     ensures seated { IfOk result (λ x. AreSeated x.scopes.items) }
 {
     let mut scopes = Vec::new(alloc);

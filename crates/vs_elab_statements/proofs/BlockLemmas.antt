@@ -1,5 +1,5 @@
 -- Named blocks of statements, and the faults in them.
-use Rattle.std.proofs.Common.{◌≡◌, ℕ, zero, suc, ◌<◌, ◌≤◌, ◌^◌, ◌⊎◌, inl, inr, Bool, true, false, ◌||◌, List, [], ◌∷◌, ◌++◌, Option, None, Some, length, slice_get, get_or, refl, ap, sym, subst, ◌∙◌, arith, true≢false}
+use Rattle.std.proofs.Common.{◌≡◌, ℕ, zero, suc, ◌<◌, ◌≤◌, ◌^◌, ◌⊎◌, inl, inr, Bool, true, false, ◌||◌, List, [], ◌∷◌, ◌++◌, Option, None, Some, length, slice_get, refl, ap, sym, subst, ◌∙◌, arith, true≢false}
 use Rattle.std.specs.List.{list_any, AllZip}
 use Rattle.std.specs.declared.vec.Vec.{Vec}
 use Rattle.std.specs.declared.boxed.Box.{Box}
@@ -24,7 +24,7 @@ use Rattle.vs_syntax.specs.declared.tree.Stmt.TheOpen as f
 use Rattle.vs_syntax.specs.declared.tree.Stmt.TheVariants.{rolls-Null, rolls-Assign, rolls-Later, rolls-Named, rolls-For, rolls-While, rolls-Repeat, rolls-Forever, rolls-Delay, rolls-Event, rolls-Print, rolls-Finish, rolls-Dump}
 use Rattle.vs_syntax.specs.declared.tree.Stmt.TheViews.{roll-Stmt, out-Stmt, out-roll-Stmt}
 use Rattle.vs_syntax.specs.declared.tree.Stmt.TheFolds.{fold-Stmt, fold-roll-Stmt, map-Stmt}
-use Rattle.vs_elab_listed.specs.vs_scopes.specs.Pieces.{NamedBlock, blocks_step, blocks_in, blocks_among}
+use Rattle.vs_elab_signals.specs.vs_scopes.specs.Pieces.{NamedBlock, blocks_step, blocks_in, blocks_among}
 use Rattle.vs_widths.specs.Names.{meaning_of}
 use Rattle.vs_widths.proofs.NameLemmas.{or_else, meaning_of_append}
 use Rattle.vs_scopes.specs.declared.faults.Reason.{Reason}
@@ -36,9 +36,9 @@ use Rattle.vs_scopes.specs.Declarations.{Bindings}
 use Rattle.vs_scopes.specs.Scopes.{Scope, environment, seen_from, bindings_of}
 use Rattle.vs_scopes.specs.scopes_passes.Answers.{Refuses}
 use Rattle.vs_scopes.proofs.Folds.{any_false_at}
-use Rattle.vs_elab_listed.specs.declared.opened.ListedScope.{ListedScope as FoundScope}
-use Rattle.vs_elab_listed.specs.Opened.{IsOpened, AreOpened, StandsAround, HasBlocks}
-use Rattle.vs_elab_listed.specs.listed_passes.Sites.{outward_place}
+use Rattle.vs_elab_signals.specs.declared.opened.ElabScope.{ElabScope as FoundScope}
+use Rattle.vs_elab_signals.specs.Opened.{IsOpened, AreOpened, HasParentScope, HasBlocks}
+use Rattle.vs_elab_signals.specs.signal_passes.Sites.{outward_place}
 use Rattle.vs_design.specs.declared.design.ScopeKind.{ScopeKind}
 use Rattle.vs_design.specs.declared.design.ScopeKind.TheVariants as opened_by
 use Rattle.vs_elab_statements.specs.declared.faults.StatementFault.{StatementFault}
@@ -301,12 +301,6 @@ site_names list envs place p o outer names site at e seen =
     ap (λ z. meaning_of z n) e ∙ meaning_of_append o.names outer n ∙ said_else (meaning_of o.names n) (meaning_of outer n) ∙ ap (said (meaning_of outer n)) (opened.names n) ∙ ap (λ z. said z (meaning_of (bindings_of t) n)) (seen n) in
     fun_ext one ∙ sym (site.sites.names place t site.stands) ∙ ap (λ (z : Path). (envs z).names) site.path
 
--- a place that an index has
-pub got : {A : Type 0} (xs : List A) (i : ℕ) (x : A) → i < length xs → x ≡ get_or xs i x → slice_get xs i ≡ Some x
-got [] i x h e = absurd (omega (arith, h))
-got (y ∷ ys) zero x h e = ap Some (sym e)
-got (y ∷ ys) (suc i) x h e = got ys i x (omega (arith, h)) e
-
 -- ---- places
 
 -- the scope around one stands among them
@@ -330,7 +324,7 @@ site_opened list envs place p o site at = zip_at (IsOpened site.scopes) list sit
 
 -- what names are bound to in the scope of a place, by its own names and those around it
 pub names_at : (list : List FoundScope) (envs : Path → Surroundings) (place : ℕ) (p : Path) (o : FoundScope) (names around : Bindings) (site : IsSite list envs place p) → slice_get list place ≡ Some o → names ≡ o.names ++ around →
-    ((ss : List Scope) (s : Scope) → AreOpened list ss → StandsAround ss o.around s → o.kind ≡ s.kind → (n : List ℕ) → meaning_of around n ≡ seen_from s.kind s.outer n) → meaning_of names ≡ (envs p).names
+    ((ss : List Scope) (s : Scope) → AreOpened list ss → HasParentScope ss o.around s → o.kind ≡ s.kind → (n : List ℕ) → meaning_of around n ≡ seen_from s.kind s.outer n) → meaning_of names ≡ (envs p).names
 names_at list envs place p o names around site at e seen =
     let opened = site_opened list envs place p o site at in
     site_names list envs place p o around names site at e (seen site.scopes site.scope site.sites.opened opened.entered.around opened.entered.kind)

@@ -12,7 +12,7 @@ use Rattle.vs_scopes.specs.vs_widths.specs.declared.faults.WidthReason.{WidthRea
 use Rattle.vs_scopes.specs.vs_widths.specs.declared.faults.WidthFault.{WidthFault}
 use Rattle.vs_scopes.specs.vs_widths.specs.declared.faults.WidthFault.TheVariants as fault
 use Rattle.vs_scopes.specs.vs_widths.specs.Environment.{Environment}
-use Rattle.vs_scopes.specs.vs_widths.specs.Findings.{Finding, Has, Lacks, stands, together, alike, Refuses as Found}
+use Rattle.vs_scopes.specs.vs_widths.specs.Findings.{Finding, Has, Lacks, has_width_fault, together, alike, Refuses as Found}
 use Rattle.vs_widths.specs.Expressions.{meant}
 use Rattle.vs_widths.specs.Typing.{IsTypedAs}
 use Rattle.vs_scopes.specs.declared.faults.Reason.{Reason}
@@ -28,25 +28,25 @@ use Rattle.vs_design.specs.vs_logic4.proofs.Basics.{or_none}
 
 -- ---- sizes and signs
 
-stands_together : (w : WidthReason) (a b : Finding) → stands w (together alike a b) ≡ (stands w a || stands w b)
+stands_together : (w : WidthReason) (a b : Finding) → has_width_fault w (together alike a b) ≡ (has_width_fault w a || has_width_fault w b)
 stands_together w (Has n g) (Has m h) = refl
 stands_together w (Has n g) (Lacks others) = refl
 stands_together w (Lacks faults) (Has m h) = sym (or_none (faults w))
 stands_together w (Lacks faults) (Lacks others) = refl
 
 -- a fault of expressions of one context is one of theirs
-pub stands_common : (w : WidthReason) (env : Environment) (found : Finding) (es : List Expr) → stands w (common_finding env found es) ≡ (stands w found || list_any (λ e. stands w (meant env e).finding) es)
-stands_common w env found [] = sym (or_none (stands w found))
+pub stands_common : (w : WidthReason) (env : Environment) (found : Finding) (es : List Expr) → has_width_fault w (common_finding env found es) ≡ (has_width_fault w found || list_any (λ e. has_width_fault w (meant env e).finding) es)
+stands_common w env found [] = sym (or_none (has_width_fault w found))
 stands_common w env found (e ∷ es) =
     stands_common w env (together alike found (meant env e).finding) es
-    ∙ ap (λ b. b || list_any (λ e. stands w (meant env e).finding) es) (stands_together w found (meant env e).finding)
-    ∙ or_assoc (stands w found) (stands w (meant env e).finding) (list_any (λ e. stands w (meant env e).finding) es)
+    ∙ ap (λ b. b || list_any (λ e. has_width_fault w (meant env e).finding) es) (stands_together w found (meant env e).finding)
+    ∙ or_assoc (has_width_fault w found) (has_width_fault w (meant env e).finding) (list_any (λ e. has_width_fault w (meant env e).finding) es)
 
 pub common_append : (env : Environment) (found : Finding) (es fs : List Expr) → common_finding env found (es ++ fs) ≡ common_finding env (common_finding env found es) fs
 common_append env found [] fs = refl
 common_append env found (e ∷ es) fs = common_append env (together alike found (meant env e).finding) es fs
 
-pub found_by : (a b : Finding) (e : WidthFault) → ((w : WidthReason) → stands w a ≡ true → stands w b ≡ true) → Found a e → Found b e
+pub found_by : (a b : Finding) (e : WidthFault) → ((w : WidthReason) → has_width_fault w a ≡ true → has_width_fault w b ≡ true) → Found a e → Found b e
 found_by a b fault.Memory h k = tt
 found_by a b (fault.Refused w) h k = h w k
 
@@ -59,7 +59,7 @@ take_drop (suc n) (x ∷ xs) = ap (λ ys. x ∷ ys) (take_drop n xs)
 pub common_more : (env : Environment) (found : Finding) (es fs gs : List Expr) (e : WidthFault) → es ++ fs ≡ gs → Found (common_finding env found es) e → Found (common_finding env found gs) e
 common_more env found es fs gs e i h =
     found_by (common_finding env found es) (common_finding env found gs) e
-    (λ w k. ap (λ z. stands w (common_finding env found z)) (sym i) ∙ ap (stands w) (common_append env found es fs) ∙ stands_common w env (common_finding env found es) fs ∙ left_true _ _ k) h
+    (λ w k. ap (λ z. has_width_fault w (common_finding env found z)) (sym i) ∙ ap (has_width_fault w) (common_append env found es fs) ∙ stands_common w env (common_finding env found es) fs ∙ left_true _ _ k) h
 
 -- one expression more
 pub common_one : (env : Environment) (found : Finding) (es : List Expr) (i : ℕ) (e : Expr) (a b : Shape) → i < length es → e ≡ get_or es i e → common_finding env found (take i es) ≡ Has a.width a.signed →
@@ -133,7 +133,7 @@ pub case_is : (env : Environment) (e : Expr) (ls : List CaseLabel) (s : Shape) (
 case_is env e ls s x p q h = (by, record { found = p; typed = h; defaults = q })
   where
     by : (r : Reason) → case_fault r env e ls ≡ false
-    by (Width w) = ap (stands w) p
+    by (Width w) = ap (has_width_fault w) p
     by DeclaredTwice = q
     by NoModule = refl
     by Inside = refl
@@ -208,7 +208,7 @@ values_all env width signed e es i ys h p = let q = subst (λ z. ValuesAre env w
 -- an expression that has a fault, among others
 pub value_refused : (env : Environment) (e : Expr) (es : List Expr) (i : ℕ) (x : Expr) (d : WidthFault) → i < length es → x ≡ get_or es i x → Found (meant env x).finding d → Refuses (λ r. list_any (operand_fault r env) (e ∷ es)) (body_fault d)
 value_refused env e es i x fault.Memory h k f = tt
-value_refused env e es i x (fault.Refused w) h k f = right_true (stands w (meant env e).finding) _ (any_at (operand_fault (Width w) env) es i x h k f)
+value_refused env e es i x (fault.Refused w) h k f = right_true (has_width_fault w (meant env e).finding) _ (any_at (operand_fault (Width w) env) es i x h k f)
 
 pub no_values : (env : Environment) (width : ℕ) (signed : Bool) (ys : List Typed) → ys ≡ [] → ((r : Reason) → list_any (operand_fault r env) [] ≡ false) × AreTypedAt env width signed [] ys
 no_values env width signed ys h = (λ r. refl, subst (AreTypedAt env width signed []) (sym h) no_typed)

@@ -26,7 +26,7 @@ use Rattle.vs_scopes.specs.vs_widths.specs.Each.{Each, each_none, each_more}
 use Rattle.vs_scopes.specs.vs_widths.specs.declared.bindings.Binding.{Binding}
 use Rattle.vs_scopes.specs.vs_widths.specs.declared.faults.WidthReason.{WidthReason}
 use Rattle.vs_scopes.specs.vs_widths.specs.Environment.{Environment}
-use Rattle.vs_scopes.specs.vs_widths.specs.Findings.{stands}
+use Rattle.vs_scopes.specs.vs_widths.specs.Findings.{has_width_fault}
 use Rattle.vs_scopes.specs.vs_widths.specs.Selects.{Select, Named}
 use Rattle.vs_widths.specs.declared.kinds.AssignmentKind.TheVariants.{Event}
 use Rattle.vs_widths.specs.Lefts.{Aimed, name_aimed, takes_reads}
@@ -61,11 +61,11 @@ alone_place env b ss t h = alone_in env _ t.parts.items h.places
 -- the term of what is named
 pub term_is : (env : Environment) (edge : Edge) (b : Option Binding) (ss : List Select) (t : Target) (y : EventTerm) → IsTarget Event env (name_aimed Event b ss) t →
     ((place : Slice) → t.parts.items ≡ Fixed place ∷ [] → y ≡ record { edge = edge; range = watched edge place }) →
-    ((r : Reason) → width_faults (λ w. stands w (name_aimed Event b ss).finding) r ≡ false) × IsTerm env edge (name_aimed Event b ss) y
+    ((r : Reason) → width_faults (λ w. has_width_fault w (name_aimed Event b ss).finding) r ≡ false) × IsTerm env edge (name_aimed Event b ss) y
 term_is env edge b ss t y h f =
     let p = alone_place env b ss t h in
     let is : y ≡ record { edge = edge; range = watched edge p.0 } = f p.0 p.1 in (
-      no_faults (λ w. stands w (name_aimed Event b ss).finding) (λ w. ap (stands w) h.found),
+      no_faults (λ w. has_width_fault w (name_aimed Event b ss).finding) (λ w. ap (has_width_fault w) h.found),
       record { place = p.0; target = t; named = h; alone = p.1; edge_is = ap (λ (z : EventTerm). z.edge) is; range = ap (λ (z : EventTerm). z.range) is },
     )
 
@@ -88,7 +88,7 @@ widths_by f g h (Format wrong) k = k
 
 -- a term that has no fault
 abbrev pub TermIs : Environment → EventExpr → EventTerm → Type 0
-TermIs env t y = ((r : Reason) → width_faults (λ w. stands w (event_aimed env t).finding) r ≡ false) × IsTerm env t.edge (event_aimed env t) y
+TermIs env t y = ((r : Reason) → width_faults (λ w. has_width_fault w (event_aimed env t).finding) r ≡ false) × IsTerm env t.edge (event_aimed env t) y
 
 -- terms that have no fault
 pub record TermsAre (env : Environment) (ts : List EventExpr) (ys : List EventTerm) : Type 0 where
@@ -101,8 +101,8 @@ terms_push _ _ t y (more_terms u z us zs g gs) h = more_terms u z _ _ g (terms_p
 
 terms_one : (env : Environment) (ts : List EventExpr) (ys : List EventTerm) (t : EventExpr) (y : EventTerm) → TermsAre env ts ys → TermIs env t y → TermsAre env (ts ++ t ∷ []) (ys ++ y ∷ [])
 terms_one env ts ys t y h k = record {
-  sound = no_faults (λ w. list_any (λ (a : Aimed). stands w a.finding) (map (event_aimed env) (ts ++ t ∷ [])))
-      (λ w. ap (list_any (λ (a : Aimed). stands w a.finding)) (map-append (event_aimed env) ts (t ∷ [])) ∙ any_push (λ (a : Aimed). stands w a.finding) (map (event_aimed env) ts) (event_aimed env t) (h.sound (Width w)) (k.0 (Width w)));
+  sound = no_faults (λ w. list_any (λ (a : Aimed). has_width_fault w a.finding) (map (event_aimed env) (ts ++ t ∷ [])))
+      (λ w. ap (list_any (λ (a : Aimed). has_width_fault w a.finding)) (map-append (event_aimed env) ts (t ∷ [])) ∙ any_push (λ (a : Aimed). has_width_fault w a.finding) (map (event_aimed env) ts) (event_aimed env t) (h.sound (Width w)) (k.0 (Width w)));
   means = terms_push ts ys t y h.means k.1;
 }
 
@@ -126,17 +126,17 @@ terms_all env t xs i ys h p =
     let q = subst (λ z. TermsAre env (t ∷ map (λ (x : Separator × EventExpr). x.1) z) ys) (take_all i xs h) p in
     (q.sound, q.means)
 
-any_of : (w : WidthReason) (env : Environment) (xs : List (Separator × EventExpr)) → list_any (λ (a : Aimed). stands w a.finding) (map (event_aimed env) (map (λ (x : Separator × EventExpr). x.1) xs)) ≡ list_any (λ (x : Separator × EventExpr). stands w (event_aimed env x.1).finding) xs
+any_of : (w : WidthReason) (env : Environment) (xs : List (Separator × EventExpr)) → list_any (λ (a : Aimed). has_width_fault w a.finding) (map (event_aimed env) (map (λ (x : Separator × EventExpr). x.1) xs)) ≡ list_any (λ (x : Separator × EventExpr). has_width_fault w (event_aimed env x.1).finding) xs
 any_of w env [] = refl
-any_of w env (x ∷ xs) = ap (λ b. stands w (event_aimed env x.1).finding || b) (any_of w env xs)
+any_of w env (x ∷ xs) = ap (λ b. has_width_fault w (event_aimed env x.1).finding || b) (any_of w env xs)
 
-pub term_refused : (env : Environment) (t : EventExpr) (xs : List (Separator × EventExpr)) (i : ℕ) (x : Separator × EventExpr) (e : BodyFault) → i < length xs → x ≡ get_or xs i x → Refuses (width_faults (λ w. stands w (event_aimed env x.1).finding)) e → Refuses (terms_fault env (t ∷ map (λ (x : Separator × EventExpr). x.1) xs)) e
+pub term_refused : (env : Environment) (t : EventExpr) (xs : List (Separator × EventExpr)) (i : ℕ) (x : Separator × EventExpr) (e : BodyFault) → i < length xs → x ≡ get_or xs i x → Refuses (width_faults (λ w. has_width_fault w (event_aimed env x.1).finding)) e → Refuses (terms_fault env (t ∷ map (λ (x : Separator × EventExpr). x.1) xs)) e
 term_refused env t xs i x e h k f =
-    refused_by (width_faults (λ w. stands w (event_aimed env x.1).finding)) (terms_fault env (t ∷ map (λ (x : Separator × EventExpr). x.1) xs)) e
-    (widths_by (λ w. stands w (event_aimed env x.1).finding) (λ w. list_any (λ (a : Aimed). stands w a.finding) (map (event_aimed env) (t ∷ map (λ (x : Separator × EventExpr). x.1) xs)))
-    (λ w u. by w (stands w (event_aimed env t).finding) (any_of w env xs ∙ any_at (λ (x : Separator × EventExpr). stands w (event_aimed env x.1).finding) xs i x h k u))) f
+    refused_by (width_faults (λ w. has_width_fault w (event_aimed env x.1).finding)) (terms_fault env (t ∷ map (λ (x : Separator × EventExpr). x.1) xs)) e
+    (widths_by (λ w. has_width_fault w (event_aimed env x.1).finding) (λ w. list_any (λ (a : Aimed). has_width_fault w a.finding) (map (event_aimed env) (t ∷ map (λ (x : Separator × EventExpr). x.1) xs)))
+    (λ w u. by w (has_width_fault w (event_aimed env t).finding) (any_of w env xs ∙ any_at (λ (x : Separator × EventExpr). has_width_fault w (event_aimed env x.1).finding) xs i x h k u))) f
   where
-    by : (w : WidthReason) (b : Bool) → list_any (λ (a : Aimed). stands w a.finding) (map (event_aimed env) (map (λ (x : Separator × EventExpr). x.1) xs)) ≡ true → (b || list_any (λ (a : Aimed). stands w a.finding) (map (event_aimed env) (map (λ (x : Separator × EventExpr). x.1) xs))) ≡ true
+    by : (w : WidthReason) (b : Bool) → list_any (λ (a : Aimed). has_width_fault w a.finding) (map (event_aimed env) (map (λ (x : Separator × EventExpr). x.1) xs)) ≡ true → (b || list_any (λ (a : Aimed). has_width_fault w a.finding) (map (event_aimed env) (map (λ (x : Separator × EventExpr). x.1) xs))) ≡ true
     by w true u = refl
     by w false u = u
 
@@ -150,7 +150,7 @@ term_of env t n ss u y i j h f =
 
 -- ---- event controls
 
-events_sound : (env : Environment) (e : EventControl) → ((w : WidthReason) → list_any (λ (a : Aimed). stands w a.finding) (events_aimed env e) ≡ false) → (r : Reason) → event_fault r env e ≡ false
+events_sound : (env : Environment) (e : EventControl) → ((w : WidthReason) → list_any (λ (a : Aimed). has_width_fault w a.finding) (events_aimed env e) ≡ false) → (r : Reason) → event_fault r env e ≡ false
 events_sound env e h (Width w) = h w
 events_sound env e h NoModule = refl
 events_sound env e h Inside = refl
@@ -175,10 +175,10 @@ pub events_grouped : (env : Environment) (body : Statement) (ys : List EventTerm
 events_grouped env body ys h = (events_sound env c.GroupedStar (λ w. refl), subst (AreEvents env body c.GroupedStar) (sym h) are_grouped)
 
 pub events_name : (env : Environment) (body : Statement) (n : Vec ℕ Global) (m : List ℕ) (y : EventTerm) (ys zs : List EventTerm) → m ≡ n.items → ys ≡ [] → zs ≡ ys ++ y ∷ [] →
-    ((r : Reason) → width_faults (λ w. stands w (name_aimed Event (env m) []).finding) r ≡ false) × IsTerm env Any (name_aimed Event (env m) []) y → EventsAre env body (c.Name n) zs
+    ((r : Reason) → width_faults (λ w. has_width_fault w (name_aimed Event (env m) []).finding) r ≡ false) × IsTerm env Any (name_aimed Event (env m) []) y → EventsAre env body (c.Name n) zs
 events_name env body n m y ys zs i j k h =
     let one : IsTerm env Any (name_aimed Event (env n.items) []) y = subst (λ z. IsTerm env Any (name_aimed Event (env z) []) y) i h.1 in (
-      events_sound env (c.Name n) (λ w. ap (λ z. stands w (name_aimed Event (env z) []).finding || false) (sym i) ∙ ap (λ b. b || false) (h.0 (Width w))),
+      events_sound env (c.Name n) (λ w. ap (λ z. has_width_fault w (name_aimed Event (env z) []).finding || false) (sym i) ∙ ap (λ b. b || false) (h.0 (Width w))),
       subst (AreEvents env body (c.Name n)) (sym (k ∙ ap (λ z. z ++ y ∷ []) j)) (are_name n y one),
     )
 

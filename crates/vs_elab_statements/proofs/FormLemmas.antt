@@ -25,14 +25,11 @@ use Rattle.vs_syntax.specs.declared.tree.Stmt.TheFolds.{fold-roll-Stmt}
 use Rattle.vs_design.specs.Uses.{joined}
 use Rattle.vs_design.specs.WellFormed.{numbers, numbers_step}
 use Rattle.vs_design.specs.declared.expression.Typed.{Typed}
-use Rattle.vs_design.specs.declared.statement.Target.{Target}
-use Rattle.vs_design.specs.declared.statement.EventTerm.{EventTerm}
 use Rattle.vs_design.specs.declared.statement.Ticks.{Ticks}
-use Rattle.vs_design.specs.declared.statement.Call.{Call}
 use Rattle.vs_design.specs.vs_logic4.specs.declared.case.CaseKind.{CaseKind}
 use Rattle.vs_design.specs.declared.statement.Statement.{Statement}
 use Rattle.vs_design.specs.declared.statement.Statement.TheVariants as d
-use Rattle.vs_design.specs.declared.statement.Statement.TheVariants.{rolls-Null as drolls-Null, rolls-Assign as drolls-Assign, rolls-Later as drolls-Later, rolls-Block as drolls-Block, rolls-If as drolls-If, rolls-Case as drolls-Case, rolls-While as drolls-While, rolls-Repeat as drolls-Repeat, rolls-Delay as drolls-Delay, rolls-Event as drolls-Event, rolls-Forever as drolls-Forever, rolls-Call as drolls-Call, rolls-Finish as drolls-Finish}
+use Rattle.vs_design.specs.declared.statement.Statement.TheVariants.{rolls-If as drolls-If, rolls-Case as drolls-Case, rolls-While as drolls-While, rolls-Repeat as drolls-Repeat, rolls-Delay as drolls-Delay}
 use Rattle.vs_design.specs.declared.statement.Statement.TheOpen as g
 use Rattle.vs_design.specs.declared.statement.Statement.TheFolds.{fold-roll-Statement}
 use Rattle.vs_widths.specs.declared.kinds.AssignmentKind.TheVariants.{Procedural}
@@ -191,29 +188,8 @@ total_within g (y ∷ ys) (suc i) x h k = omega (arith, total_within g ys i x (o
 
 -- ---- numbers, by form
 
-pub numbers_Null : (k : ℕ) → numbers (d.Null k) ≡ k ∷ []
-numbers_Null k = ap numbers (sym (drolls-Null k)) ∙ fold-roll-Statement (List ℕ) numbers_step (g.Null k)
-
-pub numbers_Assign : (k : ℕ) (t : Target) (x : Typed) → numbers (d.Assign k t x) ≡ k ∷ []
-numbers_Assign k t x = ap numbers (sym (drolls-Assign k t x)) ∙ fold-roll-Statement (List ℕ) numbers_step (g.Assign k t x)
-
-pub numbers_Later : (k : ℕ) (n : Ticks) (t : Target) (x : Typed) → numbers (d.Later k n t x) ≡ k ∷ []
-numbers_Later k n t x = ap numbers (sym (drolls-Later k n t x)) ∙ fold-roll-Statement (List ℕ) numbers_step (g.Later k n t x)
-
-pub numbers_Call : (k : ℕ) (c : Call) → numbers (d.Call k c) ≡ k ∷ []
-numbers_Call k c = ap numbers (sym (drolls-Call k c)) ∙ fold-roll-Statement (List ℕ) numbers_step (g.Call k c)
-
-pub numbers_Finish : (k : ℕ) → numbers (d.Finish k) ≡ k ∷ []
-numbers_Finish k = ap numbers (sym (drolls-Finish k)) ∙ fold-roll-Statement (List ℕ) numbers_step (g.Finish k)
-
-pub numbers_Block : (xs : Vec Statement Global) → numbers (d.Block xs) ≡ joined (map numbers xs.items)
-numbers_Block xs = ap numbers (sym (drolls-Block xs)) ∙ fold-roll-Statement (List ℕ) numbers_step (g.Block xs)
-
 pub numbers_Delay : (k : ℕ) (n : Ticks) (x : Box Statement Global) → numbers (d.Delay k n x) ≡ k ∷ numbers x.value
 numbers_Delay k n x = ap numbers (sym (drolls-Delay k n x)) ∙ fold-roll-Statement (List ℕ) numbers_step (g.Delay k n x)
-
-pub numbers_Forever : (k : ℕ) (x : Box Statement Global) → numbers (d.Forever k x) ≡ k ∷ numbers x.value
-numbers_Forever k x = ap numbers (sym (drolls-Forever k x)) ∙ fold-roll-Statement (List ℕ) numbers_step (g.Forever k x)
 
 pub numbers_If : (k : ℕ) (e : Typed) (a b : Box Statement Global) → numbers (d.If k e a b) ≡ k ∷ numbers a.value ++ numbers b.value
 numbers_If k e a b = ap numbers (sym (drolls-If k e a b)) ∙ fold-roll-Statement (List ℕ) numbers_step (g.If k e a b)
@@ -235,9 +211,6 @@ numbers_While k e x = ap numbers (sym (drolls-While k e x)) ∙ fold-roll-Statem
 
 pub numbers_Repeat : (k : ℕ) (signed : Bool) (e : Typed) (x : Box Statement Global) → numbers (d.Repeat k signed e x) ≡ k ∷ numbers x.value
 numbers_Repeat k signed e x = ap numbers (sym (drolls-Repeat k signed e x)) ∙ fold-roll-Statement (List ℕ) numbers_step (g.Repeat k signed e x)
-
-pub numbers_Event : (k : ℕ) (ts : Vec EventTerm Global) (x : Box Statement Global) → numbers (d.Event k ts x) ≡ k ∷ numbers x.value
-numbers_Event k ts x = ap numbers (sym (drolls-Event k ts x)) ∙ fold-roll-Statement (List ℕ) numbers_step (g.Event k ts x)
 
 pub joined_push : (xs : List (List ℕ)) (x : List ℕ) → joined (xs ++ x ∷ []) ≡ joined xs ++ x
 joined_push [] x = append-nil x

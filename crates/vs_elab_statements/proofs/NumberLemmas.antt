@@ -10,7 +10,7 @@ use Rattle.vs_syntax.specs.vs_lexer.specs.declared.token.Literal.{Literal}
 use Rattle.vs_design.specs.declared.statement.Statement.{Statement}
 use Rattle.vs_design.specs.declared.statement.Statement.TheVariants as d
 use Rattle.vs_elab_statements.specs.vs_scopes.specs.Printed.{Path}
-use Rattle.vs_elab_statements.specs.vs_elab_listed.specs.declared.opened.ListedScope.{ListedScope as FoundScope}
+use Rattle.vs_elab_statements.specs.vs_elab_signals.specs.declared.opened.ElabScope.{ElabScope as FoundScope}
 use Rattle.vs_elab_statements.specs.declared.faults.StatementFault.{StatementFault}
 use Rattle.vs_elab_statements.specs.Surroundings.{Surroundings}
 use Rattle.vs_elab_statements.specs.passes.Faults.{IsBelow}

@@ -22,13 +22,13 @@ use Rattle.vs_widths.specs.declared.kinds.AssignmentKind.TheVariants.{Procedural
 use Rattle.vs_scopes.specs.declared.faults.Reason.{Reason}
 use Rattle.vs_scopes.specs.declared.faults.Reason.TheVariants.{NoModule, Inside, PortMismatch, ParameterMismatch, DeclaredTwice, DrivenTwice, Limit, Width, Endless, Unnamed, Timescales, Format}
 use Rattle.vs_scopes.specs.vs_widths.specs.Environment.{Environment}
-use Rattle.vs_scopes.specs.vs_widths.specs.Findings.{stands}
+use Rattle.vs_scopes.specs.vs_widths.specs.Findings.{has_width_fault}
 use Rattle.vs_widths.specs.Expressions.{meant}
 use Rattle.vs_elab_statements.proofs.CaseLemmas.{exprs_in, exprs_of, stands_common}
 use Rattle.std.proofs.lemmas.List.Folds.{list_any-append}
-use Rattle.vs_elab_listed.specs.vs_scopes.specs.Pieces.{NamedBlock, blocks_in, blocks_among}
-use Rattle.vs_elab_listed.specs.vs_scopes.specs.pieces_passes.Parts.{blocks_behind}
-use Rattle.vs_elab_listed.specs.vs_scopes.proofs.PiecesLemmas.{blocks_Block, blocks_If, blocks_Case}
+use Rattle.vs_elab_signals.specs.vs_scopes.specs.Pieces.{NamedBlock, blocks_in, blocks_among}
+use Rattle.vs_elab_signals.specs.vs_scopes.specs.pieces_passes.Parts.{blocks_of_else}
+use Rattle.vs_elab_signals.specs.vs_scopes.proofs.PiecesLemmas.{blocks_Block, blocks_If, blocks_Case}
 use Rattle.vs_elab_statements.specs.Statements.{assign_fault, operand_fault, delay_fault, event_fault, case_fault, label_exprs, has_fault, count_of, total, is_overfull}
 use Rattle.vs_elab_statements.specs.Members.{places}
 use Rattle.vs_elab_statements.specs.Surroundings.{Surroundings}
@@ -112,7 +112,7 @@ around_part env part first x whole a =
     }
 
 -- what stands behind `else`
-else_blocks : (o : Option (Box Stmt Global)) → blocks_behind o ≡ blocks_among (else_list o)
+else_blocks : (o : Option (Box Stmt Global)) → blocks_of_else o ≡ blocks_among (else_list o)
 else_blocks None = refl
 else_blocks (Some x) = sym (append-nil (blocks_in x.value))
 
@@ -132,7 +132,7 @@ any_exprs r env (x ∷ xs) = ap (λ b. list_any (operand_fault r env) (label_exp
 -- a fault of the labels is one of the `case`
 labels_stand : (r : Reason) (env : Environment) (e : Expr) (xs : List (CaseLabel × Stmt)) → list_any (operand_fault r env) (exprs_in xs) ≡ true → case_fault r env e (labels_of xs) ≡ true
 labels_stand (Width w) env e xs h =
-    stands_common w env (meant env e).finding (flat_map label_exprs (labels_of xs)) ∙ right_true (stands w (meant env e).finding) _ (ap (list_any (operand_fault (Width w) env)) (exprs_of xs) ∙ h)
+    stands_common w env (meant env e).finding (flat_map label_exprs (labels_of xs)) ∙ right_true (has_width_fault w (meant env e).finding) _ (ap (list_any (operand_fault (Width w) env)) (exprs_of xs) ∙ h)
 labels_stand NoModule env e xs h = absurd (true≢false (sym h ∙ none_any (exprs_in xs)))
 labels_stand Inside env e xs h = absurd (true≢false (sym h ∙ none_any (exprs_in xs)))
 labels_stand PortMismatch env e xs h = absurd (true≢false (sym h ∙ none_any (exprs_in xs)))

@@ -92,8 +92,8 @@ module _ (ss : List Signal) where
       both_within (all_reads i.0.items ++ statement_reads i.1.0) _ (both_within (all_reads i.0.items) (statement_reads i.1.0) (labels_within x i.0.items own.0) (i.1.1 own.1)) (in_items x is parts.1)
 
   -- a condition or a count, and the statement behind it
-  behind_within : (e : Typed) (p : Inner) → (is_sound_operand ss e && is_sound_statement ss p.0) ≡ true → are_within ss (reads e ++ statement_reads p.0) ≡ true
-  behind_within e p h =
+  put_headed_within : (e : Typed) (p : Inner) → (is_sound_operand ss e && is_sound_statement ss p.0) ≡ true → are_within ss (reads e ++ statement_reads p.0) ≡ true
+  put_headed_within e p h =
       let parts = and_parts (is_sound_operand ss e) (is_sound_statement ss p.0) h in
       both_within (reads e) (statement_reads p.0) (operand_within e parts.0) (p.1 parts.1)
 
@@ -108,12 +108,12 @@ module _ (ss : List Signal) where
   layer (f.Event n terms body) h = body.value.1 (and_parts (are_sound_terms ss terms.items) (is_sound_statement ss body.value.0) h).1
   layer (f.If n e a b) h =
       let parts = and_parts (is_sound_operand ss e && is_sound_statement ss a.value.0) (is_sound_statement ss b.value.0) h in
-      both_within (reads e ++ statement_reads a.value.0) (statement_reads b.value.0) (behind_within e a.value parts.0) (b.value.1 parts.1)
+      both_within (reads e ++ statement_reads a.value.0) (statement_reads b.value.0) (put_headed_within e a.value parts.0) (b.value.1 parts.1)
   layer (f.Case n kind x items) h =
       let parts = and_parts (is_sound_operand ss x) _ h in
       both_within (reads x) _ (operand_within x parts.0) (in_items x items.items parts.1)
-  layer (f.While n e body) h = behind_within e body.value h
-  layer (f.Repeat n signed e body) h = behind_within e body.value h
+  layer (f.While n e body) h = put_headed_within e body.value h
+  layer (f.Repeat n signed e body) h = put_headed_within e body.value h
   layer (f.Forever n body) h = body.value.1 h
 
   settled : (x : Statement-F Statement) (y : Statement-F Inner) → bare y ≡ x → Within (roll-Statement x)

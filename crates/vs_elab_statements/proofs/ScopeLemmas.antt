@@ -16,7 +16,7 @@ use Rattle.vs_elab_statements.specs.vs_widths.specs.Names.{meaning_of}
 use Rattle.vs_scopes.specs.Pieces.{NamedBlock, blocks_among, blocks_in}
 use Rattle.vs_scopes.specs.pieces_passes.Parts.{blocks_in_items}
 use Rattle.vs_scopes.proofs.PiecesLemmas.{blocks_Block, blocks_Case}
-use Rattle.vs_elab_statements.specs.vs_elab_listed.specs.declared.opened.ListedScope.{ListedScope as FoundScope}
+use Rattle.vs_elab_statements.specs.vs_elab_signals.specs.declared.opened.ElabScope.{ElabScope as FoundScope}
 use Rattle.vs_elab_statements.specs.passes.Bodies.{else_list}
 use Rattle.vs_elab_statements.proofs.BlockLemmas.{blocks_Named}
 use Rattle.vs_elab_statements.proofs.PartLemmas.{if_blocks}

@@ -38,15 +38,15 @@ use Rattle.vs_scopes.specs.declared.faults.Reason.TheVariants.{Limit}
 use Rattle.vs_scopes.specs.declared.faults.BodyFault.{BodyFault}
 use Rattle.vs_scopes.specs.declared.faults.BodyFault.TheVariants as b
 use Rattle.vs_elab_statements.proofs.CaseLemmas.{exprs_in}
-use Rattle.vs_elab_listed.specs.vs_scopes.specs.Pieces.{NamedBlock, blocks_in, blocks_among}
-use Rattle.vs_elab_listed.specs.vs_scopes.proofs.PiecesLemmas.{blocks_Block, blocks_Case}
+use Rattle.vs_elab_signals.specs.vs_scopes.specs.Pieces.{NamedBlock, blocks_in, blocks_among}
+use Rattle.vs_elab_signals.specs.vs_scopes.proofs.PiecesLemmas.{blocks_Block, blocks_Case}
 use Rattle.vs_elab_statements.specs.Statements.{IsAssignment, IsOperand, IsStatement, is_null, is_assign, is_later, is_block, is_named, is_if, is_case, is_for, is_while, is_repeat, is_forever, is_delay, is_event, is_print, is_finish, is_dump, IsElse, no_else, an_else, AreItems, no_items, more_items, AreTypedAt, AreEvents, AreStatements, are_none, are_more, assign_fault, operand_fault, delay_of, delay_fault, due_of, due_fault, IsCall, print_fault, event_fault, case_fault, label_exprs, has_fault, HasFaultAt, in_statement, in_block, count_of, total, is_overfull}
 use Rattle.vs_elab_statements.specs.Members.{Assignment, places, sets, runs, repeats}
 use Rattle.vs_elab_statements.specs.Surroundings.{Surroundings}
 use Rattle.vs_elab_statements.specs.Processes.{is_set, is_run, is_repeat, HasBehaviorFault}
 use Rattle.vs_scopes.specs.Printed.{plainly, Path}
 use Rattle.vs_scopes.specs.scopes_passes.Answers.{Refuses}
-use Rattle.vs_elab_listed.specs.declared.opened.ListedScope.{ListedScope as FoundScope}
+use Rattle.vs_elab_signals.specs.declared.opened.ElabScope.{ElabScope as FoundScope}
 use Rattle.vs_elab_statements.specs.declared.faults.StatementFault.{StatementFault}
 use Rattle.vs_elab_statements.specs.declared.faults.StatementFault.TheVariants as t
 use Rattle.vs_elab_statements.specs.passes.Faults.{as_statement_fault}
@@ -55,9 +55,10 @@ use Rattle.vs_elab_statements.proofs.BlockLemmas.{blocks_Null, blocks_Assign, bl
 use Rattle.vs_scopes.proofs.Folds.{any_push, any_at}
 use Rattle.std.proofs.lemmas.Bool.{or_from as both_false, or_left as left_true, or_right as right_true}
 use Rattle.vs_design.specs.vs_logic4.proofs.Basics.{take_push}
-use Rattle.vs_elab_statements.proofs.FormLemmas.{count_Assign, count_Block, count_Case, count_Dump, count_Finish, count_For, count_If, count_Later, count_Named, count_Null, count_Print, counting_more, counts, fault_Assign, fault_Block, fault_Case, fault_Dump, fault_Finish, fault_For, fault_If, fault_Later, fault_Named, fault_Null, fault_Print, item_count, item_numbers, joined_push, labels_of, numbers_Assign, numbers_Block, numbers_Call, numbers_Case, numbers_Delay, numbers_Event, numbers_Finish, numbers_Forever, numbers_If, numbers_Later, numbers_Null, numbers_Repeat, numbers_While, total_push, total_within}
+use Rattle.vs_elab_statements.proofs.FormLemmas.{count_Assign, count_Block, count_Case, count_Dump, count_Finish, count_For, count_If, count_Later, count_Named, count_Null, count_Print, counting_more, counts, fault_Assign, fault_Block, fault_Case, fault_Dump, fault_Finish, fault_For, fault_If, fault_Later, fault_Named, fault_Null, fault_Print, item_count, item_numbers, joined_push, labels_of, numbers_Case, numbers_Delay, numbers_If, numbers_Repeat, numbers_While, total_push, total_within}
 use Rattle.vs_elab_statements.proofs.PartLemmas.{IsAround, Listed, Stated, Takes, around_Delay, around_Event, around_Forever, around_Repeat, around_While, around_part, begin_part, behind_count, block_part, counting_one, else_part, flat_parts, if_blocks, items_part, items_parts, named_part, not_overfull, step_part, then_part, turn_part}
 use Rattle.vs_design.specs.vs_logic4.proofs.Basics.{right_false}
+use Rattle.vs_design.proofs.FormLemmas.{numbers_Null, numbers_Assign, numbers_Later, numbers_Call, numbers_Finish, numbers_Block, numbers_Forever, numbers_Event}
 
 -- ---- statements
 

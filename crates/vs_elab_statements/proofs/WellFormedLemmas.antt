@@ -24,21 +24,21 @@ use Rattle.vs_design.specs.Uses.{reads}
 use Rattle.vs_design.specs.declared.statement.Aim.{Aim}
 use Rattle.vs_design.specs.declared.statement.Aim.TheVariants.{Fixed, Chosen}
 use Rattle.vs_design.specs.declared.write.Part.{Part}
-use Rattle.vs_design.specs.WellFormed.{size_of, is_at_least, are_within, is_within, is_of_variable, is_of_net, is_variable_aim, is_net_aim, is_sound_target, is_source, is_sound_assignment, sound_step, is_sound_statement, is_sound_operand, is_sound_arg, is_sound_call, are_sound_labels, are_sound_terms, same_size, is_forever, is_body_of}
+use Rattle.vs_design.specs.WellFormed.{size_of, is_at_least, are_within, is_within, is_of_variable, is_of_net, is_variable_aim, is_net_aim, is_sound_target, is_source, is_sound_assignment, sound_step, is_sound_statement, is_sound_operand, is_sound_arg, are_sound_labels, are_sound_terms, same_size, is_forever, is_body_of}
+use Rattle.vs_design.proofs.FormLemmas.{sound_Null, sound_Assign, sound_Later, sound_Call, sound_Finish, sound_Forever}
 use Rattle.vs_design.specs.declared.signal.Signal.{Signal}
 use Rattle.vs_design.specs.declared.expression.Typed.{Typed}
 use Rattle.vs_design.specs.declared.statement.Target.{Target}
 use Rattle.vs_design.specs.declared.statement.Ticks.{Ticks}
 use Rattle.vs_design.specs.declared.statement.FormatArg.{FormatArg}
 use Rattle.vs_design.specs.declared.statement.FormatArg.TheVariants as made
-use Rattle.vs_design.specs.declared.statement.Call.{Call}
 use Rattle.vs_design.specs.declared.statement.Statement.{Statement}
 use Rattle.vs_design.specs.declared.statement.Statement.TheVariants as d
-use Rattle.vs_design.specs.declared.statement.Statement.TheVariants.{rolls-Null, rolls-Assign, rolls-Later, rolls-Block, rolls-If, rolls-Case, rolls-While, rolls-Repeat, rolls-Delay, rolls-Event, rolls-Forever, rolls-Call, rolls-Finish}
+use Rattle.vs_design.specs.declared.statement.Statement.TheVariants.{rolls-Block, rolls-If, rolls-Case, rolls-While, rolls-Repeat, rolls-Delay, rolls-Event}
 use Rattle.vs_design.specs.declared.statement.Statement.TheOpen as f
 use Rattle.vs_design.specs.declared.statement.Statement.TheFolds.{fold-roll-Statement}
 use Rattle.vs_design.specs.declared.statement.Statement.TheViews.{out-Statement}
-use Rattle.std.proofs.lemmas.Bool.{and_parts, le-leb, lt-ltb}
+use Rattle.std.proofs.lemmas.Bool.{and_parts, le-leb, lt-ltb, not-true}
 use Rattle.std.proofs.lemmas.List.Folds.{list_all-append}
 use Rattle.std.proofs.lemmas.Option.{slice_get_within}
 use Rattle.vs_scopes.specs.vs_widths.specs.declared.bindings.Meaning.{Meaning}
@@ -65,29 +65,11 @@ use Rattle.std.proofs.lemmas.Bool.{and_from as both_true}
 
 -- ---- statements
 
-sound_Null : (ss : List Signal) (k : ℕ) → is_sound_statement ss (d.Null k) ≡ true
-sound_Null ss k = ap (is_sound_statement ss) (sym (rolls-Null k)) ∙ fold-roll-Statement Bool (sound_step ss) (f.Null k)
-
-sound_Assign : (ss : List Signal) (k : ℕ) (u : Target) (x : Typed) → is_sound_statement ss (d.Assign k u x) ≡ is_sound_assignment ss u x
-sound_Assign ss k u x = ap (is_sound_statement ss) (sym (rolls-Assign k u x)) ∙ fold-roll-Statement Bool (sound_step ss) (f.Assign k u x)
-
-sound_Later : (ss : List Signal) (k : ℕ) (n : Ticks) (u : Target) (x : Typed) → is_sound_statement ss (d.Later k n u x) ≡ is_sound_assignment ss u x
-sound_Later ss k n u x = ap (is_sound_statement ss) (sym (rolls-Later k n u x)) ∙ fold-roll-Statement Bool (sound_step ss) (f.Later k n u x)
-
-sound_Call : (ss : List Signal) (k : ℕ) (c : Call) → is_sound_statement ss (d.Call k c) ≡ is_sound_call ss c
-sound_Call ss k c = ap (is_sound_statement ss) (sym (rolls-Call k c)) ∙ fold-roll-Statement Bool (sound_step ss) (f.Call k c)
-
-sound_Finish : (ss : List Signal) (k : ℕ) → is_sound_statement ss (d.Finish k) ≡ true
-sound_Finish ss k = ap (is_sound_statement ss) (sym (rolls-Finish k)) ∙ fold-roll-Statement Bool (sound_step ss) (f.Finish k)
-
 sound_Block : (ss : List Signal) (xs : Vec Statement Global) → is_sound_statement ss (d.Block xs) ≡ list_all (is_sound_statement ss) xs.items
 sound_Block ss xs = ap (is_sound_statement ss) (sym (rolls-Block xs)) ∙ fold-roll-Statement Bool (sound_step ss) (f.Block xs) ∙ all_of_map (is_sound_statement ss) xs.items
 
 sound_Delay : (ss : List Signal) (k : ℕ) (n : Ticks) (x : Box Statement Global) → is_sound_statement ss (d.Delay k n x) ≡ is_sound_statement ss x.value
 sound_Delay ss k n x = ap (is_sound_statement ss) (sym (rolls-Delay k n x)) ∙ fold-roll-Statement Bool (sound_step ss) (f.Delay k n x)
-
-sound_Forever : (ss : List Signal) (k : ℕ) (x : Box Statement Global) → is_sound_statement ss (d.Forever k x) ≡ is_sound_statement ss x.value
-sound_Forever ss k x = ap (is_sound_statement ss) (sym (rolls-Forever k x)) ∙ fold-roll-Statement Bool (sound_step ss) (f.Forever k x)
 
 sound_If : (ss : List Signal) (k : ℕ) (e : Typed) (a b : Box Statement Global) → is_sound_statement ss (d.If k e a b) ≡ (is_sound_operand ss e && is_sound_statement ss a.value && is_sound_statement ss b.value)
 sound_If ss k e a b = ap (is_sound_statement ss) (sym (rolls-If k e a b)) ∙ fold-roll-Statement Bool (sound_step ss) (f.If k e a b)
@@ -129,10 +111,6 @@ pub record IsMeant (ss : List Signal) (m : Meaning) (k : ℕ) : Type 0 where
 -- each signal to which a name is bound is what its name means
 abbrev pub IsGood : List Signal → Environment → Type 0
 IsGood ss env = (n : List ℕ) (m : Meaning) (k : ℕ) → env n ≡ Some (b.Signal m k) → IsMeant ss m k
-
-not_true : (b : Bool) → not b ≡ true → b ≡ false
-not_true true h = absurd (true≢false (sym h))
-not_true false h = refl
 
 -- places of which each passes a test
 places_pass : {how : AssignmentKind} {env : Environment} (test : Aim → Bool) → ((n : Named) (a : Aim) → IsPlace how env n a → test a ≡ true) → (ns : List Named) (aims : List Aim) → Each (IsPlace how env) ns aims → list_all test aims ≡ true
@@ -188,7 +166,7 @@ module _ (ss : List Signal) (env : Environment) (good : IsGood ss env) where
       let g = good p.name p.meaning p.number p.bound in
       let same = p.part [] [] 0 in
       let at : s.signal ≡ p.number = ap (λ (z : Part). z.signal) same ∙ p.signal in
-      let kind : is_variable p.meaning.kind ≡ false = not_true _ p.taken in
+      let kind : is_variable p.meaning.kind ≡ false = not-true _ p.taken in
       let net = g.of_net kind in
       let first : s.word ≡ 0 = ap (λ (z : Part). z.word) same ∙ p.scalar net.0 [] 0 in
       let of_net : is_of_net (slice_get ss s.signal) ≡ true =

@@ -3,7 +3,7 @@ use Rattle.std.specs.Prelude.{◌≡◌, ℕ, List, Some, slice_get}
 use Rattle.vs_syntax.specs.declared.tree.Stmt.{Stmt}
 use Rattle.vs_elab_statements.specs.vs_widths.specs.Names.{meaning_of}
 use Rattle.vs_scopes.specs.Pieces.{NamedBlock, blocks_among}
-use Rattle.vs_elab_statements.specs.vs_elab_listed.specs.declared.opened.ListedScope.{ListedScope as FoundScope}
+use Rattle.vs_elab_statements.specs.vs_elab_signals.specs.declared.opened.ElabScope.{ElabScope as FoundScope}
 
 -- The named block of this name and these statements, which stands in the scope at a place of a list, has its scope there, found by its name, and so
 -- has each named block in it (clause 9.8.3).

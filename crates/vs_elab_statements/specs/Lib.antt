@@ -4,7 +4,7 @@ pub mod Surroundings
 pub mod Statements
 pub mod Processes
 pub mod passes
-pub use Rattle.vs_elab_listed
+pub use Rattle.vs_elab_signals
 pub use Rattle.vs_scopes
 pub use Rattle.vs_widths
 pub mod forms_passes

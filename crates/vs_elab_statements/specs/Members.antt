@@ -10,7 +10,7 @@ use Rattle.vs_syntax.specs.declared.tree.Left.{Left}
 use Rattle.vs_syntax.specs.declared.tree.Item.{Item}
 use Rattle.vs_syntax.specs.declared.tree.Item.TheVariants as i
 use Rattle.vs_syntax.specs.declared.tree.Stmt.{Stmt}
-use Rattle.vs_elab_listed.specs.vs_scopes.specs.Pieces.{Piece, plain}
+use Rattle.vs_elab_signals.specs.vs_scopes.specs.Pieces.{Piece, plain}
 use Rattle.vs_scopes.specs.Ports.{ModulePort}
 use Rattle.vs_scopes.specs.Scopes.{Scope}
 

@@ -29,7 +29,7 @@ use Rattle.vs_syntax.specs.declared.tree.DumpArgument.{DumpArgument}
 use Rattle.vs_syntax.specs.declared.tree.LocalDeclaration.{LocalDeclaration}
 use Rattle.vs_syntax.specs.declared.tree.ForHeader.{ForHeader}
 use Rattle.vs_syntax.specs.declared.tree.Stmt.{Stmt}
-use Rattle.vs_elab_listed.specs.vs_scopes.specs.Pieces.{NamedBlock, blocks_in}
+use Rattle.vs_elab_signals.specs.vs_scopes.specs.Pieces.{NamedBlock, blocks_in}
 use Rattle.vs_scopes.specs.Printed.{plainly, Path, printed}
 use Rattle.vs_syntax.specs.declared.tree.Stmt.TheVariants as h
 use Rattle.vs_syntax.specs.declared.tree.Stmt.TheOpen.{Stmt-F}
@@ -56,7 +56,7 @@ use Rattle.vs_design.specs.declared.statement.Statement.{Statement}
 use Rattle.vs_design.specs.declared.statement.Statement.TheVariants as d
 use Rattle.vs_scopes.specs.vs_widths.specs.declared.faults.WidthReason.{WidthReason}
 use Rattle.vs_scopes.specs.vs_widths.specs.Environment.{Environment}
-use Rattle.vs_scopes.specs.vs_widths.specs.Findings.{Finding, Has, Lacks, stands, not_constant, together, alike}
+use Rattle.vs_scopes.specs.vs_widths.specs.Findings.{Finding, Has, Lacks, has_width_fault, not_constant, together, alike}
 use Rattle.vs_scopes.specs.vs_widths.specs.Meants.{Meant, own}
 use Rattle.vs_scopes.specs.vs_widths.specs.Constants.{constant_finding, natural_at}
 use Rattle.vs_widths.specs.Expressions.{meant, meant_selects, number_meant, name_meant}
@@ -98,7 +98,7 @@ pub record IsOperand (env : Environment) (e : Expr) (signed : Bool) (x : Typed) 
 
 -- a fault of such an expression
 abbrev pub operand_fault : Reason → Environment → Expr → Bool
-operand_fault (Width w) env e = stands w (meant env e).finding
+operand_fault (Width w) env e = has_width_fault w (meant env e).finding
 operand_fault _ env e = false
 
 -- ---- delays
@@ -192,7 +192,7 @@ events_aimed env (c.Terms t ts) = map (event_aimed env) (t.value ∷ map (λ (x 
 
 -- a fault of a term of an event control (clause 9.7.2)
 abbrev pub event_fault : Reason → Environment → EventControl → Bool
-event_fault (Width w) env e = list_any (λ (a : Aimed). stands w a.finding) (events_aimed env e)
+event_fault (Width w) env e = list_any (λ (a : Aimed). has_width_fault w a.finding) (events_aimed env e)
 event_fault _ env e = false
 
 -- ---- system tasks
@@ -281,7 +281,7 @@ has_two_defaults (l ∷ ls) = (is_default l && list_any is_default ls) || has_tw
 
 -- a fault of the expressions of a `case`, or a second `default` (clause 9.5)
 abbrev pub case_fault : Reason → Environment → Expr → List CaseLabel → Bool
-case_fault (Width w) env e labels = stands w (case_finding env e labels)
+case_fault (Width w) env e labels = has_width_fault w (case_finding env e labels)
 case_fault DeclaredTwice env e labels = has_two_defaults labels
 case_fault _ env e labels = false
 
@@ -389,7 +389,7 @@ is_overfull _ n = false
 
 -- a fault of an assignment: one of its target, or one of its expression (clause 6)
 abbrev pub assign_fault : Reason → AssignmentKind → Environment → Assignee → Expr → Bool
-assign_fault (Width w) how env a e = stands w (assigned_to how env a).finding || stands w (meant env e).finding
+assign_fault (Width w) how env a e = has_width_fault w (assigned_to how env a).finding || has_width_fault w (meant env e).finding
 assign_fault _ how env a e = false
 
 abbrev pub else_fault : Option (Box Bool Global) → Bool

@@ -5,12 +5,12 @@ ghost use Rattle.std.specs.declared.alloc.Global.{Global};
 ghost use Rattle.vs_syntax.specs.declared.tree.Stmt.{Stmt};
 ghost use Rattle.vs_syntax.specs.declared.tree.Stmt.TheVariants as form;
 ghost use Rattle.vs_elab_statements.specs.vs_scopes.specs.Printed.{Path};
-ghost use Rattle.vs_elab_statements.specs.vs_elab_listed.specs.declared.opened.ListedScope.{ListedScope as FoundScope};
+ghost use Rattle.vs_elab_statements.specs.vs_elab_signals.specs.declared.opened.ElabScope.{ElabScope as FoundScope};
 ghost use Rattle.vs_elab_statements.specs.Surroundings.{Surroundings};
 ghost use Rattle.vs_elab_statements.specs.passes.Faults.{IsBelow};
 ghost use Rattle.vs_elab_statements.specs.passes.Views.{IsView};
 ghost use Rattle.vs_elab_statements.specs.passes.Bodies.{Answers, MeansStatement, IsRepeated, statement_burden};
-ghost use Rattle.vs_elab_statements.specs.forms_passes.Forms.{IsBegun, IsBehind, IsOtherwise};
+ghost use Rattle.vs_elab_statements.specs.forms_passes.Forms.{IsBegun, IsNumberedBody, IsOtherwise};
 
 use crate::numbers::numbered;
 use crate::{StatementFault, View, delay, event_terms, operand};
@@ -29,7 +29,7 @@ pub fn if_around(
     other: Statement,
 ) -> Result<Statement, StatementFault>
     ensures answer { (envs : Path → Surroundings) (p : Path) (first middle next : ℕ) (x : Box Stmt Global) (o : Option (Box Stmt Global)) →
-        IsView view.now envs p → IsBehind envs p first x.value inner.0 inner.1 middle → IsOtherwise envs p middle o other next →
+        IsView view.now envs p → IsNumberedBody envs p first x.value inner.0 inner.1 middle → IsOtherwise envs p middle o other next →
         Answers view.now.list.now envs p (statement_burden (envs p) first (form.If e.now x o))
         (λ d. MeansStatement envs p first (form.If e.now x o) d next) result }
     ensures below { IfErr result (IsBelow (length view.now.list.now)) }
@@ -50,7 +50,7 @@ pub fn while_around(
     inner: (u32, Statement),
 ) -> Result<Statement, StatementFault>
     ensures answer { (envs : Path → Surroundings) (p : Path) (first next : ℕ) (x : Box Stmt Global) →
-        IsView view.now envs p → IsBehind envs p first x.value inner.0 inner.1 next →
+        IsView view.now envs p → IsNumberedBody envs p first x.value inner.0 inner.1 next →
         Answers view.now.list.now envs p (statement_burden (envs p) first (form.While e.now x))
         (λ d. MeansStatement envs p first (form.While e.now x) d next) result }
     ensures below { IfErr result (IsBelow (length view.now.list.now)) }
@@ -69,7 +69,7 @@ pub fn repeat_around(
     inner: (u32, Statement),
 ) -> Result<Statement, StatementFault>
     ensures answer { (envs : Path → Surroundings) (p : Path) (first next : ℕ) (x : Box Stmt Global) →
-        IsView view.now envs p → IsBehind envs p first x.value inner.0 inner.1 next →
+        IsView view.now envs p → IsNumberedBody envs p first x.value inner.0 inner.1 next →
         Answers view.now.list.now envs p (statement_burden (envs p) first (form.Repeat e.now x))
         (λ d. MeansStatement envs p first (form.Repeat e.now x) d next) result }
     ensures below { IfErr result (IsBelow (length view.now.list.now)) }
@@ -83,7 +83,7 @@ pub fn repeat_around(
 #[inline(never)]
 pub fn forever_around(alloc: Global, inner: (u32, Statement)) -> Result<Statement, StatementFault>
     ensures answer { (list : List FoundScope) (envs : Path → Surroundings) (p : Path) (first next : ℕ) (x : Box Stmt Global) →
-        IsBehind envs p first x.value inner.0 inner.1 next →
+        IsNumberedBody envs p first x.value inner.0 inner.1 next →
         Answers list envs p (statement_burden (envs p) first (form.Forever x))
         (λ d. MeansStatement envs p first (form.Forever x) d next) result }
     ensures below { (n : ℕ) → IfErr result (IsBelow n) }
@@ -101,7 +101,7 @@ pub fn delay_around(
     inner: (u32, Statement),
 ) -> Result<Statement, StatementFault>
     ensures answer { (envs : Path → Surroundings) (p : Path) (first next : ℕ) (x : Box Stmt Global) →
-        IsView view.now envs p → IsBehind envs p first x.value inner.0 inner.1 next →
+        IsView view.now envs p → IsNumberedBody envs p first x.value inner.0 inner.1 next →
         Answers view.now.list.now envs p (statement_burden (envs p) first (form.Delay value.now x))
         (λ d. MeansStatement envs p first (form.Delay value.now x) d next) result }
     ensures below { IfErr result (IsBelow (length view.now.list.now)) }
@@ -120,7 +120,7 @@ pub fn event_around(
     inner: (u32, Statement),
 ) -> Result<Statement, StatementFault>
     ensures answer { (envs : Path → Surroundings) (p : Path) (first next : ℕ) (x : Box Stmt Global) →
-        IsView view.now envs p → IsBehind envs p first x.value inner.0 inner.1 next →
+        IsView view.now envs p → IsNumberedBody envs p first x.value inner.0 inner.1 next →
         Answers view.now.list.now envs p (statement_burden (envs p) first (form.Event control.now x))
         (λ d. MeansStatement envs p first (form.Event control.now x) d next) result }
     ensures below { IfErr result (IsBelow (length view.now.list.now)) }
@@ -165,7 +165,7 @@ pub fn for_around(
 ) -> Result<Statement, StatementFault>
     ensures answer { (envs : Path → Surroundings) (p : Path) (first middle : ℕ) (x : Box Stmt Global) → IsView view.now envs p →
         IsBegun envs p first head.now.value.first.0 head.now.value.first.1 begin.0 begin.1 begin.2 middle →
-        IsBehind envs p middle x.value inner.0 inner.1 next.old →
+        IsNumberedBody envs p middle x.value inner.0 inner.1 next.old →
         Answers view.now.list.now envs p (statement_burden (envs p) first (form.For head.now x))
         (λ d. MeansStatement envs p first (form.For head.now x) d next.new) result }
     ensures below { IfErr result (IsBelow (length view.now.list.now)) }

@@ -1,7 +1,7 @@
 //! Assignments with their targets as parts of a design.
 ghost use Rattle.std.specs.Prelude.{◌≤◌};
 ghost use Rattle.vs_widths.specs.Names.{meaning_of};
-ghost use Rattle.vs_scopes.specs.vs_widths.specs.Findings.{stands};
+ghost use Rattle.vs_scopes.specs.vs_widths.specs.Findings.{has_width_fault};
 ghost use Rattle.vs_widths.specs.Expressions.{meant, name_meant};
 ghost use Rattle.vs_elab_statements.specs.Members.{places, named_signal};
 ghost use Rattle.vs_elab_statements.specs.Statements.{assign_fault, IsSource, IsAssignment};
@@ -21,7 +21,7 @@ use vs_widths::{
 pub fn source(alloc: Global, names: &Levels, width: u32, e: &Expr) -> Result<Typed, BodyFault>
     requires { width ≤ 64 }
     ensures { let env = meaning_of names.now in
-        Elaborates (width_faults (λ w. stands w (meant env e.now).finding))
+        Elaborates (width_faults (λ w. has_width_fault w (meant env e.now).finding))
         (IsSource (meant env e.now) width) result }
 {
     let right = shape_of(alloc, names, e)?;
@@ -41,7 +41,7 @@ pub fn name_source(
 ) -> Result<Typed, BodyFault>
     requires { width ≤ 64 }
     ensures { let m = name_meant (meaning_of names.now name.now) in
-        Elaborates (width_faults (λ w. stands w m.finding)) (IsSource m width) result }
+        Elaborates (width_faults (λ w. has_width_fault w m.finding)) (IsSource m width) result }
 {
     let right = shape_of_name(names, name)?;
     let context = Shape {

@@ -15,7 +15,7 @@ use crate::operands::operand;
 use crate::views::View;
 use std::alloc::{AllocError, Global};
 use vs_design::{Call, CallKind, FormatArg};
-use vs_elab_listed::path;
+use vs_elab_signals::path;
 use vs_scopes::vs_strobe::{Format, FormatFault};
 use vs_scopes::{BodyFault, Reason, print_path};
 use vs_syntax::{Argument, PrintArguments, PrintTask};

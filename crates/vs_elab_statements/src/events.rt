@@ -4,7 +4,7 @@ ghost use Rattle.vs_design.specs.declared.statement.Aim.TheVariants.{Fixed};
 ghost use Rattle.vs_design.specs.Statements.{statement_reads};
 ghost use Rattle.vs_design.specs.declared.expression.Slice.{Slice};
 ghost use Rattle.vs_design.specs.vs_logic4.specs.declared.edge.Edge.TheVariants.{Any};
-ghost use Rattle.vs_scopes.specs.vs_widths.specs.Findings.{stands};
+ghost use Rattle.vs_scopes.specs.vs_widths.specs.Findings.{has_width_fault};
 ghost use Rattle.vs_widths.specs.declared.kinds.AssignmentKind.TheVariants.{Event};
 ghost use Rattle.vs_widths.specs.Lefts.{name_aimed};
 ghost use Rattle.vs_widths.specs.Names.{meaning_of};
@@ -56,7 +56,7 @@ fn waiting(edge: Edge, target: &Target) -> EventTerm
 /// The term of a name alone: any change of it.
 fn named_term(alloc: Global, names: &Levels, name: &[u8]) -> Result<EventTerm, BodyFault>
     ensures { let env = meaning_of names.now in let a = name_aimed Event (env name.now) [] in
-        Elaborates (width_faults (λ w. stands w a.finding)) (IsTerm env Any a) result }
+        Elaborates (width_faults (λ w. has_width_fault w a.finding)) (IsTerm env Any a) result }
 {
     let target = name_target(alloc, names, WAITED, name)?;
     Ok(waiting(Edge::Any, &target))
@@ -65,7 +65,7 @@ fn named_term(alloc: Global, names: &Levels, name: &[u8]) -> Result<EventTerm, B
 /// A term of an event control.
 fn term(alloc: Global, names: &Levels, t: &EventExpr) -> Result<EventTerm, BodyFault>
     ensures { let env = meaning_of names.now in
-        Elaborates (width_faults (λ w. stands w (event_aimed env t.now).finding))
+        Elaborates (width_faults (λ w. has_width_fault w (event_aimed env t.now).finding))
         (IsTerm env t.now.edge (event_aimed env t.now)) result }
 {
     let target = selected_target(alloc, names, WAITED, &t.name, &t.selects)?;

@@ -28,6 +28,6 @@ pub use numbers::{PROCEDURAL, numbered, take_number};
 pub use operands::{delay, due, operand};
 pub use simple::{assign, finish, later, null, print};
 pub use views::{Ratio, View};
-pub use vs_elab_listed;
+pub use vs_elab_signals;
 pub use vs_scopes;
 pub use vs_widths;

@@ -15,7 +15,7 @@ ghost use Rattle.vs_scopes.specs.pieces_passes.Parts.{blocks_in_items};
 ghost use Rattle.vs_elab_statements.specs.Blocks.{HasScope, HaveScopes};
 ghost use Rattle.vs_elab_statements.specs.passes.Bodies.{Answers, MeansStatement, MeansStatements, MeansElse, MeansItems, statement_burden, statements_burden, items_burden, named_burden, else_list};
 
-use crate::vs_elab_listed::names_around;
+use crate::vs_elab_signals::names_around;
 use crate::vs_widths::{Levels, Shape};
 use crate::{
     StatementFault, View, assign, case_operand, deeper, delay_around, event_around, finish,
@@ -55,30 +55,30 @@ pub fn statement(
             Ok(Statement::Block(inner))
         }
         Stmt::If(e, x, other) => {
-            let inner = behind(alloc, view, next, x)?;
+            let inner = numbered_body(alloc, view, next, x)?;
             let other = otherwise(alloc, view, next, other)?;
             if_around(alloc, view, e, inner, other)
         }
         Stmt::Case(kind, e, all) => case_statement(alloc, view, next, all, *kind, e),
         Stmt::For(head, x) => for_statement(alloc, view, next, x, head),
         Stmt::While(e, x) => {
-            let inner = behind(alloc, view, next, x)?;
+            let inner = numbered_body(alloc, view, next, x)?;
             while_around(alloc, view, e, inner)
         }
         Stmt::Repeat(e, x) => {
-            let inner = behind(alloc, view, next, x)?;
+            let inner = numbered_body(alloc, view, next, x)?;
             repeat_around(alloc, view, e, inner)
         }
         Stmt::Forever(x) => {
-            let inner = behind(alloc, view, next, x)?;
+            let inner = numbered_body(alloc, view, next, x)?;
             forever_around(alloc, inner)
         }
         Stmt::Delay(value, x) => {
-            let inner = behind(alloc, view, next, x)?;
+            let inner = numbered_body(alloc, view, next, x)?;
             delay_around(alloc, view, value, inner)
         }
         Stmt::Event(control, x) => {
-            let inner = behind(alloc, view, next, x)?;
+            let inner = numbered_body(alloc, view, next, x)?;
             event_around(alloc, view, control, inner)
         }
         Stmt::Print(task, all) => print(alloc, view, next, *task, all),
@@ -104,7 +104,7 @@ fn for_statement(
     ensures below { IfErr result (IsBelow (length view.now.list.now)) }
 {
     let begin = numbered(alloc, view, next, &head.first.0, &head.first.1)?;
-    let inner = behind(alloc, view, next, x)?;
+    let inner = numbered_body(alloc, view, next, x)?;
     for_around(alloc, view, next, head, begin, inner)
 }
 
@@ -171,7 +171,7 @@ fn block(
 
 /// The number of a statement, which is the next one, and the statement in it.
 #[cycle(statement)]
-fn behind(
+fn numbered_body(
     alloc: Global,
     view: &View,
     next: &mut u32,

@@ -1,7 +1,7 @@
 //! Scopes as statements see them.
 ghost use Rattle.std.specs.Prelude.{◌<◌, ◌≤◌, ◌^◌};
 
-use vs_elab_listed::ListedScope;
+use vs_elab_signals::ElabScope;
 use vs_widths::Levels;
 
 /// How many ticks a unit of time is (IEEE 1364-2005, clause 19.8).
@@ -16,7 +16,7 @@ pub struct Ratio {
 #[derive(Drop)]
 pub struct View<'s, 'o> {
     /// The scopes of a source.
-    pub list: &'o [ListedScope<'s>],
+    pub list: &'o [ElabScope<'s>],
     /// The place of the scope among them.
     pub place: usize,
     /// What names are bound to in the scope.

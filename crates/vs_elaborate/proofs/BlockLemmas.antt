@@ -1,7 +1,7 @@
 -- The named blocks of the processes of a source have their scopes.
-use Rattle.std.proofs.Common.{◌≡◌, ℕ, zero, suc, ◌+◌, ◌<◌, ◌≤◌, ◌⊎◌, inl, inr, ⊎_elim, Bool, true, false, cond, List, [], ◌∷◌, ◌++◌, Option, Some, None, IsSome, length, map, slice_get, option_map, refl, ap, ap₂, sym, subst, ◌∙◌, arith, true≢false}
+use Rattle.std.proofs.Common.{◌≡◌, ℕ, zero, suc, ◌+◌, ◌<◌, ◌≤◌, ◌⊎◌, inl, inr, ⊎_elim, Bool, true, false, cond, List, [], ◌∷◌, ◌++◌, Option, Some, None, IsSome, length, map, slice_get, refl, ap, ap₂, sym, subst, ◌∙◌, arith, true≢false}
 use Rattle.std.specs.List.{IsDistinct}
-use Rattle.std.proofs.lemmas.Option.{none-some, same_Some, slice_get-map, slice_get_within}
+use Rattle.std.proofs.lemmas.Option.{none-some, same_Some, slice_get_within}
 use Rattle.vs_syntax.specs.declared.tree.Module.{Module}
 use Rattle.vs_syntax.specs.declared.tree.Source.{Source}
 use Rattle.vs_elab_statements.specs.vs_scopes.specs.vs_widths.specs.Environment.{Environment}
@@ -12,23 +12,23 @@ use Rattle.vs_elab_hierarchy.specs.vs_scopes.specs.Uses.{names_used}
 use Rattle.vs_elab_statements.specs.vs_scopes.specs.Printed.{PathName, plainly, Path, same_part, same_path}
 use Rattle.vs_elab_statements.specs.vs_scopes.specs.Declarations.{Bindings, uses_by_item}
 use Rattle.vs_elab_statements.specs.vs_scopes.specs.Nets.{Sight, new_among, permits_nets, pieces_with_nets, is_known, with_nets}
-use Rattle.vs_elab_statements.specs.vs_scopes.specs.Generate.{Inner, instance, inner_in, inner_from, behind_piece}
+use Rattle.vs_elab_statements.specs.vs_scopes.specs.Generate.{Inner, instance, inner_in, inner_from, after_piece}
 use Rattle.vs_elab_statements.specs.vs_scopes.specs.Generate as g
 use Rattle.vs_elab_statements.specs.vs_scopes.specs.Parameters.{any_fault}
-use Rattle.vs_elab_statements.specs.vs_scopes.specs.Scopes.{Scope, Before, behind, within_first, inner_of, module_named, named, opened, listed, below, block_fault, block_scope, block_text, environment, scopes_within, deepest, opened_top, scopes_of, sight_in, text_names}
+use Rattle.vs_elab_statements.specs.vs_scopes.specs.Scopes.{Scope, Before, before_following, within_first, inner_of, module_named, named, opened, of_opened, below, block_fault, block_scope, block_text, environment, scopes_within, deepest, opened_top, scopes_of, sight_in, text_names}
 use Rattle.vs_elab_hierarchy.specs.Laws.{scope_paths}
-use Rattle.vs_elab_hierarchy.proofs.PathsDiffer.{part_decides, paths_not_same}
+use Rattle.vs_elab_hierarchy.proofs.PathsDiffer.{part_decides, paths_not_same, first_same}
 use Rattle.vs_elab_hierarchy.proofs.PathsOpened.{IsOpenedTop, title_of, what_is_opened, what_is_opened_top}
 use Rattle.vs_elab_hierarchy.proofs.PathsText.{HasText}
 use Rattle.vs_elab_hierarchy.proofs.TitleLemmas.{titles_differ}
-use Rattle.vs_elab_statements.specs.vs_elab_listed.specs.declared.opened.ListedScope.{ListedScope as FoundScope}
-use Rattle.vs_elab_statements.specs.vs_elab_listed.specs.declared.opened.Hierarchy.{Hierarchy}
-use Rattle.vs_elab_statements.specs.vs_elab_listed.specs.Opened.{HasBlocks, IsOpened, IsOutermost, IsWithin, OpensAll}
+use Rattle.vs_elab_statements.specs.vs_elab_signals.specs.declared.opened.ElabScope.{ElabScope as FoundScope}
+use Rattle.vs_elab_statements.specs.vs_elab_signals.specs.declared.opened.Hierarchy.{Hierarchy}
+use Rattle.vs_elab_statements.specs.vs_elab_signals.specs.Opened.{HasBlocks, IsOpened, IsOutermost, IsWithin, OpensAll}
 use Rattle.vs_elab_statements.specs.Blocks.{HasScope}
 use Rattle.vs_elaborate.specs.passes.Filling.{HaveBlockScopes, process_blocks}
 use Rattle.vs_elaborate.proofs.SignalLemmas.{each_at}
 use Rattle.vs_elaborate.proofs.MadeLemmas.{opened_at, named_once, counted_at, inside as stands_inside, differ, long}
-use Rattle.vs_design.specs.vs_logic4.proofs.Basics.{there, zip_at}
+use Rattle.vs_design.specs.vs_logic4.proofs.Basics.{there, zip_at, map_at}
 
 -- ---- lists
 
@@ -51,13 +51,7 @@ module _ {A : Type 0} where
   one_place test self (y ∷ ys) d (suc i) zero x h k = absurd (self x (subst (λ z. test z x ≡ false) (same_Some y x k) (each_at (λ q. test y q ≡ false) ys i x d.0 h)))
   one_place test self (y ∷ ys) d (suc i) (suc j) x h k = ap suc (one_place test self ys d.1 i j x h k)
 
-at_map : {A B : Type 0} (f : A → B) (xs : List A) (i : ℕ) (x : A) → slice_get xs i ≡ Some x → slice_get (map f xs) i ≡ Some (f x)
-at_map f xs i x h = slice_get-map f xs i ∙ ap (option_map f) h
-
 -- ---- paths
-
-same_first : (p q : PathName) (ps qs : Path) → p ∷ ps ≡ q ∷ qs → p ≡ q
-same_first p q ps qs e = cc
 
 same_rest : (p q : PathName) (ps qs : Path) → p ∷ ps ≡ q ∷ qs → ps ≡ qs
 same_rest p q ps qs e = cc
@@ -72,12 +66,12 @@ record EndAlike (p q : Path) (m n : PathName) : Type 0 where
   end : m ≡ n
 
 ends_alike : (p q : Path) (m n : PathName) → p ++ m ∷ [] ≡ q ++ n ∷ [] → EndAlike p q m n
-ends_alike [] [] m n e = record { front = refl; end = same_first m n [] [] e }
+ends_alike [] [] m n e = record { front = refl; end = first_same m n [] [] e }
 ends_alike [] (y ∷ ys) m n e = absurd (no_longer ys n (same_rest m y [] (ys ++ n ∷ []) e))
 ends_alike (x ∷ xs) [] m n e = absurd (no_longer xs m (sym (same_rest x n (xs ++ m ∷ []) [] e)))
 ends_alike (x ∷ xs) (y ∷ ys) m n e =
     let rest = ends_alike xs ys m n (same_rest x y (xs ++ m ∷ []) (ys ++ n ∷ []) e) in
-    record { front = ap₂ (λ z zs. z ∷ zs) (same_first x y (xs ++ m ∷ []) (ys ++ n ∷ []) e) rest.front; end = rest.end }
+    record { front = ap₂ (λ z zs. z ∷ zs) (first_same x y (xs ++ m ∷ []) (ys ++ n ∷ []) e) rest.front; end = rest.end }
 
 same_self : (n : PathName) → same_part n n ≡ false → ⊥
 same_self n h = true≢false (sym ((part_decides n n).1 refl) ∙ h)
@@ -121,7 +115,7 @@ abbrev AreAmong : List Scope → List Scope → Type 0
 AreAmong ss all = (s : Scope) → IsListed ss s → IsListed all s
 
 module _ (ms : List Module) (all : List Scope) (f : Scope → List Scope) (within : (t : Scope) → AreAmong (f t) all → HasOrigin ms all t → (s : Scope) → IsListed (f t) s → HasOrigin ms all s) (s : Scope) (known : IsListed all s) where
-  opened_from : (at : Before) (k : ℕ) (x : Inner) → slice_get (inner_of s) k ≡ Some x → (o : Option Scope) → opened ms s at x ≡ o → AreAmong (listed f o) all → (t : Scope) → IsListed (listed f o) t → HasOrigin ms all t
+  opened_from : (at : Before) (k : ℕ) (x : Inner) → slice_get (inner_of s) k ≡ Some x → (o : Option Scope) → opened ms s at x ≡ o → AreAmong (of_opened f o) all → (t : Scope) → IsListed (of_opened f o) t → HasOrigin ms all t
   opened_from at k x is None e among t h = absurd (none-some t h.is)
   opened_from at k x is (Some z) e among t h =
       within z among (inr (record { outer = s; place = known.place; stands = known.is; at = at; number = k; inner = x; holds = is; opens = e })) t h
@@ -130,11 +124,11 @@ module _ (ms : List Module) (all : List Scope) (f : Scope → List Scope) (withi
   below_from at [] held among t h = absurd (none-some t h.is)
   below_from at (x ∷ xs) held among t h =
       let o = opened ms s at x in
-      let first = listed f o in
-      let others = below ms f s (behind at first) xs in
+      let first = of_opened f o in
+      let others = below ms f s (before_following at first) xs in
       let here = held 0 x refl in
       ⊎_elim (opened_from at here.0 x here.1 o refl (λ z k. among z (listed_left first others z k)) t)
-      (below_from (behind at first) xs (λ k y is. held (suc k) y is) (λ z k. among z (listed_right first others z k)) t)
+      (below_from (before_following at first) xs (λ k y is. held (suc k) y is) (λ z k. among z (listed_right first others z k)) t)
       (listed_either first others t h.place h.is)
 
 first_from : (ms : List Module) (all ss : List Scope) (s t : Scope) → HasOrigin ms all s → (IsListed ss t → HasOrigin ms all t) → (i : ℕ) → slice_get (s ∷ ss) i ≡ Some t → HasOrigin ms all t
@@ -149,7 +143,7 @@ within_from (suc n) ms all s among p t h =
     let known : IsListed all s = among s (record { place = zero; is = refl }) in
     first_from ms all scopes s t p (below_from ms all (scopes_within n ms) (within_from n ms all) s known (within_first s) (inner_of s) (λ k x is. (k, is)) (λ x k. among x (listed_later s scopes x k)) t) h.place h.is
 
-top_from : (n : ℕ) (ms : List Module) (nets : Bool) (o : Option Module) (t : Option Scope) → opened_top nets o ≡ t → (s : Scope) → IsListed (listed (scopes_within n ms) t) s → HasOrigin ms (listed (scopes_within n ms) t) s
+top_from : (n : ℕ) (ms : List Module) (nets : Bool) (o : Option Module) (t : Option Scope) → opened_top nets o ≡ t → (s : Scope) → IsListed (of_opened (scopes_within n ms) t) s → HasOrigin ms (of_opened (scopes_within n ms) t) s
 top_from n ms nets o None e s h = absurd (none-some s h.is)
 top_from n ms nets o (Some t) e s h = within_from n ms (scopes_within n ms t) t (λ x k. k) (inl (what_is_opened_top nets o t e)) s h
 
@@ -175,17 +169,17 @@ opened_among : (i : ℕ) (env : Environment) (names : List (List ℕ)) (k : ℕ)
 opened_among i env names k [] n p b h opens = absurd (none-some p h)
 opened_among i env names k (q ∷ ps) zero p b h opens =
     let here = opens i env names k in
-    (here.0, at_first (inner_in i env names k q) (inner_from (suc i) env names (behind_piece k q) ps) here.0 (g.named b) (subst (λ z. slice_get (inner_in i env names k z) here.0 ≡ Some (g.named b)) (sym (same_Some q p h)) here.1))
+    (here.0, at_first (inner_in i env names k q) (inner_from (suc i) env names (after_piece k q) ps) here.0 (g.named b) (subst (λ z. slice_get (inner_in i env names k z) here.0 ≡ Some (g.named b)) (sym (same_Some q p h)) here.1))
 opened_among i env names k (q ∷ ps) (suc n) p b h opens =
-    let rest = opened_among (suc i) env names (behind_piece k q) ps n p b h opens in
-    at_behind (inner_in i env names k q) (inner_from (suc i) env names (behind_piece k q) ps) rest.0 (g.named b) rest.1
+    let rest = opened_among (suc i) env names (after_piece k q) ps n p b h opens in
+    at_behind (inner_in i env names k q) (inner_from (suc i) env names (after_piece k q) ps) rest.0 (g.named b) rest.1
 
 inside_here : (s : Scope) (n : ℕ) (p : Piece) (b : NamedBlock) → slice_get s.pieces n ≡ Some p → IsOpenedBy b p → IsInside s b
 inside_here s n p b h opens = opened_among 0 (environment s) (text_names s) 1 s.pieces n p b h opens
 
 -- the named blocks of a process
 opened_by_process : (p : Piece) (n : ℕ) (b : NamedBlock) → slice_get (process_blocks p) n ≡ Some b → IsOpenedBy b p
-opened_by_process (plain x) n b h i env names k = at_behind (map instance (uses_by_item x)) (map g.named (blocks_of x)) n (g.named b) (at_map g.named (blocks_of x) n b h)
+opened_by_process (plain x) n b h i env names k = at_behind (map instance (uses_by_item x)) (map g.named (blocks_of x)) n (g.named b) (map_at g.named (blocks_of x) n b h)
 opened_by_process (loop l x) n b h i env names k = absurd (none-some b h)
 opened_by_process (choice e x o) n b h i env names k = absurd (none-some b h)
 opened_by_process (local x) n b h i env names k = absurd (none-some b h)
@@ -215,7 +209,7 @@ block_inside ms s at b t e k c h =
     let ps = block_pieces b in
     let whole = block_scope 0 s at (plainly b.name) [] ps in
     let same : whole ≡ t = block_opened (any_fault (block_fault s [] ps)) t whole e in
-    let own = at_behind (map local b.locals) (map inside (blocks_among b.statements)) k (inside c) (at_map inside (blocks_among b.statements) k c h) in
+    let own = at_behind (map local b.locals) (map inside (blocks_among b.statements)) k (inside c) (map_at inside (blocks_among b.statements) k c h) in
     let kept = kept_piece s.nets (block_text [] ps) (sight_in s 0) ps own.0 (inside c) own.1 in
     subst (λ z. IsInside z c) same (inside_here whole kept.0 (inside c) c kept.1 (λ i env names j. (0, refl)))
 
@@ -238,8 +232,8 @@ module _ (source : Source) (top : List ℕ) (x : Hierarchy) (o : OpensAll source
   -- scopes of one path stand at one place
   same_place : (i j : ℕ) (s t : Scope) → slice_get (scopes_of source.modules.items top) i ≡ Some s → slice_get (scopes_of source.modules.items top) j ≡ Some t → s.path ≡ t.path → i ≡ j
   same_place i j s t h k e =
-      one_place same_path (λ p q. paths_not_same p p q refl) (scope_paths (scopes_of source.modules.items top)) (differ source top x o).0 i j s.path (at_map (λ (z : Scope). z.path) (scopes_of source.modules.items top) i s h)
-      (at_map (λ (z : Scope). z.path) (scopes_of source.modules.items top) j t k ∙ ap Some (sym e))
+      one_place same_path (λ p q. paths_not_same p p q refl) (scope_paths (scopes_of source.modules.items top)) (differ source top x o).0 i j s.path (map_at (λ (z : Scope). z.path) (scopes_of source.modules.items top) i s h)
+      (map_at (λ (z : Scope). z.path) (scopes_of source.modules.items top) j t k ∙ ap Some (sym e))
 
   -- no path is empty
   has_path : (i : ℕ) (s : Scope) → slice_get (scopes_of source.modules.items top) i ≡ Some s → s.path ≡ [] → ⊥
@@ -263,7 +257,7 @@ module _ (source : Source) (top : List ℕ) (x : Hierarchy) (o : OpensAll source
           let holds : slice_get (inner_of s) u.number ≡ Some u.inner = subst (λ z. slice_get (inner_of z) u.number ≡ Some u.inner) outer u.holds in
           let text : HasText s = text_of_origin source.modules.items (scopes_of source.modules.items top) s (origin_of source.modules.items top place s h) in
           let same : k ≡ u.number = one_place same_part same_self (map title_of (inner_of s)) (titles_differ s (named_once source top x o place s h) (counted_at source top x o place s h) text) k u.number (plainly b.name)
-          (at_map title_of (inner_of s) k (g.named b) is) (at_map title_of (inner_of s) u.number u.inner holds ∙ ap Some (sym alike.end)) in
+          (map_at title_of (inner_of s) k (g.named b) is) (map_at title_of (inner_of s) u.number u.inner holds ∙ ap Some (sym alike.end)) in
           let inner : u.inner ≡ g.named b = same_Some u.inner (g.named b) (sym holds ∙ ap (slice_get (inner_of s)) (sym same) ∙ is) in
           (u.at, subst (λ z. opened source.modules.items s u.at z ≡ Some t) inner (subst (λ z. opened source.modules.items z u.at u.inner ≡ Some t) outer u.opens))
 
@@ -303,7 +297,7 @@ module _ (source : Source) (top : List ℕ) (x : Hierarchy) (o : OpensAll source
   block_scopes place y at n p is k b has =
       let s = scope_here in
       let opened = zip_at (IsOpened (scopes_of source.modules.items top)) x.scopes.items (scopes_of source.modules.items top) place y s.0 o.scopes.each at s.1 in
-      let stands : slice_get s.0.pieces n ≡ Some (read_piece p) = ap (λ ps. slice_get ps n) (sym opened.entered.pieces) ∙ at_map read_piece y.pieces.items n p is in
+      let stands : slice_get s.0.pieces n ≡ Some (read_piece p) = ap (λ ps. slice_get ps n) (sym opened.entered.pieces) ∙ map_at read_piece y.pieces.items n p is in
       has_scope (length (scopes_of source.modules.items top)) place s.0 b (omega arith) s.1 (inside_here s.0 n (read_piece p) b stands (opened_by_process (read_piece p) k b has))
     where
       scope_here : (s : Scope) × (slice_get (scopes_of source.modules.items top) place ≡ Some s)

@@ -18,7 +18,7 @@ use Rattle.vs_elab_statements.specs.vs_widths.specs.Lefts.{Aimed}
 use Rattle.vs_elab_statements.specs.vs_scopes.specs.Printed.{Path, printed}
 use Rattle.vs_elab_statements.specs.vs_scopes.specs.Declarations.{DeclaredName}
 use Rattle.vs_elab_statements.specs.vs_scopes.specs.Scopes.{Scope, declarations_of, environment, signal_count, signal_paths, named}
-use Rattle.vs_elab_statements.specs.vs_elab_listed.specs.Outlines.{Declared, declared, signal_of, signals_of}
+use Rattle.vs_elab_statements.specs.vs_elab_signals.specs.Outlines.{Declared, declared, signal_of, signals_of}
 use Rattle.vs_elab_statements.specs.Members.{PortDriver, Driver, of_port, of_text, drivers_of, port_drivers_of}
 use Rattle.vs_elaborate.specs.Drivers.{IsDriver}
 use Rattle.vs_elaborate.specs.Faults.{aimed_at, ranges_found, ranges_aimed, ranges_driven, share_bits, DrivesTwice}

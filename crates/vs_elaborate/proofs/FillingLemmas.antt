@@ -33,10 +33,10 @@ use Rattle.vs_elab_hierarchy.specs.vs_scopes.specs.declared.scope.ScopePiece.{Sc
 use Rattle.vs_elab_hierarchy.specs.vs_scopes.specs.declared.scope.ScopePiece.TheVariants as p
 use Rattle.vs_elab_statements.specs.vs_scopes.specs.declared.ports.ModulePort.{ModulePort as FoundPort}
 use Rattle.vs_elab_statements.specs.vs_scopes.specs.scopes_passes.Parts.{read_port, read_ends}
-use Rattle.vs_elab_statements.specs.vs_elab_listed.specs.declared.opened.ListedScope.{ListedScope as FoundScope}
-use Rattle.vs_elab_statements.specs.vs_elab_listed.specs.Opened.{IsWithin, IsOutermost}
+use Rattle.vs_elab_statements.specs.vs_elab_signals.specs.declared.opened.ElabScope.{ElabScope as FoundScope}
+use Rattle.vs_elab_statements.specs.vs_elab_signals.specs.Opened.{IsWithin, IsOutermost}
 use Rattle.vs_elab_statements.specs.vs_scopes.specs.Scopes.{Scope, environment}
-use Rattle.vs_elab_statements.specs.vs_scopes.specs.scopes_passes.Answers.{Told}
+use Rattle.vs_elab_statements.specs.vs_scopes.specs.scopes_passes.Answers.{IsReported}
 use Rattle.vs_elab_statements.specs.vs_scopes.proofs.Folds.{any_push}
 use Rattle.std.proofs.lemmas.Bool.{or_left as left_true, or_right as right_true}
 use Rattle.vs_design.specs.vs_logic4.proofs.Basics.{take_push}
@@ -50,7 +50,7 @@ use Rattle.vs_elaborate.specs.declared.contents.Contents.{Contents}
 use Rattle.vs_elaborate.specs.Drivers.{IsPortAssign}
 use Rattle.vs_elaborate.specs.DesignOf.{PartOf, port_part, parts_from, assigns_of, processes_of, IsProcess, IsAssign}
 use Rattle.vs_elaborate.specs.passes.Filling.{Adds, AreSound, AddsNot, port_faults, text_faults, Connects, ConnectsNot, text_parts, Drives, DrivesNot, RunSoundly, Runs, RunsNot, HasMembers, FillsNot, DrivesScope, FillsScope, Fills, FillsOneNot}
-use Rattle.vs_elab_statements.specs.vs_elab_listed.proofs.DeclareLemmas.{any_last}
+use Rattle.vs_elab_statements.specs.vs_elab_signals.proofs.DeclareLemmas.{any_last}
 use Rattle.vs_design.specs.vs_logic4.proofs.Basics.{any_front, at_end, slice_front as at_first, there, zip_append as zipped_append}
 
 -- ---- parts with their names
@@ -184,7 +184,7 @@ drives_not_more s start = adds_not_more (text_faults s) s.path
 pub connects_not_more : (s : Scope) (start : List Assign) (xs ys : List PortDriver) (r : Reason) (p : Path) → ConnectsNot s start xs r p → ConnectsNot s start (xs ++ ys) r p
 connects_not_more s start = adds_not_more (port_faults s) s.around
 
-pub runs_last : (envs : Path → Surroundings) (s : Scope) (start : Contents) (done : List Behavior) (x : Behavior) (e : ElabFault) → Told (λ r at. HasBehaviorFault envs r at s.path x) e → Told (RunsNot envs s start (done ++ x ∷ [])) e
+pub runs_last : (envs : Path → Surroundings) (s : Scope) (start : Contents) (done : List Behavior) (x : Behavior) (e : ElabFault) → IsReported (λ r at. HasBehaviorFault envs r at s.path x) e → IsReported (RunsNot envs s start (done ++ x ∷ [])) e
 runs_last envs s start done x e h =
     told_by (λ r at. HasBehaviorFault envs r at s.path x) (RunsNot envs s start (done ++ x ∷ [])) e (λ r p u. record { place = length done; behavior = x; stands = at_end done x; fault = u }) h
 
@@ -214,14 +214,14 @@ fills envs s n a c d p r = record {
     sound w at (inr (inr h)) = true≢false (sym h.0 ∙ p.text_added.sound w)
 
 module _ (envs : Path → Surroundings) (s : Scope) (start : List Assign) (e : ElabFault) where
-  pub connects_told : Told (ConnectsNot s start (port_drivers_of s)) e → Told (FillsNot envs s) e
+  pub connects_told : IsReported (ConnectsNot s start (port_drivers_of s)) e → IsReported (FillsNot envs s) e
   connects_told h = told_by (ConnectsNot s start (port_drivers_of s)) (FillsNot envs s) e (λ r p k. inl k) h
 
-  pub drives_told : Told (DrivesNot s start (drivers_of s)) e → Told (FillsNot envs s) e
+  pub drives_told : IsReported (DrivesNot s start (drivers_of s)) e → IsReported (FillsNot envs s) e
   drives_told h = told_by (DrivesNot s start (drivers_of s)) (FillsNot envs s) e (λ r p k. inr (inr k)) h
 
 module _ (envs : Path → Surroundings) (s : Scope) (start : Contents) (e : ElabFault) where
-  pub runs_told : Told (RunsNot envs s start (behaviors_of s)) e → Told (FillsNot envs s) e
+  pub runs_told : IsReported (RunsNot envs s start (behaviors_of s)) e → IsReported (FillsNot envs s) e
   runs_told h = told_by (RunsNot envs s start (behaviors_of s)) (FillsNot envs s) e (λ r p k. inr (inl (record { place = k.place; behavior = k.behavior; stands = k.stands; fault = k.fault }))) h
 
 -- ---- several scopes
@@ -281,18 +281,18 @@ module _ (envs : Path → Surroundings) (s : Scope) (o : FoundScope) (m : HasMem
   pub runs_are : flat_map (λ (x : FoundPort). port_setting (read_port x)) o.ports.items ++ flat_map (λ (x : FoundPiece). behaviors_in (read_piece x)) o.pieces.items ≡ behaviors_of s
   runs_are = ap₂ (λ x y. x ++ y) (flat_read port_setting read_port o.ports.items s.ports m.ports) (flat_read behaviors_in read_piece o.pieces.items s.pieces m.pieces)
 
-  pub fills_ports_not : (start : List Assign) (e : ElabFault) → Told (ConnectsNot s start (port_drivers (map read_port o.ports.items) (read_ends o.ends.items))) e → Told (FillsNot envs s) e
-  fills_ports_not start e h = connects_told envs s start e (subst (λ z. Told (ConnectsNot s start z) e) ports_are h)
+  pub fills_ports_not : (start : List Assign) (e : ElabFault) → IsReported (ConnectsNot s start (port_drivers (map read_port o.ports.items) (read_ends o.ends.items))) e → IsReported (FillsNot envs s) e
+  fills_ports_not start e h = connects_told envs s start e (subst (λ z. IsReported (ConnectsNot s start z) e) ports_are h)
 
-  pub fills_texts_not : (start : List Assign) (e : ElabFault) → Told (DrivesNot s start (flat_map (λ (x : FoundPiece). drivers_in (read_piece x)) o.pieces.items)) e → Told (FillsNot envs s) e
-  fills_texts_not start e h = drives_told envs s start e (subst (λ z. Told (DrivesNot s start z) e) texts_are h)
+  pub fills_texts_not : (start : List Assign) (e : ElabFault) → IsReported (DrivesNot s start (flat_map (λ (x : FoundPiece). drivers_in (read_piece x)) o.pieces.items)) e → IsReported (FillsNot envs s) e
+  fills_texts_not start e h = drives_told envs s start e (subst (λ z. IsReported (DrivesNot s start z) e) texts_are h)
 
-  pub fills_settings_not : (start : Contents) (e : ElabFault) → Told (RunsNot envs s start (flat_map (λ (x : FoundPort). port_setting (read_port x)) o.ports.items)) e → Told (FillsNot envs s) e
+  pub fills_settings_not : (start : Contents) (e : ElabFault) → IsReported (RunsNot envs s start (flat_map (λ (x : FoundPort). port_setting (read_port x)) o.ports.items)) e → IsReported (FillsNot envs s) e
   fills_settings_not start e h =
       let front = flat_map (λ (x : FoundPort). port_setting (read_port x)) o.ports.items in
       let rest = flat_map (λ (x : FoundPiece). behaviors_in (read_piece x)) o.pieces.items in
-      let all : Told (RunsNot envs s start (front ++ rest)) e = told_by (RunsNot envs s start front) (RunsNot envs s start (front ++ rest)) e (λ r p k. runs_not_more envs s start front rest r p k) h in
-      runs_told envs s start e (subst (λ z. Told (RunsNot envs s start z) e) runs_are all)
+      let all : IsReported (RunsNot envs s start (front ++ rest)) e = told_by (RunsNot envs s start front) (RunsNot envs s start (front ++ rest)) e (λ r p k. runs_not_more envs s start front rest r p k) h in
+      runs_told envs s start e (subst (λ z. IsReported (RunsNot envs s start z) e) runs_are all)
 
   pub drives_scope : (a c : Contents) (ports text : List Assign) → c.assigns.items ≡ a.assigns.items ++ (ports ++ text) → c.processes ≡ a.processes → Connects s ports [] (port_drivers (map read_port o.ports.items) (read_ends o.ends.items)) →
       Drives s text [] (flat_map (λ (x : FoundPiece). drivers_in (read_piece x)) o.pieces.items) → DrivesScope s a c
@@ -308,13 +308,13 @@ module _ (envs : Path → Surroundings) (s : Scope) (o : FoundScope) (m : HasMem
   pub fills_all : (k : ℕ) (a c d : Contents) (r : Result Unit ElabFault) → DrivesScope s a c →
       MatchResult r
       (λ _. Runs envs s k d c (flat_map (λ (x : FoundPort). port_setting (read_port x)) o.ports.items ++ flat_map (λ (x : FoundPiece). behaviors_in (read_piece x)) o.pieces.items))
-      (Told (RunsNot envs s c (flat_map (λ (x : FoundPort). port_setting (read_port x)) o.ports.items ++ flat_map (λ (x : FoundPiece). behaviors_in (read_piece x)) o.pieces.items))) →
-      MatchResult r (λ _. FillsScope envs s a d) (Told (FillsNot envs s))
+      (IsReported (RunsNot envs s c (flat_map (λ (x : FoundPort). port_setting (read_port x)) o.ports.items ++ flat_map (λ (x : FoundPiece). behaviors_in (read_piece x)) o.pieces.items))) →
+      MatchResult r (λ _. FillsScope envs s a d) (IsReported (FillsNot envs s))
   fills_all k a c d (Ok u) p h = fills envs s k a c d p (subst (Runs envs s k d c) runs_are h)
-  fills_all k a c d (Err e) p h = runs_told envs s c e (subst (λ z. Told (RunsNot envs s c z) e) runs_are h)
+  fills_all k a c d (Err e) p h = runs_told envs s c e (subst (λ z. IsReported (RunsNot envs s c z) e) runs_are h)
 
 -- one of several scopes has a fault
-pub fills_one_not : (envs : Path → Surroundings) (ss : List Scope) (k : ℕ) (s : Scope) (e : ElabFault) → slice_get ss k ≡ Some s → Told (FillsNot envs s) e → Told (FillsOneNot envs ss) e
+pub fills_one_not : (envs : Path → Surroundings) (ss : List Scope) (k : ℕ) (s : Scope) (e : ElabFault) → slice_get ss k ≡ Some s → IsReported (FillsNot envs s) e → IsReported (FillsOneNot envs ss) e
 fills_one_not envs ss k s e h g = told_by (FillsNot envs s) (FillsOneNot envs ss) e (λ r p f. record { place = k; scope = s; stands = h; fault = f }) g
 
 -- a scope at a place, and those before it

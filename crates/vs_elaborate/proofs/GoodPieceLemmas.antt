@@ -26,7 +26,7 @@ use Rattle.vs_elab_statements.specs.vs_widths.specs.Environment.{Environment}
 use Rattle.vs_elaborate.specs.vs_scopes.specs.Declarations.{Bindings, use_of, uses_by_item}
 use Rattle.vs_elaborate.specs.vs_scopes.specs.Nets.{Sight, new_among, with_nets, is_known, pieces_with_nets}
 use Rattle.vs_elaborate.specs.vs_scopes.specs.Parameters.{any_fault}
-use Rattle.vs_elaborate.specs.vs_scopes.specs.Generate.{genvar_number, holds, condition_fault, Turns, turns, faulty, endless, turns_of, Taken, takes, refused, decided, branch_taken, other_taken, chosen, name_of_block, Inner, instance, generated, named, generates, content_inner, turns_inner, loop_inner, choice_inner, inner_in, behind_piece, inner_from}
+use Rattle.vs_elaborate.specs.vs_scopes.specs.Generate.{genvar_number, holds, condition_fault, Turns, turns, faulty, endless, turns_of, Taken, takes, refused, decided, branch_taken, other_taken, chosen, name_of_block, Inner, instance, generated, named, generates, content_inner, turns_inner, loop_inner, choice_inner, inner_in, after_piece, inner_from}
 use Rattle.vs_elaborate.specs.vs_elab_hierarchy.specs.Laws.{FitsTurn, IsTurn}
 use Rattle.vs_elaborate.specs.vs_elab_hierarchy.proofs.TurnLemmas.{turns_differ}
 use Rattle.vs_elaborate.specs.Named.{NumberedPass}
@@ -427,4 +427,4 @@ module _ (good : List ℕ → Bool) where
     pub inner_good : (place : ℕ) (env : Environment) (names : List (List ℕ)) (k : ℕ) (ps : List Piece) → AreGoodPieces ps → AreGoodInner (inner_from place env names k ps)
     inner_good place env names k [] h = tt
     inner_good place env names k (p ∷ ps) h =
-        each_append IsGoodInner (inner_in place env names k p) (inner_from (suc place) env names (behind_piece k p) ps) (piece_inner_good place env names k p h.0) (inner_good (suc place) env names (behind_piece k p) ps h.1)
+        each_append IsGoodInner (inner_in place env names k p) (inner_from (suc place) env names (after_piece k p) ps) (piece_inner_good place env names k p h.0) (inner_good (suc place) env names (after_piece k p) ps h.1)

@@ -31,13 +31,13 @@ use Rattle.vs_elab_statements.specs.vs_widths.specs.declared.constants.Const.{Co
 use Rattle.vs_elab_statements.specs.vs_widths.specs.Environment.{Environment}
 use Rattle.vs_elaborate.specs.vs_scopes.specs.Printed.{PathName, plainly}
 use Rattle.vs_elaborate.specs.vs_scopes.specs.Parameters.{said, any_fault}
-use Rattle.vs_elaborate.specs.vs_scopes.specs.Ports.{ModulePort, KindSaid, port_as, ports_from, port_said, kind_said, joined_port, port_of_items, port_by_items, is_name_list, listed_ports, ports_of, port_names, names_where, is_joined, without_name}
+use Rattle.vs_elaborate.specs.vs_scopes.specs.Ports.{ModulePort, KindSaid, port_as, ports_from, port_said, kind_said, joined_port, port_of_items, port_by_items, is_name_list, ports_of_header, ports_of, port_names, names_where, is_joined, without_name}
 use Rattle.vs_elaborate.specs.vs_scopes.specs.Ranges.{Sized}
 use Rattle.vs_elaborate.specs.vs_scopes.specs.Declarations.{Use, DeclaredName, declared_by_port, declared_as, declared_by_item, declared_local, declared_locally, declared_in, not_joined, declared_among, names_in}
 use Rattle.vs_elaborate.specs.vs_scopes.specs.Nets.{permits_nets, nothing_seen}
 use Rattle.vs_elaborate.specs.vs_scopes.specs.Generate.{Inner, instance, generated, named}
-use Rattle.vs_elaborate.specs.vs_scopes.specs.Scopes.{Scope, nowhere, declarations_of, names_of, environment, text_names, inner_of, sight_in, module_named, Before, behind, text_of, module_pieces, block_text, top_scope, instance_scope, block_scope, is_inside, has_no_values, block_fault, opened_instance, opened_block, opened, listed, below, within_first, scopes_within, deepest, opened_top, scopes_of}
-use Rattle.vs_elab_statements.specs.vs_elab_listed.specs.Outlines.{Declared, declared, signal_of, signals_of, Line, enter, declare, leave, declare_from, outline_around, outline_below, outline_within, outline_of, IsEntry}
+use Rattle.vs_elaborate.specs.vs_scopes.specs.Scopes.{Scope, nowhere, declarations_of, names_of, environment, text_names, inner_of, sight_in, module_named, Before, before_following, text_of, module_pieces, block_text, top_scope, instance_scope, block_scope, is_inside, has_no_values, block_fault, opened_instance, opened_block, opened, of_opened, below, within_first, scopes_within, deepest, opened_top, scopes_of}
+use Rattle.vs_elab_statements.specs.vs_elab_signals.specs.Outlines.{Declared, declared, signal_of, signals_of, Line, enter, declare, leave, declare_from, outline_around, outline_below, outline_within, outline_of, IsEntry}
 use Rattle.vs_design.specs.declared.timescale.Timescale.{Timescale}
 use Rattle.vs_elaborate.specs.DesignOf.{Represents}
 use Rattle.vs_elaborate.specs.vs_elab_hierarchy.specs.Laws.{FitsTurn}
@@ -129,7 +129,7 @@ module _ (good : List ℕ → Bool) (numbered : NumberedPass good) where
   names_by_items xs (p ∷ ps) =
       ap (λ n. n ∷ port_names (map (port_by_items xs) ps)) (item_port_named (port_said xs p.name.items) p.name.items (kind_said xs p.name.items)) ∙ ap (λ ns. p.name.items ∷ ns) (names_by_items xs ps)
 
-  names_listed : (xs : List Piece) (o : Option (Vec Port Global)) → port_names (listed_ports xs o) ≡ names_of_ports o
+  names_listed : (xs : List Piece) (o : Option (Vec Port Global)) → port_names (ports_of_header xs o) ≡ names_of_ports o
   names_listed xs None = refl
   names_listed xs (Some ps) =
       cond_both (is_name_list ps.items) (map (port_by_items xs) ps.items) (ports_from None ps.items) (λ z. port_names z ≡ map (λ (p : Port). p.name.items) ps.items) (λ e. names_by_items xs ps.items)
@@ -241,15 +241,15 @@ module _ (good : List ℕ → Bool) (numbered : NumberedPass good) where
     opened_good s at (named x) h = opened_block_good 0 s at (plainly x.name) [] (block_pieces x) h.name tt (block_pieces_good good x h)
 
     module _ (f : Scope → List Scope) (inside : (t : Scope) → IsGoodScope t → AllByRecursion IsGoodScope (f t)) (s : Scope) where
-      listed_scopes : (o : Option Scope) → HasGoodScope o → AllByRecursion IsGoodScope (listed f o)
+      listed_scopes : (o : Option Scope) → HasGoodScope o → AllByRecursion IsGoodScope (of_opened f o)
       listed_scopes None h = tt
       listed_scopes (Some t) h = inside t h
 
       below_scopes : (at : Before) (xs : List Inner) → AreGoodInner good xs → AllByRecursion IsGoodScope (below ms f s at xs)
       below_scopes at [] h = tt
       below_scopes at (x ∷ xs) h =
-          let inner = listed f (opened ms s at x) in
-          each_append IsGoodScope inner (below ms f s (behind at inner) xs) (listed_scopes (opened ms s at x) (opened_good s at x h.0)) (below_scopes (behind at inner) xs h.1)
+          let inner = of_opened f (opened ms s at x) in
+          each_append IsGoodScope inner (below ms f s (before_following at inner) xs) (listed_scopes (opened ms s at x) (opened_good s at x h.0)) (below_scopes (before_following at inner) xs h.1)
 
     within_scopes : (n : ℕ) (s : Scope) → IsGoodScope s → AllByRecursion IsGoodScope (scopes_within n ms s)
     unfolding scopes_within
@@ -259,7 +259,7 @@ module _ (good : List ℕ → Bool) (numbered : NumberedPass good) where
     -- ---- lines
 
     module _ (f : Scope → List Scope) (g : Scope → List Line) (shown : (t : Scope) → IsGoodScope t → AreGoodLines (g t)) (s : Scope) where
-      listed_lines : (o : Option Scope) → HasGoodScope o → AreGoodLines (listed g o)
+      listed_lines : (o : Option Scope) → HasGoodScope o → AreGoodLines (of_opened g o)
       listed_lines None h = tt
       listed_lines (Some t) h = shown t h
 
@@ -267,8 +267,8 @@ module _ (good : List ℕ → Bool) (numbered : NumberedPass good) where
       below_lines at [] h = tt
       below_lines at (x ∷ xs) h =
           let scope = opened ms s at x in
-          each_append IsGoodLine (listed g scope) (outline_below ms f g s (behind at (listed f scope)) xs) (listed_lines scope (opened_good s at x h.0))
-          (below_lines (behind at (listed f scope)) xs h.1)
+          each_append IsGoodLine (of_opened g scope) (outline_below ms f g s (before_following at (of_opened f scope)) xs) (listed_lines scope (opened_good s at x h.0))
+          (below_lines (before_following at (of_opened f scope)) xs h.1)
 
     within_lines : (n : ℕ) (s : Scope) → IsGoodScope s → AreGoodLines (outline_within n ms s)
     within_lines zero s h = around_good s [] h tt
@@ -284,11 +284,11 @@ module _ (good : List ℕ → Bool) (numbered : NumberedPass good) where
         either_good (has_no_values nowhere None m) (top_scope nets m)
         (record { own = h.own; turn = refl; ports = ports_good m h; pieces = with_nets_of nets m h })
 
-    top_scopes : (n : ℕ) (o : Option Scope) → HasGoodScope o → AllByRecursion IsGoodScope (listed (scopes_within n ms) o)
+    top_scopes : (n : ℕ) (o : Option Scope) → HasGoodScope o → AllByRecursion IsGoodScope (of_opened (scopes_within n ms) o)
     top_scopes n None h = tt
     top_scopes n (Some t) h = within_scopes n t h
 
-    top_lines : (n : ℕ) (o : Option Scope) → HasGoodScope o → AreGoodLines (listed (outline_within n ms) o)
+    top_lines : (n : ℕ) (o : Option Scope) → HasGoodScope o → AreGoodLines (of_opened (outline_within n ms) o)
     top_lines n None h = tt
     top_lines n (Some t) h = within_lines n t h
 

@@ -32,11 +32,11 @@ use Rattle.vs_elab_hierarchy.proofs.PathsDiffer.{paths_differ, paths_not_same}
 use Rattle.vs_elab_hierarchy.proofs.PathsFit.{turns_fit}
 use Rattle.vs_elab_hierarchy.proofs.PathsNumbered.{scopes_are_numbered}
 use Rattle.vs_elab_hierarchy.proofs.PathsParts.{printed_differ}
-use Rattle.vs_elab_statements.specs.vs_elab_listed.specs.declared.opened.ListedScope.{ListedScope as FoundScope}
-use Rattle.vs_elab_statements.specs.vs_elab_listed.specs.declared.opened.Hierarchy.{Hierarchy}
-use Rattle.vs_elab_statements.specs.vs_elab_listed.specs.Opened.{IsWithin, IsOutermost, StandsAround, IsOpened, AreSeated, HasBlocks, OpensAll}
-use Rattle.vs_elab_statements.specs.vs_elab_listed.specs.Outlines.{Declared, declared, signal_of, signals_of}
-use Rattle.vs_elab_statements.specs.vs_elab_listed.specs.ScopeFaults.{Repeated, HoldsOpening}
+use Rattle.vs_elab_statements.specs.vs_elab_signals.specs.declared.opened.ElabScope.{ElabScope as FoundScope}
+use Rattle.vs_elab_statements.specs.vs_elab_signals.specs.declared.opened.Hierarchy.{Hierarchy}
+use Rattle.vs_elab_statements.specs.vs_elab_signals.specs.Opened.{IsWithin, IsOutermost, HasParentScope, IsOpened, AreSeated, HasBlocks, OpensAll}
+use Rattle.vs_elab_statements.specs.vs_elab_signals.specs.Outlines.{Declared, declared, signal_of, signals_of}
+use Rattle.vs_elab_statements.specs.vs_elab_signals.specs.ScopeFaults.{Repeated, HoldsOpening}
 use Rattle.vs_elab_statements.specs.Surroundings.{surroundings_at}
 use Rattle.vs_elab_statements.specs.passes.Bodies.{counting}
 use Rattle.vs_elab_statements.specs.passes.Views.{AreSites, IsPlaced}
@@ -182,7 +182,7 @@ module _ (source : Source) (top : List ℕ) (x : Hierarchy) (o : OpensAll source
   pub inside : AreInside (scopes_of source.modules.items top)
   inside i s h = (let y = opened_at i s h in by y.0.around y.1.1.entered.around)
     where
-      by : (a : Option ℕ) → StandsAround (scopes_of source.modules.items top) a s → IsOutermost s ⊎ ((j : ℕ) × ((j < i) × IsWithin (scopes_of source.modules.items top) j s))
+      by : (a : Option ℕ) → HasParentScope (scopes_of source.modules.items top) a s → IsOutermost s ⊎ ((j : ℕ) × ((j < i) × IsWithin (scopes_of source.modules.items top) j s))
       by None u = inl u
       by (Some j) u = (let place = o.scopes.places i s h in let below : j < s.number = u.before in inr (j, (omega (arith, place, below), u)))
 

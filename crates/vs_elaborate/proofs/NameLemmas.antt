@@ -12,8 +12,9 @@ use Rattle.vs_lexer.specs.Tokens.{Lexeme, name_of}
 use Rattle.vs_lexer.specs.Pieces.{name_piece, escaped_piece, piece_of}
 use Rattle.vs_lexer.specs.Spelling.{Spells, ends, skips, reads}
 use Rattle.vs_lexer.proofs.Forms.{by_form}
+use Rattle.vs_lexer.proofs.NameLines.{NoName, no_name, white_no_name, number_no_name, text_no_name, apostrophe_no_name, parenthesis_no_name, slash_no_name, directive_no_name, mark_no_name}
 use Rattle.vs_elaborate.specs.PrintableNames.{is_printable_name, name_passes, token_passes}
-use Rattle.vs_elaborate.proofs.OtherLemmas.{NoName, no_name, white_no_name, number_no_name, text_no_name, system_no_name, apostrophe_no_name, parenthesis_no_name, slash_no_name, directive_no_name, mark_no_name}
+use Rattle.vs_elaborate.proofs.OtherLemmas.{system_no_name}
 
 -- whether it is no name, or the text is a name that can be printed
 abbrev is_printable : List ℕ → Option Piece → Bool

@@ -13,9 +13,10 @@ use Rattle.vs_design.specs.declared.design.Entry.TheVariants.{Enter, Declare, Le
 use Rattle.vs_design.specs.WellFormed.{declared_in as declared_by_outline}
 use Rattle.vs_elab_statements.specs.vs_scopes.specs.Generate.{Inner}
 use Rattle.vs_elab_statements.specs.vs_scopes.specs.Nets.{permits_nets}
-use Rattle.vs_elab_statements.specs.vs_scopes.specs.Scopes.{Scope, Before, behind, within_first, inner_of, module_named, declarations_of, opened, opened_top, listed, below, scopes_within, scopes_of, signal_count, deepest}
+use Rattle.vs_elab_statements.specs.vs_scopes.specs.Scopes.{Scope, Before, before_following, within_first, inner_of, module_named, declarations_of, opened, opened_top, of_opened, below, scopes_within, scopes_of, signal_count, deepest}
 use Rattle.vs_elab_hierarchy.proofs.PathsOpened.{what_is_opened, what_is_opened_top}
-use Rattle.vs_elab_statements.specs.vs_elab_listed.specs.Outlines.{Line, enter, declare, leave, declare_from, outline_around, outline_below, outline_within, outline_of, IsEntry}
+use Rattle.vs_elab_hierarchy.proofs.AddLemmas.{signals_append}
+use Rattle.vs_elab_statements.specs.vs_elab_signals.specs.Outlines.{Line, enter, declare, leave, declare_from, outline_around, outline_below, outline_within, outline_of, IsEntry}
 use Rattle.vs_elab_statements.specs.passes.Bodies.{counting}
 
 -- ---- counting
@@ -93,11 +94,8 @@ around_numbers s ls =
 
 -- ---- scopes
 
-count_append : (xs ys : List Scope) → signal_count (xs ++ ys) ≡ signal_count xs + signal_count ys
-count_append xs ys = ap length (flat_map-append declarations_of xs ys) ∙ length-append (flat_map declarations_of xs) (flat_map declarations_of ys)
-
 module _ (ms : List Module) (f : Scope → List Scope) (g : Scope → List Line) (inside : (t : Scope) → numbers_in (g t) ≡ counting t.base (signal_count (f t))) (s : Scope) where
-  opened_numbers : (at : Before) (x : Inner) (o : Option Scope) → opened ms s at x ≡ o → numbers_in (listed g o) ≡ counting at.signals (signal_count (listed f o))
+  opened_numbers : (at : Before) (x : Inner) (o : Option Scope) → opened ms s at x ≡ o → numbers_in (of_opened g o) ≡ counting at.signals (signal_count (of_opened f o))
   opened_numbers at x None e = refl
   opened_numbers at x (Some t) e = inside t ∙ ap (λ (z : Before). counting z.signals (signal_count (f t))) (what_is_opened ms s at x t e).before
 
@@ -105,11 +103,11 @@ module _ (ms : List Module) (f : Scope → List Scope) (g : Scope → List Line)
   below_numbers at [] = refl
   below_numbers at (x ∷ xs) =
       let o = opened ms s at x in
-      let inner = listed f o in
-      let others = below ms f s (behind at inner) xs in
-      flat_map-append line_numbers (listed g o) (outline_below ms f g s (behind at inner) xs)
-      ∙ ap₂ (λ x y. x ++ y) (opened_numbers at x o refl) (below_numbers (behind at inner) xs)
-      ∙ sym (counting_append at.signals (signal_count inner) (signal_count others)) ∙ ap (counting at.signals) (sym (count_append inner others))
+      let inner = of_opened f o in
+      let others = below ms f s (before_following at inner) xs in
+      flat_map-append line_numbers (of_opened g o) (outline_below ms f g s (before_following at inner) xs)
+      ∙ ap₂ (λ x y. x ++ y) (opened_numbers at x o refl) (below_numbers (before_following at inner) xs)
+      ∙ sym (counting_append at.signals (signal_count inner) (signal_count others)) ∙ ap (counting at.signals) (sym (signals_append inner others))
 
 within_numbers : (n : ℕ) (ms : List Module) (s : Scope) → numbers_in (outline_within n ms s) ≡ counting s.base (signal_count (scopes_within n ms s))
 unfolding scopes_within
@@ -123,7 +121,7 @@ within_numbers (suc n) ms s =
     ∙ sym (counting_append s.base (length own) (signal_count inner))
     ∙ ap (counting s.base) (sym (length-append own (flat_map declarations_of inner)))
 
-top_numbers : (n : ℕ) (ms : List Module) (nets : Bool) (o : Option Module) (t : Option Scope) → opened_top nets o ≡ t → numbers_in (listed (outline_within n ms) t) ≡ counting 0 (signal_count (listed (scopes_within n ms) t))
+top_numbers : (n : ℕ) (ms : List Module) (nets : Bool) (o : Option Module) (t : Option Scope) → opened_top nets o ≡ t → numbers_in (of_opened (outline_within n ms) t) ≡ counting 0 (signal_count (of_opened (scopes_within n ms) t))
 top_numbers n ms nets o None e = refl
 top_numbers n ms nets o (Some s) e = within_numbers n ms s ∙ ap (λ (z : Before). counting z.signals (signal_count (scopes_within n ms s))) (what_is_opened_top nets o s e).1.before
 

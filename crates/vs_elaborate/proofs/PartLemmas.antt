@@ -10,8 +10,6 @@ use Rattle.std.proofs.lemmas.List.{map-append, length-append}
 use Rattle.std.proofs.lemmas.Slice.Eq.{bytes_eq-Decides}
 use Rattle.std.proofs.lemmas.Slice.Zip.{AllZip-long}
 use Rattle.vs_syntax.specs.declared.tree.Expr.{Expr}
-use Rattle.vs_syntax.specs.declared.tree.Direction.{Direction}
-use Rattle.vs_syntax.specs.declared.tree.Direction.TheVariants.{Input, Output}
 use Rattle.vs_design.specs.declared.design.Assign.{Assign}
 use Rattle.vs_design.specs.declared.design.Process.{Process}
 use Rattle.vs_elab_statements.specs.vs_scopes.specs.vs_widths.specs.Environment.{Environment}
@@ -24,9 +22,10 @@ use Rattle.vs_elab_hierarchy.proofs.PathsLists.{each_append, distinct_append, di
 use Rattle.vs_elab_hierarchy.proofs.PathsParts.{IsPartAt, parts_differ}
 use Rattle.vs_elab_hierarchy.proofs.PathsPrinted.{name_same}
 use Rattle.vs_elab_hierarchy.proofs.TitleLemmas.{signals_differ}
-use Rattle.vs_elab_statements.specs.Members.{PortDriver, connected, port_drivers, port_drivers_of, port_of, Driver, of_text, drivers_of, behaviors_of}
+use Rattle.vs_elab_statements.specs.Members.{PortDriver, port_drivers, port_drivers_of, port_of, Driver, of_text, drivers_of, behaviors_of}
 use Rattle.vs_elab_statements.specs.Surroundings.{Surroundings}
 use Rattle.vs_elaborate.specs.DesignOf.{PartOf, parts_from, port_part, processes_of, assigns_of, IsProcess, IsAssign}
+use Rattle.vs_elaborate.proofs.FillingLemmas.{port_of_connected}
 use Rattle.vs_elab_hierarchy.proofs.OwnLemmas.{port_names_declared as ports_first}
 use Rattle.vs_design.specs.vs_logic4.proofs.Basics.{bytes_apart as not_same}
 
@@ -80,10 +79,6 @@ ports_differ s d =
     let both = subst (IsDistinct bytes_eq) (map-append (λ (z : DeclaredName). z.name) ports others) (signals_differ s d) in
     subst (IsDistinct bytes_eq) (ports_first s.known s.ports) (distinct_left bytes_eq (names_in ports) (names_in others) both)
 
-port_connected : (d : Direction) (n : List ℕ) (e : Expr) → port_of (connected d n e) ≡ n
-port_connected Input n e = refl
-port_connected Output n e = refl
-
 -- the names of continuous assignments of ports
 abbrev port_names_of : List PortDriver → List (List ℕ)
 port_names_of ds = map (λ d. port_assign_name (port_of d)) ds
@@ -98,7 +93,7 @@ drivers_apart m [] es h = tt
 drivers_apart m (p ∷ ps) [] h = tt
 drivers_apart m (p ∷ ps) (None ∷ es) h = drivers_apart m ps es h.1
 drivers_apart m (p ∷ ps) (Some e ∷ es) h =
-    (ap (λ n. bytes_eq (port_assign_name m) (port_assign_name n)) (port_connected p.direction p.name e) ∙ port_name_apart m p.name h.0, drivers_apart m ps es h.1)
+    (ap (λ n. bytes_eq (port_assign_name m) (port_assign_name n)) (port_of_connected p.direction p.name e) ∙ port_name_apart m p.name h.0, drivers_apart m ps es h.1)
 
 drivers_differ : (ps : List ModulePort) (es : List (Option Expr)) → IsDistinct bytes_eq (port_names ps) → IsDistinct bytes_eq (port_names_of (port_drivers ps es))
 unfolding IsDistinct
@@ -107,7 +102,7 @@ drivers_differ (p ∷ ps) [] d = tt
 drivers_differ (p ∷ ps) (None ∷ es) d = drivers_differ ps es d.1
 drivers_differ (p ∷ ps) (Some e ∷ es) d =
     let P : List ℕ → Type 0 = λ n. AllByRecursion (λ z. bytes_eq (port_assign_name n) z ≡ false) (port_names_of (port_drivers ps es)) in
-    (subst P (sym (port_connected p.direction p.name e)) (drivers_apart p.name ps es d.0), drivers_differ ps es d.1)
+    (subst P (sym (port_of_connected p.direction p.name e)) (drivers_apart p.name ps es d.0), drivers_differ ps es d.1)
 
 port_parts_at : (s : Scope) (ds : List PortDriver) → AllByRecursion (IsPartAt {A = PartOf Driver} path_of name_of s.path) (map (port_part s) ds)
 port_parts_at s [] = tt

@@ -9,12 +9,12 @@ use Rattle.vs_elab_statements.specs.vs_scopes.specs.declared.faults.ElabFault.{E
 use Rattle.vs_elab_statements.specs.vs_scopes.specs.Printed.{Path}
 use Rattle.vs_elab_statements.specs.vs_scopes.specs.Ports.{ModulePort}
 use Rattle.vs_elab_statements.specs.vs_scopes.specs.Scopes.{Scope, is_wrong_end, has_wrong_end}
-use Rattle.vs_elab_statements.specs.vs_scopes.specs.scopes_passes.Answers.{Told}
+use Rattle.vs_elab_statements.specs.vs_scopes.specs.scopes_passes.Answers.{IsReported}
 use Rattle.vs_elab_statements.specs.vs_scopes.proofs.AnswerLemmas.{Kept, Grown, told_by}
 use Rattle.vs_elab_statements.specs.Members.{PortDriver, port_driver, port_drivers}
 use Rattle.vs_elab_statements.specs.vs_scopes.specs.scopes_passes.Names.{read_title, read_path}
 use Rattle.vs_elab_statements.specs.vs_scopes.specs.declared.printed.PathName.{PathName as FoundName}
-use Rattle.vs_elab_statements.specs.vs_elab_listed.specs.Opened.{StandsAround}
+use Rattle.vs_elab_statements.specs.vs_elab_signals.specs.Opened.{HasParentScope}
 use Rattle.vs_design.specs.vs_logic4.proofs.Basics.{get_or_same as again}
 
 -- ---- ports and what they are connected to, a place at a time
@@ -97,13 +97,13 @@ module _ {A B : Type 0} (f : A → ModulePort) (g : B → Option Expr) where
 
     -- a fault of one is one of all
     pub kept_to_fault : (Old Mid : C → List PortDriver → Type 0) (Stands : C → List PortDriver → Reason → Path → Type 0) (k : ℕ) (p : A) (e : B) (one : List PortDriver) (bad : ElabFault) → k < length ps → k < length es → p ≡ get_or ps k p → e ≡ get_or es k e → port_driver (f p) (g e) ≡ one →
-        Grown Stands → KeptTo all ps es Old Mid k → ((start : C) (done : List PortDriver) → Mid start done → Told (Stands start (done ++ one)) bad) →
-        (start : C) (done : List PortDriver) → Old start done → Told (Stands start (done ++ all)) bad
+        Grown Stands → KeptTo all ps es Old Mid k → ((start : C) (done : List PortDriver) → Mid start done → IsReported (Stands start (done ++ one)) bad) →
+        (start : C) (done : List PortDriver) → Old start done → IsReported (Stands start (done ++ all)) bad
     kept_to_fault Old Mid Stands k p e one bad h l u v w more r m start done o =
         let rest = port_drivers (map f (drop (k + 1) ps)) (map g (drop (k + 1) es)) in
         let whole : ((done ++ r.0) ++ one) ++ rest ≡ done ++ all = append_assoc (done ++ r.0) one rest ∙ append_assoc done r.0 (one ++ rest) ∙ ap (λ z. done ++ z) (sym (r.1 ∙ ap (λ z. r.0 ++ z) (drivers_step ps es k p e h l u v ∙ ap (λ z. z ++ rest) w))) in
         let told = told_by _ (Stands start (((done ++ r.0) ++ one) ++ rest)) bad (λ b q s. more start ((done ++ r.0) ++ one) rest b q s) (m start (done ++ r.0) (r.2 start done o)) in
-        subst (λ z. Told (Stands start z) bad) whole told
+        subst (λ z. IsReported (Stands start z) bad) whole told
 
 -- ---- the path around a scope
 
@@ -116,7 +116,7 @@ take_before (y ∷ xs) x (suc k) h = ap (λ z. y ∷ z) (take_before xs x k (ome
 take_last : {A : Type 0} (xs : List A) (x : A) → take (length (xs ++ x ∷ []) - 1) (xs ++ x ∷ []) ≡ xs
 take_last xs x = take_before xs x (length (xs ++ x ∷ []) - 1) (omega (arith, length-append xs (x ∷ [])))
 
-pub path_around : (ss : List Scope) (around : Option ℕ) (s : Scope) → StandsAround ss around s → take (length s.path - 1) s.path ≡ s.around
+pub path_around : (ss : List Scope) (around : Option ℕ) (s : Scope) → HasParentScope ss around s → take (length s.path - 1) s.path ≡ s.around
 path_around ss None s h = ap (λ z. take (length z - 1) z) h.path ∙ take_last [] s.title ∙ sym h.around
 path_around ss (Some place) s h = ap (λ z. take (length z - 1) z) h.path ∙ take_last h.outer_scope.path s.title ∙ sym h.around
 

@@ -32,14 +32,14 @@ use Rattle.vs_elab_statements.specs.Surroundings.{Surroundings, surroundings_at}
 use Rattle.vs_elaborate.specs.Timescales.{ratio_of, scales_in, first_or_default, timescale_of}
 use Rattle.vs_elaborate.specs.Drivers.{IsDriver}
 use Rattle.vs_elab_statements.specs.Processes.{kind_of, IsBody, is_set, is_run, is_repeat}
-use Rattle.vs_elab_statements.specs.vs_elab_listed.specs.Outlines.{signals_of, Line, enter, declare, leave, IsEntry, outline_of}
+use Rattle.vs_elab_statements.specs.vs_elab_signals.specs.Outlines.{signals_of, Line, enter, declare, leave, IsEntry, outline_of}
 use Rattle.vs_elaborate.specs.DesignOf.{PartOf, parts_from, port_part, assigns_of, processes_of, IsProcess, IsAssign, Represents, DesignOf}
 use Rattle.vs_elaborate.specs.Same.{SameSides, SameStatement, assign_same, forever_same, SameAssign, SameProcess, SameEntry, SameDesign}
 use Rattle.vs_elaborate.proofs.SameTypedLemmas.{same_meant, same_expr_aimed}
 use Rattle.vs_elaborate.proofs.SameStatementLemmas.{one_statement, same_count, one_count}
 use Rattle.vs_elaborate.proofs.SameTargetLemmas.{SameAssignee, one_pair, one_sides}
 use Rattle.vs_elaborate.proofs.PairLemmas.{pair_append, pair_map, pair_flat, flat_one}
-use Rattle.vs_elaborate.proofs.SamePieceLemmas.{SamePiece, plain_same, loop_same, choice_same, local_same, inside_same, net_same}
+use Rattle.vs_elaborate.proofs.SamePieceLemmas.{SamePiece, plain_same, loop_same, choice_same, local_same, inside_same, net_same, one_pair as one_more}
 use Rattle.vs_elaborate.proofs.SamePortLemmas.{SameModulePort}
 use Rattle.vs_elaborate.proofs.SameScopeLemmas.{SameScope, environment_same, environments_same, signals_same, scopes_same, outlines_same}
 
@@ -63,9 +63,6 @@ SameBehavior (sets a) (sets b) = SameText a b
 SameBehavior (runs x) (runs y) = SameStmt x y
 SameBehavior (repeats x) (repeats y) = SameStmt x y
 SameBehavior _ _ = ⊥
-
-one_more : {A : Type 0} (R : A → A → Type 0) (x x' : A) → R x x' → Pairwise R (x ∷ []) (x' ∷ [])
-one_more R x x' h = pair_more x x' [] [] h no_pair
 
 assignment_same : (n n' : List ℕ) (o o' : Option Expr) → n ≡ n' → SameValue o o' → Pairwise SameText (assignment_of n o) (assignment_of n' o')
 assignment_same n n' _ _ i same_no_value = no_pair

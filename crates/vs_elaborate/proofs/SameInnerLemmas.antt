@@ -20,7 +20,7 @@ use Rattle.vs_scopes.specs.Pieces.{NamedBlock, blocks_of, Piece, Content, nothin
 use Rattle.vs_elab_statements.specs.vs_widths.specs.declared.constants.Const.{Const}
 use Rattle.vs_elab_statements.specs.vs_widths.specs.declared.faults.WidthReason.{WidthReason}
 use Rattle.vs_elab_statements.specs.vs_widths.specs.Environment.{Environment}
-use Rattle.vs_elab_statements.specs.vs_widths.specs.Findings.{stands}
+use Rattle.vs_elab_statements.specs.vs_widths.specs.Findings.{has_width_fault}
 use Rattle.vs_elab_statements.specs.vs_widths.specs.Meants.{Meant, own}
 use Rattle.vs_elab_statements.specs.vs_widths.specs.Constants.{constant_finding}
 use Rattle.vs_elab_statements.specs.vs_widths.specs.Expressions.{meant}
@@ -28,7 +28,7 @@ use Rattle.vs_elaborate.specs.vs_scopes.specs.Printed.{PathName}
 use Rattle.vs_elaborate.specs.vs_scopes.specs.Ranges.{sized_as, number_fault}
 use Rattle.vs_elaborate.specs.vs_scopes.specs.Parameters.{neither, constant_by, with_constant, any_fault}
 use Rattle.vs_elaborate.specs.vs_scopes.specs.Declarations.{Use, uses_by_item}
-use Rattle.vs_elaborate.specs.vs_scopes.specs.Generate.{genvar_number, Turns, turns, faulty, endless, one_more, turns_from, wrong_genvar, wrong_name, turn_limit, turns_of, turn_number, piece_turns, turns_among, Taken, takes, refused, decided, branch_taken, other_taken, chosen, name_of_block, Inner, instance, generated, named, generates, content_inner, turns_inner, loop_inner, choice_inner, inner_in, behind_piece, inner_from}
+use Rattle.vs_elaborate.specs.vs_scopes.specs.Generate.{genvar_number, Turns, turns, faulty, endless, one_more, turns_from, wrong_genvar, wrong_name, turn_limit, turns_of, turn_number, piece_turns, turns_among, Taken, takes, refused, decided, branch_taken, other_taken, chosen, name_of_block, Inner, instance, generated, named, generates, content_inner, turns_inner, loop_inner, choice_inner, inner_in, after_piece, inner_from}
 use Rattle.vs_elaborate.proofs.LayerLemmas.{content_layer, taken_layered, taken_layer}
 use Rattle.vs_elaborate.proofs.PairLemmas.{pair_append, pair_map, pair_same}
 use Rattle.vs_elaborate.proofs.SameTypedLemmas.{by_both, same_meant}
@@ -39,7 +39,7 @@ use Rattle.vs_elaborate.proofs.SamePortLemmas.{SameUse, item_uses}
 
 -- the faults of a condition, and whether it holds, by what it means
 abbrev faults_by : Meant → WidthReason → Bool
-faults_by m w = stands w (constant_finding m)
+faults_by m w = has_width_fault w (constant_finding m)
 
 abbrev holds_by : Meant → Bool
 holds_by m = list_any (same_digit One) (own m [] 0)
@@ -193,7 +193,7 @@ piece_inner place env names k _ _ (local_same x x' m) = no_pair
 piece_inner place env names k _ _ (inside_same b b' m) = one_pair SameInner (named b) (named b') (named_same b b' m)
 piece_inner place env names k _ _ (net_same x) = no_pair
 
-behind_same : (k : ℕ) (p p' : Piece) → SamePiece p p' → behind_piece k p ≡ behind_piece k p'
+behind_same : (k : ℕ) (p p' : Piece) → SamePiece p p' → after_piece k p ≡ after_piece k p'
 behind_same k _ _ (plain_same x x' m) = refl
 behind_same k _ _ (loop_same h h' x x' i m) = refl
 behind_same k _ _ (choice_same e e' x x' o o' i m r) = refl
@@ -217,5 +217,5 @@ same_turns env ps ps' r = ap sum (pair_same SamePiece (piece_turns env) (piece_t
 pub inner_same : (place : ℕ) (env : Environment) (names : List (List ℕ)) (k : ℕ) (ps ps' : List Piece) → Pairwise SamePiece ps ps' → Pairwise SameInner (inner_from place env names k ps) (inner_from place env names k ps')
 inner_same place env names k _ _ no_pair = no_pair
 inner_same place env names k _ _ (pair_more p p' ps ps' h r) =
-    pair_append SameInner (inner_in place env names k p) (inner_in place env names k p') (inner_from (suc place) env names (behind_piece k p) ps) (inner_from (suc place) env names (behind_piece k p') ps') (piece_inner place env names k p p' h)
-    (subst (λ j. AreSameInner (inner_from (suc place) env names (behind_piece k p) ps) (inner_from (suc place) env names j ps')) (behind_same k p p' h) (inner_same (suc place) env names (behind_piece k p) ps ps' r))
+    pair_append SameInner (inner_in place env names k p) (inner_in place env names k p') (inner_from (suc place) env names (after_piece k p) ps) (inner_from (suc place) env names (after_piece k p') ps') (piece_inner place env names k p p' h)
+    (subst (λ j. AreSameInner (inner_from (suc place) env names (after_piece k p) ps) (inner_from (suc place) env names j ps')) (behind_same k p p' h) (inner_same (suc place) env names (after_piece k p) ps ps' r))

@@ -23,7 +23,7 @@ use Rattle.vs_scopes.specs.pieces_passes.Parts.{exprs_names, links_names, pairs_
 use Rattle.vs_scopes.proofs.UsesLemmas.{names_form, names_Select, names_Chain, names_Choice, names_Concat, names_Repeat, names_Lefts}
 use Rattle.vs_elaborate.specs.vs_scopes.specs.Declarations.{Bindings}
 use Rattle.vs_elab_statements.specs.vs_widths.specs.Names.{meaning_of}
-use Rattle.vs_elaborate.specs.vs_scopes.specs.Nets.{permits_behind, permits_from, permits_nets, Sight, new_among, with_nets, is_known, pieces_with_nets, told_in, told_from, first_told}
+use Rattle.vs_elaborate.specs.vs_scopes.specs.Nets.{permits_after, permits_from, permits_nets, Sight, new_among, with_nets, is_known, pieces_with_nets, nets_in, nets_from, first_net}
 use Rattle.vs_elaborate.proofs.PairLemmas.{pair_append, pair_same, flat_one}
 use Rattle.vs_elaborate.proofs.SamePieceLemmas.{SamePiece, plain_same, loop_same, choice_same, local_same, inside_same, net_same}
 use Rattle.vs_elaborate.proofs.SamePortLemmas.{bare_same}
@@ -137,7 +137,7 @@ same_with_nets true text around ps ps' h = with_same_nets (is_known text around)
 
 -- ---- where names are declared
 
-item_told : (x x' : Item) → SameItem x x' → told_in (plain x) ≡ told_in (plain x')
+item_told : (x x' : Item) → SameItem x x' → nets_in (plain x) ≡ nets_in (plain x')
 item_told _ _ (same_port_item k k' ns ns' h p) = bare_same ns.items ns'.items p
 item_told _ _ (same_genvars ns ns' p) = refl
 item_told _ _ (same_wire k k' ds ds' h p) = pair_same SameDeclarator (λ (d : Declarator). d.name.items) (λ d d' m. m.name) ds.items ds'.items p
@@ -150,7 +150,7 @@ item_told _ _ (same_assigns xs xs' p) = refl
 item_told _ _ (same_initial x x' p) = refl
 item_told _ _ (same_always x x' p) = refl
 
-piece_told : (x x' : Piece) → SamePiece x x' → told_in x ≡ told_in x'
+piece_told : (x x' : Piece) → SamePiece x x' → nets_in x ≡ nets_in x'
 piece_told _ _ (plain_same x x' m) = item_told x x' m
 piece_told _ _ (loop_same h h' x x' i m) = refl
 piece_told _ _ (choice_same k k' x x' o o' i m r) = refl
@@ -158,12 +158,12 @@ piece_told _ _ (local_same x x' m) = refl
 piece_told _ _ (inside_same b b' m) = refl
 piece_told _ _ (net_same n) = refl
 
-told_same : (place : ℕ) (ps ps' : List Piece) → Pairwise SamePiece ps ps' → told_from place ps ≡ told_from place ps'
+told_same : (place : ℕ) (ps ps' : List Piece) → Pairwise SamePiece ps ps' → nets_from place ps ≡ nets_from place ps'
 told_same place _ _ no_pair = refl
 told_same place _ _ (pair_more p p' ps ps' h r) =
     ap₂ (λ (a b : List (List ℕ × ℕ)). a ++ b) (ap (map (λ (n : List ℕ). (n, place))) (piece_told p p' h)) (told_same (suc place) ps ps' r)
 
-pub same_first_told : (ps ps' : List Piece) → Pairwise SamePiece ps ps' → (n : List ℕ) → first_told ps n ≡ first_told ps' n
+pub same_first_told : (ps ps' : List Piece) → Pairwise SamePiece ps ps' → (n : List ℕ) → first_net ps n ≡ first_net ps' n
 same_first_told ps ps' h n = ap (λ (z : List (List ℕ × ℕ)). meaning_of z n) (told_same 0 ps ps' h)
 
 -- ---- directives
@@ -171,9 +171,9 @@ same_first_told ps ps' h n = ap (λ (z : List (List ℕ × ℕ)). meaning_of z n
 permits_same : (before : Bool) (ms ms' : List Module) (n : List ℕ) → Pairwise SameModule ms ms' → permits_from before ms n ≡ permits_from before ms' n
 permits_same before _ _ n no_pair = refl
 permits_same before _ _ n (pair_more m m' ms ms' h r) =
-    ap (λ (z : List ℕ). cond (bytes_eq n z) (permits_behind before m.directives.items) (permits_from (permits_behind before m.directives.items) ms n)) h.name
-    ∙ ap (λ ds. cond (bytes_eq n m'.name.items) (permits_behind before ds) (permits_from (permits_behind before ds) ms n)) h.directives
-    ∙ ap (cond (bytes_eq n m'.name.items) (permits_behind before m'.directives.items)) (permits_same (permits_behind before m'.directives.items) ms ms' n r)
+    ap (λ (z : List ℕ). cond (bytes_eq n z) (permits_after before m.directives.items) (permits_from (permits_after before m.directives.items) ms n)) h.name
+    ∙ ap (λ ds. cond (bytes_eq n m'.name.items) (permits_after before ds) (permits_from (permits_after before ds) ms n)) h.directives
+    ∙ ap (cond (bytes_eq n m'.name.items) (permits_after before m'.directives.items)) (permits_same (permits_after before m'.directives.items) ms ms' n r)
 
 -- undeclared names may be nets in a module, or in neither
 pub same_permits : (ms ms' : List Module) (n : List ℕ) → Pairwise SameModule ms ms' → permits_nets ms n ≡ permits_nets ms' n

@@ -21,12 +21,12 @@ use Rattle.vs_elab_statements.specs.vs_widths.specs.declared.constants.Const.{Co
 use Rattle.vs_elab_statements.specs.vs_widths.specs.declared.faults.WidthReason.{WidthReason}
 use Rattle.vs_elab_statements.specs.vs_widths.specs.declared.faults.WidthReason.TheVariants.{TooWide, Unknown, NotConstant, WrongKind}
 use Rattle.vs_elab_statements.specs.vs_widths.specs.Environment.{Environment}
-use Rattle.vs_elab_statements.specs.vs_widths.specs.Findings.{stands}
+use Rattle.vs_elab_statements.specs.vs_widths.specs.Findings.{has_width_fault}
 use Rattle.vs_elab_statements.specs.vs_widths.specs.Meants.{Meant}
 use Rattle.vs_elab_statements.specs.vs_widths.specs.Constants.{constant_finding}
 use Rattle.vs_elaborate.specs.vs_scopes.specs.Ranges.{sized_as}
 use Rattle.vs_elaborate.specs.vs_scopes.specs.Connections.{in_text, in_order, by_name, ends_of, has_twice, has_other, is_mismatch}
-use Rattle.vs_elaborate.specs.vs_scopes.specs.Parameters.{Parameter, said, header_parameters, item_parameter, parameters_in, piece_parameters, parameters_among, parameters_of, overridable, Given, first_end, other_ends, given_from, overriding, given_to, is_override_mismatch, the_size, neither, vector_takes, takes_by, constant_by, takes_fault, given_meant, constant_given, own_fault, outer_fault, with_given, bound_given, known_after, known_behind, blamed_given, blamed_after, known_for, constants_of, own_faults, outer_faults, any_fault}
+use Rattle.vs_elaborate.specs.vs_scopes.specs.Parameters.{Parameter, said, header_parameters, item_parameter, parameters_in, piece_parameters, parameters_among, parameters_of, overridable, Given, first_end, other_ends, given_from, overriding, given_to, is_override_mismatch, the_size, neither, vector_takes, takes_by, constant_by, takes_fault, given_meant, constant_given, own_fault, outer_fault, with_given, bound_given, known_after, known_in_module, blamed_given, blamed_after, known_for, constants_of, own_faults, outer_faults, any_fault}
 use Rattle.vs_elaborate.specs.vs_scopes.specs.Ports.{ModulePort, ports_of}
 use Rattle.vs_elaborate.specs.vs_scopes.specs.Declarations.{Bindings, DeclaredName, bound_to, unsized_of, valueless_of, signal_names, pending_names, early_names}
 use Rattle.vs_elaborate.specs.vs_scopes.specs.Scopes.{Scope, nowhere, outward, text_of, early, environment, constant_names, has_no_values, block_given, with_constants, early_block, block_text, block_fault}
@@ -182,12 +182,12 @@ constant_same : (around env : Environment) (g g' : Given) → SameGiven g g' →
 constant_same around env (p, o) (p', o') h = ap₂ constant_by (takes_same env p.form p'.form h.0.form) (meant_same around env p p' o o' h.0 h.1)
 
 own_fault_same : (w : WidthReason) (env : Environment) (p p' : Parameter) (o o' : Option Expr) → SameParameter p p' → SameValue o o' → own_fault w env (p, o) ≡ own_fault w env (p', o')
-own_fault_same w env p p' _ _ h same_no_value = ap₂ (λ t m. takes_fault w t || stands w (constant_finding m)) (takes_same env p.form p'.form h.form) (same_meant env p.value p'.value h.value)
+own_fault_same w env p p' _ _ h same_no_value = ap₂ (λ t m. takes_fault w t || has_width_fault w (constant_finding m)) (takes_same env p.form p'.form h.form) (same_meant env p.value p'.value h.value)
 own_fault_same w env p p' _ _ h (same_value x x' k) = ap (takes_fault w) (takes_same env p.form p'.form h.form)
 
 outer_fault_same : (w : WidthReason) (around : Environment) (p p' : Parameter) (o o' : Option Expr) → SameValue o o' → outer_fault w around (p, o) ≡ outer_fault w around (p', o')
 outer_fault_same w around p p' _ _ same_no_value = refl
-outer_fault_same w around p p' _ _ (same_value x x' k) = ap (λ (m : Meant). stands w (constant_finding m)) (same_meant around x x' k)
+outer_fault_same w around p p' _ _ (same_value x x' k) = ap (λ (m : Meant). has_width_fault w (constant_finding m)) (same_meant around x x' k)
 
 outer_faults_same : (w : WidthReason) (around : Environment) (gs gs' : List Given) → Pairwise SameGiven gs gs' → outer_faults w around gs ≡ outer_faults w around gs'
 outer_faults_same w around _ _ no_pair = refl
@@ -219,7 +219,7 @@ after_same (suc n) around env gs gs' r =
     ap (λ z. with_given (bound_given around z) gs env) (after_same n around env gs gs' r)
     ∙ with_given_same (bound_given around (known_after n around env gs')) (bound_given around (known_after n around env gs')) (λ g g' h. bound_same around (known_after n around env gs') g g' h) env gs gs' r
 
-known_same : (around env : Environment) (gs gs' : List Given) → Pairwise SameGiven gs gs' → known_behind around env gs ≡ known_behind around env gs'
+known_same : (around env : Environment) (gs gs' : List Given) → Pairwise SameGiven gs gs' → known_in_module around env gs ≡ known_in_module around env gs'
 known_same around env gs gs' r = ap (λ n. known_after n around env gs) (pair_length SameGiven gs gs' r) ∙ after_same (length gs') around env gs gs' r
 
 blamed_after_same : (n : ℕ) (around env : Environment) (gs gs' : List Given) → Pairwise SameGiven gs gs' → blamed_after n around env gs ≡ blamed_after n around env gs'
@@ -241,7 +241,7 @@ listed_same around env gs gs' r =
 
 constants_same : (around env : Environment) (gs gs' : List Given) → Pairwise SameGiven gs gs' → constants_of around env gs ≡ constants_of around env gs'
 constants_same around env gs gs' r =
-    ap (λ (z : Environment). map {B = List ℕ × Const} (λ (g : Given). (g.0.name, constant_given around z g)) gs) (known_same around env gs gs' r) ∙ listed_same around (known_behind around env gs') gs gs' r
+    ap (λ (z : Environment). map {B = List ℕ × Const} (λ (g : Given). (g.0.name, constant_given around z g)) gs) (known_same around env gs gs' r) ∙ listed_same around (known_in_module around env gs') gs gs' r
 
 any_own_same : (w : WidthReason) (env : Environment) (gs gs' : List Given) → Pairwise SameGiven gs gs' → list_any (own_fault w env) gs ≡ list_any (own_fault w env) gs'
 any_own_same w env _ _ no_pair = refl
@@ -272,8 +272,8 @@ same_early m m' h =
 -- ---- modules that are instantiated
 
 module _ (around : Environment) (o o' : Option Connections) (m m' : Module) (h : SameOption SameConnections o o') (k : SameModule m m') where
-  pub same_known : known_behind around (early m) (given_to o m) ≡ known_behind around (early m') (given_to o' m')
-  same_known = ap (λ env. known_behind around env (given_to o m)) (same_early m m' k) ∙ known_same around (early m') (given_to o m) (given_to o' m') (same_given o o' m m' h k)
+  pub same_known : known_in_module around (early m) (given_to o m) ≡ known_in_module around (early m') (given_to o' m')
+  same_known = ap (λ env. known_in_module around env (given_to o m)) (same_early m m' k) ∙ known_same around (early m') (given_to o m) (given_to o' m') (same_given o o' m m' h k)
 
   pub same_values : constants_of around (early m) (given_to o m) ≡ constants_of around (early m') (given_to o' m')
   same_values = ap (λ env. constants_of around env (given_to o m)) (same_early m m' k) ∙ constants_same around (early m') (given_to o m) (given_to o' m') (same_given o o' m m' h k)
@@ -302,9 +302,9 @@ module _ (s s' : Scope) (environments : environment s ≡ environment s') (cs : 
   same_early_block : early_block s cs ps ≡ early_block s' cs ps'
   same_early_block = ap₂ (λ names env. with_constants (outward names env) cs) (same_early_names valueless_of) environments
 
-  pub same_block_known : known_behind nowhere (early_block s cs ps) (block_given ps) ≡ known_behind nowhere (early_block s' cs ps') (block_given ps')
+  pub same_block_known : known_in_module nowhere (early_block s cs ps) (block_given ps) ≡ known_in_module nowhere (early_block s' cs ps') (block_given ps')
   same_block_known =
-      ap (λ env. known_behind nowhere env (block_given ps)) same_early_block ∙ known_same nowhere (early_block s' cs ps') (block_given ps) (block_given ps') same_block_given
+      ap (λ env. known_in_module nowhere env (block_given ps)) same_early_block ∙ known_same nowhere (early_block s' cs ps') (block_given ps) (block_given ps') same_block_given
 
   pub same_block_values : constants_of nowhere (early_block s cs ps) (block_given ps) ≡ constants_of nowhere (early_block s' cs ps') (block_given ps')
   same_block_values =

@@ -28,7 +28,7 @@ use Rattle.vs_elaborate.specs.vs_scopes.specs.declared.faults.Reason.{Reason}
 use Rattle.vs_elaborate.specs.vs_scopes.specs.declared.faults.Reason.TheVariants.{NoModule, Inside, PortMismatch, ParameterMismatch, DeclaredTwice, DrivenTwice, Limit, Width, Endless, Unnamed, Timescales, Format}
 use Rattle.vs_elaborate.specs.vs_scopes.specs.Ranges.{Sized, Words, range_bounds, words_fault, words_as, is_array_of_nets, number_fault, both_bounds, is_over, shape_with, distance_or, sized_as}
 use Rattle.vs_elaborate.specs.vs_scopes.specs.Parameters.{said}
-use Rattle.vs_elaborate.specs.vs_scopes.specs.Ports.{PortSource, ModulePort, kind_of_port, scalar_form, port_as, ports_from, is_among, said_in, port_said, KindSaid, kind_among, kind_in, kind_said, joined_port, port_of_items, port_by_items, is_name_list, listed_ports, ports_of, port_names, port_names_in, is_of_items, is_joined, names_where, left_over, ports_again}
+use Rattle.vs_elaborate.specs.vs_scopes.specs.Ports.{PortSource, ModulePort, kind_of_port, scalar_form, port_as, ports_from, is_among, said_in, port_said, KindSaid, kind_among, kind_in, kind_said, joined_port, port_of_items, port_by_items, is_name_list, ports_of_header, ports_of, port_names, port_names_in, is_of_items, is_joined, names_where, left_over, ports_again}
 use Rattle.vs_elaborate.specs.vs_scopes.specs.Declarations.{DeclaredName, size_of_kind, declared_by_port, declared_as, declared_by_item, declared_local, declared_locally, declared_in, not_joined, declared_among, declared_names, Use, use_of, uses_by_item, genvars_in, each_once, inner_names_in, inner_names_among}
 use Rattle.vs_scopes.specs.Pieces.{NamedBlock, blocks_of, Piece, plain, pieces_of, content_of}
 use Rattle.vs_elaborate.proofs.PairLemmas.{pair_map, pair_same, flat_one}
@@ -245,7 +245,7 @@ ports_by true false as' as'' bs bs' i h k = absurd (true≢false i)
 ports_by false true as' as'' bs bs' i h k = absurd (true≢false (sym i))
 ports_by false false as' as'' bs bs' i h k = k
 
-same_listed : (xs xs' : List Piece) (o o' : Option (Vec Port Global)) → Pairwise SamePiece xs xs' → SameOption SamePorts o o' → Pairwise SameModulePort (listed_ports xs o) (listed_ports xs' o')
+same_listed : (xs xs' : List Piece) (o o' : Option (Vec Port Global)) → Pairwise SamePiece xs xs' → SameOption SamePorts o o' → Pairwise SameModulePort (ports_of_header xs o) (ports_of_header xs' o')
 same_listed xs xs' _ _ h both_absent = no_pair
 same_listed xs xs' _ _ h (both_there ps ps' r) =
     ports_by (is_name_list ps.items) (is_name_list ps'.items) (map (port_by_items xs) ps.items) (map (port_by_items xs') ps'.items) (ports_from None ps.items) (ports_from None ps'.items)

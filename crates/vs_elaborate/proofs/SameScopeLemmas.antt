@@ -16,13 +16,13 @@ use Rattle.vs_scopes.specs.Pieces.{Piece, pieces_of, block_pieces}
 use Rattle.vs_elaborate.specs.vs_scopes.specs.Printed.{PathName, plainly, Path, same_path, printed, printed_name, printed_part}
 use Rattle.vs_elaborate.specs.vs_scopes.specs.Ranges.{word_count}
 use Rattle.vs_elaborate.specs.vs_scopes.specs.Connections.{ends_of}
-use Rattle.vs_elaborate.specs.vs_scopes.specs.Parameters.{given_to, constants_of, known_behind, any_fault}
+use Rattle.vs_elaborate.specs.vs_scopes.specs.Parameters.{given_to, constants_of, known_in_module, any_fault}
 use Rattle.vs_elaborate.specs.vs_scopes.specs.Ports.{ports_of, port_names}
 use Rattle.vs_elaborate.specs.vs_scopes.specs.Declarations.{Bindings, DeclaredName, declared_names, Use, bound_to}
-use Rattle.vs_elaborate.specs.vs_scopes.specs.Nets.{permits_nets, Sight, seen, coming, nothing_seen, pieces_with_nets, first_told, is_before, is_net}
+use Rattle.vs_elaborate.specs.vs_scopes.specs.Nets.{permits_nets, Sight, seen, coming, nothing_seen, pieces_with_nets, first_net, is_before, is_net}
 use Rattle.vs_elaborate.specs.vs_scopes.specs.Generate.{Inner, inner_from, turns_among}
-use Rattle.vs_elaborate.specs.vs_scopes.specs.Scopes.{Scope, nowhere, outward, seen_from, early, is_instance, declarations_of, numbered_names, constant_names, bindings_of, keys, environment, named, text_names, inner_of, sight_by, sight_in, module_named, Before, signal_count, instance_count, turns_in, turn_count, behind, before, module_pieces, text_of, block_text, top_scope, instance_scope, block_scope, is_inside, has_no_values, block_fault, opened_instance, opened_block, opened, listed, below, within_first, scopes_within, deepest, opened_top, scopes_of, environment_at}
-use Rattle.vs_elab_statements.specs.vs_elab_listed.specs.Outlines.{Declared, signal_of, signals_of, Line, enter, leave, declare_from, outline_around, outline_below, outline_within, outline_of}
+use Rattle.vs_elaborate.specs.vs_scopes.specs.Scopes.{Scope, nowhere, outward, seen_from, early, is_instance, declarations_of, numbered_names, constant_names, bindings_of, keys, environment, named, text_names, inner_of, sight_by, sight_in, module_named, Before, signal_count, instance_count, turns_in, turn_count, before_following, before, module_pieces, text_of, block_text, top_scope, instance_scope, block_scope, is_inside, has_no_values, block_fault, opened_instance, opened_block, opened, of_opened, below, within_first, scopes_within, deepest, opened_top, scopes_of, environment_at}
+use Rattle.vs_elab_statements.specs.vs_elab_signals.specs.Outlines.{Declared, signal_of, signals_of, Line, enter, leave, declare_from, outline_around, outline_below, outline_within, outline_of}
 use Rattle.vs_elaborate.proofs.PairLemmas.{pair_append, pair_length, pair_same, flat_one}
 use Rattle.vs_elaborate.proofs.SamePieceLemmas.{one_pair, SamePiece, pieces_same, block_pieces_same}
 use Rattle.vs_elaborate.proofs.SameParameterLemmas.{same_ends, same_text, same_block_text, same_known, same_values, same_no_values, same_block_known, same_block_values, same_block_fault}
@@ -82,8 +82,8 @@ module _ (s s' : Scope) (same : SameScope s s') where
   sight_same : (place : ℕ) → sight_in s place ≡ sight_in s' place
   sight_same place = fun_ext (λ n.
       ap (λ (t : Option ℕ). cond (is_before t place) seen (sight_by s n (is_some t) (meaning_of s.text n))) (same_first_told s.pieces s'.pieces same.pieces n)
-      ∙ ap (λ (t : Bindings). cond (is_before (first_told s'.pieces n) place) seen (sight_by s n (is_some (first_told s'.pieces n)) (meaning_of t n))) same.text
-      ∙ ap (cond (is_before (first_told s'.pieces n) place) seen) (sight_by_same n (is_some (first_told s'.pieces n)) (meaning_of s'.text n)))
+      ∙ ap (λ (t : Bindings). cond (is_before (first_net s'.pieces n) place) seen (sight_by s n (is_some (first_net s'.pieces n)) (meaning_of t n))) same.text
+      ∙ ap (cond (is_before (first_net s'.pieces n) place) seen) (sight_by_same n (is_some (first_net s'.pieces n)) (meaning_of s'.text n)))
 
   pub signals_same : signals_of s ≡ signals_of s'
   signals_same =
@@ -146,7 +146,7 @@ module _ (s s' : Scope) (same : SameScope s s') (at at' : Before) (i : at ≡ at
           ports = ports;
           pieces = same_module_pieces nets nets' m m' j k;
           constants = ap (λ env. constants_of env (early m) (given_to u.overrides m)) (environment_same s s' same) ∙ same_values (environment s') u.overrides u'.overrides m m' h.overrides k;
-          known = ap (λ env. known_behind env (early m) (given_to u.overrides m)) (environment_same s s' same) ∙ same_known (environment s') u.overrides u'.overrides m m' h.overrides k;
+          known = ap (λ env. known_in_module env (early m) (given_to u.overrides m)) (environment_same s s' same) ∙ same_known (environment s') u.overrides u'.overrides m m' h.overrides k;
           within = ap₂ (λ (z : List ℕ) (zs : List (List ℕ)). z ∷ zs) k.name same.within;
           home = path;
           around = same.path;
@@ -243,12 +243,12 @@ behind_by at scopes signals instances turns = record {
   turns = at.turns + turns;
 }
 
-behind_both : (at at' : Before) (ss ss' : List Scope) → at ≡ at' → Pairwise SameScope ss ss' → behind at ss ≡ behind at' ss'
+behind_both : (at at' : Before) (ss ss' : List Scope) → at ≡ at' → Pairwise SameScope ss ss' → before_following at ss ≡ before_following at' ss'
 behind_both at at' ss ss' i h =
     let scopes = pair_length SameScope ss ss' h in
     let instances = tested_same (λ (s : Scope). is_instance s.kind) (λ s s' k. ap is_instance k.kind) ss ss' h in
     let turns = turn_counts_same ss ss' h in
-    ap (λ a. behind a ss) i ∙ ap₂ (λ m n. behind_by at' m n (instance_count ss) (turn_count ss)) scopes (counts_same ss ss' h) ∙ ap₂ (behind_by at' (length ss') (signal_count ss')) instances turns
+    ap (λ a. before_following a ss) i ∙ ap₂ (λ m n. behind_by at' m n (instance_count ss) (turn_count ss)) scopes (counts_same ss ss' h) ∙ ap₂ (behind_by at' (length ss') (signal_count ss')) instances turns
 
 abbrev before_by : ℕ → ℕ → ℕ → ℕ → Before
 before_by number base instances turns = record { scopes = number; signals = base; instances = instances; turns = turns }
@@ -261,37 +261,37 @@ first_same s s' h = behind_both (before s) (before s') (s ∷ []) (s' ∷ []) (b
 
 -- ---- scopes in scopes
 
-listed_same : (f f' : Scope → List Scope) → ((t t' : Scope) → SameScope t t' → Pairwise SameScope (f t) (f' t')) → (o o' : Option Scope) → SameOption SameScope o o' → Pairwise SameScope (listed f o) (listed f' o')
+listed_same : (f f' : Scope → List Scope) → ((t t' : Scope) → SameScope t t' → Pairwise SameScope (f t) (f' t')) → (o o' : Option Scope) → SameOption SameScope o o' → Pairwise SameScope (of_opened f o) (of_opened f' o')
 listed_same f f' inside _ _ both_absent = no_pair
 listed_same f f' inside _ _ (both_there t t' h) = inside t t' h
 
-listed_one : (g g' : Scope → List Line) → ((t t' : Scope) → SameScope t t' → g t ≡ g' t') → (o o' : Option Scope) → SameOption SameScope o o' → listed g o ≡ listed g' o'
+listed_one : (g g' : Scope → List Line) → ((t t' : Scope) → SameScope t t' → g t ≡ g' t') → (o o' : Option Scope) → SameOption SameScope o o' → of_opened g o ≡ of_opened g' o'
 listed_one g g' inside _ _ both_absent = refl
 listed_one g g' inside _ _ (both_there t t' h) = inside t t' h
 
 module _ (ms ms' : List Module) (modules : Pairwise SameModule ms ms') (f f' : Scope → List Scope) (inside : (t t' : Scope) → SameScope t t' → Pairwise SameScope (f t) (f' t')) (s s' : Scope) (same : SameScope s s') where
   -- the scopes below an instance or a block
-  inner_scopes : (at at' : Before) → at ≡ at' → (x x' : Inner) → SameInner x x' → Pairwise SameScope (listed f (opened ms s at x)) (listed f' (opened ms' s' at' x'))
+  inner_scopes : (at at' : Before) → at ≡ at' → (x x' : Inner) → SameInner x x' → Pairwise SameScope (of_opened f (opened ms s at x)) (of_opened f' (opened ms' s' at' x'))
   inner_scopes at at' i x x' h = listed_same f f' inside (opened ms s at x) (opened ms' s' at' x') (opened_same s s' same at at' i ms ms' modules x x' h)
 
   below_same : (at at' : Before) → at ≡ at' → (xs xs' : List Inner) → Pairwise SameInner xs xs' → Pairwise SameScope (below ms f s at xs) (below ms' f' s' at' xs')
   below_same at at' i _ _ no_pair = no_pair
   below_same at at' i _ _ (pair_more x x' xs xs' h r) =
-      let inner = listed f (opened ms s at x) in
-      let inner' = listed f' (opened ms' s' at' x') in
+      let inner = of_opened f (opened ms s at x) in
+      let inner' = of_opened f' (opened ms' s' at' x') in
       let both : Pairwise SameScope inner inner' = inner_scopes at at' i x x' h in
-      pair_append SameScope inner inner' (below ms f s (behind at inner) xs) (below ms' f' s' (behind at' inner') xs') both
-      (below_same (behind at inner) (behind at' inner') (behind_both at at' inner inner' i both) xs xs' r)
+      pair_append SameScope inner inner' (below ms f s (before_following at inner) xs) (below ms' f' s' (before_following at' inner') xs') both
+      (below_same (before_following at inner) (before_following at' inner') (behind_both at at' inner inner' i both) xs xs' r)
 
   module _ (g g' : Scope → List Line) (shown : (t t' : Scope) → SameScope t t' → g t ≡ g' t') where
     lines_same : (at at' : Before) → at ≡ at' → (xs xs' : List Inner) → Pairwise SameInner xs xs' → outline_below ms f g s at xs ≡ outline_below ms' f' g' s' at' xs'
     lines_same at at' i _ _ no_pair = refl
     lines_same at at' i _ _ (pair_more x x' xs xs' h r) =
-        let inner = listed f (opened ms s at x) in
-        let inner' = listed f' (opened ms' s' at' x') in
+        let inner = of_opened f (opened ms s at x) in
+        let inner' = of_opened f' (opened ms' s' at' x') in
         let both : Pairwise SameScope inner inner' = inner_scopes at at' i x x' h in
         ap₂ (λ (a c : List Line). a ++ c) (listed_one g g' shown (opened ms s at x) (opened ms' s' at' x') (opened_same s s' same at at' i ms ms' modules x x' h))
-        (lines_same (behind at inner) (behind at' inner') (behind_both at at' inner inner' i both) xs xs' r)
+        (lines_same (before_following at inner) (before_following at' inner') (behind_both at at' inner inner' i both) xs xs' r)
 
 -- ---- whole sources
 
@@ -348,10 +348,10 @@ module _ (ms ms' : List Module) (modules : Pairwise SameModule ms ms') where
   tops_same top = opened_top_same (permits_nets ms top) (permits_nets ms' top) (module_named ms top) (module_named ms' top) (same_permits ms ms' top modules) (same_found ms ms' top modules)
 
   -- so many levels of their scopes, and of their outlines
-  levels_same : (n : ℕ) (top : List ℕ) → Pairwise SameScope (listed (scopes_within n ms) (top_of ms top)) (listed (scopes_within n ms') (top_of ms' top))
+  levels_same : (n : ℕ) (top : List ℕ) → Pairwise SameScope (of_opened (scopes_within n ms) (top_of ms top)) (of_opened (scopes_within n ms') (top_of ms' top))
   levels_same n top = listed_same (scopes_within n ms) (scopes_within n ms') (within_same n) (top_of ms top) (top_of ms' top) (tops_same top)
 
-  lines_within : (n : ℕ) (top : List ℕ) → listed (outline_within n ms) (top_of ms top) ≡ listed (outline_within n ms') (top_of ms' top)
+  lines_within : (n : ℕ) (top : List ℕ) → of_opened (outline_within n ms) (top_of ms top) ≡ of_opened (outline_within n ms') (top_of ms' top)
   lines_within n top = listed_one (outline_within n ms) (outline_within n ms') (outline_same n) (top_of ms top) (top_of ms' top) (tops_same top)
 
   -- the scopes of two sources that say the same

@@ -33,6 +33,7 @@ use Rattle.vs_design.specs.declared.statement.Statement.{Statement}
 use Rattle.vs_design.specs.declared.statement.Statement.TheVariants as d
 use Rattle.vs_design.specs.Uses.{joined}
 use Rattle.vs_design.specs.WellFormed.{numbers, counts_from}
+use Rattle.vs_design.proofs.FormLemmas.{numbers_Null, numbers_Assign, numbers_Later, numbers_Call, numbers_Finish, numbers_Block, numbers_Forever, numbers_Event}
 use Rattle.vs_elab_statements.specs.vs_widths.specs.Environment.{Environment}
 use Rattle.vs_elab_statements.specs.vs_widths.specs.Constants.{constant_finding, natural_at}
 use Rattle.vs_elab_statements.specs.vs_widths.specs.Findings.{Finding, Has, together, alike}
@@ -44,7 +45,7 @@ use Rattle.vs_elaborate.specs.vs_scopes.specs.Printed.{plainly, Path}
 use Rattle.vs_elab_statements.specs.Members.{places}
 use Rattle.vs_elab_statements.specs.Surroundings.{Surroundings}
 use Rattle.vs_elab_statements.specs.Statements.{IsAssignment, IsOperand, delay_meant, delay_of, due_of, IsArgument, IsCall, print_text, print_values, AreEvents, label_exprs, common_finding, case_finding, AreTypedAt, no_typed, more_typed, IsStatement, is_null, is_assign, is_later, is_block, is_named, is_if, is_case, is_for, is_while, is_repeat, is_forever, is_delay, is_event, is_print, is_finish, is_dump, IsElse, no_else, an_else, AreItems, no_items, more_items, AreStatements, are_none, are_more}
-use Rattle.vs_elab_statements.proofs.FormLemmas.{numbers_Null, numbers_Assign, numbers_Later, numbers_Block, numbers_Delay, numbers_Event, numbers_If, numbers_Case, numbers_While, numbers_Repeat, numbers_Forever, numbers_Call, numbers_Finish, item_numbers}
+use Rattle.vs_elab_statements.proofs.FormLemmas.{numbers_Delay, numbers_If, numbers_Case, numbers_While, numbers_Repeat, item_numbers}
 use Rattle.vs_elaborate.specs.Same.{SameTyped, SameFormatArg, SameCall, SameSides, SameStatement, null_same, assign_same, later_same, call_same, finish_same, block_same, delay_same, event_same, if_same, case_same, while_same, repeat_same, forever_same, SameItems, items_end, item_same, SameStatements, statements_end, statement_same}
 use Rattle.vs_elaborate.proofs.SameEventLemmas.{one_events}
 use Rattle.vs_elaborate.proofs.SameTargetLemmas.{found_width, found_sign, one_sides}

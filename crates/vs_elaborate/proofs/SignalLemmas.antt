@@ -33,8 +33,8 @@ use Rattle.vs_elab_statements.specs.vs_scopes.specs.Declarations.{Bindings, Decl
 use Rattle.vs_elab_statements.specs.vs_scopes.specs.Scopes.{Scope, declarations_of, names_of, named, numbered_names, constant_names, bindings_of, environment, seen_from, signal_count, signal_paths}
 use Rattle.vs_elab_statements.specs.vs_scopes.proofs.Folds.{any_false_at}
 use Rattle.vs_elab_hierarchy.proofs.PathsLists.{each_append}
-use Rattle.vs_elab_statements.specs.vs_elab_listed.specs.Outlines.{Declared, declared, signal_of, signals_of}
-use Rattle.vs_elab_statements.specs.vs_elab_listed.specs.Opened.{IsWithin, IsOutermost}
+use Rattle.vs_elab_statements.specs.vs_elab_signals.specs.Outlines.{Declared, declared, signal_of, signals_of}
+use Rattle.vs_elab_statements.specs.vs_elab_signals.specs.Opened.{IsWithin, IsOutermost}
 use Rattle.vs_elab_statements.proofs.WellFormedLemmas.{IsMeant, IsGood}
 use Rattle.vs_elab_hierarchy.proofs.AddLemmas.{signals_shown as signals_counted}
 use Rattle.vs_design.specs.vs_logic4.proofs.Basics.{right_false, slice_back as at_behind, slice_front as at_front, there}

@@ -21,17 +21,17 @@ use Rattle.vs_elab_statements.specs.vs_scopes.specs.declared.faults.ElabFault.{E
 use Rattle.vs_elab_statements.specs.vs_scopes.specs.declared.faults.ElabFault.TheVariants.{Memory, At}
 use Rattle.vs_elab_statements.specs.vs_scopes.specs.Printed.{plainly, Path}
 use Rattle.vs_elab_statements.specs.vs_scopes.specs.Scopes.{Scope, environment, scopes_of}
-use Rattle.vs_elab_statements.specs.vs_scopes.specs.scopes_passes.Answers.{IsFaultAt, Told}
+use Rattle.vs_elab_statements.specs.vs_scopes.specs.scopes_passes.Answers.{IsFaultAt, IsReported}
 use Rattle.std.proofs.lemmas.Bool.{or_from as both_false}
 use Rattle.vs_elab_statements.specs.vs_scopes.proofs.AnswerLemmas.{told_at, told_by}
-use Rattle.vs_elab_statements.specs.vs_elab_listed.specs.ScopeFaults.{HoldsOpening, HoldsOpeningIn, HoldsOpeningAbove, StandsOpening}
+use Rattle.vs_elab_statements.specs.vs_elab_signals.specs.ScopeFaults.{HoldsOpening, HoldsOpeningIn, HoldsOpeningAbove, HasOpeningFault}
 use Rattle.vs_elab_statements.specs.Statements.{assign_fault, operand_fault, case_fault, delay_fault, due_fault, print_fault, event_fault, fault_step, has_fault, is_overfull, HasFaultAt, in_statement, in_block}
 use Rattle.vs_elab_statements.specs.Surroundings.{Surroundings}
 use Rattle.vs_elab_statements.specs.Members.{Assignee, places, Assignment, PortDriver, Behavior, sets, runs, repeats, drivers_of, port_drivers_of}
 use Rattle.vs_elab_statements.specs.Processes.{statements_of, HasBehaviorFault}
 use Rattle.vs_elaborate.specs.Drivers.{driver_fault, port_driver_fault}
 use Rattle.vs_elaborate.specs.Timescales.{has_other_timescale}
-use Rattle.vs_elaborate.specs.Faults.{Holds, HoldsIn, HoldsAbove, surroundings_of, Stands, DrivesTwice, Faults}
+use Rattle.vs_elaborate.specs.Faults.{Holds, HoldsIn, HoldsAbove, surroundings_of, HoldsFault, DrivesTwice, Faults}
 use Rattle.vs_elaborate.specs.passes.Filling.{FillsNot, FillsOneNot}
 
 -- ---- faults that no statement has
@@ -249,31 +249,31 @@ module _ (source : Source) (top : List ℕ) where
   above_opening Timescales p h = absurd h
   above_opening (Format wrong) p h = h
 
-  stands_opening : (r : Reason) (p : Path) → StandsOpening source.modules.items top r p → Stands source top r p
+  stands_opening : (r : Reason) (p : Path) → HasOpeningFault source.modules.items top r p → HoldsFault source top r p
   stands_opening r p (inl h) = inl (above_opening r p h)
   stands_opening r p (inr h) = inr (in_opening source.modules.items (surroundings_of source top) r p (scopes_of source.modules.items top) h)
 
-  stands_filling : (r : Reason) (p : Path) → FillsOneNot (surroundings_of source top) (scopes_of source.modules.items top) r p → Stands source top r p
+  stands_filling : (r : Reason) (p : Path) → FillsOneNot (surroundings_of source top) (scopes_of source.modules.items top) r p → HoldsFault source top r p
   stands_filling r p h = inr (in_at source.modules.items (surroundings_of source top) r p (scopes_of source.modules.items top) h.place h.scope h.stands (fills_holds source.modules.items (surroundings_of source top) h.scope r p h.fault))
 
-  told_stands : (e : ElabFault) → Told (Stands source top) e → Faults source top e
+  told_stands : (e : ElabFault) → IsReported (HoldsFault source top) e → Faults source top e
   told_stands Memory h = tt
   told_stands (At r bytes) h = record { path = h.0; text = h.1; stands = h.2 }
 
   -- time scales that differ stand
   pub timescales_told : (e : ElabFault) → has_other_timescale source ≡ true → IsFaultAt Timescales (plainly top ∷ []) e → Faults source top e
-  timescales_told e h f = told_stands e (told_at (Stands source top) Timescales (plainly top ∷ []) e (inl (h, refl)) f)
+  timescales_told e h f = told_stands e (told_at (HoldsFault source top) Timescales (plainly top ∷ []) e (inl (h, refl)) f)
 
   -- a fault that is told while scopes are opened stands
-  pub opening_told : (e : ElabFault) → Told (StandsOpening source.modules.items top) e → Faults source top e
-  opening_told e h = told_stands e (told_by (StandsOpening source.modules.items top) (Stands source top) e stands_opening h)
+  pub opening_told : (e : ElabFault) → IsReported (HasOpeningFault source.modules.items top) e → Faults source top e
+  opening_told e h = told_stands e (told_by (HasOpeningFault source.modules.items top) (HoldsFault source top) e stands_opening h)
 
   -- a fault of a continuous assignment or a process stands
-  pub filling_told : (e : ElabFault) → Told (FillsOneNot (surroundings_of source top) (scopes_of source.modules.items top)) e → Faults source top e
-  filling_told e h = told_stands e (told_by (FillsOneNot (surroundings_of source top) (scopes_of source.modules.items top)) (Stands source top) e stands_filling h)
+  pub filling_told : (e : ElabFault) → IsReported (FillsOneNot (surroundings_of source top) (scopes_of source.modules.items top)) e → Faults source top e
+  filling_told e h = told_stands e (told_by (FillsOneNot (surroundings_of source top) (scopes_of source.modules.items top)) (HoldsFault source top) e stands_filling h)
 
   -- where no fault of these kinds stands, none does
-  module _ (none : (r : Reason) (p : Path) → StandsOpening source.modules.items top r p → ⊥) (fills : (k : ℕ) (s : Scope) → slice_get (scopes_of source.modules.items top) k ≡ Some s → (r : Reason) (p : Path) → FillsNot (surroundings_of source top) s r p → ⊥)
+  module _ (none : (r : Reason) (p : Path) → HasOpeningFault source.modules.items top r p → ⊥) (fills : (k : ℕ) (s : Scope) → slice_get (scopes_of source.modules.items top) k ≡ Some s → (r : Reason) (p : Path) → FillsNot (surroundings_of source top) s r p → ⊥)
       (once : (p : Path) → DrivesTwice (scopes_of source.modules.items top) p → ⊥) (same : has_other_timescale source ≡ false) where
     none_above : (r : Reason) (p : Path) → HoldsAbove source top r p → ⊥
     none_above NoModule p h = none NoModule p (inl h)
@@ -289,6 +289,6 @@ module _ (source : Source) (top : List ℕ) where
     none_above Timescales p h = true≢false (sym h.0 ∙ same)
     none_above (Format wrong) p h = h
 
-    pub none_stands : (r : Reason) (p : Path) → Stands source top r p → ⊥
+    pub none_stands : (r : Reason) (p : Path) → HoldsFault source top r p → ⊥
     none_stands r p (inl h) = none_above r p h
     none_stands r p (inr h) = none_within source.modules.items (surroundings_of source top) r p (scopes_of source.modules.items top) (λ u. none r p (inr u)) (λ k s e u. fills k s e r p u) h

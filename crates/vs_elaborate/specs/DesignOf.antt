@@ -10,13 +10,13 @@ use Rattle.vs_design.specs.WellFormed.{numbers, counts_from}
 use Rattle.vs_elab_statements.specs.vs_scopes.specs.declared.faults.Reason.{Reason}
 use Rattle.vs_elab_statements.specs.vs_scopes.specs.Printed.{Path, own_name, port_assign_name, part_name}
 use Rattle.vs_elab_statements.specs.vs_scopes.specs.Scopes.{Scope, environment, scopes_of}
-use Rattle.vs_elab_statements.specs.vs_elab_listed.specs.Outlines.{declared, signals_of, Line, outline_of, IsEntry}
+use Rattle.vs_elab_statements.specs.vs_elab_signals.specs.Outlines.{declared, signals_of, Line, outline_of, IsEntry}
 use Rattle.vs_elab_statements.specs.Members.{PortDriver, port_of, Driver, of_port, of_text, Behavior, drivers_of, port_drivers_of, behaviors_of}
 use Rattle.vs_elab_statements.specs.Surroundings.{Surroundings, surroundings_at}
 use Rattle.vs_elaborate.specs.Timescales.{timescale_of, ratio_of}
 use Rattle.vs_elaborate.specs.Drivers.{IsDriver}
 use Rattle.vs_elab_statements.specs.Processes.{IsBody, kind_of}
-use Rattle.vs_elaborate.specs.Faults.{Stands}
+use Rattle.vs_elaborate.specs.Faults.{HoldsFault}
 
 -- a process or a continuous assignment of a source, with its scope and its name there
 pub record PartOf (A : Type 0) : Type 0 where
@@ -64,5 +64,5 @@ pub record Represents (d : Parts) (scale : Timescale) (ss : List Scope) (lines :
 
 -- The design of a source and a top: there is one exactly where no fault stands.
 pub record DesignOf (source : Source) (top : List ℕ) (d : Parts) : Type 0 where
-  pub none : (r : Reason) (p : Path) → Stands source top r p → ⊥
+  pub none : (r : Reason) (p : Path) → HoldsFault source top r p → ⊥
   pub found : Represents d (timescale_of source) (scopes_of source.modules.items top) (outline_of source.modules.items top)

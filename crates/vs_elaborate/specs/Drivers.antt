@@ -3,7 +3,7 @@ use Rattle.std.specs.Prelude.{Bool, false, ◌||◌, []}
 use Rattle.vs_design.specs.declared.expression.Typed.{Typed}
 use Rattle.vs_design.specs.declared.statement.Target.{Target}
 use Rattle.vs_elab_statements.specs.vs_scopes.specs.vs_widths.specs.Environment.{Environment}
-use Rattle.vs_elab_statements.specs.vs_scopes.specs.vs_widths.specs.Findings.{stands}
+use Rattle.vs_elab_statements.specs.vs_scopes.specs.vs_widths.specs.Findings.{has_width_fault}
 use Rattle.vs_elab_statements.specs.vs_scopes.specs.vs_widths.specs.Meants.{Meant}
 use Rattle.vs_elab_statements.specs.vs_widths.specs.Expressions.{meant, name_meant}
 use Rattle.vs_elab_statements.specs.vs_widths.specs.declared.kinds.AssignmentKind.TheVariants.{Continuous}
@@ -47,5 +47,5 @@ driver_fault r env a = assign_fault r Continuous env a.target a.value
 
 -- whether the continuous assignment of a port has a fault
 abbrev pub port_driver_fault : Reason → Environment → Environment → PortDriver → Bool
-port_driver_fault (Width w) own outer d = stands w (port_target own outer d).finding || stands w (port_source own outer d).finding
+port_driver_fault (Width w) own outer d = has_width_fault w (port_target own outer d).finding || has_width_fault w (port_source own outer d).finding
 port_driver_fault _ own outer d = false

@@ -18,7 +18,7 @@ use Rattle.vs_elab_statements.specs.vs_scopes.specs.Printed.{plainly, Path, prin
 use Rattle.vs_elab_statements.specs.vs_scopes.specs.Parameters.{is_override_mismatch}
 use Rattle.vs_elab_statements.specs.vs_scopes.specs.Declarations.{DeclaredName}
 use Rattle.vs_elab_statements.specs.vs_scopes.specs.Scopes.{Scope, module_named, scopes_of, declarations_of, environment, signal_paths, is_inside, is_port_mismatch}
-use Rattle.vs_elab_statements.specs.vs_elab_listed.specs.ScopeFaults.{of_module, AtInstance, HasNoModule, parameter_fault, HasOverrideFault, DeclaresTwice, HasWrongPort, HasUnlikePort, HasStrayPort, HasBlockParameter, HasConstructFault, HasBlockFault, HasLateNet, HasBlockOfNet, HasRangeFault, PassesLimit, PassesTurns, NamesTwice, top_fault}
+use Rattle.vs_elab_statements.specs.vs_elab_signals.specs.ScopeFaults.{of_module, AtInstance, HasNoModule, parameter_fault, HasOverrideFault, DeclaresTwice, HasWrongPort, HasUnlikePort, HasStrayPort, HasBlockParameter, HasConstructFault, HasBlockFault, HasLateNet, HasBlockOfNet, HasRangeFault, PassesLimit, PassesTurns, NamesTwice, top_fault}
 use Rattle.vs_elab_statements.specs.Statements.{assigned_to}
 use Rattle.vs_elab_statements.specs.Surroundings.{Surroundings, surroundings_at}
 use Rattle.vs_elab_statements.specs.Members.{Behavior, Driver, of_port, of_text, drivers_of, port_drivers_of, behaviors_of}
@@ -125,17 +125,17 @@ abbrev pub surroundings_of : Source → List ℕ → Path → Surroundings
 surroundings_of source top = surroundings_at (ratio_of (timescale_of source)) (scopes_of source.modules.items top)
 
 -- the condition of a fault at a path, in a source with this top
-abbrev pub Stands : Source → List ℕ → Reason → Path → Type 0
-Stands source top r p =
+abbrev pub HoldsFault : Source → List ℕ → Reason → Path → Type 0
+HoldsFault source top r p =
     HoldsAbove source top r p ⊎ HoldsIn source.modules.items (surroundings_of source top) (scopes_of source.modules.items top) r p
 
 -- a fault that stands at some path, and has that path as it is printed
-pub record StandsAt (source : Source) (top : List ℕ) (r : Reason) (bytes : List ℕ) : Type 0 where
+pub record HoldsFaultAt (source : Source) (top : List ℕ) (r : Reason) (bytes : List ℕ) : Type 0 where
   pub path : Path
   pub text : bytes ≡ printed path
-  pub stands : Stands source top r path
+  pub stands : HoldsFault source top r path
 
 -- what a refusal says
 abbrev pub Faults : Source → List ℕ → ElabFault → Type 0
 Faults source top Memory = Unit {0}
-Faults source top (At r p) = StandsAt source top r p.items
+Faults source top (At r p) = HoldsFaultAt source top r p.items

@@ -5,8 +5,8 @@ pub use Rattle.vs_elab_statements.specs.vs_scopes.specs.Connections
 pub use Rattle.vs_elab_statements.specs.vs_scopes.specs.Parameters
 pub use Rattle.vs_elab_statements.specs.vs_scopes.specs.Scopes
 pub use Rattle.vs_elab_statements.specs.vs_scopes.specs.Texts
-pub use Rattle.vs_elab_statements.specs.vs_elab_listed.specs.Outlines
-pub use Rattle.vs_elab_statements.specs.vs_elab_listed.specs.ScopeFaults
+pub use Rattle.vs_elab_statements.specs.vs_elab_signals.specs.Outlines
+pub use Rattle.vs_elab_statements.specs.vs_elab_signals.specs.ScopeFaults
 pub use Rattle.vs_elab_statements.specs.Members
 pub use Rattle.vs_elab_statements.specs.Statements
 pub use Rattle.vs_elab_statements.specs.Surroundings

@@ -28,7 +28,7 @@ use Rattle.vs_elab_statements.specs.vs_widths.specs.vs_eval.specs.Values.{value_
 use Rattle.vs_elab_statements.specs.vs_widths.specs.vs_eval.specs.Targets.{part_at, assigned}
 use Rattle.vs_elab_statements.specs.vs_widths.specs.Layers.{layer_of}
 use Rattle.vs_elab_statements.specs.vs_widths.specs.Aiming.{is_fixed}
-use Rattle.vs_elab_statements.specs.vs_elab_listed.specs.Outlines.{declared}
+use Rattle.vs_elab_statements.specs.vs_elab_signals.specs.Outlines.{declared}
 
 -- The expressions say the same: one size, one value in every store, the same ranges read (clauses 5.4 and 5.5), and the same outermost.
 pub record SameTyped (x x' : Typed) : Type 0 where

@@ -3,7 +3,7 @@ ghost use Rattle.std.specs.Prelude.{◌≡◌, ◌-◌, length, take};
 ghost use Rattle.vs_elab_statements.specs.vs_scopes.specs.Printed.{Path};
 ghost use Rattle.vs_elab_statements.specs.Surroundings.{Surroundings};
 ghost use Rattle.vs_elab_statements.specs.vs_scopes.specs.Scopes.{Scope};
-ghost use Rattle.vs_elab_statements.specs.vs_scopes.specs.scopes_passes.Answers.{IsFaultAt, IsRefusal, Told};
+ghost use Rattle.vs_elab_statements.specs.vs_scopes.specs.scopes_passes.Answers.{IsFaultAt, IsRefusal, IsReported};
 ghost use Rattle.vs_elab_statements.specs.vs_scopes.specs.scopes_passes.Names.{read_path};
 ghost use Rattle.vs_elab_statements.specs.Members.{Behavior};
 ghost use Rattle.vs_elab_statements.specs.passes.Faults.{IsBelow};
@@ -11,7 +11,7 @@ ghost use Rattle.vs_elab_statements.specs.passes.Views.{IsPlaced};
 ghost use Rattle.vs_elaborate.specs.passes.Filling.{IsFrame, IsFaultIn, RunFails};
 
 use std::alloc::Global;
-use vs_elab_statements::vs_elab_listed::{fault_at, path};
+use vs_elab_statements::vs_elab_signals::{fault_at, path};
 use vs_elab_statements::vs_scopes::{BodyFault, ElabFault, PathName, Reason};
 use vs_elab_statements::{StatementFault, View};
 

@@ -14,7 +14,7 @@ use crate::{mark_ranges, no_marks};
 use std::alloc::Global;
 use vs_design::{Assign, Design, Signal, writes};
 use vs_elab_hierarchy::open_all;
-use vs_elab_statements::vs_elab_listed::fault_at;
+use vs_elab_statements::vs_elab_signals::fault_at;
 use vs_elab_statements::vs_scopes::{ElabFault, PartName, PathName, Reason};
 use vs_syntax::Source;
 

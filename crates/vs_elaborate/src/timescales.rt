@@ -2,7 +2,7 @@
 ghost use Rattle.std.specs.Prelude.{◌≡◌, ◌≤◌, not};
 ghost use Rattle.std.specs.List.{list_any};
 ghost use Rattle.vs_elaborate.specs.Timescales.{magnitude_of, unit_of, span_of, span_exponent, ratio_of, scale_in, scales_in, timescale_of, same_timescale, has_other_timescale};
-ghost use Rattle.vs_elaborate.specs.passes.Scales.{listed, first_of};
+ghost use Rattle.vs_elaborate.specs.passes.Scales.{as_list, first_of};
 
 use vs_design::{DEFAULT_TIMESCALE, Magnitude, TimeSpan, TimeUnit, Timescale};
 use vs_elab_statements::Ratio;
@@ -77,7 +77,7 @@ pub fn ratio_of(scale: Timescale) -> Ratio
 
 /// The time scale that a directive gives, where it gives one.
 fn scale_in(directive: &Directive) -> Option<Timescale>
-    ensures { listed result ≡ scale_in directive.now }
+    ensures { as_list result ≡ scale_in directive.now }
 {
     match directive {
         Directive::Timescale { unit, precision } => Some(Timescale {

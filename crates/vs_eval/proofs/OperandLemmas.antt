@@ -10,6 +10,7 @@ use Rattle.vs_design.specs.vs_logic4.specs.Comparisons.{truth}
 use Rattle.vs_design.specs.vs_logic4.specs.Lengths.{length-concatenation, length-replication}
 use Rattle.vs_design.specs.vs_logic4.specs.Operators.{is_one_bit, sizing_of}
 use Rattle.vs_design.specs.vs_logic4.specs.Parts.{concatenation, replication}
+use Rattle.vs_design.specs.vs_logic4.proofs.Basics.{only_one}
 use Rattle.vs_design.specs.declared.expression.Count.{Count}
 use Rattle.vs_design.specs.declared.expression.Link.{Link}
 use Rattle.vs_design.specs.declared.expression.Typed.{Typed}
@@ -62,11 +63,6 @@ module _ (signals : List Signal) (values : Values) (link : Link) (e : Typed) (si
         ∙ ap₂ (λ p q. combined p (sides, q)) (mx.same store time is) (my.same store time is)
         ∙ linked_planes sides link (values store time) (value_of e store time) s.operator s.signed (s.left_is (values store time) (mx.sized store time is)) (s.right_is (value_of e store time) (my.sized store time is));
   }
-
-single : {A : Type 0} (xs : List A) (x : A) → length xs ≡ 1 → x ≡ get_or xs 0 x → xs ≡ x ∷ []
-single [] x long is = absurd (omega (arith, long))
-single (y ∷ []) x long is = ap (λ z. z ∷ []) (sym is)
-single (y ∷ z ∷ zs) x long is = absurd (omega (arith, long))
 
 -- one link more on the right
 chained_more : (first : List Digit) (ls : List (Link × List Digit)) (l : Link × List Digit) → chained first (ls ++ l ∷ []) ≡ linked (chained first ls) l
@@ -127,7 +123,7 @@ module _ (signals : List Signal) (values : Values) (first : Node) where
       Means signals (λ store time. linked (values store time) (x.0, value_of x.1 store time)) node width → Means signals (λ store time. chained (values store time) (links_of xs store time)) node width
   one_linked xs x node width long is m =
       means_as signals (λ store time. linked (values store time) (x.0, value_of x.1 store time)) (λ store time. chained (values store time) (links_of xs store time)) node width
-      (λ store time. ap (λ ls. chained (values store time) (links_of ls store time)) (sym (single xs x long is))) m
+      (λ store time. ap (λ ls. chained (values store time) (links_of ls store time)) (sym (only_one xs x long is))) m
 
   -- after the last link
   pub all_linked : (xs : List (Link × Typed)) (i : ℕ) (all : Vec (Sides × Node) Global) (width : ℕ) (box : Box Node Global) → length xs ≤ i → box.value ≡ first →

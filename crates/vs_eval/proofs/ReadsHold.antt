@@ -1,5 +1,5 @@
 -- A value depends on what its expression reads alone.
-use Rattle.std.proofs.Common.{◌≡◌, ℕ, ℤ, ◌||◌, ◌&&◌, not, Bool, true, false, Option, Some, None, List, [], ◌∷◌, ◌++◌, map, take, slice_get, refl, sym, ◌∙◌, ap, ap₂, subst}
+use Rattle.std.proofs.Common.{◌≡◌, ℕ, ℤ, ◌||◌, ◌&&◌, not, true, false, Option, Some, None, List, [], ◌∷◌, ◌++◌, map, take, slice_get, refl, sym, ◌∙◌, ap, ap₂, subst}
 use Rattle.std.specs.List.{list_any}
 use Rattle.std.proofs.lemmas.List.Folds.{list_any-append}
 use Rattle.vs_design.specs.vs_logic4.specs.declared.digit.Digit.{Digit}
@@ -17,16 +17,8 @@ use Rattle.vs_design.specs.Selects.{place_of, word_place}
 use Rattle.vs_design.specs.Uses.{reads, reads_step, joined, whole, all_words, slice_range, bits_from}
 use Rattle.vs_eval.specs.Values.{value_of, value_step, operand_value, bits_value, selection_value, excerpt_value, chained, chosen, concatenated}
 use Rattle.vs_eval.proofs.Digits.{selected_kept}
-use Rattle.vs_design.proofs.Stores.{map_none, same_words-true, word_in-words}
-use Rattle.vs_design.specs.vs_logic4.proofs.Basics.{and_left, and_right, map_twice as map_map, not_false}
-
-pub or_false_left : (a b : Bool) → a || b ≡ false → a ≡ false
-or_false_left true b h = cc
-or_false_left false b h = refl
-
-pub or_false_right : (a b : Bool) → a || b ≡ false → b ≡ false
-or_false_right true b h = cc
-or_false_right false b h = h
+use Rattle.vs_design.proofs.Stores.{word_in-words, same_signal}
+use Rattle.vs_design.specs.vs_logic4.proofs.Basics.{and_left, and_right, map_twice as map_map, not_false, right_false, left_false}
 
 same_one : (a b : Option (List Digit)) → same_words (map (chosen_bits None) (one_word a)) (map (chosen_bits None) (one_word b)) ≡ true → a ≡ b
 same_one None None h = refl
@@ -38,15 +30,8 @@ same_one (Some x) (Some y) h = ap Some (same_digits-true x y (and_left (same_dig
 word_kept : (old new : Store) (signal : ℕ) → list_any (is_changed old new) (whole signal ∷ []) ≡ false → word_of old signal 0 ≡ word_of new signal 0
 word_kept old new signal h =
     word_in-words (slice_get old signal) 0
-    ∙ same_one (slice_get (words_in (slice_get old signal)) 0) (slice_get (words_in (slice_get new signal)) 0) (not_false _ (or_false_left (is_changed old new (whole signal)) false h))
+    ∙ same_one (slice_get (words_in (slice_get old signal)) 0) (slice_get (words_in (slice_get new signal)) 0) (not_false _ (left_false (is_changed old new (whole signal)) false h))
     ∙ sym (word_in-words (slice_get new signal) 0)
-
--- stores that agree on all words of a signal have the same ones of it
-words_kept : (old new : Store) (signal word : ℕ) → is_changed old new (all_words signal) ≡ false → word_of old signal word ≡ word_of new signal word
-words_kept old new signal word h =
-    let same : words_in (slice_get old signal) ≡ words_in (slice_get new signal) =
-    sym (map_none (words_in (slice_get old signal))) ∙ same_words-true _ _ (not_false _ h) ∙ map_none (words_in (slice_get new signal)) in
-    word_in-words (slice_get old signal) word ∙ ap (λ ws. slice_get ws word) same ∙ sym (word_in-words (slice_get new signal) word)
 
 same_bits : (low : ℤ) (width : ℕ) (a b : Option (List Digit)) → same_words (map (chosen_bits (Some (bits_from low width))) (one_word a)) (map (chosen_bits (Some (bits_from low width))) (one_word b)) ≡ true →
     bits_value low width a ≡ bits_value low width b
@@ -61,7 +46,7 @@ bits_kept : (old new : Store) (s : Slice) → list_any (is_changed old new) (sli
     bits_value s.low s.width (word_of old s.signal s.word) ≡ bits_value s.low s.width (word_of new s.signal s.word)
 bits_kept old new s h =
     ap (bits_value s.low s.width) (word_in-words (slice_get old s.signal) s.word)
-    ∙ same_bits s.low s.width (slice_get (words_in (slice_get old s.signal)) s.word) (slice_get (words_in (slice_get new s.signal)) s.word) (not_false _ (or_false_left (is_changed old new (slice_range s)) false h))
+    ∙ same_bits s.low s.width (slice_get (words_in (slice_get old s.signal)) s.word) (slice_get (words_in (slice_get new s.signal)) s.word) (not_false _ (left_false (is_changed old new (slice_range s)) false h))
     ∙ ap (bits_value s.low s.width) (sym (word_in-words (slice_get new s.signal) s.word))
 
 module _ (old new : Store) (time : ℕ) where
@@ -70,10 +55,10 @@ module _ (old new : Store) (time : ℕ) where
   Same e = list_any (is_changed old new) (reads e) ≡ false → value_of e old time ≡ value_of e new time
 
   pub first_kept : (front back : List BitRange) → list_any (is_changed old new) (front ++ back) ≡ false → list_any (is_changed old new) front ≡ false
-  first_kept front back h = or_false_left (list_any (is_changed old new) front) (list_any (is_changed old new) back) (sym (list_any-append (is_changed old new) front back) ∙ h)
+  first_kept front back h = left_false (list_any (is_changed old new) front) (list_any (is_changed old new) back) (sym (list_any-append (is_changed old new) front back) ∙ h)
 
   pub rest_kept : (front back : List BitRange) → list_any (is_changed old new) (front ++ back) ≡ false → list_any (is_changed old new) back ≡ false
-  rest_kept front back h = or_false_right (list_any (is_changed old new) front) (list_any (is_changed old new) back) (sym (list_any-append (is_changed old new) front back) ∙ h)
+  rest_kept front back h = right_false (list_any (is_changed old new) front) (list_any (is_changed old new) back) (sym (list_any-append (is_changed old new) front back) ∙ h)
 
   abbrev bare : (e : Typed) × Same e → Typed
   bare e = e.0
@@ -145,12 +130,12 @@ module _ (old new : Store) (time : ℕ) where
   inner (t.Slice s) h = bits_kept old new s h
   inner (t.Select s word low) h =
       let indices : list_any (is_changed old new) (reads word.value.0 ++ reads low.value.0) ≡ false =
-      or_false_right (is_changed old new (all_words s.signal)) (list_any (is_changed old new) (reads word.value.0 ++ reads low.value.0)) h in
+      right_false (is_changed old new (all_words s.signal)) (list_any (is_changed old new) (reads word.value.0 ++ reads low.value.0)) h in
       let w = value_of word.value.0 new time in
       ap₂ (selection_value s old)
       (word.value.1 (first_kept (reads word.value.0) (reads low.value.0) indices)) (low.value.1 (rest_kept (reads word.value.0) (reads low.value.0) indices))
       ∙ ap (bits_value (place_of s.bits s.width (value_of low.value.0 new time)) s.width)
-      (words_kept old new s.signal (word_place s.words w) (or_false_left (is_changed old new (all_words s.signal)) (list_any (is_changed old new) (reads word.value.0 ++ reads low.value.0)) h))
+      (same_signal old new s.signal (word_place s.words w) (left_false (is_changed old new (all_words s.signal)) (list_any (is_changed old new) (reads word.value.0 ++ reads low.value.0)) h))
   inner (t.Excerpt s low) h = ap (excerpt_value s) (low.value.1 h)
   inner (t.Unary op x) h = ap (unary op) (x.value.1 h)
   inner (t.Chain x links) h =

@@ -90,7 +90,7 @@ lowest_is None bits (Some []) = refl
 lowest_is None bits (Some (w ∷ ws)) = lowest_of_first (chosen_bits bits w) (map (chosen_bits bits) ws)
 lowest_is (Some word) bits o = lowest_of_one bits (slice_get (words_in o) word) ∙ ap (edge_digit bits) (sym (word_in-words o word))
 
-same_eqb : (m n : ℕ) → (m == n) ≡ (n == m)
+pub same_eqb : (m n : ℕ) → (m == n) ≡ (n == m)
 same_eqb m n = elim (cases_Bool (m == n)) [
   | inl h ↦ h ∙ sym (eq-eqb n m (sym (eqb-true m n h)))
   | inr h ↦ h ∙ sym (false_from_ne_true (n == m) (λ t. false≢true (sym h ∙ eq-eqb m n (sym (eqb-true n m t)))))

@@ -14,6 +14,7 @@ use Rattle.vs_design.specs.vs_logic4.specs.Parts.{digit_at, selected}
 use Rattle.vs_design.specs.vs_logic4.specs.Planes.{value_plane, unknown_plane}
 use Rattle.vs_design.specs.vs_logic4.specs.Vectors.{all_unknown, resized}
 use Rattle.vs_design.specs.vs_logic4.proofs.Parts.{get_or-selected}
+use Rattle.vs_design.specs.vs_logic4.proofs.Basics.{same_first, tail_is}
 use Rattle.vs_design.specs.declared.expression.Axis.{Axis}
 use Rattle.vs_design.specs.declared.expression.Operand.{Operand}
 use Rattle.vs_design.specs.declared.expression.Selection.{Selection}
@@ -125,23 +126,17 @@ module _ (signals : List Signal) (e : Typed) (s : Slice) (number size low : ℕ)
 
 -- ---- what an index chooses
 
-same_heads : {A : Type 0} (x y : A) (xs ys : List A) → (x ∷ xs) ≡ (y ∷ ys) → x ≡ y
-same_heads x y xs ys h = cc
-
-same_tails : {A : Type 0} (x y : A) (xs ys : List A) → (x ∷ xs) ≡ (y ∷ ys) → xs ≡ ys
-same_tails x y xs ys h = cc
-
 -- past the words of a signal there is none
 no_word : (signals : List Signal) (store : Store) (signal word : ℕ) (s : Signal) → IsStoreOf signals store → slice_get signals signal ≡ Some s → s.count ≤ word → word_of store signal word ≡ None
 no_word [] store signal word s is at past = absurd (none-some s at)
 no_word (x ∷ xs) [] signal word s is at past = cc
 no_word (x ∷ xs) (ws ∷ rest) zero word s is at past =
-    let sizes = same_heads (map length ws) (replicate x.count x.width) (word_sizes rest) (sizes_of_signals xs) is in
+    let sizes = same_first (map length ws) (replicate x.count x.width) (word_sizes rest) (sizes_of_signals xs) is in
     let long : length ws ≡ x.count = sym (length-map ws length) ∙ ap length sizes ∙ length-replicate x.count x.width in
     let count : x.count ≡ s.count = ap (λ (y : Signal). y.count) (same_Some x s at) in
     slice_get_past ws word (omega (arith, long, count, past))
 no_word (x ∷ xs) (ws ∷ rest) (suc i) word s is at past =
-    no_word xs rest i word s (same_tails (map length ws) (replicate x.count x.width) (word_sizes rest) (sizes_of_signals xs) is) at past
+    no_word xs rest i word s (tail_is (map length ws) (replicate x.count x.width) (word_sizes rest) (sizes_of_signals xs) is) at past
 
 place_below : (n : ℕ) (ds : List Digit) → plain_place n ds ≡ true → value_plane ds < n
 place_below n ds h = ltb-true (value_plane ds) n (and_parts (unknown_plane ds == 0) (nat_lt (value_plane ds) n) h).1

@@ -1,11 +1,12 @@
 -- What the write of a target depends on, and what it keeps.
-use Rattle.std.proofs.Common.{◌≡◌, ◌≢◌, ℕ, zero, suc, ◌+◌, ◌==◌, pos, ◌&&◌, Bool, true, false, Option, Some, None, List, [], ◌∷◌, length, map, option_map, slice_get, refl, sym, ◌∙◌, ap, ap₂, ⊎_elim}
+use Rattle.std.proofs.Common.{◌≡◌, ℕ, zero, suc, ◌+◌, ◌==◌, pos, ◌&&◌, Bool, true, false, Option, Some, None, List, [], ◌∷◌, length, map, option_map, slice_get, refl, sym, ◌∙◌, ap, ap₂, ⊎_elim}
 use Rattle.std.specs.List.{list_any}
 use Rattle.std.proofs.lemmas.Bool.{eqb-false}
 use Rattle.std.proofs.lemmas.Bool.Decides.{eqb_tells}
 use Rattle.vs_design.specs.vs_logic4.specs.declared.digit.Digit.{Digit}
 use Rattle.vs_design.specs.vs_logic4.specs.Lengths.{length-selected}
 use Rattle.vs_design.specs.vs_logic4.specs.Parts.{selected}
+use Rattle.vs_design.specs.vs_logic4.proofs.Basics.{right_false as or_false_right, left_false as or_false_left}
 use Rattle.vs_design.specs.declared.statement.Aim.{Aim}
 use Rattle.vs_design.specs.declared.statement.Aim.TheVariants.{Fixed, Chosen}
 use Rattle.vs_design.specs.declared.write.Part.{Part}
@@ -16,8 +17,8 @@ use Rattle.vs_design.specs.WellFormed.{aim_width}
 use Rattle.vs_eval.specs.Laws.{digit_in, digit_of}
 use Rattle.vs_eval.specs.Targets.{part_at, parts_from}
 use Rattle.vs_eval.proofs.Digits.{outside_kept}
-use Rattle.vs_eval.proofs.ReadsHold.{value_kept, first_kept, rest_kept, or_false_left, or_false_right}
-use Rattle.vs_design.proofs.Stores.{slice_get-changed_at as get-changed_at, slice_get-changed_at_other as get-changed_at_other, word_changes}
+use Rattle.vs_eval.proofs.ReadsHold.{value_kept, first_kept, rest_kept}
+use Rattle.vs_design.proofs.Stores.{slice_get-changed_at as get-changed_at, slice_get-changed_at_other as get-changed_at_other, word_changes, word_keeps}
 
 -- ---- what it depends on
 
@@ -39,10 +40,6 @@ module _ (old new : Store) (time : ℕ) where
       (parts_same (place + aim_width a) as' digits (rest_kept old new time (aim_reads a) (joined (map aim_reads as')) h))
 
 -- ---- what it keeps
-
-word_keeps : (f : List Digit → List Digit) (i k : ℕ) (o : Option (List (List Digit))) → i ≢ k → word_in (option_map (changed_at f i) o) k ≡ word_in o k
-word_keeps f i k None h = refl
-word_keeps f i k (Some words) h = get-changed_at_other f i k words h
 
 digit_keeps : (f : List Digit → List Digit) (place : ℕ) → ((w : List Digit) → slice_get (f w) place ≡ slice_get w place) → (o : Option (List Digit)) → digit_in (option_map f o) place ≡ digit_in o place
 digit_keeps f place h None = refl

@@ -94,7 +94,7 @@ pub(crate) fn push_new(
 
 /// The first combinational block to which a change of a variable leads by way of assignments, where it doesn't lead to what was passed before. All calls with
 /// the same marks take as long as the design.
-pub(crate) fn block_behind(
+pub(crate) fn reached_block(
     alloc: Global,
     facts: &Facts,
     from: usize,

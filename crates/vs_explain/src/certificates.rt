@@ -2,7 +2,7 @@
 
 use std::alloc::{AllocError, Global};
 use vs_explain_certificate::vs_certificate::{CertFault, Rules};
-use vs_explain_certificate::{Stands, explain_malformed};
+use vs_explain_certificate::{CertificatePlace, explain_malformed};
 use vs_explain_outline::{Explanation, Page};
 
 /// Where and why bytes are no certificate that is read by these rules; they stand on the first line of an input or alone.
@@ -10,7 +10,7 @@ pub fn explain_certificate(
     alloc: Global,
     certificate: &[u8],
     rules: Rules,
-    stands: Stands,
+    stands: CertificatePlace,
     fault: CertFault,
 ) -> Result<Explanation, AllocError> {
     let mut page = Page::new(alloc);

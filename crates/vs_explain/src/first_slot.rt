@@ -1,6 +1,6 @@
 //! What happens in the first slot, in the rule K10.
 
-use crate::awaiting::{Reached, Waiting, block_behind, control_in, edge_of};
+use crate::awaiting::{Reached, Waiting, control_in, edge_of, reached_block};
 use std::alloc::{AllocError, Global};
 use vs_design::Statement;
 use vs_design::vs_logic4::Edge;
@@ -333,7 +333,7 @@ fn start_fault(
             continue;
         }
         for signal in &point.writes {
-            if let Some(reached) = block_behind(alloc, facts, *signal, &mut passed)? {
+            if let Some(reached) = reached_block(alloc, facts, *signal, &mut passed)? {
                 let start = Start {
                     is_declared: is_declaration(alloc, asked.text, text.process)?,
                     is_clocked: is_clocked(facts, *signal),

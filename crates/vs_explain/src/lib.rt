@@ -21,7 +21,7 @@ pub use certificates::explain_certificate;
 pub use rules::{Further, Offender, explain_rule};
 pub use runs::{explain_limit, explain_pair};
 pub use sources::{explain, explain_after};
-pub use vs_explain_certificate::{Stands, vs_certificate};
+pub use vs_explain_certificate::{CertificatePlace, vs_certificate};
 pub use vs_explain_outline::{
     Explanation, PlaceForm, Placed, PlacedIn, Spot, push_marked, push_place, push_shown, spot_of,
 };

@@ -6,7 +6,7 @@ use vs_explain_facts::{Part, driven_by, read_by};
 use vs_explain_outline::{Page, SourceText, found, put_marked};
 
 /// How many processes and assignments are told.
-const TOLD: usize = 4;
+const REPORT_LIMIT: usize = 4;
 
 /// One that took less than this share of what another took isn't told.
 const LEAST_SHARE: u64 = 10;
@@ -153,7 +153,7 @@ fn put_taker(page: &mut Page, text: &SourceText, name: &[u8], steps: u64, of: u6
 
 /// What was told of the parts that took most of the last steps: how many they are, and whether the text of one of them goes round.
 #[derive(Clone, Copy)]
-struct Told {
+struct LimitReport {
     count: usize,
     is_circle: bool,
 }
@@ -165,14 +165,14 @@ fn put_takers(
     design: &Design,
     takers: &[Taker],
     of: u64,
-) -> Told {
-    let mut told = Told {
+) -> LimitReport {
+    let mut told = LimitReport {
         count: 0,
         is_circle: false,
     };
     let mut most = 0u64;
     let mut before = None;
-    for _ in 0..TOLD {
+    for _ in 0..REPORT_LIMIT {
         let Some((index, taker)) = next_taker(takers, before) else {
             break;
         };

@@ -13,7 +13,7 @@ use vs_explain_outline::{Explanation, Page, SourceText, put_named};
 use vs_simulate::design_of;
 
 /// How many further subjects are told.
-const TOLD: usize = 20;
+const REPORT_LIMIT: usize = 20;
 
 /// A subject that breaks a rule under a certificate.
 #[derive(Clone, Copy)]
@@ -127,7 +127,7 @@ fn put_rules(
         Ok(claimed) => {
             put_offender(page, text, design, &claimed, offender);
             if further == Further::Told {
-                let told = check_all_by(alloc, design, rules, &claimed, TOLD + 1)?;
+                let told = check_all_by(alloc, design, rules, &claimed, REPORT_LIMIT + 1)?;
                 put_others(page, text, design, offender, &told.broken);
             }
             Ok(())

@@ -250,7 +250,7 @@ fn copy_fault(facts: &Facts, inputs: &[usize]) -> Option<Fault> {
 }
 
 /// The first variable on which a signal hangs; itself where there is none.
-fn variable_behind(alloc: Global, facts: &Facts, signal: usize) -> Result<usize, AllocError> {
+fn driving_variable(alloc: Global, facts: &Facts, signal: usize) -> Result<usize, AllocError> {
     for one in facts.cone(alloc, &[signal])?.order {
         if !facts.is_net(one) {
             return Ok(one);
@@ -268,7 +268,7 @@ fn mixed_fault(alloc: Global, facts: &Facts, inputs: &[usize]) -> Result<Fault, 
         }
     }
     Ok(Fault {
-        beside: Beside::Signal(variable_behind(alloc, facts, signal)?),
+        beside: Beside::Signal(driving_variable(alloc, facts, signal)?),
         signal,
         story: Story {
             cause: "None of the block's inputs is sure to change at time 0, `%` neither, and a run at x would change what it writes.",

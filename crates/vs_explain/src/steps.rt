@@ -1,6 +1,6 @@
 //! The steps of a run, taken again and counted.
 ghost use Rattle.std.specs.Prelude.{◌≡◌, true, map};
-ghost use Rattle.vs_kernel.specs.Standing.{IsStanding};
+ghost use Rattle.vs_kernel.specs.Snapshot.{IsSnapshot};
 
 use std::alloc::{AllocError, Global};
 use vs_design::Design;
@@ -66,7 +66,7 @@ fn count_steps<'a, Q: EventQueue<Due>, P: Pick>(
     policy: &mut P,
     steps: u64,
 ) -> Result<LastSteps, WriterFault>
-    requires run { IsStanding run.old }
+    requires run { IsSnapshot run.old }
     requires chooses { run.old.chooses ≡ true }
 {
     let mut last = LastSteps {

@@ -7,6 +7,6 @@ mod malformed;
 mod names;
 mod walk;
 
-pub use malformed::{Stands, explain_malformed, put_forgotten};
+pub use malformed::{CertificatePlace, explain_malformed, put_forgotten};
 pub use names::{put_name_in, put_named_in};
 pub use vs_certificate;

@@ -17,36 +17,37 @@ const ANEW: &str = "Make the certificate anew: `vsim certify`.\n";
 
 /// Where bytes stand that are to be a certificate.
 #[derive(Clone, Copy, PartialEq, Eq)]
-pub enum Stands {
+pub enum CertificatePlace {
     /// On the first line of an input, in front of the source.
     First,
     /// Alone.
     Alone,
 }
 
-impl Stands {
+impl CertificatePlace {
     /// Where a certificate is wanted.
     fn wanted(self) -> &'static str {
         match self {
-            Stands::First => "This is Verilog, and a certificate is wanted on the first line.\n",
-            Stands::Alone => "This is Verilog, and a certificate is wanted.\n",
+            CertificatePlace::First =>
+                "This is Verilog, and a certificate is wanted on the first line.\n",
+            CertificatePlace::Alone => "This is Verilog, and a certificate is wanted.\n",
         }
     }
 
     /// What is to be done about Verilog that stands there.
     fn instead(self) -> &'static str {
         match self {
-            Stands::First => IN_FRONT,
-            Stands::Alone => MADE_BY,
+            CertificatePlace::First => IN_FRONT,
+            CertificatePlace::Alone => MADE_BY,
         }
     }
 
     /// What a certificate is.
     fn form(self) -> &'static str {
         match self {
-            Stands::First =>
+            CertificatePlace::First =>
                 "A certificate is one line of JSON, from `{` to `}`; the source comes after it.\n",
-            Stands::Alone => "A certificate is a text in JSON, from `{` to `}`.\n",
+            CertificatePlace::Alone => "A certificate is a text in JSON, from `{` to `}`.\n",
         }
     }
 }
@@ -92,7 +93,7 @@ fn put_at(page: &mut Page, place: usize) {
 }
 
 /// Puts why a certificate is no JSON text.
-fn put_reason(page: &mut Page, certificate: &[u8], stands: Stands, at: Break) {
+fn put_reason(page: &mut Page, certificate: &[u8], stands: CertificatePlace, at: Break) {
     if certificate.is_empty() {
         return page.put("This line is empty, and a certificate is wanted.\n");
     }
@@ -116,7 +117,7 @@ fn put_reason(page: &mut Page, certificate: &[u8], stands: Stands, at: Break) {
 }
 
 /// Puts where and why bytes are no JSON text.
-fn put_no_json(page: &mut Page, certificate: &[u8], stands: Stands) {
+fn put_no_json(page: &mut Page, certificate: &[u8], stands: CertificatePlace) {
     if certificate.len() > LENGTH_LIMIT {
         put_at(page, LENGTH_LIMIT);
         return page.put("The certificate has more than 16777216 bytes, the most that are read.\n");
@@ -247,7 +248,7 @@ pub fn explain_malformed(
     page: &mut Page,
     certificate: &[u8],
     rules: Rules,
-    stands: Stands,
+    stands: CertificatePlace,
     fault: CertFault,
 ) {
     match fault {

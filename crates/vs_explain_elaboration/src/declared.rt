@@ -14,7 +14,7 @@ pub(crate) struct Visible<'s> {
 }
 
 /// Whether a region is another one or stands around it, up to the module.
-fn stands_around(text: &SourceText, outer: usize, inner: usize) -> bool {
+fn encloses(text: &SourceText, outer: usize, inner: usize) -> bool {
     let mut number = inner;
     for _ in 0..text.outline.regions.len() {
         if number == outer {
@@ -87,7 +87,7 @@ impl<'s> Visible<'s> {
         let implicit = implicit_in(text, region);
         let mut around = Vec::new(alloc);
         for number in 0..text.outline.regions.len() {
-            around.push(stands_around(text, number, region))?;
+            around.push(encloses(text, number, region))?;
         }
         let mut names = Vec::new(alloc);
         for (index, landmark) in text.outline.landmarks.iter().enumerate() {

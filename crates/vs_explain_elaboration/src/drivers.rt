@@ -7,7 +7,7 @@ use vs_explain_outline::{
 };
 
 /// How many drivers are told.
-const TOLD: usize = 4;
+const REPORT_LIMIT: usize = 4;
 
 /// Whether a landmark may drive a net of this name in a module.
 fn may_drive(text: &SourceText, landmark: &Landmark, modules: &[bool], name: &[u8]) -> bool {
@@ -57,7 +57,7 @@ pub(crate) fn driven_twice(page: &mut Page, text: &SourceText, path: &[u8]) {
         return page.leave_out();
     };
     for (index, token) in tokens.iter().enumerate() {
-        if index < TOLD {
+        if index < REPORT_LIMIT {
             page.put_place(text.place_at(*token));
         }
     }

@@ -3,7 +3,7 @@
 use crate::declared::{Visible, has_range, is_array, is_net, is_variable, word_of};
 use crate::limits::literal_range;
 use crate::names::{put_region, regions_of, unknown_name};
-use crate::places::{constant_part, open_range, stands_in, wide_part};
+use crate::places::{constant_part, is_in_piece, open_range, wide_part};
 use vs_explain_outline::{
     DeclaredKind, Landmark, LandmarkKind, Page, Piece, SourceText, UseRole, is_marked,
 };
@@ -118,7 +118,7 @@ fn wrong_use(text: &SourceText, used: &Landmark, declared: &Landmark) -> Option<
 fn put_wrong_use(page: &mut Page, text: &SourceText, region: usize, piece: Option<Piece>) -> bool {
     let visible = Visible::seen_from(page, text, region);
     for used in &text.outline.landmarks {
-        let is_use = matches!(used.kind, LandmarkKind::Used(_)) && stands_in(used, piece);
+        let is_use = matches!(used.kind, LandmarkKind::Used(_)) && is_in_piece(used, piece);
         if used.region == region && is_use {
             let name = text.name_at(used.token);
             if let Some(declared) = visible.declaration(text, name) {
@@ -181,7 +181,7 @@ fn is_misplaced(text: &SourceText, used: &Landmark) -> bool {
 fn put_signal(page: &mut Page, text: &SourceText, region: usize, piece: Option<Piece>) -> bool {
     let visible = Visible::seen_from(page, text, region);
     for used in &text.outline.landmarks {
-        let is_use = matches!(used.kind, LandmarkKind::Used(_)) && stands_in(used, piece);
+        let is_use = matches!(used.kind, LandmarkKind::Used(_)) && is_in_piece(used, piece);
         if used.region == region && is_use {
             let name = text.name_at(used.token);
             if let Some(declared) = visible.declaration(text, name) {

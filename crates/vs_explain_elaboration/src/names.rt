@@ -10,7 +10,7 @@ use vs_explain_outline::{
 /// How many names are compared for the nearest one, and how many modules are told.
 const COMPARED: usize = 2000;
 
-const TOLD: usize = 8;
+const REPORT_LIMIT: usize = 8;
 
 /// The regions that a path may mean; none where there is no room for them, which the page remembers.
 pub(crate) fn regions_of(page: &mut Page, text: &SourceText, path: &[u8]) -> Vec<bool> {
@@ -66,7 +66,7 @@ fn put_modules(page: &mut Page, text: &SourceText) {
     page.put("The source has ");
     for region in &text.outline.regions {
         if is_module(region) {
-            if count < TOLD {
+            if count < REPORT_LIMIT {
                 page.put(if count == 0 { "the modules " } else { ", " });
                 page.put_name(text.region_name(region));
             }
@@ -75,7 +75,7 @@ fn put_modules(page: &mut Page, text: &SourceText) {
     }
     page.put(match count {
         0 => "no module",
-        count if count > TOLD => ", and more",
+        count if count > REPORT_LIMIT => ", and more",
         _ => "",
     });
     page.put(".");

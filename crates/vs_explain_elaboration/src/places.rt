@@ -5,7 +5,7 @@ use vs_explain_outline::{Landmark, LandmarkKind, Piece, SourceText, is_marked};
 use vs_syntax::vs_lexer::{Kind, Mark};
 
 /// Whether a landmark stands in a piece, where one is given.
-pub(crate) fn stands_in(landmark: &Landmark, piece: Option<Piece>) -> bool {
+pub(crate) fn is_in_piece(landmark: &Landmark, piece: Option<Piece>) -> bool {
     match piece {
         Some(piece) => piece.first <= landmark.token && landmark.token <= piece.last,
         None => true,

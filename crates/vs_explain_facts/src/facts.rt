@@ -238,7 +238,7 @@ impl<'d> Facts<'d> {
     }
 
     /// The signal that a net copies, or of which it is an inverse copy where these count, and whether it is that.
-    fn behind(&self, net: usize) -> Option<(usize, bool)> {
+    fn copied_signal(&self, net: usize) -> Option<(usize, bool)> {
         if let Some(source) = self.copies.source(net) {
             return Some((source, false));
         }
@@ -258,7 +258,7 @@ impl<'d> Facts<'d> {
             is_inverted: false,
         };
         for _ in 0..self.design.signals().len() {
-            match self.behind(shown.root) {
+            match self.copied_signal(shown.root) {
                 Some((root, is_inverse)) => {
                     shown = Shown {
                         root,

@@ -189,7 +189,7 @@ enum Arrival {
 }
 
 /// How a text goes on behind a statement.
-fn behind(statement: &Statement, arrival: Arrival, reading: Reading) -> Arrival {
+fn arrival_after(statement: &Statement, arrival: Arrival, reading: Reading) -> Arrival {
     match statement {
         Statement::Delay(_, ticks, _) => {
             if ticks.count == 0 && !reading.zero_is_time && arrival != Arrival::Late {
@@ -204,7 +204,7 @@ fn behind(statement: &Statement, arrival: Arrival, reading: Reading) -> Arrival 
 }
 
 /// Whether a statement is a loop that has to be entered.
-fn is_entered(statement: &Statement, reading: Reading) -> bool {
+fn must_iterate(statement: &Statement, reading: Reading) -> bool {
     match statement {
         Statement::While(_, _, body) | Statement::Repeat(_, _, _, body) => {
             reading.loops_are_entered && has_control(body)
@@ -264,8 +264,8 @@ impl Walk {
         let Some(nexts) = flow.nexts.get(place) else {
             return Ok(());
         };
-        let next = behind(statement, arrival, reading);
-        let must_enter = is_entered(statement, reading) && arrival != Arrival::Late;
+        let next = arrival_after(statement, arrival, reading);
+        let must_enter = must_iterate(statement, reading) && arrival != Arrival::Late;
         for (index, to) in nexts.iter().enumerate() {
             if index == 0 || !must_enter {
                 self.come(*to, next)?;

@@ -112,13 +112,13 @@ pub(crate) fn text_of<'d>(
 
 /// A walk behind the writes of a signal, up to the next controls.
 #[derive(Drop)]
-struct Behind {
+struct WriteWalk {
     /// For each statement that was come to, a write behind which it runs at once.
     writes: Vec<Option<usize>>,
     todo: Vec<(usize, usize)>,
 }
 
-impl Behind {
+impl WriteWalk {
     /// Comes to what a statement leads to, behind a write.
     fn come(&mut self, flow: &Flow, place: usize, write: usize) -> Result<(), AllocError> {
         let Some(nexts) = flow.nexts.get(place) else {
@@ -143,7 +143,7 @@ impl<'d> TextFacts<'d> {
         alloc: Global,
         signal: usize,
     ) -> Result<Option<(usize, usize)>, AllocError> {
-        let mut walk = Behind {
+        let mut walk = WriteWalk {
             writes: vec![in alloc; None; self.points.len()]?,
             todo: Vec::new(alloc),
         };

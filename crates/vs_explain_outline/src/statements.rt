@@ -28,7 +28,7 @@ struct ForTokens {
 
 impl<'t, 's> Walk<'t, 's> {
     /// Behind the first mark of this kind from a token on that stands in no brackets which open there.
-    fn behind(&self, from: usize, wanted: Mark) -> usize {
+    fn after_mark(&self, from: usize, wanted: Mark) -> usize {
         let mut depth = 0usize;
         for (index, token) in self.text.tokens.iter().enumerate().skip(from) {
             let Kind::Mark(mark) = token.kind else {
@@ -49,9 +49,9 @@ impl<'t, 's> Walk<'t, 's> {
     }
 
     /// Behind a value without brackets, or brackets with one.
-    fn behind_value(&self, from: usize) -> usize {
+    fn after_value(&self, from: usize) -> usize {
         if self.text.is_mark(from, Mark::Open) {
-            return self.behind(from, Mark::Close);
+            return self.after_mark(from, Mark::Close);
         }
         from.saturating_add(1)
     }
@@ -72,7 +72,7 @@ impl<'t, 's> Walk<'t, 's> {
     fn note_value(&mut self, number: u32) -> Result<(), AllocError> {
         let next = self.next;
         self.note(number, next)?;
-        self.next = self.behind_value(next.saturating_add(1));
+        self.next = self.after_value(next.saturating_add(1));
         Ok(())
     }
 
@@ -80,7 +80,7 @@ impl<'t, 's> Walk<'t, 's> {
     fn note_short(&mut self, number: u32) -> Result<(), AllocError> {
         let next = self.next;
         self.note(number, next)?;
-        self.next = self.behind(next, Mark::Semicolon);
+        self.next = self.after_mark(next, Mark::Semicolon);
         Ok(())
     }
 
@@ -88,7 +88,7 @@ impl<'t, 's> Walk<'t, 's> {
     fn skip_label(&mut self) {
         let next = self.next;
         if !self.text.is_word(next, Word::Default) {
-            self.next = self.behind(next, Mark::Colon);
+            self.next = self.after_mark(next, Mark::Colon);
             return;
         }
         let behind = next.saturating_add(1);
@@ -109,7 +109,7 @@ impl<'t, 's> Walk<'t, 's> {
             if !self.text.is_word(next, Word::Reg) && !self.text.is_word(next, Word::Integer) {
                 break;
             }
-            next = self.behind(next, Mark::Semicolon);
+            next = self.after_mark(next, Mark::Semicolon);
         }
         self.next = next;
     }
@@ -128,9 +128,9 @@ impl<'t, 's> Walk<'t, 's> {
     fn skip_for(&mut self) -> ForTokens {
         let word = self.next;
         let first = word.saturating_add(2);
-        let condition = self.behind(first, Mark::Semicolon);
-        let step = self.behind(condition, Mark::Semicolon);
-        self.next = self.behind(word, Mark::Close);
+        let condition = self.after_mark(first, Mark::Semicolon);
+        let step = self.after_mark(condition, Mark::Semicolon);
+        self.next = self.after_mark(word, Mark::Close);
         ForTokens { word, first, step }
     }
 }

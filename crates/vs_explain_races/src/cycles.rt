@@ -99,7 +99,7 @@ impl Walk {
     }
 
     /// Comes to all drivers of a range that a driver reads.
-    fn come_behind(
+    fn visit_drivers(
         &mut self,
         alloc: Global,
         facts: &Facts,
@@ -159,7 +159,7 @@ pub(crate) fn cycle_at(alloc: Global, facts: &Facts, start: Part) -> Result<Vec<
         };
         next = next.saturating_add(1);
         for range in &read_by(alloc, facts, driver)? {
-            walk.come_behind(alloc, facts, driver, range)?;
+            walk.visit_drivers(alloc, facts, driver, range)?;
         }
     }
     match walk.from.get(place_of(facts, start)) {

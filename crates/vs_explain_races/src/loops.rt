@@ -115,11 +115,11 @@ fn put_hop(page: &mut Page, asked: Question, hop: Hop) {
 }
 
 /// How many drivers of a cycle are marked.
-const TOLD: usize = 4;
+const REPORT_LIMIT: usize = 4;
 
 /// Puts a cycle.
 fn put_cycle(page: &mut Page, asked: Question, hops: &[Hop]) {
-    for hop in hops.iter().take(TOLD) {
+    for hop in hops.iter().take(REPORT_LIMIT) {
         put_hop(page, asked, *hop);
     }
     if let Some(hop) = hops.first() {

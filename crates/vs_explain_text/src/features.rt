@@ -251,7 +251,7 @@ fn at_parenthesis<'s>(
             " is called as a task, and tasks aren't read: write its statements where they are called.",
         ));
     }
-    if refused.may_stand_at(alloc, refused.at, b"?")? {
+    if refused.may_replace(alloc, refused.at, b"?")? {
         return Ok(named(
             name,
             " is called as a function, and functions aren't read: write its expression where it is called, or make a module of it.",

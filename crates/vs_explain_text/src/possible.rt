@@ -42,7 +42,7 @@ fn goes_on_with<'s>(
 }
 
 /// Whether the token that a text is may come after these; it may not after too many.
-pub(crate) fn may_stand(
+pub(crate) fn can_follow(
     alloc: Global,
     tokens: &[Token],
     text: &'static [u8],

@@ -1,6 +1,6 @@
 //! A token that the grammar refuses, and what stands around it.
 
-use crate::possible::may_stand;
+use crate::possible::can_follow;
 use std::alloc::{AllocError, Global};
 use vs_syntax::vs_lexer::{Kind, Mark, Token, Word};
 
@@ -135,26 +135,26 @@ impl<'t, 's> Refused<'t, 's> {
     }
 
     /// Whether the token of a text may come in place of a token.
-    pub(crate) fn may_stand_at(
+    pub(crate) fn may_replace(
         &self,
         alloc: Global,
         index: usize,
         text: &'static [u8],
     ) -> Result<bool, AllocError> {
         match self.tokens.get(self.module..index) {
-            Some(tokens) => may_stand(alloc, tokens, text),
+            Some(tokens) => can_follow(alloc, tokens, text),
             None => Ok(false),
         }
     }
 
     /// Whether an item may begin at a token.
     pub(crate) fn is_item(&self, alloc: Global, index: usize) -> Result<bool, AllocError> {
-        self.may_stand_at(alloc, index, b"assign")
+        self.may_replace(alloc, index, b"assign")
     }
 
     /// Whether a statement may begin at a token.
     pub(crate) fn is_statement(&self, alloc: Global, index: usize) -> Result<bool, AllocError> {
-        self.may_stand_at(alloc, index, b"forever")
+        self.may_replace(alloc, index, b"forever")
     }
 
     /// Whether the refused token stands in the header of its module.

@@ -7,7 +7,7 @@ use crate::writes::{Wanted, write_in};
 use vs_certificate::SignalEntry;
 
 /// How many writers are told.
-const TOLD: usize = 4;
+const REPORT_LIMIT: usize = 4;
 
 /// What mends a certificate that doesn't fit.
 const ANEW: &str =
@@ -62,7 +62,7 @@ pub(crate) fn put_writers_claimed(page: &mut Page, asked: Question, number: u8, 
     if let Some(entry) = entry_of(asked.certificate, asked.place) {
         put_entry(page, entry);
     }
-    for process in asked.facts.writers_of(signal).iter().take(TOLD) {
+    for process in asked.facts.writers_of(signal).iter().take(REPORT_LIMIT) {
         if let Some(one) = asked.design.processes().get(*process) {
             put_marked(page, asked.text, &one.name);
             put_how(page, asked, *process, signal);

@@ -5,7 +5,7 @@ use vs_explain_outline::vs_lexer::{Kind, Mark};
 use vs_explain_outline::{DeclaredKind, LandmarkKind, SourceText, last_name, ordinal_of, scope_of};
 
 /// What comes behind the last colon of a name.
-fn behind_colon(name: &[u8]) -> &[u8] {
+fn after_colon(name: &[u8]) -> &[u8] {
     match name.iter().rposition(|byte| *byte == b':') {
         Some(at) => name.get(at.saturating_add(1)..).unwrap_or(&[]),
         None => &[],
@@ -80,7 +80,7 @@ pub(crate) fn connection_of(
     let Some(instance) = text.instance_in(&marked, last_name(path)) else {
         return Ok(None);
     };
-    let port = behind_colon(name);
+    let port = after_colon(name);
     let first = instance.token.saturating_add(2);
     if text.is_mark(first, Mark::Dot) {
         return Ok(named_in(text, first, port));

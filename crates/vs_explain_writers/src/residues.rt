@@ -7,7 +7,7 @@ use vs_explain_facts::{Question, TextFacts, entry_of, process_of, root_of};
 use vs_explain_outline::Page;
 
 /// How many residues are told.
-const TOLD: usize = 8;
+const REPORT_LIMIT: usize = 8;
 
 /// Puts the residues of lists into a list, each once.
 fn push_lists(residues: &mut Vec<u64>, lists: &[Vec<u64>]) -> Result<(), AllocError> {
@@ -69,12 +69,12 @@ pub fn residues_of(
 /// Puts residues, as `0, 5 modulo 10`.
 pub fn put_residues(page: &mut Page, residues: &[u64], modulus: u64) {
     for (index, residue) in residues.iter().enumerate() {
-        if index < TOLD {
+        if index < REPORT_LIMIT {
             page.put(if index == 0 { "" } else { ", " });
             page.put_shown(*residue);
         }
     }
-    page.put(if residues.len() > TOLD {
+    page.put(if residues.len() > REPORT_LIMIT {
         ", and more, modulo "
     } else {
         " modulo "

@@ -6,7 +6,7 @@ use vs_explain_facts::{Course, Facts, TextFacts};
 use vs_explain_outline::Page;
 
 /// How many times are told.
-const TOLD: usize = 3;
+const REPORT_LIMIT: usize = 3;
 
 /// Those of a rising list that come after time 0, in order and each once, with those of another one.
 pub fn push_times(all: &mut Vec<u64>, more: &[u64]) -> Result<(), AllocError> {
@@ -78,14 +78,14 @@ pub fn edge_times(
 /// Puts times, as `at 5`, `at 5 and 15`, `at 5, 15, 25 and later`.
 pub fn put_times(page: &mut Page, times: &[u64]) {
     page.put("at ");
-    for (index, time) in times.iter().enumerate().take(TOLD) {
+    for (index, time) in times.iter().enumerate().take(REPORT_LIMIT) {
         if index > 0 {
             let is_last = index.saturating_add(1) == times.len();
             page.put(if is_last { " and " } else { ", " });
         }
         page.put_shown(*time);
     }
-    if times.len() > TOLD {
+    if times.len() > REPORT_LIMIT {
         page.put(" and later");
     }
 }

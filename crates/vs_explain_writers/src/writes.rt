@@ -125,7 +125,7 @@ fn offset_of(target: &Target, signal: usize) -> u32 {
 }
 
 /// The lowest bit of a plane behind so many.
-fn bit_behind(plane: u64, offset: u32) -> bool {
+fn shifted_bit(plane: u64, offset: u32) -> bool {
     let mut rest = plane;
     for _ in 0..offset {
         rest >>= 1;
@@ -137,10 +137,10 @@ fn bit_behind(plane: u64, offset: u32) -> bool {
 pub fn bit_given(statement: &Statement, signal: usize) -> Option<bool> {
     let value = number_of(source_of(statement)?)?;
     let offset = offset_of(target_of(statement)?, signal);
-    if bit_behind(value.unknown_plane(), offset) {
+    if shifted_bit(value.unknown_plane(), offset) {
         return None;
     }
-    Some(bit_behind(value.value_plane(), offset))
+    Some(shifted_bit(value.value_plane(), offset))
 }
 
 /// Whether an expression is a signal, with or without a select.

@@ -1,20 +1,14 @@
 -- Marks, and the nodes that have them.
-use Rattle.std.proofs.Common.{◌≡◌, ℕ, zero, suc, ◌+◌, ◌<◌, ◌≤◌, ◌⊎◌, ◌↔◌, inl, inr, Bool, true, false, IsTrue, List, [], ◌∷◌, ◌++◌, length, get_or, set, refl, sym, ◌∙◌, subst, arith}
+use Rattle.std.proofs.Common.{◌≡◌, ℕ, zero, suc, ◌+◌, ◌<◌, ◌≤◌, ◌↔◌, inl, inr, Bool, true, false, IsTrue, List, [], ◌∷◌, ◌++◌, length, get_or, set, sym, ◌∙◌, subst, arith}
 use Rattle.std.specs.List.{Contains}
 use Rattle.std.proofs.lemmas.List.Elements.{Contains-append_left, Contains-append_right, Contains-append_cases}
 use Rattle.vs_graph.specs.Reached.{begins}
-use Rattle.vs_graph.proofs.Sweep.{Marked, Sweep}
+use Rattle.vs_graph.proofs.Sweep.{Marked, Sweep, set_cases, set_keeps, none_in, set_marks}
+use Rattle.vs_graph.proofs.Sets.{same_read}
+use Rattle.vs_graph.proofs.RowLemmas.{below_or}
 use Rattle.vs_graph.specs.Clear.{AreClear}
 
 -- ---- marks that are taken away
-
-below_or : (i n : ℕ) → i < n + 1 → (i < n) ⊎ (i ≡ n)
-below_or i n h = grind (arith, h)
-
-same_read : (xs : List ℕ) (k d e : ℕ) → k < length xs → get_or xs k d ≡ get_or xs k e
-same_read [] k d e h = absurd (omega (arith, h))
-same_read (x ∷ xs) zero d e h = refl
-same_read (x ∷ xs) (suc k) d e h = same_read xs k d e (omega (arith, h))
 
 -- of the first nodes of a list the marks are gone
 abbrev pub AreGone : List Bool → List ℕ → ℕ → Type 0
@@ -44,33 +38,11 @@ at_first nexts seeds todo marks n clear same = record {
 abbrev pub AreFound : List Bool → List ℕ → Type 0
 AreFound marks found = (k : ℕ) → (Marked marks k ↔ Contains found k)
 
-none_in : (k : ℕ) → Contains [] k → ⊥
-none_in k h = omega (arith, h.1)
-
 pub none_found : (n : ℕ) (marks : List Bool) (found : List ℕ) → AreClear n marks → found ≡ [] → AreFound marks found
 none_found n marks found clear empty k = (
   λ m. absurd (clear.1 k m),
   λ c. absurd (none_in k (subst (λ (l : List ℕ). Contains l k) empty c)),
 )
-
-set_cases : (marks : List Bool) (k b : ℕ) → Marked (set marks k true) b → Marked marks b ⊎ (b ≡ k)
-set_cases [] k b h = inl h
-set_cases (m ∷ marks) zero zero h = inr refl
-set_cases (m ∷ marks) zero (suc b) h = inl h
-set_cases (m ∷ marks) (suc k) zero h = inl h
-set_cases (m ∷ marks) (suc k) (suc b) h = elim (set_cases marks k b h) [ inl i ↦ inl i | inr e ↦ inr (grind (arith, e)) ]
-
-set_keeps : (marks : List Bool) (k b : ℕ) → Marked marks b → Marked (set marks k true) b
-set_keeps [] k b h = h
-set_keeps (m ∷ marks) zero zero h = refl
-set_keeps (m ∷ marks) zero (suc b) h = h
-set_keeps (m ∷ marks) (suc k) zero h = h
-set_keeps (m ∷ marks) (suc k) (suc b) h = set_keeps marks k b h
-
-set_marks : (marks : List Bool) (k : ℕ) → k < length marks → Marked (set marks k true) k
-set_marks [] k h = absurd (omega (arith, h))
-set_marks (m ∷ marks) zero h = refl
-set_marks (m ∷ marks) (suc k) h = set_marks marks k (omega (arith, h))
 
 only : (i x : ℕ) → Contains (i ∷ []) x → x ≡ i
 only i x (zero, l, e) = sym e

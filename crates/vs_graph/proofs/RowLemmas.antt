@@ -142,7 +142,7 @@ none_yet has n table e = record {
   exact = λ r i h. (λ c. absurd (none_in i (subst (λ l. Contains l i) (ap (λ t. row t r) e ∙ row_empty n r) c)), λ y. absurd (omega (arith, y.0)));
 }
 
-below_or : (i n : ℕ) → i < n + 1 → (i < n) ⊎ (i ≡ n)
+pub below_or : (i n : ℕ) → i < n + 1 → (i < n) ⊎ (i ≡ n)
 below_or i n h = grind (arith, h)
 
 pub rows_done : (has : ℕ → ℕ → Type 0) (i m n : ℕ) (table : List (List ℕ)) → i ≡ m → AreSoFar has i n table → AreRows has m n table

@@ -6,13 +6,11 @@ use Rattle.std.specs.declared.alloc.Global.{Global}
 use Rattle.std.proofs.lemmas.List.{length-set, length-replicate}
 use Rattle.std.proofs.lemmas.List.Elements.{Contains-append_left, Contains-append_right, Contains-append_cases, Contains-push, Contains-push_cases}
 use Rattle.std.proofs.lemmas.Bool.{cases_eq}
-use Rattle.std.proofs.lemmas.Option.{slice_get_within, get_or_from_slice_get, slice_get-get_or}
-use Rattle.vs_graph.specs.Order.{Needs, StandsBefore, Lacks, IsSorted}
+use Rattle.std.proofs.lemmas.Option.{slice_get_within, get_or_from_slice_get, slice_get-get_or, same_Some}
+use Rattle.vs_graph.specs.Order.{Needs, ComesBefore, Lacks, IsSorted}
 use Rattle.vs_graph.specs.Rows.{AreRows, row}
 use Rattle.vs_graph.specs.Sorting.{IsPlaced, AreSorted, LacksOne, GoesOn, IsTried, IsPlacing, ArePlacing, LacksAt, AreTriedAt, AreUsers}
-
-below_or : (i n : ℕ) → i < n + 1 → (i < n) ⊎ (i ≡ n)
-below_or i n h = grind (arith, h)
+use Rattle.vs_graph.proofs.RowLemmas.{below_or}
 
 -- ---- places of lists
 
@@ -21,9 +19,6 @@ contains_at xs i x is = (i, slice_get_within xs i x is, get_or_from_slice_get xs
 
 pub place_of : {A : Type 0} (xs : List A) (x : A) → Contains xs x → (i : ℕ) × (i < length xs) × (slice_get xs i ≡ Some x)
 place_of xs x (i, within, is) = (i, within, slice_get-get_or xs i x within ∙ ap (λ y. Some y) is)
-
-pub same_some : {A : Type 0} (x y : A) → Some x ≡ Some y → x ≡ y
-same_some x y e = cc
 
 pub append_keeps : {A : Type 0} (xs ys : List A) (i : ℕ) (x : A) → slice_get xs i ≡ Some x → slice_get (xs ++ ys) i ≡ Some x
 append_keeps [] ys i x h = cc
@@ -40,7 +35,7 @@ append_at [] x = refl
 append_at (z ∷ xs) x = append_at xs x
 
 pub push_cases : {A : Type 0} (xs : List A) (x : A) (i : ℕ) (y : A) → slice_get (xs ++ x ∷ []) i ≡ Some y → (slice_get xs i ≡ Some y) ⊎ ((i ≡ length xs) × (x ≡ y))
-push_cases [] x zero y h = inr (refl, same_some x y h)
+push_cases [] x zero y h = inr (refl, same_Some x y h)
 push_cases [] x (suc i) y h = cc
 push_cases (z ∷ xs) x zero y h = inl h
 push_cases (z ∷ xs) x (suc i) y h = elim (push_cases xs x i y h) [ inl a ↦ inl a | inr e ↦ inr (ap suc e.0, e.1) ]
@@ -124,10 +119,10 @@ one_more table order marks x row s within new is all = record {
   each i j y (inr a) (inl b) = absurd (new (s.marked x (contains_at order j x (b ∙ ap (λ t. Some t) (sym a.1)))))
   each i j y (inr a) (inr b) = a.0 ∙ sym b.0
 
-  behind : (i y z : ℕ) → Needs table y z → (slice_get order i ≡ Some y) ⊎ ((i ≡ length order) × (x ≡ y)) → StandsBefore (order ++ x ∷ []) i z
+  behind : (i y z : ℕ) → Needs table y z → (slice_get order i ≡ Some y) ⊎ ((i ≡ length order) × (x ≡ y)) → ComesBefore (order ++ x ∷ []) i z
   behind i y z n (inl a) = let b = s.after i y z a n in record { place = b.place; before = b.before; is = append_keeps order (x ∷ []) b.place z b.is }
   behind i y z n (inr e) =
-      let row_is : row ≡ n.list = same_some row n.list (sym is ∙ ap (slice_get table) e.1 ∙ n.is) in
+      let row_is : row ≡ n.list = same_Some row n.list (sym is ∙ ap (slice_get table) e.1 ∙ n.is) in
       let p = place_of order z (s.there z (all z (subst (λ (r : Vec ℕ Global). Contains r.items z) (sym row_is) n.has))) in
       record { place = p.0; before = subst (λ k. p.0 < k) (sym e.0) p.1; is = append_keeps order (x ∷ []) p.0 z p.2 }
 
@@ -143,7 +138,7 @@ needs_put table x list old new is made y = (
   ],
   λ h. subst (λ l. Contains l y) (sym made) (elim h [
     | inl a ↦ Contains-append_left old list.items y a
-    | inr n ↦ Contains-append_right old list.items y (subst (λ (v : Vec ℕ Global). Contains v.items y) (same_some n.list list (sym n.is ∙ is)) n.has)
+    | inr n ↦ Contains-append_right old list.items y (subst (λ (v : Vec ℕ Global). Contains v.items y) (same_Some n.list list (sym n.is ∙ is)) n.has)
   ]),
 )
 
@@ -182,7 +177,7 @@ more_tried table start old new before after e i things sorted goes is placing tr
     | inr lacks ↦ inr lacks
   ]
   | inr same ↦
-      let e_is : e ≡ x = same_some e x (sym is ∙ ap (slice_get things) (sym same) ∙ at) in
+      let e_is : e ≡ x = same_Some e x (sym is ∙ ap (slice_get things) (sym same) ∙ at) in
       elim (subst (λ z. IsTried table old after z) e_is placing.tried within) [
         | inl p ↦ inl p
         | inr lacks ↦ inr (lacks_less table start old x goes lacks)
@@ -244,7 +239,7 @@ tried_on table users old new before after i w are sorted is placing tried x with
           let back = goes_back old new k lacks.lacked placing.goes_on short there in
           elim (below_or k i below) [
             | inl l ↦ lacks.is_out k l back
-            | inr same ↦ other (same_some lacks.lacked w (sym back ∙ ap (slice_get old) same ∙ is))
+            | inr same ↦ other (same_Some lacks.lacked w (sym back ∙ ap (slice_get old) same ∙ is))
           ];
     })
   ]

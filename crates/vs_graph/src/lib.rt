@@ -11,12 +11,12 @@ mod rules;
 mod sorting;
 mod walks;
 
-pub use families::{Family, gather, has, is_apart};
+pub use families::{Family, all_are, gather, has, is_apart};
 pub use gathered::Gathered;
-pub use local_walks::{clear_marks, walk};
+pub use local_walks::{clear_marks, is_marked, walk};
 pub use numbers::Numbers;
 pub use residues::{Residues, are_apart};
 pub use rows::{Rows, index_of};
 pub use rules::{Book, Rule, all_keep, first_broken, judge};
 pub use sorting::sorted;
-pub use walks::{Graph, reach};
+pub use walks::{Graph, mark, reach};

@@ -1,11 +1,11 @@
 //! The nodes that walks lead to, by marks that are kept from one search to the next.
 ghost use Rattle.std.specs.Prelude.{ℕ, ◌≡◌, ◌<◌, ◌↔◌, false, length, slice_index_or, IfOk, OnOk, IsTrue};
 ghost use Rattle.std.specs.List.{Contains};
-ghost use Rattle.std.specs.Bool.{OnTrue, OnFalse};
-ghost use Rattle.vs_graph.specs.Reached.{Reached, IsMarkedNow, WasMarked};
+ghost use Rattle.vs_graph.specs.Reached.{Reached};
 ghost use Rattle.vs_graph.specs.Clear.{AreClear};
 
 use crate::Graph;
+use crate::walks::mark;
 use std::alloc::{AllocError, Global};
 
 /// So many marks, none of which is set.
@@ -15,17 +15,11 @@ pub fn clear_marks(alloc: Global, n: usize) -> Result<Vec<bool>, AllocError>
     vec![in alloc; false; n]
 }
 
-// Marks a node, and answers whether it wasn't marked before.
-fn mark(marks: &mut Vec<bool>, node: usize) -> bool
-    ensures fresh { OnTrue result (IsMarkedNow node marks.old.items marks.new.items) }
-    ensures old { OnFalse result (WasMarked node marks.old.items marks.new.items) }
+/// Whether a node is marked; one past the end isn't.
+pub fn is_marked(marks: &[bool], node: usize) -> bool
+    ensures { result ≡ slice_index_or marks.now node false }
 {
-    if node < marks.len() && !marks[node] {
-        marks[node] = true;
-        true
-    } else {
-        false
-    }
+    node < marks.len() && marks[node]
 }
 
 // Takes the mark of a node away.

@@ -1,10 +1,11 @@
 //! An order in which each thing stands after those that it needs.
-ghost use Rattle.std.specs.Prelude.{ℕ, ◌≡◌, ◌<◌, true, false, length, slice_index_or, IfOk, OnOk};
+ghost use Rattle.std.specs.Prelude.{ℕ, ◌≡◌, ◌<◌, true, false, length, IfOk, OnOk};
 ghost use Rattle.std.specs.List.{Contains};
 ghost use Rattle.vs_graph.specs.Order.{IsSorted, Needs};
 ghost use Rattle.vs_graph.specs.Sorting.{IsPlaced, AreSorted, LacksOne, IsPlacing, ArePlacing, AreTriedAt, AreUsers};
 
 use crate::families::Family;
+use crate::local_walks::is_marked;
 use crate::rows::{Rows, index_of};
 use std::alloc::{AllocError, Global};
 
@@ -35,20 +36,13 @@ fn users_of(alloc: Global, needs: &[Vec<usize>]) -> Result<Rows<usize>, AllocErr
     Ok(users)
 }
 
-// Whether a thing is placed.
-fn is_placed(placed: &[bool], x: usize) -> bool
-    ensures { result ≡ slice_index_or placed.now x false }
-{
-    x < placed.len() && placed[x]
-}
-
 // Whether all of some things are.
 fn are_placed(placed: &[bool], needed: &[usize]) -> bool
     ensures all { result ≡ true → (y : ℕ) → Contains needed.now y → IsPlaced placed.now y }
     ensures lacks { result ≡ false → LacksOne placed.now needed.now }
 {
     for y in needed {
-        if !is_placed(placed, *y) {
+        if !is_marked(placed, *y) {
             return false;
         }
     }

@@ -23,8 +23,8 @@ pub trait Graph {
     ghost inside: { (g : Self) (a b : ℕ) → Contains (nexts g a) b → b < count g };
 }
 
-// Marks a node, and answers whether it wasn't marked before.
-fn mark(marks: &mut Vec<bool>, node: usize) -> bool
+/// Marks a node, and answers whether it wasn't marked before.
+pub fn mark(marks: &mut Vec<bool>, node: usize) -> bool
     ensures fresh { OnTrue result (IsMarkedNow node marks.old.items marks.new.items) }
     ensures old { OnFalse result (WasMarked node marks.old.items marks.new.items) }
 {

@@ -15,9 +15,9 @@ use Rattle.vs_independence.proofs.BlocksAt.{Blocked, BlocksAt, IsFree, text_at}
 use Rattle.std.specs.List.{Contains, list_any}
 use Rattle.vs_independence.proofs.FirstQuiet.{FirstWrites}
 use Rattle.vs_independence.proofs.History.{History, Seen, alters, change_local, change_named, history_still, put_log}
-use Rattle.vs_process.specs.States.{State, place_behind, wakened}
+use Rattle.vs_process.specs.States.{State, place_after_step, wakened}
 use Rattle.vs_process.proofs.Texts.{Text, home_stays, home_wakes}
-use Rattle.vs_process.specs.Threads.{Thread, log_behind, writes}
+use Rattle.vs_process.specs.Threads.{Thread, log_after, writes}
 use Rattle.vs_design.specs.Writes.{Write, names}
 use Rattle.std.proofs.lemmas.Map.Keys.{any_passes_from_place as at_any}
 use Rattle.vs_design.specs.vs_logic4.proofs.Basics.{element_of as any_at}
@@ -34,18 +34,18 @@ awake_ran d inputs k t late ran time store place (woken is some) h = some
 awake_ran d inputs k t late ran time store place (inside todo from th is run sized at same some) h = some
 
 -- a fresh block that goes on is not awake
-fresh_asleep : (todo : Todo) (time : ℕ) (next : Next) → is_awake (place_behind (going Fresh todo) time next) ≡ false
+fresh_asleep : (todo : Todo) (time : ℕ) (next : Next) → is_awake (place_after_step (going Fresh todo) time next) ≡ false
 fresh_asleep todo time (on []) = refl
 fresh_asleep todo time (on (i ∷ rest)) = refl
 fresh_asleep todo time (after n ticks rest) = cond_both (ticks == 0) (inactive rest) (sleeping (time + ticks) rest) (λ p. is_awake p ≡ false) (λ e. refl) (λ e. refl)
 fresh_asleep todo time (wait n terms rest) = refl
 
 pub awake_own : (d : Parts) (inputs : List BitRange) (k : ℕ) (t : Text d k) (late ran : Bool) (time : ℕ) (store : Store) (place : Place) (gait : Gait) (todo : Todo) (next : Next) → place ≡ going gait todo →
-    Fares d inputs k t late ran time store place → is_awake (place_behind (going gait todo) time next) ≡ true → ran ≡ true
+    Fares d inputs k t late ran time store place → is_awake (place_after_step (going gait todo) time next) ≡ true → ran ≡ true
 awake_own d inputs k t late ran time store place gait todo next at (fresh other is way same none first) h =
     let e : going gait todo ≡ going Fresh other = sym at ∙ is in
     let g : gait ≡ Fresh = cc in
-    absurd (false≢true (sym (fresh_asleep todo time next) ∙ ap (λ g. is_awake (place_behind (going g todo) time next)) (sym g) ∙ h))
+    absurd (false≢true (sym (fresh_asleep todo time next) ∙ ap (λ g. is_awake (place_after_step (going g todo) time next)) (sym g) ∙ h))
 awake_own d inputs k t late ran time store place gait todo next at (unfed is same none) h = let e : going gait todo ≡ waiting t.terms _ = sym at ∙ is ∙ t.home_is in cc
 awake_own d inputs k t late ran time store place gait todo next at (fed is follows some) h = some
 awake_own d inputs k t late ran time store place gait todo next at (woken is some) h = some
@@ -116,7 +116,7 @@ history_like d roles b th ran0 ran new same h = record {
 }
 
 pub history_written : (d : Parts) (roles : Roles) (z : Blocked d roles) (b : State) (th : ℕ → Thread) (i : ℕ) (tn : Thread) (o : Option Write) (store : Store) (places : List Place) (time : ℕ) (ran0 ran : ℕ → Bool) (late : Bool) →
-    BlocksAt d roles z late ran time store places → tn.log ≡ log_behind (th i).log o → ((w : Write) → o ≡ Some w → (v : ℕ) → names w v ≡ true → slice_get (th i).view v ≡ slice_get (put_log b.store (th i).log) v) →
+    BlocksAt d roles z late ran time store places → tn.log ≡ log_after (th i).log o → ((w : Write) → o ≡ Some w → (v : ℕ) → names w v ≡ true → slice_get (th i).view v ≡ slice_get (put_log b.store (th i).log) v) →
     ((w : Write) → o ≡ Some w → (v : ℕ) → names w v ≡ true → slice_get store v ≡ slice_get (th i).view v) → ((w : Write) → o ≡ Some w → IsFree d roles w) →
     ((late ≡ true) ⊎ FirstWrites d roles.blocks (at th i tn)) → History d roles b th ran0 ran →
     History d roles b (at th i tn) ran0 (λ k. ran k || is_awake (place_after store o (get_or places k ended)))

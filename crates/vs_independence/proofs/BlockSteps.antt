@@ -8,11 +8,11 @@ use Rattle.vs_independence.proofs.Moves.{OutputsUndriven, performed_is, length_b
 use Rattle.vs_process.proofs.Texts.{Text}
 use Rattle.vs_design.specs.Writes.{Write, names}
 use Rattle.vs_process.specs.BlockDrivers.{puts_out, outputs, IsSource}
-use Rattle.vs_process.specs.States.{State, Update, Called, updates_behind, calls_behind, performed, place_behind, AssignState}
+use Rattle.vs_process.specs.States.{State, Update, Called, updates_after, calls_after, performed, place_after_step, AssignState}
 use Rattle.vs_process.specs.vs_strobe.specs.Lines.{Format}
-use Rattle.vs_process.specs.Threads.{Thread, store_behind}
+use Rattle.vs_process.specs.Threads.{Thread, store_after}
 use Rattle.vs_process.specs.ThreadLaws.{LiesIn}
-use Rattle.vs_independence.proofs.Running.{Follow, AllStand, threads_of, Sources, Edges, Apart, BlockBare, IsAwake, IsRested, Rests, Running, Mades, Asks, Finishes}
+use Rattle.vs_independence.proofs.Running.{Follow, AllPlaced, threads_of, Sources, Edges, Apart, BlockBare, IsAwake, IsRested, Rests, Running, Mades, Asks, Finishes}
 use Rattle.vs_process.specs.declared.gait.Gait.{Gait}
 use Rattle.std.proofs.lemmas.Option.{get_or_from_slice_get}
 use Rattle.std.specs.List.{list_any}
@@ -34,11 +34,11 @@ use Rattle.vs_process.proofs.ThreadsNamed.{named}
 use Rattle.vs_process.specs.vs_eval.specs.Waking.{wakes}
 use Rattle.vs_design.specs.vs_logic4.proofs.Basics.{or_false}
 
-pub updates_same : (i time : ℕ) (o : Option (ℕ × Write)) (us : List Update) → o ≡ None → updates_behind i time o us ≡ us
+pub updates_same : (i time : ℕ) (o : Option (ℕ × Write)) (us : List Update) → o ≡ None → updates_after i time o us ≡ us
 updates_same i time None us h = refl
 updates_same i time (Some u) us h = cc
 
-pub calls_same : (i : ℕ) (o : Option Format) (cs : List Called) → o ≡ None → calls_behind i o cs ≡ cs
+pub calls_same : (i : ℕ) (o : Option Format) (cs : List Called) → o ≡ None → calls_after i o cs ≡ cs
 calls_same i None cs h = refl
 calls_same i (Some c) cs h = cc
 
@@ -53,12 +53,12 @@ Exclusive d blocks = (k l v : ℕ) → blocks k ≡ true → blocks l ≡ true �
 pub lies_other : (d : Parts) (blocks : ℕ → Bool) → Exclusive d blocks → (k l : ℕ) (w : Write) → blocks k ≡ true → blocks l ≡ true → (l ≡ k → ⊥) → LiesIn (outputs d k) w → (v : ℕ) → puts_out d l v ≡ true → names w v ≡ false
 lies_other d blocks exclusive k l w is at_l ne lies v hit = lies.signals v (false_from_ne_true (puts_out d k v) (λ own. ne (exclusive l k v at_l is hit own)))
 
-pub source_behind : (d : Parts) (blocks : ℕ → Bool) (k : ℕ) (store : Store) (o : Option Write) → blocks k ≡ true → ((w : Write) → o ≡ Some w → LiesIn (outputs d k) w) → (v : ℕ) → IsSource d blocks v → slice_get (store_behind store o) v ≡ slice_get store v
+pub source_behind : (d : Parts) (blocks : ℕ → Bool) (k : ℕ) (store : Store) (o : Option Write) → blocks k ≡ true → ((w : Write) → o ≡ Some w → LiesIn (outputs d k) w) → (v : ℕ) → IsSource d blocks v → slice_get (store_after store o) v ≡ slice_get store v
 source_behind d blocks k store None is lies v source = refl
 source_behind d blocks k store (Some w) is lies v source = put_other store w v (lies_free d blocks k w is (lies w refl) v source)
 
 -- bits of blocks that no block covers stay
-pub bare_step : (d : Parts) (blocks : ℕ → Bool) → Exclusive d blocks → (k : ℕ) (store : Store) (o : Option Write) → blocks k ≡ true → ((w : Write) → o ≡ Some w → LiesIn (outputs d k) w) → BlockBare d blocks store → BlockBare d blocks (store_behind store o)
+pub bare_step : (d : Parts) (blocks : ℕ → Bool) → Exclusive d blocks → (k : ℕ) (store : Store) (o : Option Write) → blocks k ≡ true → ((w : Write) → o ≡ Some w → LiesIn (outputs d k) w) → BlockBare d blocks store → BlockBare d blocks (store_after store o)
 bare_step d blocks exclusive k store None is lies bare = bare
 bare_step d blocks exclusive k store (Some w) is lies bare = λ l v n i at_l hit none.
     elim (cases_eq l k) [
@@ -76,7 +76,7 @@ goes_awake d blocks b store places th k t gait todo is (inr awake) = awake
 
 rests_step : (d : Parts) (blocks : ℕ → Bool) → Exclusive d blocks → (b : State) (store : Store) → shape store ≡ shape (start_store d) → (places : List Place) (th : ℕ → Thread) (k : ℕ) (o : Option Write) (p : Place) → blocks k ≡ true →
     ((k : ℕ) → blocks k ≡ true → Text d k) → ((w : Write) → o ≡ Some w → LiesIn (outputs d k) w) → IsAwake d blocks b th k →
-    Rests d blocks b store places th → Rests d blocks b (store_behind store o) (slice_set (places_behind store o places) k p) th
+    Rests d blocks b store places th → Rests d blocks b (store_after store o) (slice_set (places_behind store o places) k p) th
 rests_step d blocks exclusive b store started places th k o p is texts lies awake rests l at_l =
     elim (cases_eq l k) [
       | inl e ↦ inr (subst (IsAwake d blocks b th) (sym e) awake)
@@ -86,7 +86,7 @@ rests_step d blocks exclusive b store started places th k o p is texts lies awak
       ]
     ]
   where
-    by_write : (o : Option Write) → ((w : Write) → o ≡ Some w → LiesIn (outputs d k) w) → Rests d blocks b (store_behind store o) (places_behind store o places) th
+    by_write : (o : Option Write) → ((w : Write) → o ≡ Some w → LiesIn (outputs d k) w) → Rests d blocks b (store_after store o) (places_behind store o places) th
     by_write None lies = rests
     by_write (Some w) lies =
         rests_written d blocks b store places th th w texts (λ q changed. awake q (changed_puts d k store started w q (lies w refl) changed)) (λ i u h. h)
@@ -104,12 +104,12 @@ lies_edges d blocks b apart own k is store w lies root v r (through m n before l
 
 -- what holds of processes and of chains behind a step of a block that may write
 record Leaves (d : Parts) (blocks : ℕ → Bool) (b : State) (store : Store) (assigns : List AssignState) (places : List Place) (th : ℕ → Thread) (o : Option Write) : Type 0 where
-  stands : AllStand d blocks b (store_behind store o) th
+  stands : AllPlaced d blocks b (store_after store o) th
   follow : (i : ℕ) → blocks i ≡ false → get_or (places_behind store o places) i ended ≡ get_or places i ended
-  edges : Edges d blocks b (store_behind store o) (assigns_behind store o assigns) th
+  edges : Edges d blocks b (store_after store o) (assigns_behind store o assigns) th
 
 block_leaves : (d : Parts) (blocks : ℕ → Bool) (b : State) → Apart d blocks b → OutputsUndriven d blocks → (k : ℕ) → blocks k ≡ true → (store : Store) (assigns : List AssignState) (places : List Place) (th : ℕ → Thread) → (o : Option Write) →
-    ((w : Write) → o ≡ Some w → LiesIn (outputs d k) w) → AssignsSound d store assigns → AllStand d blocks b store th → Follow blocks places th → Sources d blocks b store th → Sources d blocks b (store_behind store o) th →
+    ((w : Write) → o ≡ Some w → LiesIn (outputs d k) w) → AssignsSound d store assigns → AllPlaced d blocks b store th → Follow blocks places th → Sources d blocks b store th → Sources d blocks b (store_after store o) th →
     Edges d blocks b store assigns th → Leaves d blocks b store assigns places th o
 block_leaves d blocks b apart own k is store assigns places th None lies sound stands follow before behind edges = record { stands = stands; follow = λ i other. refl; edges = edges }
 block_leaves d blocks b apart own k is store assigns places th (Some w) lies sound stands follow before behind edges =
@@ -131,12 +131,12 @@ block_runs d blocks texts exclusive own b s th apart r k is gait todo out at_k m
       slot = record {
         time = r.slot.time;
         over = r.slot.over;
-        count = length-set (places_behind s.store out.write s.places) k (place_behind (going gait todo) s.time out.next) ∙ length_behind s.store out.write s.places ∙ r.slot.count;
+        count = length-set (places_behind s.store out.write s.places) k (place_after_step (going gait todo) s.time out.next) ∙ length_behind s.store out.write s.places ∙ r.slot.count;
       };
       sound = behind_sound d s out.write (sound_behind d s out.write undriven r.sound);
       stands = leaves.stands;
       places = λ i other.
-          get_or-set_other (places_behind s.store out.write s.places) k i (place_behind (going gait todo) s.time out.next) ended (λ e. true≢false (sym is ∙ ap blocks (sym e) ∙ other))
+          get_or-set_other (places_behind s.store out.write s.places) k i (place_after_step (going gait todo) s.time out.next) ended (λ e. true≢false (sym is ∙ ap blocks (sym e) ∙ other))
           ∙ leaves.follow i other ∙ r.places i other;
       sources = behind;
       mades = subst (λ us. Mades d blocks b us th) (sym (updates_same k s.time out.update s.updates made.update)) r.mades;
@@ -144,7 +144,7 @@ block_runs d blocks texts exclusive own b s th apart r k is gait todo out at_k m
       finishes = subst (λ f. Finishes b f th) (sym (or_false s.finishing out.finish made.finish)) r.finishes;
       nets = nets_behind d blocks b s.store s.assigns th th r.sound out.write undriven (λ w e q changed. awake q (changed_puts d k s.store r.sound.shaped w q (made.lies w e) changed)) (λ i u h. h) r.nets;
       bare = bare_step d blocks exclusive k s.store out.write is made.lies r.bare;
-      rests = rests_step d blocks exclusive b s.store r.sound.shaped s.places th k out.write (place_behind (going gait todo) s.time out.next) is texts made.lies awake r.rests;
+      rests = rests_step d blocks exclusive b s.store r.sound.shaped s.places th k out.write (place_after_step (going gait todo) s.time out.next) is texts made.lies awake r.rests;
       edges = leaves.edges;
     })
   where
@@ -154,8 +154,8 @@ block_runs d blocks texts exclusive own b s th apart r k is gait todo out at_k m
     undriven : (w : Write) → out.write ≡ Some w → IsUndriven d w
     undriven w e v named = own k v is (true_from_ne_false (puts_out d k v) (λ miss. true≢false (sym named ∙ (made.lies w e).signals v miss)))
 
-    behind : Sources d blocks b (store_behind s.store out.write) th
-    behind = sources_other d blocks b apart s.store (store_behind s.store out.write) th (threads_of d blocks b s.store th r.stands) (source_behind d blocks k s.store out.write is made.lies) r.sources
+    behind : Sources d blocks b (store_after s.store out.write) th
+    behind = sources_other d blocks b apart s.store (store_after s.store out.write) th (threads_of d blocks b s.store th r.stands) (source_behind d blocks k s.store out.write is made.lies) r.sources
 
     leaves : Leaves d blocks b s.store s.assigns s.places th out.write
     leaves = block_leaves d blocks b apart own k is s.store s.assigns s.places th out.write made.lies r.sound r.stands r.places r.sources behind r.edges

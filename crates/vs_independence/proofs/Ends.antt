@@ -12,7 +12,7 @@ use Rattle.vs_design.specs.Stores.{Store, put, is_driven, start_store, word_in}
 use Rattle.vs_process.specs.declared.moves.Move.TheVariants.{EndSlot}
 use Rattle.vs_process.specs.Places.{Place, ended, is_going}
 use Rattle.vs_process.specs.States.{State, Update, is_due, activated, start}
-use Rattle.vs_process.specs.Executions.{is_enabled, ends, next_time, slot_behind, places_at, time_at}
+use Rattle.vs_process.specs.Executions.{is_enabled, ends, next_time, after_slot, places_at, time_at}
 use Rattle.vs_process.specs.Threads.{Thread, writes, any_names, IsThread}
 use Rattle.vs_process.proofs.ThreadAssigns.{DrivesWell}
 use Rattle.vs_process.proofs.ThreadLinks.{copies_settled}
@@ -422,7 +422,7 @@ ends_unique d roles set b c s t ran0 qan0 ran qan apart apart_other al same_ran0
         ]
 
 -- so does the next one begin
-pub behind_alike : (d : Parts) (roles : Roles) (set : Setting d roles) (b c s t : State) (ran0 qan0 ran qan : ℕ → Bool) → Ends d roles set b s ran0 ran → Ends d roles set c t qan0 qan → Alike s t → Alike (slot_behind s) (slot_behind t)
+pub behind_alike : (d : Parts) (roles : Roles) (set : Setting d roles) (b c s t : State) (ran0 qan0 ran qan : ℕ → Bool) → Ends d roles set b s ran0 ran → Ends d roles set c t qan0 qan → Alike s t → Alike (after_slot s) (after_slot t)
 behind_alike d roles set b c s t ran0 qan0 ran qan x y al =
     let next : next_time s ≡ next_time t = same_next s t s.time al.places (all_future d roles set b s ran0 ran x) (ap (λ n. list_all (is_future n) t.updates) al.time ∙ all_future d roles set c t qan0 qan y) al.updates in
     let over : ends s ≡ ends t = ap₂ (λ f n. f || is_none n) al.finishing next in

@@ -2,6 +2,7 @@
 use Rattle.std.proofs.Common.{◌≡◌, ℕ, ◌⊎◌, Bool, true, false, not, Option, Some, None, option_map, List, map, slice_get, refl, sym, ◌∙◌, ap, ap₂, subst, inl, inr, if◌then◌else◌}
 use Rattle.std.specs.List.{Contains}
 use Rattle.std.proofs.lemmas.Bool.{cases_Bool, true≢false, false≢true}
+use Rattle.std.proofs.lemmas.Option.{same_Some as same_some}
 use Rattle.vs_design.specs.vs_logic4.specs.declared.digit.Digit.{Digit}
 use Rattle.vs_design.specs.vs_logic4.specs.declared.digit.Digit.TheVariants as digit
 use Rattle.vs_design.specs.vs_logic4.specs.declared.edge.Edge.{Edge}
@@ -23,7 +24,7 @@ use Rattle.vs_process.specs.BlockDrivers.{IsSource}
 use Rattle.vs_process.specs.Threads.{Thread, Fired, found, given, opening, is_timed, IsTimed, Fires, Awaits, MayOpen, IsThread, writes}
 use Rattle.vs_process.proofs.ThreadLists.{contains_at, place_of}
 use Rattle.vs_process.proofs.Threads.{timed_of, unmoved, thread_opens}
-use Rattle.vs_process.proofs.ThreadLinks.{copies_bit, bit_in, link_driven, same_some, shown_none}
+use Rattle.vs_process.proofs.ThreadLinks.{copies_bit, bit_in, link_driven, shown_none}
 use Rattle.vs_independence.proofs.Running.{Apart, Stands, given_value}
 
 -- ---- waking

@@ -7,7 +7,7 @@ use Rattle.vs_process.specs.Places.{Place, going, sleeping, inactive, waiting, e
 use Rattle.vs_process.specs.Steps.{step}
 use Rattle.vs_process.specs.BlockDrivers.{sources, Roles, puts_out, control}
 use Rattle.std.specs.List.{Contains, list_any}
-use Rattle.vs_process.specs.Threads.{IsThread, IsFiredBy, Fired, Thread, iterate, log_behind, opening, store_behind, turn_at, turn}
+use Rattle.vs_process.specs.Threads.{IsThread, IsFiredBy, Fired, Thread, iterate, log_after, opening, store_after, turn_at, turn}
 use Rattle.vs_process.specs.States.{State, Update, without}
 use Rattle.vs_design.specs.Writes.{Write, shares, names}
 use Rattle.std.proofs.lemmas.Bool.{cases_Bool, or_parts, true_from_ne_false, true≢false}
@@ -29,7 +29,7 @@ abbrev pub alters : Store → List Write → BitRange → Bool
 alters base [] r = false
 alters base (w ∷ log) r = alters base log r || is_changed (put_log base log) (put (put_log base log) w) r
 
-view_behind : (base view : Store) (log : List Write) (o : Option Write) → view ≡ put_log base log → store_behind view o ≡ put_log base (log_behind log o)
+view_behind : (base view : Store) (log : List Write) (o : Option Write) → view ≡ put_log base log → store_after view o ≡ put_log base (log_after log o)
 view_behind base view log None h = h
 view_behind base view log (Some w) h = ap (λ s. put s w) h
 

@@ -1,6 +1,6 @@
 -- Each move within a slot keeps what holds there of processes, assignments and blocks.
 use Rattle.vs_process.specs.BlockDrivers.{starter, StartsMoved, cold, sources, Roles, StartsAs, IsSource, control, puts_out}
-use Rattle.vs_independence.proofs.Starters.{Level, Shown, SameBit, level_behind, source_shown, block_shown, bit_behind, goes_ran}
+use Rattle.vs_independence.proofs.Starters.{Level, Shown, SameBit, level_behind, source_shown, block_shown, shifted_bit, goes_ran}
 use Rattle.vs_independence.proofs.FirstQuiet.{Unstarted}
 use Rattle.vs_independence.proofs.Moves.{log_names}
 use Rattle.std.proofs.Common.{◌≡◌, ℕ, ◌||◌, ◌⊎◌, Bool, true, false, Option, Some, None, List, [], ◌∷◌, map, get_or, slice_get, zero, refl, sym, ◌∙◌, ap, subst, inl, inr, suc}
@@ -302,7 +302,7 @@ block_moment d roles set b s ran0 late ran apart k is none gait todo at_k m = re
         (goes_ran d (roles.inputs k) k (text_at d roles set.z k is) (ran k) s.time s.store (get_or s.places k ended) gait todo (get_or_from_slice_get s.places k (going gait todo) ended at_k)
         (subst (λ b. Fares d (roles.inputs k) k (text_at d roles set.z k is) b (ran k) s.time s.store (get_or s.places k ended)) later (m.blocks.fares k is)))))
     bits_at later l at_l mo same (inr ne) =
-        elim (bit_behind d roles.blocks (roles.inputs l) l (text_at d roles set.z l at_l) mo (ran l) s.time s.store (get_or s.places l ended) out.write
+        elim (shifted_bit d roles.blocks (roles.inputs l) l (text_at d roles set.z l at_l) mo (ran l) s.time s.store (get_or s.places l ended) out.write
         (subst (λ b. Fares d (roles.inputs l) l (text_at d roles set.z l at_l) b (ran l) s.time s.store (get_or s.places l ended)) later (m.blocks.fares l at_l)) same) [
           | inl run ↦ inl (ap (λ p. ran l || is_awake p) (performed_place s k (going gait todo) out l ne) ∙ run)
           | inr still ↦ inr (λ n w p shows named. ap (λ (u : State). digit_of u.store n w p) (performed_is s k (going gait todo) out) ∙ still n w p shows named)

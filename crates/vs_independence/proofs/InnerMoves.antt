@@ -26,7 +26,7 @@ use Rattle.vs_independence.proofs.Inner.{AllCold, Before, Behind, FirstEra, Late
 use Rattle.vs_process.proofs.Assigns.{AssignsSound}
 use Rattle.vs_independence.proofs.FirstQuiet.{AtFirst, first_quiet, is_cold}
 use Rattle.vs_design.specs.declared.range.BitRange.{BitRange}
-use Rattle.vs_independence.proofs.BlocksAt.{BlocksAt, IsFree, NoneInside, blocks_behind, blocks_mapped, blocks_still, mapped_place, text_at, woken_more}
+use Rattle.vs_independence.proofs.BlocksAt.{BlocksAt, IsFree, NoneInside, blocks_of_else, blocks_mapped, blocks_still, mapped_place, text_at, woken_more}
 use Rattle.vs_process.proofs.Fares.{Fares, is_awake, or_last, or_some, fresh, unfed, fed, woken, inside}
 use Rattle.vs_process.specs.declared.gait.Gait.{Gait}
 use Rattle.vs_independence.proofs.History.{History, alters, change_named, history_still, put_log}
@@ -124,7 +124,7 @@ propagate_moment : (d : Parts) (roles : Roles) (set : Setting d roles) (b s : St
     (j : ℕ) (x : AssignState) (digits : List Digit) → slice_get s.assigns j ≡ Some x → x.pending ≡ Some digits → Moment d roles set b s ran0 late ran →
     Moment d roles set b (propagate_value s j x (Some digits)) ran0 late (woken_more ran (propagate_value s j x (Some digits)).places)
 propagate_moment d roles set b s ran0 late ran apart none j x digits is waits m = record {
-  blocks = blocks_behind d roles set.z late ran s.time s.store s.places (Some w) free none m.blocks;
+  blocks = blocks_of_else d roles set.z late ran s.time s.store s.places (Some w) free none m.blocks;
   phase = phase_kept d roles set b s t ran0 late ran (woken_more ran t.places) (record {
     up = more_up ran t.places;
     down = λ k at_k s_k h. elim (or_cases (ran k) (is_awake (get_or t.places k ended)) h) [
@@ -167,7 +167,7 @@ propagate_moment d roles set b s ran0 late ran apart none j x digits is waits m 
 make_moment : (d : Parts) (roles : Roles) (set : Setting d roles) (b s : State) (ran0 : ℕ → Bool) (late : Bool) (ran : ℕ → Bool) → Apart d roles.blocks b → (b ≡ start d) ⊎ AllStarted roles ran0 → NoneInside roles s.places → BlocksAt d roles set.z late ran s.time s.store s.places →
     (x : Behind d roles b s ran0 late ran) → (i : ℕ) (u : Update) → slice_get s.updates i ≡ Some u → is_first s.updates i u ≡ true → Moment d roles set b (make s i (Some u)) ran0 late (woken_more ran (make s i (Some u)).places)
 make_moment d roles set b s ran0 late ran apart begun none at_them x i u is first = record {
-  blocks = blocks_behind d roles set.z late ran s.time s.store s.places (Some u.what) free none at_them;
+  blocks = blocks_of_else d roles set.z late ran s.time s.store s.places (Some u.what) free none at_them;
   phase = inr (record {
     making = next.0;
     mid = x.mid;

@@ -1,6 +1,7 @@
 -- Where a slot has come to a stop in two ways, the same processes were fired, and by the same: their threads are one.
 use Rattle.std.proofs.Common.{Bool, ◌≡◌, ℕ, true, false, Option, Some, None, List, slice_get, refl, sym, ◌∙◌, ap, subst}
 use Rattle.std.proofs.lemmas.Bool.{true≢false}
+use Rattle.std.proofs.lemmas.Option.{same_Some as same_some}
 use Rattle.vs_design.specs.declared.statement.EventTerm.{EventTerm}
 use Rattle.vs_design.specs.Parts.{Parts}
 use Rattle.vs_design.specs.Stores.{Store}
@@ -9,13 +10,12 @@ use Rattle.vs_process.specs.States.{State}
 use Rattle.vs_process.specs.Edges.{shown, Copies, inverses, IsHeard, IsRoot}
 use Rattle.vs_process.specs.Threads.{Thread, iterate, turn, Fired, found, given, opening, is_timed, IsTimed, Fires, Awaits, MayOpen, IsThread, writes}
 use Rattle.vs_process.proofs.Threads.{is_stopped, stopped_unique, timed_of, timed_wrote, thread_opens}
-use Rattle.vs_process.proofs.ThreadLinks.{same_some}
-use Rattle.vs_independence.proofs.Running.{Apart, AllStand, given_value}
+use Rattle.vs_independence.proofs.Running.{Apart, AllPlaced, given_value}
 use Rattle.vs_independence.proofs.Fire.{wakes_alike}
 
 -- the threads of a slot whose processes have stopped, and whose signals with a root show their roots
 pub record Stopped (d : Parts) (blocks : ℕ → Bool) (b : State) (store : Store) (th : ℕ → Thread) : Type 0 where
-  pub stands : AllStand d blocks b store th
+  pub stands : AllPlaced d blocks b store th
   pub own : (i v : ℕ) → writes (th i) v ≡ true → slice_get store v ≡ slice_get (th i).view v
   pub still : (i : ℕ) → is_stopped (th i).place ≡ true
   pub level : (root v : ℕ) (c : Copies d root v) → slice_get store v ≡ shown (inverses c) (slice_get store root)

@@ -13,7 +13,7 @@ use Rattle.vs_design.specs.declared.write.Part.{Part}
 use Rattle.vs_process.specs.vs_eval.specs.Targets.{assigned}
 use Rattle.vs_process.specs.Places.{Place, ended, is_going, is_inactive}
 use Rattle.vs_process.specs.Idle.{IsIdle}
-use Rattle.vs_process.specs.States.{State, AssignState, Update, touched, evaluated, without, make, evaluate, propagate_value, settled, is_due, activated, place_behind, wakened, performed}
+use Rattle.vs_process.specs.States.{State, AssignState, Update, touched, evaluated, without, make, evaluate, propagate_value, settled, is_due, activated, place_after_step, wakened, performed}
 use Rattle.vs_process.specs.Executions.{is_first}
 use Rattle.vs_process.proofs.ProcessLists.{any_without, none_at, list_all_like, map_cases, set_cases}
 use Rattle.std.proofs.lemmas.Map.Keys.{any_passes_from_place as at_any}
@@ -22,7 +22,7 @@ use Rattle.vs_process.proofs.Stores.{put_other}
 use Rattle.vs_process.proofs.Assigns.{assigned_other, AssignsSound, sound_written, sound_evaluated, sound_propagated, IsUndriven, sound_behind}
 use Rattle.vs_process.proofs.WellFormed.{any_activated}
 use Rattle.vs_process.specs.Edges.{IsLink, itself, through, IsRoot}
-use Rattle.vs_process.specs.Threads.{Thread, any_names, store_behind}
+use Rattle.vs_process.specs.Threads.{Thread, any_names, store_after}
 use Rattle.vs_process.proofs.ThreadStores.{put_swap, names_some, put_active, put_active_local, by, left, filter_miss}
 use Rattle.vs_process.proofs.Threads.{is_stopped, stopped_from}
 use Rattle.vs_process.proofs.ThreadAssigns.{DrivesWell, assigns_behind, places_behind}
@@ -360,7 +360,7 @@ stopped_at d blocks b s m i other p is =
 -- what a step of a block that may write leaves
 record StillLeaves (d : Parts) (blocks : ℕ → Bool) (b s : State) (m : Making d blocks b s) (o : Option Write) : Type 0 where
   follow : (i : ℕ) → blocks i ≡ false → get_or (places_behind s.store o s.places) i ended ≡ get_or m.before.places i ended
-  edges : SameEdges d blocks s.store (store_behind s.store o)
+  edges : SameEdges d blocks s.store (store_after s.store o)
   links : LinksIdle d blocks (assigns_behind s.store o s.assigns)
 
 still_leaves : (d : Parts) (blocks : ℕ → Bool) → OutputsUndriven d blocks → (b s : State) → Apart d blocks b → (m : Making d blocks b s) → (k : ℕ) → blocks k ≡ true → (o : Option Write) →
@@ -386,19 +386,19 @@ block_makes d blocks own b s apart m k is place out step_made = (
     slot = subst (WithinSlot b) back (record {
       time = m.slot.time;
       over = m.slot.over;
-      count = length-set (places_behind s.store out.write s.places) k (place_behind place s.time out.next) ∙ length_behind s.store out.write s.places ∙ m.slot.count;
+      count = length-set (places_behind s.store out.write s.places) k (place_after_step place s.time out.next) ∙ length_behind s.store out.write s.places ∙ m.slot.count;
     });
     sound = subst (λ (t : State). AssignsSound d t.store t.assigns) back (behind_sound d s out.write (sound_behind d s out.write undriven m.sound));
     places = λ i other.
         ap (λ (t : State). get_or t.places i ended) (performed_is s k place out)
-        ∙ get_or-set_other (places_behind s.store out.write s.places) k i (place_behind place s.time out.next) ended (λ e. true≢false (sym is ∙ ap blocks (sym e) ∙ other))
+        ∙ get_or-set_other (places_behind s.store out.write s.places) k i (place_after_step place s.time out.next) ended (λ e. true≢false (sym is ∙ ap blocks (sym e) ∙ other))
         ∙ leaves.follow i other;
     finishing = ap (λ (t : State). t.finishing) (performed_is s k place out) ∙ or_false s.finishing out.finish step_made.finish ∙ m.finishing;
     calls = ap (λ (t : State). t.calls) (performed_is s k place out) ∙ calls_same k out.call s.calls step_made.call ∙ m.calls;
     store = λ v source.
         ap (λ (t : State). slice_get (put_active t.store t.updates) v) (performed_is s k place out)
-        ∙ ap (λ us. slice_get (put_active (store_behind s.store out.write) us) v) (updates_same k s.time out.update s.updates step_made.update)
-        ∙ put_active_local (store_behind s.store out.write) s.store s.updates v (source_behind d blocks k s.store out.write is step_made.lies v source) ∙ m.store v source;
+        ∙ ap (λ us. slice_get (put_active (store_after s.store out.write) us) v) (updates_same k s.time out.update s.updates step_made.update)
+        ∙ put_active_local (store_after s.store out.write) s.store s.updates v (source_behind d blocks k s.store out.write is step_made.lies v source) ∙ m.store v source;
     rest = λ v. ap (λ us. by v (left us)) same_updates ∙ m.rest v;
     settled = ap (list_all (is_settled b.time)) same_updates ∙ m.settled;
     undriven = λ v h. m.undriven v (ap (λ us. any_names us v) (sym same_updates) ∙ h);

@@ -4,7 +4,7 @@ use Rattle.std.specs.List.{list_any}
 use Rattle.std.proofs.Math.ListN.{get_or-map}
 use Rattle.std.proofs.lemmas.Bool.{false_from_ne_true, or_left, or_right, true≢false, false≢true, cases_Bool}
 use Rattle.std.proofs.lemmas.List.{length-set, length-map, get_or-set_same, get_or-set_other}
-use Rattle.std.proofs.lemmas.Option.{slice_get_within, get_or_from_slice_get}
+use Rattle.std.proofs.lemmas.Option.{slice_get_within, get_or_from_slice_get, same_Some as same_some}
 use Rattle.vs_design.specs.vs_logic4.specs.declared.digit.Digit.{Digit}
 use Rattle.vs_design.specs.Parts.{Parts}
 use Rattle.vs_design.specs.Stores.{Store, put, is_changed, is_driven, word_in}
@@ -14,18 +14,18 @@ use Rattle.vs_process.specs.vs_eval.specs.Targets.{assigned}
 use Rattle.vs_process.specs.Places.{Todo, Place, going, sleeping, inactive, waiting, ended, is_going, todo_of}
 use Rattle.vs_process.specs.declared.gait.Gait.{Gait}
 use Rattle.vs_process.specs.Steps.{Out, step}
-use Rattle.vs_process.specs.States.{State, AssignState, Update, Called, touched, wakened, place_behind, performed, written_behind, calls_behind, updates_behind, evaluate, propagate_value, settled, roused}
+use Rattle.vs_process.specs.States.{State, AssignState, Update, Called, touched, wakened, place_after_step, performed, written_after, calls_after, updates_after, evaluate, propagate_value, settled, roused}
 use Rattle.vs_process.proofs.ProcessLists.{set_cases}
 use Rattle.vs_process.proofs.WellFormed.{is_sound_place, is_sound_todo}
 use Rattle.vs_process.specs.Edges.{IsLink}
 use Rattle.vs_process.proofs.Assigns.{AssignsSound, IsUndriven, assign_driven, sound_behind, sound_evaluated, sound_propagated, assign_fixed}
 use Rattle.vs_process.specs.Reads.{mute}
-use Rattle.vs_process.specs.Threads.{store_behind, Thread, Fired, is_timed, MayOpen, IsThread, found, log_behind, moved, turn_at, turn, writes, any_names, place_reads, todo_reads}
+use Rattle.vs_process.specs.Threads.{store_after, Thread, Fired, is_timed, MayOpen, IsThread, found, log_after, moved, turn_at, turn, writes, any_names, place_reads, todo_reads}
 use Rattle.vs_process.proofs.ThreadLists.{at, at_same, at_each, at_some, at_both}
 use Rattle.vs_process.proofs.ThreadStores.{by}
 use Rattle.vs_process.proofs.StepReads.{step_reads, IsPlain, step_plain}
 use Rattle.vs_process.proofs.Threads.{rouse_thread, thread_rouses, unmoved}
-use Rattle.vs_process.proofs.ThreadLinks.{same_some, link_state}
+use Rattle.vs_process.proofs.ThreadLinks.{link_state}
 use Rattle.vs_process.proofs.ThreadAssigns.{DrivesWell, assigns_behind, behind_is, places_behind}
 use Rattle.vs_independence.proofs.Running.{Apart, AllThreads, Stands, threads_of, Sources, Mades, Finishes, Asks, Written, Running, reads_agree, Rests, BlockBare, Stirred, IsCalm, IsStirred}
 use Rattle.vs_independence.proofs.Fire.{Change, After, IsFiredNow, after_at, fired_kept}
@@ -56,25 +56,25 @@ runs_as d blocks b s th r = record { th = th; runs = r; same = λ k timed. refl;
 -- a state behind a step of a process, written out
 abbrev pub performed_at : State → ℕ → Place → Out → State
 performed_at s i place out = record s {
-  store = store_behind s.store out.write;
-  places = slice_set (places_behind s.store out.write s.places) i (place_behind place s.time out.next);
+  store = store_after s.store out.write;
+  places = slice_set (places_behind s.store out.write s.places) i (place_after_step place s.time out.next);
   assigns = assigns_behind s.store out.write s.assigns;
-  updates = updates_behind i s.time out.update s.updates;
-  calls = calls_behind i out.call s.calls;
+  updates = updates_after i s.time out.update s.updates;
+  calls = calls_after i out.call s.calls;
   finishing = s.finishing || out.finish;
 }
 
 -- the continuous assignments do not ask where processes are
-pub behind_sound : (d : Parts) (s : State) (o : Option Write) → AssignsSound d (written_behind s o).store (written_behind s o).assigns → AssignsSound d (store_behind s.store o) (assigns_behind s.store o s.assigns)
+pub behind_sound : (d : Parts) (s : State) (o : Option Write) → AssignsSound d (written_after s o).store (written_after s o).assigns → AssignsSound d (store_after s.store o) (assigns_behind s.store o s.assigns)
 behind_sound d s None h = h
 behind_sound d s (Some w) h = h
 
 pub performed_is : (s : State) (i : ℕ) (place : Place) (out : Out) → performed s i place out ≡ performed_at s i place out
 performed_is s i place out =
     ap (λ (t : State). record t {
-      places = slice_set t.places i (place_behind place s.time out.next);
-      updates = updates_behind i s.time out.update s.updates;
-      calls = calls_behind i out.call s.calls;
+      places = slice_set t.places i (place_after_step place s.time out.next);
+      updates = updates_after i s.time out.update s.updates;
+      calls = calls_after i out.call s.calls;
       finishing = s.finishing || out.finish;
     }) (behind_is s out.write)
 
@@ -84,7 +84,7 @@ length_behind store (Some w) places = length-map places (wakened store (put stor
 
 -- bits that no block covers, behind a write of a source or one of another signal
 pub bare_behind : (d : Parts) (blocks : ℕ → Bool) (store : Store) (o : Option Write) → ((w : Write) → o ≡ Some w → (k v : ℕ) → blocks k ≡ true → puts_out d k v ≡ true → names w v ≡ false) →
-    BlockBare d blocks store → BlockBare d blocks (store_behind store o)
+    BlockBare d blocks store → BlockBare d blocks (store_after store o)
 bare_behind d blocks store None free bare = bare
 bare_behind d blocks store (Some w) free bare = λ k v n i is hit none. ap (λ l. digit_in (word_in l n) i) (put_other store w v (free w refl k v is hit)) ∙ bare k v n i is hit none
 
@@ -100,7 +100,7 @@ source_free d blocks w sources k v is hit =
 rests_behind : (d : Parts) (blocks : ℕ → Bool) (b : State) (store : Store) (places : List Place) (th more : ℕ → Thread) (o : Option Write) →
     ((k : ℕ) → blocks k ≡ true → Text d k) → ((w : Write) → o ≡ Some w → (q : BitRange) → is_changed store (put store w) q ≡ true → Stirred d blocks b more q) →
     ((i u : ℕ) → writes (th i) u ≡ true → writes (more i) u ≡ true) → ((w : Write) → o ≡ Some w → (k v : ℕ) → blocks k ≡ true → puts_out d k v ≡ true → names w v ≡ false) →
-    Rests d blocks b store places th → Rests d blocks b (store_behind store o) (places_behind store o places) more
+    Rests d blocks b store places th → Rests d blocks b (store_after store o) (places_behind store o places) more
 rests_behind d blocks b store places th more None texts wrote grows free rests k is = elim (rests k is) [
   | inl rested ↦ inl rested
   | inr awake ↦ inr (awake_more d blocks b th more grows k awake)
@@ -163,8 +163,8 @@ finishes_same b finishing mid new same f = record {
 written_same : (mid new : ℕ → Thread) → ((i : ℕ) → SameMade (mid i) (new i)) → (v : ℕ) → Written mid v → Written new v
 written_same mid new same v (i, h) = (i, ap (λ l. list_any (λ w. names w v) l) (same i).log ∙ h)
 
-pub log_names : (log : List Write) (o : Option Write) (w : Write) (v : ℕ) → o ≡ Some w → names w v ≡ true → list_any (λ w. names w v) (log_behind log o) ≡ true
-log_names log o w v is h = ap (λ o. list_any (λ w. names w v) (log_behind log o)) is ∙ or_left (names w v) (list_any (λ w. names w v) log) h
+pub log_names : (log : List Write) (o : Option Write) (w : Write) (v : ℕ) → o ≡ Some w → names w v ≡ true → list_any (λ w. names w v) (log_after log o) ≡ true
+log_names log o w v is h = ap (λ o. list_any (λ w. names w v) (log_after log o)) is ∙ or_left (names w v) (list_any (λ w. names w v) log) h
 
 -- every process behind a change of the store
 alike_after : (d : Parts) (blocks : ℕ → Bool) (b : State) (old new : Store) (i : ℕ) (th : Thread) (a : After d blocks b old new i th) → SameMade th a.thread
@@ -203,10 +203,10 @@ quiet_runs d blocks texts b s th apart r i other gait todo out here plain at_i t
   sound = r.sound;
   stands = at_each (Stands d blocks b s.store) th i tn own (λ k ne. r.stands k);
   places = at_each (λ k t. blocks k ≡ false → get_or (slice_set s.places i next) k ended ≡ t.place) th i tn
-      (λ mine. get_or-set_same s.places i next ended (slice_get_within s.places i (going gait todo) here) ∙ ap (λ t. place_behind (going gait todo) t out.next) r.slot.time)
+      (λ mine. get_or-set_same s.places i next ended (slice_get_within s.places i (going gait todo) here) ∙ ap (λ t. place_after_step (going gait todo) t out.next) r.slot.time)
       (λ k ne mine. get_or-set_other s.places i k next ended ne ∙ r.places k mine);
   sources = sources_step d blocks b apart s.store th r.stands r.sources i tn.place None tn.made tn.asked tn.fin own.is;
-  mades = subst (λ t. Mades d blocks b (updates_behind i t out.update s.updates) (at th i tn)) (sym r.slot.time)
+  mades = subst (λ t. Mades d blocks b (updates_after i t out.update s.updates) (at th i tn)) (sym r.slot.time)
       (mades_step d blocks b apart s.updates th (threads_of d blocks b s.store th r.stands) r.mades i tn.place None out.update tn.asked tn.fin plain.update own.is);
   asks = asks_step s.calls th r.asks i out.call tn refl;
   finishes = finishes_step b s.finishing th r.finishes i tn.place None tn.made tn.asked out.finish;
@@ -220,7 +220,7 @@ quiet_runs d blocks texts b s th apart r i other gait todo out here plain at_i t
     tn = moved b.time i (going gait todo) (with_write out None) (th i)
 
     next : Place
-    next = place_behind (going gait todo) s.time out.next
+    next = place_after_step (going gait todo) s.time out.next
 
     none_undriven : (w : Write) → None ≡ Some w → IsUndriven d w
     none_undriven w e = absurd (let no_way : None ≡ Some w = e in cc)
@@ -256,14 +256,14 @@ write_runs d blocks texts b s th apart r i other gait todo out w here plain at_i
     sound = sound_behind d s (Some w) undriven r.sound;
     stands = at_each (Stands d blocks b new) others i tn own (λ k ne. (af k).stands);
     places = at_each (λ k t. blocks k ≡ false → get_or (slice_set (map (wakened s.store new) s.places) i next) k ended ≡ t.place) others i tn
-        (λ mine. get_or-set_same (map (wakened s.store new) s.places) i next ended within ∙ ap (λ t. place_behind (going gait todo) t out.next) r.slot.time)
+        (λ mine. get_or-set_same (map (wakened s.store new) s.places) i next ended within ∙ ap (λ t. place_after_step (going gait todo) t out.next) r.slot.time)
         (λ k ne mine. get_or-set_other (map (wakened s.store new) s.places) i k next ended ne ∙ get_or-map (wakened s.store new) s.places k ended
         ∙ ap (wakened s.store new) (r.places k mine) ∙ sym (af k).place);
     sources = sources_same d blocks b new mid final alike sources_mid;
-    mades = mades_same d blocks b (updates_behind i s.time out.update s.updates) mid final alike
-        (subst (λ t. Mades d blocks b (updates_behind i t out.update s.updates) mid) (sym r.slot.time)
+    mades = mades_same d blocks b (updates_after i s.time out.update s.updates) mid final alike
+        (subst (λ t. Mades d blocks b (updates_after i t out.update s.updates) mid) (sym r.slot.time)
         (mades_step d blocks b apart s.updates th (threads_of d blocks b s.store th r.stands) r.mades i tn.place (Some w) out.update tn.asked tn.fin plain.update is));
-    asks = asks_same (calls_behind i out.call s.calls) mid final alike (asks_step s.calls th r.asks i out.call tn refl);
+    asks = asks_same (calls_after i out.call s.calls) mid final alike (asks_step s.calls th r.asks i out.call tn refl);
     finishes = finishes_same b (s.finishing || out.finish) mid final alike (finishes_step b s.finishing th r.finishes i tn.place (Some w) tn.made tn.asked out.finish);
     nets = nets_behind d blocks b s.store s.assigns th final r.sound (Some w) undriven stirs grows r.nets;
     bare = bare_behind d blocks s.store (Some w) free r.bare;
@@ -277,7 +277,7 @@ write_runs d blocks texts b s th apart r i other gait todo out w here plain at_i
     tn = moved b.time i (going gait todo) (with_write out (Some w)) (th i)
 
     next : Place
-    next = place_behind (going gait todo) s.time out.next
+    next = place_after_step (going gait todo) s.time out.next
 
     new : Store
     new = put s.store w

@@ -70,10 +70,10 @@ pub record Stands (d : Parts) (blocks : ℕ → Bool) (b : State) (store : Store
   pub unfired : is.input ≡ None → (terms : List EventTerm) (todo : Todo) → found blocks b i ≡ waiting terms todo → (t : EventTerm) → Contains terms t → wakes b.store store t ≡ false
   pub fired : (f : Fired) → is.input ≡ Some f → slice_get store f.signal ≡ Some f.value
 
-abbrev pub AllStand : Parts → (ℕ → Bool) → State → Store → (ℕ → Thread) → Type 0
-AllStand d blocks b store th = (i : ℕ) → Stands d blocks b store i (th i)
+abbrev pub AllPlaced : Parts → (ℕ → Bool) → State → Store → (ℕ → Thread) → Type 0
+AllPlaced d blocks b store th = (i : ℕ) → Stands d blocks b store i (th i)
 
-abbrev pub threads_of : (d : Parts) (blocks : ℕ → Bool) (b : State) (store : Store) (th : ℕ → Thread) → AllStand d blocks b store th → AllThreads d blocks b th
+abbrev pub threads_of : (d : Parts) (blocks : ℕ → Bool) (b : State) (store : Store) (th : ℕ → Thread) → AllPlaced d blocks b store th → AllThreads d blocks b th
 threads_of d blocks b store th all i = (all i).is
 
 -- each process that is no block is where its thread is
@@ -149,7 +149,7 @@ pub record Edges (d : Parts) (blocks : ℕ → Bool) (b : State) (store : Store)
 pub record Running (d : Parts) (blocks : ℕ → Bool) (b s : State) (th : ℕ → Thread) : Type 0 where
   pub slot : WithinSlot b s
   pub sound : AssignsSound d s.store s.assigns
-  pub stands : AllStand d blocks b s.store th
+  pub stands : AllPlaced d blocks b s.store th
   pub places : Follow blocks s.places th
   pub sources : Sources d blocks b s.store th
   pub mades : Mades d blocks b s.updates th
@@ -195,7 +195,7 @@ other_opened d blocks b i th is v other = by_input is.input refl
     by_input (Some f) e = changed_other (λ old. f.value) f.signal v b.store (λ same. other (f, e, sym same))
 
 -- the store agrees with the view of a thread on an undriven signal that no other one has written
-pub agrees : (d : Parts) (blocks : ℕ → Bool) (b : State) → Apart d blocks b → (store : Store) (th : ℕ → Thread) → AllStand d blocks b store th → Sources d blocks b store th → (i v : ℕ) → IsSource d blocks v →
+pub agrees : (d : Parts) (blocks : ℕ → Bool) (b : State) → Apart d blocks b → (store : Store) (th : ℕ → Thread) → AllPlaced d blocks b store th → Sources d blocks b store th → (i v : ℕ) → IsSource d blocks v →
     ((k : ℕ) → writes (th k) v ≡ true → k ≡ i) → slice_get store v ≡ slice_get (th i).view v
 agrees d blocks b apart store th all so i v undriven mine =
     elim (cases_Bool (writes (th i) v)) [
@@ -210,7 +210,7 @@ agrees d blocks b apart store th all so i v undriven mine =
     ]
 
 -- and on the signal that fired it
-own_agrees : (d : Parts) (blocks : ℕ → Bool) (b : State) → Apart d blocks b → (store : Store) (th : ℕ → Thread) (all : AllStand d blocks b store th) → Sources d blocks b store th → (i v : ℕ) → IsFiredBy d blocks b i (th i) (all i).is v → slice_get store v ≡ slice_get (th i).view v
+own_agrees : (d : Parts) (blocks : ℕ → Bool) (b : State) → Apart d blocks b → (store : Store) (th : ℕ → Thread) (all : AllPlaced d blocks b store th) → Sources d blocks b store th → (i v : ℕ) → IsFiredBy d blocks b i (th i) (all i).is v → slice_get store v ≡ slice_get (th i).view v
 own_agrees d blocks b apart store th all so i v own =
     elim (cases_Bool (writes (th i) v)) [
       | inl hit ↦ so.own i v hit
@@ -251,7 +251,7 @@ not_stirred d blocks b apart th all i rs steady r among other unfired (by_start 
 not_stirred d blocks b apart th all i rs steady r among other unfired (by_rest k u is goes named reach) = steady.rested k u r among is goes named reach
 
 -- ranges that are steady for a process are in the store as in the view of its thread
-pub steady_agree : (d : Parts) (blocks : ℕ → Bool) (b : State) → Apart d blocks b → (store : Store) (assigns : List AssignState) (places : List Place) (th : ℕ → Thread) (all : AllStand d blocks b store th) →
+pub steady_agree : (d : Parts) (blocks : ℕ → Bool) (b : State) → Apart d blocks b → (store : Store) (assigns : List AssignState) (places : List Place) (th : ℕ → Thread) (all : AllPlaced d blocks b store th) →
     AssignsSound d store assigns → Sources d blocks b store th → Nets d blocks b store assigns th → BlockBare d blocks store → Rests d blocks b store places th →
     (i : ℕ) (rs : List BitRange) → IsSteady d blocks b i (th i) (all i).is rs → list_any (is_changed store (th i).view) rs ≡ false
 steady_agree d blocks b apart store assigns places th all sound so nets bare rests i rs steady =
@@ -313,7 +313,7 @@ steady_agree d blocks b apart store assigns places th all sound so nets bare res
         of_other r among other unfired (of_block r (not_stirred d blocks b apart th (threads_of d blocks b store th all) i rs steady r among other unfired) l is hit)
 
 -- what a process reads, its thread reads too
-pub reads_agree : (d : Parts) (blocks : ℕ → Bool) (b : State) → Apart d blocks b → (store : Store) (assigns : List AssignState) (places : List Place) (th : ℕ → Thread) (all : AllStand d blocks b store th) →
+pub reads_agree : (d : Parts) (blocks : ℕ → Bool) (b : State) → Apart d blocks b → (store : Store) (assigns : List AssignState) (places : List Place) (th : ℕ → Thread) (all : AllPlaced d blocks b store th) →
     AssignsSound d store assigns → Sources d blocks b store th → Nets d blocks b store assigns th → BlockBare d blocks store → Rests d blocks b store places th →
     (i : ℕ) → list_any (is_changed store (th i).view) (place_reads (th i).place) ≡ false
 reads_agree d blocks b apart store assigns places th all sound so nets bare rests i =

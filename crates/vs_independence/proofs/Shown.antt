@@ -8,7 +8,7 @@ use Rattle.vs_process.specs.declared.moves.Grain.{Grain}
 use Rattle.vs_process.specs.declared.moves.Move.{Move}
 use Rattle.vs_process.specs.declared.moves.Move.TheVariants.{Step, Evaluate, Propagate, Make, Rouse, Activate, EndSlot}
 use Rattle.vs_process.specs.States.{State, start}
-use Rattle.vs_process.specs.Executions.{allowed, apply, after, Legal, slot_behind}
+use Rattle.vs_process.specs.Executions.{allowed, apply, after, Legal, after_slot}
 use Rattle.vs_process.proofs.Times.{enabled_of}
 use Rattle.vs_process.specs.Threads.{opening}
 use Rattle.vs_process.proofs.ThreadAssigns.{DrivesWell}
@@ -19,7 +19,7 @@ use Rattle.vs_independence.proofs.Times.{goes_on}
 use Rattle.vs_independence.proofs.InnerMoves.{IsInner, sure}
 use Rattle.vs_independence.proofs.Ends.{Alike, all_future, same_threads, stopped_of}
 use Rattle.vs_independence.proofs.Tells.{Tells, one_telling, tells_alike, tells_opens}
-use Rattle.vs_independence.proofs.Told.{Tale, Told, inner_tale, tale_ends}
+use Rattle.vs_independence.proofs.ThreadLines.{Tale, HasThreadLines, inner_tale, tale_ends}
 use Rattle.vs_independence.proofs.Whole.{Fits, IsComplete, LastSlot, NoSlot, behind_runs, complete_from, count, cut, cut_legal, cut_starts, further, holds, is_past, last_ends, last_legal, last_slot, ran_after, same_so_far, setting, slot_later, start_runs}
 
 -- what processes show is steady in each slot that an execution begins
@@ -60,15 +60,15 @@ told grain d fits shows (EndSlot ∷ moves) l =
     let e = last_ends grain d fits moves l in
     let g = goes_on s (slot_later d roles set b s ran0 ran (holds grain d fits moves l.0).later e) (all_future d roles set b s ran0 ran e) in
     inl (record {
-      th = λ i. opening roles.blocks (slot_behind s) i None;
+      th = λ i. opening roles.blocks (after_slot s) i None;
       runs = behind_runs d roles set b s ran0 ran e g.waiting;
-      tells = λ i other. tells_opens d roles.blocks (slot_behind s) i;
+      tells = λ i other. tells_opens d roles.blocks (after_slot s) i;
     })
 
 -- ---- two slots
 
 -- processes made the same lines in two slots that began alike
-same_lines : (d : Parts) (blocks : ℕ → Bool) → DrivesWell d → (b c s t : State) → Apart d blocks b → Alike b c → (lines more : List Line) → Told d blocks b s lines → Told d blocks c t more →
+same_lines : (d : Parts) (blocks : ℕ → Bool) → DrivesWell d → (b c s t : State) → Apart d blocks b → Alike b c → (lines more : List Line) → HasThreadLines d blocks b s lines → HasThreadLines d blocks c t more →
     (i : ℕ) → blocks i ≡ false → lines_of_process i lines ≡ lines_of_process i more
 same_lines d blocks well b c s t apart al lines more x y i other =
     one_telling d blocks b x.making.before.store x.making.th apart (stopped_of d blocks well b s x.making) i (lines_of_process i lines) (lines_of_process i more) (x.tells i other)

@@ -30,7 +30,7 @@ use Rattle.vs_process.specs.vs_eval.specs.Laws.{digit_in}
 use Rattle.std.specs.List.{list_any}
 use Rattle.vs_process.proofs.Stores.{put_other}
 use Rattle.std.proofs.lemmas.Option.{same_Some}
-use Rattle.vs_process.specs.Threads.{Thread, IsThread, store_behind}
+use Rattle.vs_process.specs.Threads.{Thread, IsThread, store_after}
 use Rattle.vs_process.specs.vs_eval.specs.Values.{target_value}
 use Rattle.vs_process.proofs.Contents.{unchanged_covered}
 use Rattle.vs_independence.proofs.BlocksAt.{place_after}
@@ -72,7 +72,7 @@ level_written d roles store assigns w free l = record {
 }
 
 pub level_behind : (d : Parts) (roles : Roles) (store : Store) (assigns : List AssignState) (o : Option Write) → ((w : Write) → o ≡ Some w → (n : ℕ) → Shown d roles n → names w n ≡ false) → Level d roles store assigns →
-    Level d roles (store_behind store o) (assigns_behind store o assigns)
+    Level d roles (store_after store o) (assigns_behind store o assigns)
 level_behind d roles store assigns None free l = l
 level_behind d roles store assigns (Some w) free l = level_written d roles store assigns w (free w refl) l
 
@@ -170,10 +170,10 @@ bit_written d blocks inputs k t m ran time store place w f same =
           sym (unchanged_covered store (put store w) found.1 n v p (none_at (is_changed store (put store w)) (control d k) found.0 found.1 found.2 none) found.3) ∙ same n v p shows named)
     ]
 
-pub bit_behind : (d : Parts) (blocks : ℕ → Bool) (inputs : List BitRange) (k : ℕ) (t : Text d k) (m : StartsMoved d blocks k) (ran : Bool) (time : ℕ) (store : Store) (place : Place) (o : Option Write) → Fares d inputs k t true ran time store place →
-    SameBit d blocks k m store → ((ran || is_awake (place_after store o place)) ≡ true) ⊎ SameBit d blocks k m (store_behind store o)
-bit_behind d blocks inputs k t m ran time store place None f same = inr same
-bit_behind d blocks inputs k t m ran time store place (Some w) f same = bit_written d blocks inputs k t m ran time store place w f same
+pub shifted_bit : (d : Parts) (blocks : ℕ → Bool) (inputs : List BitRange) (k : ℕ) (t : Text d k) (m : StartsMoved d blocks k) (ran : Bool) (time : ℕ) (store : Store) (place : Place) (o : Option Write) → Fares d inputs k t true ran time store place →
+    SameBit d blocks k m store → ((ran || is_awake (place_after store o place)) ≡ true) ⊎ SameBit d blocks k m (store_after store o)
+shifted_bit d blocks inputs k t m ran time store place None f same = inr same
+shifted_bit d blocks inputs k t m ran time store place (Some w) f same = bit_written d blocks inputs k t m ran time store place w f same
 
 -- a block that goes has been woken, behind the first quiet moment
 pub goes_ran : (d : Parts) (inputs : List BitRange) (k : ℕ) (t : Text d k) (ran : Bool) (time : ℕ) (store : Store) (place : Place) (gait : Gait) (todo : Todo) → place ≡ going gait todo → Fares d inputs k t true ran time store place → ran ≡ true

@@ -9,13 +9,13 @@ use Rattle.vs_design.specs.Stores.{Store, put}
 use Rattle.vs_design.specs.Writes.{Write, names}
 use Rattle.vs_process.specs.vs_strobe.specs.Lines.{Format}
 use Rattle.vs_process.specs.Places.{Place}
-use Rattle.vs_process.specs.States.{State, Update, Called, updates_behind, calls_behind}
+use Rattle.vs_process.specs.States.{State, Update, Called, updates_after, calls_after}
 use Rattle.vs_process.proofs.Stores.{put_other, put_local}
-use Rattle.vs_process.specs.Threads.{store_behind, Thread, IsThread, log_behind, writes, any_names}
+use Rattle.vs_process.specs.Threads.{store_after, Thread, IsThread, log_after, writes, any_names}
 use Rattle.vs_process.proofs.Calls.{of, of_own, of_other}
 use Rattle.vs_process.proofs.ThreadLists.{at, at_same, at_each, at_some}
 use Rattle.vs_process.proofs.ThreadStores.{names_some, by}
-use Rattle.vs_independence.proofs.Running.{Apart, Asks, Finishes, is_waiting, AllThreads, AllStand, Sources, Mades, agrees, same_made}
+use Rattle.vs_independence.proofs.Running.{Apart, Asks, Finishes, is_waiting, AllThreads, AllPlaced, Sources, Mades, agrees, same_made}
 
 -- what one of the functions has, where it is the changed one
 pub at_this : {A : Type 0} (P : A → Type 0) (f : ℕ → A) (i : ℕ) (x : A) → P x → (j : ℕ) × P (at f i x j)
@@ -23,11 +23,11 @@ at_this P f i x p = (i, subst P (sym (at_same f i x)) p)
 
 -- a thread behind a step: where it is, its write, its updates and its calls
 abbrev pub stepped_thread : Thread → Place → Option Write → List Update → List Called → Bool → Thread
-stepped_thread th p o made asked fin = record { place = p; view = store_behind th.view o; log = log_behind th.log o; made = made; asked = asked; fin = fin }
+stepped_thread th p o made asked fin = record { place = p; view = store_after th.view o; log = log_after th.log o; made = made; asked = asked; fin = fin }
 
 -- the store behind a step of one process, against the threads behind it
-pub sources_step : (d : Parts) (blocks : ℕ → Bool) (b : State) → Apart d blocks b → (store : Store) (th : ℕ → Thread) → AllStand d blocks b store th → Sources d blocks b store th → (i : ℕ) (p : Place) (o : Option Write) (made : List Update) (asked : List Called) (fin : Bool) →
-    IsThread d blocks b i (stepped_thread (th i) p o made asked fin) → Sources d blocks b (store_behind store o) (at th i (stepped_thread (th i) p o made asked fin))
+pub sources_step : (d : Parts) (blocks : ℕ → Bool) (b : State) → Apart d blocks b → (store : Store) (th : ℕ → Thread) → AllPlaced d blocks b store th → Sources d blocks b store th → (i : ℕ) (p : Place) (o : Option Write) (made : List Update) (asked : List Called) (fin : Bool) →
+    IsThread d blocks b i (stepped_thread (th i) p o made asked fin) → Sources d blocks b (store_after store o) (at th i (stepped_thread (th i) p o made asked fin))
 sources_step d blocks b apart store th all so i p None made asked fin is = record {
   own = at_each (λ k t. (v : ℕ) → writes t v ≡ true → slice_get store v ≡ slice_get t.view v) th i (stepped_thread (th i) p None made asked fin) (so.own i) (λ k ne. so.own k);
   fresh = λ v undriven. elim (so.fresh v undriven) [
@@ -76,7 +76,7 @@ by_other us u v miss = by_more us u v ∙ ap (λ b. by v us ++ cond b (u ∷ [])
 -- the updates behind a step of one process, against the threads behind it
 pub mades_step : (d : Parts) (blocks : ℕ → Bool) (b : State) → Apart d blocks b → (updates : List Update) (th : ℕ → Thread) → AllThreads d blocks b th → Mades d blocks b updates th → (i : ℕ) (p : Place) (o : Option Write) (u : Option (ℕ × Write)) (asked : List Called) (fin : Bool) →
     ((w : ℕ × Write) → u ≡ Some w → names_some w.1 ≡ true) →
-    IsThread d blocks b i (stepped_thread (th i) p o (updates_behind i b.time u (th i).made) asked fin) → Mades d blocks b (updates_behind i b.time u updates) (at th i (stepped_thread (th i) p o (updates_behind i b.time u (th i).made) asked fin))
+    IsThread d blocks b i (stepped_thread (th i) p o (updates_after i b.time u (th i).made) asked fin) → Mades d blocks b (updates_after i b.time u updates) (at th i (stepped_thread (th i) p o (updates_after i b.time u (th i).made) asked fin))
 mades_step d blocks b apart updates th all ma i p o None asked fin some is = record {
   made = at_each (λ k t. (v : ℕ) → any_names t.made v ≡ true → by v updates ≡ by v b.updates ++ by v t.made) th i (stepped_thread (th i) p o (th i).made asked fin) (ma.made i) (λ k ne. ma.made k);
   unmade = λ v. elim (ma.unmade v) [
@@ -126,10 +126,10 @@ mades_step d blocks b apart updates th all ma i p o (Some w) asked fin some is =
         inr (at_some (λ t. any_names t.made v ≡ true) th i tn (λ h. any_more (th i).made u v ∙ or_left (any_names (th i).made v) (names w.1 v || false) h) other)
 
 -- the calls behind a step of one process, against the threads behind it
-pub asks_step : (calls : List Called) (th : ℕ → Thread) → Asks calls th → (i : ℕ) (o : Option Format) (tn : Thread) → tn.asked ≡ calls_behind i o (th i).asked → Asks (calls_behind i o calls) (at th i tn)
+pub asks_step : (calls : List Called) (th : ℕ → Thread) → Asks calls th → (i : ℕ) (o : Option Format) (tn : Thread) → tn.asked ≡ calls_after i o (th i).asked → Asks (calls_after i o calls) (at th i tn)
 asks_step calls th asks i o tn is =
-    at_each (λ k t. of k (calls_behind i o calls) ≡ t.asked) th i tn
-    (of_own i o calls ∙ ap (calls_behind i o) (asks i) ∙ sym is)
+    at_each (λ k t. of k (calls_after i o calls) ≡ t.asked) th i tn
+    (of_own i o calls ∙ ap (calls_after i o) (asks i) ∙ sym is)
     (λ k ne. of_other i k o calls (ne_eqb i k (λ same. ne (sym same))) ∙ asks k)
 
 -- whether it is finishing behind a step of one process, against the threads behind it

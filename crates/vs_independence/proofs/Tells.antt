@@ -1,6 +1,7 @@
 -- The lines of `$display` that a thread makes, turn by turn.
 use Rattle.std.proofs.Common.{◌≡◌, ℕ, zero, suc, ◌+◌, ◌-◌, ◌≤◌, ◌++◌, Bool, true, Option, Some, None, List, [], slice_get, zero-le, refl, sym, ◌∙◌, ap, ap₂, subst, inl, inr, add-zero, add-suc, add-sub_of_le, le_of_lt, append-nil, arith}
 use Rattle.std.proofs.lemmas.Bool.{cases_lt, false≢true}
+use Rattle.std.proofs.lemmas.Option.{same_Some as same_some}
 use Rattle.vs_design.specs.Parts.{Parts}
 use Rattle.vs_design.specs.Stores.{Store}
 use Rattle.vs_design.specs.Traces.{Line}
@@ -9,7 +10,6 @@ use Rattle.vs_process.specs.Steps.{step}
 use Rattle.vs_process.specs.States.{State, roused}
 use Rattle.vs_process.specs.Executions.{line_by}
 use Rattle.vs_process.specs.Threads.{Thread, Fired, turn, turn_at, iterate, opening, is_timed, MayOpen, IsThread, writes}
-use Rattle.vs_process.proofs.ThreadLinks.{same_some}
 use Rattle.vs_process.proofs.Threads.{is_stopped, stopped_stays, stays_from, rouse_thread, thread_opens, thread_turns, unmoved, unwritten}
 use Rattle.vs_independence.proofs.Running.{Apart, given_value}
 use Rattle.vs_independence.proofs.Fire.{IsFiredNow, fired_changed, fired_is}

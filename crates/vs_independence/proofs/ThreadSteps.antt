@@ -7,7 +7,7 @@ use Rattle.vs_process.specs.Steps.{step, Out}
 use Rattle.vs_process.specs.Reads.{mute}
 use Rattle.vs_independence.proofs.Running.{Apart, Running, agrees, reads_agree}
 use Rattle.vs_process.specs.BlockDrivers.{IsSource}
-use Rattle.vs_process.specs.Threads.{IsFiredBy, IsThread, MayOpen, opening, Thread, early_at, early_turn, log_behind, place_reads, todo_reads, turn_at, turn, writes}
+use Rattle.vs_process.specs.Threads.{IsFiredBy, IsThread, MayOpen, opening, Thread, early_at, early_turn, log_after, place_reads, todo_reads, turn_at, turn, writes}
 use Rattle.vs_process.specs.States.{State}
 use Rattle.vs_design.specs.Writes.{Write, names}
 use Rattle.std.proofs.lemmas.Bool.{false≢true}
@@ -22,7 +22,7 @@ use Rattle.vs_independence.proofs.History.{put_log, view_log}
 use Rattle.vs_process.specs.Edges.{Copies, IsHeard, IsRoot}
 
 pub record ThreadStep (d : Parts) (blocks : ℕ → Bool) (b s : State) (th : ℕ → Thread) (i : ℕ) (p : Place) : Type 0 where
-  pub log : (turn b.time i (th i)).log ≡ log_behind (th i).log (step (todo_of p) s.store s.time).write
+  pub log : (turn b.time i (th i)).log ≡ log_after (th i).log (step (todo_of p) s.store s.time).write
   pub sources : (w : Write) → (step (todo_of p) s.store s.time).write ≡ Some w → (v : ℕ) → names w v ≡ true → IsSource d blocks v
   pub agree : (w : Write) → (step (todo_of p) s.store s.time).write ≡ Some w → (v : ℕ) → names w v ≡ true → slice_get s.store v ≡ slice_get (th i).view v
   pub turned : IsThread d blocks b i (turn b.time i (th i))
@@ -53,8 +53,8 @@ thread_step d blocks b s apart th r i other (going gait todo) is h = record {
     same_write : (step todo (th i).view b.time).write ≡ (step todo s.store s.time).write
     same_write = sym (ap (λ (out : Out). out.write) (step_reads s.store (th i).view todo s.time agree_reads ∙ ap (λ t. mute (step todo (th i).view t)) r.slot.time))
 
-    log_is : (turn b.time i (th i)).log ≡ log_behind (th i).log (step todo s.store s.time).write
-    log_is = ap (λ p. (turn_at b.time i p (th i)).log) here_is ∙ ap (log_behind (th i).log) same_write
+    log_is : (turn b.time i (th i)).log ≡ log_after (th i).log (step todo s.store s.time).write
+    log_is = ap (λ p. (turn_at b.time i p (th i)).log) here_is ∙ ap (log_after (th i).log) same_write
 
     in_log : (w : Write) → (step todo s.store s.time).write ≡ Some w → (v : ℕ) → names w v ≡ true → writes (turn b.time i (th i)) v ≡ true
     in_log w e v named = ap (λ l. list_any (λ w. names w v) l) log_is ∙ log_names (th i).log (step todo s.store s.time).write w v e named

@@ -10,8 +10,8 @@ use Rattle.vs_process.specs.declared.gait.Gait.{Gait}
 use Rattle.vs_process.specs.declared.gait.Gait.TheVariants.{Woken, Fresh}
 use Rattle.vs_process.specs.Places.{Todo, Place, going, sleeping, inactive, waiting, ended, active_at, stepped_gait, start_place, flat}
 use Rattle.vs_process.specs.Steps.{Next, on, after, wait, step}
-use Rattle.vs_process.specs.States.{State, Update, place_behind, paused, triggered, woken_at}
-use Rattle.vs_process.specs.Executions.{earlier, next_wake, next_update, next_time, ends, slot_behind, places_at, time_at}
+use Rattle.vs_process.specs.States.{State, Update, place_after_step, paused, triggered, woken_at}
+use Rattle.vs_process.specs.Executions.{earlier, next_wake, next_update, next_time, ends, after_slot, places_at, time_at}
 use Rattle.vs_process.proofs.ProcessLists.{list_all_like}
 use Rattle.vs_process.specs.Threads.{Thread, Fired, found, IsThread, turn_at, turn, iterate, opening}
 use Rattle.vs_process.proofs.ThreadStores.{names_some, by, filter_hit, filter_miss}
@@ -34,7 +34,7 @@ later_paused time ticks todo =
     cond_both (ticks == 0) (inactive todo) (sleeping (time + ticks) todo) (λ p. is_later time p ≡ true) (λ e. refl)
     (λ e. let ne : ticks ≡ 0 → ⊥ = eqb-false ticks 0 e in lt-ltb time (time + ticks) (omega (arith, ne)))
 
-later_behind : (time : ℕ) (gait : Gait) (todo : Todo) (next : Next) → is_later time (place_behind (going gait todo) time next) ≡ true
+later_behind : (time : ℕ) (gait : Gait) (todo : Todo) (next : Next) → is_later time (place_after_step (going gait todo) time next) ≡ true
 later_behind time gait todo (on rest) = later_active time (stepped_gait gait) rest
 later_behind time gait todo (after n ticks rest) = later_paused time ticks rest
 later_behind time gait todo (wait n terms rest) = refl
@@ -325,9 +325,9 @@ waiting_from time t u le h =
 
 -- the next slot: later, with delays and updates that are due later still; or the end of all
 pub record GoesOn (s : State) : Type 0 where
-  pub later : list_all (is_later (slot_behind s).time) (slot_behind s).places ≡ true
-  pub waiting : list_all (is_waiting (slot_behind s).time) s.updates ≡ true
-  pub up : s.time ≤ (slot_behind s).time
+  pub later : list_all (is_later (after_slot s).time) (after_slot s).places ≡ true
+  pub waiting : list_all (is_waiting (after_slot s).time) s.updates ≡ true
+  pub up : s.time ≤ (after_slot s).time
 
 record GoesOnAt (s : State) (over : Bool) (next : Option ℕ) : Type 0 where
   later : list_all (is_later (time_at over next s.time)) (places_at over next s.places) ≡ true

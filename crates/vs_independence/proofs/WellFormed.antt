@@ -11,7 +11,7 @@ use Rattle.vs_process.specs.Places.{Place, going, sleeping, inactive, waiting, e
 use Rattle.vs_process.specs.Steps.{step}
 use Rattle.vs_process.specs.States.{State, triggered}
 use Rattle.vs_process.proofs.WellFormed.{IsVariable, drives_apart, is_sound_place, sound_active, sound_next, sound_made, sound_place_behind, step_names}
-use Rattle.vs_process.specs.Threads.{Thread, Fired, found, IsThread, log_behind, turn_at, turn, iterate, opening, writes, any_names}
+use Rattle.vs_process.specs.Threads.{Thread, Fired, found, IsThread, log_after, turn_at, turn, iterate, opening, writes, any_names}
 use Rattle.vs_process.proofs.ThreadAssigns.{DrivesWell}
 use Rattle.vs_independence.proofs.Times.{get_from_all}
 
@@ -28,7 +28,7 @@ pub record SoundThread (ss : List Signal) (th : Thread) : Type 0 where
   pub made : (v : ℕ) → any_names th.made v ≡ true → IsVariable ss v
 
 sound_log : (ss : List Signal) (log : List Write) (o : Option Write) → ((w : Write) → o ≡ Some w → (v : ℕ) → names w v ≡ true → IsVariable ss v) →
-    ((v : ℕ) → list_any (λ w. names w v) log ≡ true → IsVariable ss v) → (v : ℕ) → list_any (λ w. names w v) (log_behind log o) ≡ true → IsVariable ss v
+    ((v : ℕ) → list_any (λ w. names w v) log ≡ true → IsVariable ss v) → (v : ℕ) → list_any (λ w. names w v) (log_after log o) ≡ true → IsVariable ss v
 sound_log ss log None new old v h = old v h
 sound_log ss log (Some w) new old v h = elim (or_cases (names w v) (list_any (λ w. names w v) log) h) [
   | inl hit ↦ new w refl v hit

@@ -13,9 +13,9 @@ use Rattle.vs_process.specs.declared.moves.Move.{Move}
 use Rattle.vs_process.specs.declared.moves.Move.TheVariants.{Step, Evaluate, Propagate, Make, Rouse, Activate, EndSlot}
 use Rattle.vs_process.specs.Places.{ended, active_at, is_going, start_place, going, perform}
 use Rattle.vs_process.specs.States.{State, AssignState, start, start_assign, woken_at}
-use Rattle.vs_process.specs.Executions.{allowed, apply, after, Legal, slot_behind, strobe_line, ended_slot, slots, is_complete, is_by, finish_time, trace, ends, is_enabled, is_free, next_time, places_at}
+use Rattle.vs_process.specs.Executions.{allowed, apply, after, Legal, after_slot, strobe_line, ended_slot, slots, is_complete, is_by, finish_time, trace, ends, is_enabled, is_free, next_time, places_at}
 use Rattle.vs_process.proofs.Times.{enabled_of}
-use Rattle.vs_process.proofs.ProcessLists.{map_cases, map_at}
+use Rattle.vs_process.proofs.ProcessLists.{map_cases}
 use Rattle.vs_process.proofs.Assigns.{sound_start}
 use Rattle.vs_process.proofs.WellFormed.{variable_undriven}
 use Rattle.vs_process.proofs.Idle.{IsSound, after_sound}
@@ -46,7 +46,7 @@ use Rattle.vs_process.proofs.Texts.{Text}
 use Rattle.vs_process.specs.Steps.{goes}
 use Rattle.vs_process.proofs.Held.{into_puts}
 use Rattle.vs_process.proofs.Outputs.{outputs_undriven}
-use Rattle.vs_design.specs.vs_logic4.proofs.Basics.{or_false}
+use Rattle.vs_design.specs.vs_logic4.proofs.Basics.{or_false, map_at}
 use Rattle.std.proofs.lemmas.Option.{get_or_from_slice_get}
 
 -- the moves up to the beginning of the slot that goes on
@@ -182,7 +182,7 @@ start_moment d roles set = record {
 }
 
 -- the places of a slot that ends: all blocks are at their controls
-next_place : (d : Parts) (inputs : List BitRange) (k : ℕ) (t : Text d k) (ran : Bool) (time : ℕ) (store : Store) (s : State) → Fares d inputs k t true ran time store (get_or s.places k ended) → get_or (slot_behind s).places k ended ≡ get_or s.places k ended
+next_place : (d : Parts) (inputs : List BitRange) (k : ℕ) (t : Text d k) (ran : Bool) (time : ℕ) (store : Store) (s : State) → Fares d inputs k t true ran time store (get_or s.places k ended) → get_or (after_slot s).places k ended ≡ get_or s.places k ended
 next_place d inputs k t ran time store s f = by_next (ends s) (next_time s)
   where
     by_next : (over : Bool) (next : Option ℕ) → get_or (places_at over next s.places) k ended ≡ get_or s.places k ended
@@ -191,34 +191,34 @@ next_place d inputs k t ran time store s f = by_next (ends s) (next_time s)
     by_next false (Some n) = mapped_place d inputs k t true ran time store s.places (woken_at n) refl (λ gait todo. refl) (λ terms todo. refl) f
 
 behind_blocks : (d : Parts) (roles : Roles) (set : Setting d roles) (b s : State) (ran0 ran : ℕ → Bool) → Ends d roles set b s ran0 ran →
-    BlocksAt d roles set.z true (woken_more ran (slot_behind s).places) (slot_behind s).time (slot_behind s).store (slot_behind s).places
+    BlocksAt d roles set.z true (woken_more ran (after_slot s).places) (after_slot s).time (after_slot s).store (after_slot s).places
 behind_blocks d roles set b s ran0 ran e = record {
-  fares = λ k is. subst (λ p. Fares d (roles.inputs k) k (text_at d roles set.z k is) true (ran k || is_awake p) (slot_behind s).time s.store p)
+  fares = λ k is. subst (λ p. Fares d (roles.inputs k) k (text_at d roles set.z k is) true (ran k || is_awake p) (after_slot s).time s.store p)
       (sym (next_place d (roles.inputs k) k (text_at d roles set.z k is) (ran k) s.time s.store s (e.blocks.fares k is))) (at_next k is);
   bare = e.blocks.bare;
   sized = e.blocks.sized;
 }
   where
-    at_next : (k : ℕ) (is : roles.blocks k ≡ true) → Fares d (roles.inputs k) k (text_at d roles set.z k is) true (ran k || is_awake (get_or s.places k ended)) (slot_behind s).time s.store (get_or s.places k ended)
+    at_next : (k : ℕ) (is : roles.blocks k ≡ true) → Fares d (roles.inputs k) k (text_at d roles set.z k is) true (ran k || is_awake (get_or s.places k ended)) (after_slot s).time s.store (get_or s.places k ended)
     at_next k is =
-        fares_still d (roles.inputs k) k (text_at d roles set.z k is) true (ran k) (slot_behind s).time s.store (get_or s.places k ended)
-        (fares_later d (roles.inputs k) k (text_at d roles set.z k is) true (ran k) s.time (slot_behind s).time s.store (get_or s.places k ended) (none_get is_going s.places k ended refl e.going) (e.blocks.fares k is))
+        fares_still d (roles.inputs k) k (text_at d roles set.z k is) true (ran k) (after_slot s).time s.store (get_or s.places k ended)
+        (fares_later d (roles.inputs k) k (text_at d roles set.z k is) true (ran k) s.time (after_slot s).time s.store (get_or s.places k ended) (none_get is_going s.places k ended refl e.going) (e.blocks.fares k is))
 
 -- nor is a block awake there
-behind_asleep : (d : Parts) (roles : Roles) (set : Setting d roles) (b s : State) (ran0 ran : ℕ → Bool) → Ends d roles set b s ran0 ran → (k : ℕ) → roles.blocks k ≡ true → (ran k || is_awake (get_or (slot_behind s).places k ended)) ≡ ran k
+behind_asleep : (d : Parts) (roles : Roles) (set : Setting d roles) (b s : State) (ran0 ran : ℕ → Bool) → Ends d roles set b s ran0 ran → (k : ℕ) → roles.blocks k ≡ true → (ran k || is_awake (get_or (after_slot s).places k ended)) ≡ ran k
 behind_asleep d roles set b s ran0 ran e k is =
     let t = text_at d roles set.z k is in
     let home_is = (ends_rested d roles set b s ran0 ran e k is).at_home in
-    let asleep : is_awake (get_or (slot_behind s).places k ended) ≡ false = ap is_awake (next_place d (roles.inputs k) k t (ran k) s.time s.store s (e.blocks.fares k is) ∙ home_is) ∙ home_asleep d k t in
-    or_false (ran k) (is_awake (get_or (slot_behind s).places k ended)) asleep
+    let asleep : is_awake (get_or (after_slot s).places k ended) ≡ false = ap is_awake (next_place d (roles.inputs k) k t (ran k) s.time s.store s (e.blocks.fares k is) ∙ home_is) ∙ home_asleep d k t in
+    or_false (ran k) (is_awake (get_or (after_slot s).places k ended)) asleep
 
-pub behind_runs : (d : Parts) (roles : Roles) (set : Setting d roles) (b s : State) (ran0 ran : ℕ → Bool) → Ends d roles set b s ran0 ran → list_all (is_waiting (slot_behind s).time) s.updates ≡ true →
-    Running d roles.blocks (slot_behind s) (slot_behind s) (λ i. opening roles.blocks (slot_behind s) i None)
+pub behind_runs : (d : Parts) (roles : Roles) (set : Setting d roles) (b s : State) (ran0 ran : ℕ → Bool) → Ends d roles set b s ran0 ran → list_all (is_waiting (after_slot s).time) s.updates ≡ true →
+    Running d roles.blocks (after_slot s) (after_slot s) (λ i. opening roles.blocks (after_slot s) i None)
 behind_runs d roles set b s ran0 ran e waiting = record {
   slot = record { time = refl; over = refl; count = refl };
   sound = e.behind.making.sound;
-  stands = begin_stands d roles.blocks (slot_behind s);
-  places = begin_places roles.blocks (slot_behind s);
+  stands = begin_stands d roles.blocks (after_slot s);
+  places = begin_places roles.blocks (after_slot s);
   sources = record { own = λ i v h. absurd (false≢true h); fresh = λ v undriven. inl refl };
   mades = record { made = λ i v h. absurd (false≢true h); unmade = λ v. inl refl; waiting = waiting; undriven = e.behind.making.undriven };
   asks = λ i. refl;
@@ -229,19 +229,19 @@ behind_runs d roles set b s ran0 ran e waiting = record {
   edges = record { net = λ root m n c. inl refl; link = λ root m n c x is. inl (e.idle c.link.number x is).1 };
 }
 
-behind_moment : (d : Parts) (roles : Roles) (set : Setting d roles) (b s : State) (ran0 ran : ℕ → Bool) → Ends d roles set b s ran0 ran → list_all (is_waiting (slot_behind s).time) s.updates ≡ true →
-    Moment d roles set (slot_behind s) (slot_behind s) (woken_more ran (slot_behind s).places) true (woken_more ran (slot_behind s).places)
+behind_moment : (d : Parts) (roles : Roles) (set : Setting d roles) (b s : State) (ran0 ran : ℕ → Bool) → Ends d roles set b s ran0 ran → list_all (is_waiting (after_slot s).time) s.updates ≡ true →
+    Moment d roles set (after_slot s) (after_slot s) (woken_more ran (after_slot s).places) true (woken_more ran (after_slot s).places)
 behind_moment d roles set b s ran0 ran e waiting = record {
   blocks = behind_blocks d roles set b s ran0 ran e;
   phase = inl (record {
-    th = λ i. opening roles.blocks (slot_behind s) i None;
+    th = λ i. opening roles.blocks (after_slot s) i None;
     runs = behind_runs d roles set b s ran0 ran e waiting;
     history = record { kept = λ k is s old. old; seen = λ k is s x. absurd (false≢true x.alters); some = λ k is s run. inl run };
-    era = inr (record { is_late = refl; cold = λ k is s_k. or_some (ran k) (is_awake (get_or (slot_behind s).places k ended)) (e.behind.era.cold k is s_k) });
+    era = inr (record { is_late = refl; cold = λ k is s_k. or_some (ran k) (is_awake (get_or (after_slot s).places k ended)) (e.behind.era.cold k is s_k) });
     grown = λ k old. old;
     level = λ at_start. subst (λ (u : State). Level d roles u.store u.assigns) (sym at_start) (level_start d roles);
   });
-  begun = inr (λ k is s_k. or_some (ran k) (is_awake (get_or (slot_behind s).places k ended)) (all_started d roles set b s ran0 ran e k is s_k));
+  begun = inr (λ k is s_k. or_some (ran k) (is_awake (get_or (after_slot s).places k ended)) (all_started d roles set b s ran0 ran e k is s_k));
 }
 
 -- what holds at a moment of an execution
@@ -600,8 +600,8 @@ further grain d dis until xs lx complete (suc k) ys ly c = step_cases (further g
         let ran = sure roles (ran_after d roles y.before) in
         let g = goes_on s (slot_later d roles set (after d (cut y.before)) s ran0 ran h.later e) (all_future d roles set (after d (cut y.before)) s ran0 ran e) in
         let at_y = same_slot grain d dis ys (holds grain d dis ys ly) in
-        let up : s.time ≤ (slot_behind s).time = g.up in
-        let next : until < (slot_behind s).time = omega (arith, up, lt) in
+        let up : s.time ≤ (after_slot s).time = g.up in
+        let next : until < (after_slot s).time = omega (arith, up, lt) in
         let past : until < (after d ys).time = subst (λ n. until < n) (ap (λ l. (after d l).time) (sym y.is) ∙ sym at_y.time) next in
         record {
           complete = inr past;

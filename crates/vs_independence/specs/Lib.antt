@@ -1,3 +1,4 @@
 pub mod Discipline
 pub mod Displays
 pub use Rattle.vs_process
+pub mod RuleLaws

@@ -1,17 +1,15 @@
 -- What is active in a run.
-use Rattle.std.proofs.Common.{◌≡◌, ℕ, suc, ◌+◌, ◌<◌, ◌||◌, ◌&&◌, not, ltb, Bool, true, false, Option, Some, None, List, [], ◌∷◌, length, slice_get, is_some, refl, sym, ◌∙◌, ap₂, subst, arith}
+use Rattle.std.proofs.Common.{◌≡◌, ℕ, suc, ◌<◌, ◌||◌, ◌&&◌, not, Bool, true, false, Option, Some, None, List, [], ◌∷◌, length, slice_get, is_some, refl, ◌∙◌, ap₂, arith}
 use Rattle.std.specs.Prelude.{IsTrue, ◌↔◌}
 use Rattle.std.specs.List.{list_any}
-use Rattle.std.proofs.lemmas.Bool.{ltb-false}
-use borrow.Author.Tests.{ltb-true}
 use Rattle.vs_design.specs.Parts.{Parts}
 use Rattle.vs_run_regions.specs.vs_process.specs.Places.{is_going}
 use Rattle.vs_run_regions.specs.vs_process.specs.declared.moves.Move.TheVariants.{Rouse, Activate, EndSlot}
 use Rattle.vs_run_regions.specs.vs_process.specs.Executions.{has_due, has_inactive, if_some, is_busy, is_enabled}
 use Rattle.vs_run_regions.specs.vs_process.specs.States.{AssignState, State}
 use Rattle.vs_run_active.specs.declared.process.Process.{Process}
-use Rattle.vs_run_active.specs.Standings.{is_active}
-use Rattle.vs_run_active.proofs.StandingsLemmas.{active_told}
+use Rattle.vs_run_active.specs.ProcessPlaces.{is_active}
+use Rattle.vs_run_active.proofs.ProcessPlacesLemmas.{active_told}
 use Rattle.vs_run_active.proofs.TimelinesLemmas.{any_inactive, any_number}
 use Rattle.vs_run_steps.specs.declared.run.RunState.{RunState}
 use Rattle.vs_run_steps.specs.Runs.{IsRunOf, state_of}
@@ -19,14 +17,6 @@ use Rattle.vs_run_steps.specs.vs_run_active.specs.Waiting.{places_of}
 use Rattle.vs_run_active.specs.Touches.{is_left}
 
 -- ---- lists of which none is active
-
--- what holds below a number and at it holds below the next one
-pub below_more : (P : ℕ → Type 0) (k : ℕ) → ((i : ℕ) → i < k → P i) → P k → (i : ℕ) → i < k + 1 → P i
-below_more P k h here i below = by (ltb i k) refl
-  where
-    by : (b : Bool) → ltb i k ≡ b → P i
-    by true is = h i (ltb-true i k is)
-    by false is = let same : i ≡ k = (let least = ltb-false i k is in omega (arith, below, least)) in subst P (sym same) here
 
 pub none_any : {A : Type 0} (f : A → Bool) (xs : List A) → ((i : ℕ) → i < length xs → if_some f (slice_get xs i) ≡ false) → list_any f xs ≡ false
 none_any f [] h = refl

@@ -5,7 +5,7 @@ use Rattle.std.specs.declared.vec.Vec.{Vec}
 use Rattle.std.specs.List.{list_any}
 use Rattle.std.specs.Option.{ForSome}
 use Rattle.std.specs.Prelude.{is_none}
-use Rattle.std.proofs.lemmas.Bool.{and_parts, false≢true, or_parts}
+use Rattle.std.proofs.lemmas.Bool.{and_parts, or_parts, not-true}
 use Rattle.std.proofs.lemmas.Option.{none-some, same_Some}
 use Rattle.vs_design.specs.Parts.{Parts}
 use Rattle.vs_design.specs.Stores.{changed_at}
@@ -20,16 +20,16 @@ use Rattle.vs_run_regions.specs.vs_time_wheel.specs.Bag.{events_at, least_time}
 use Rattle.vs_run_active.specs.declared.process.Process.{Process}
 use Rattle.vs_run_active.specs.declared.process.Wait.{Wait}
 use Rattle.vs_run_active.specs.declared.process.Wait.TheVariants.{Nothing, Until, Inactive, Terms}
-use Rattle.vs_run_active.specs.Standings.{place_in, roused_in, roused_wait, woken_in, woken_wait}
+use Rattle.vs_run_active.specs.ProcessPlaces.{place_in, roused_in, roused_wait, woken_in, woken_wait}
 use Rattle.vs_run_active.specs.Timelines.{AreKept}
 use Rattle.vs_run_active.specs.Triggers.{changed_all}
-use Rattle.vs_run_active.proofs.StandingsLemmas.{roused_told, woken_told}
+use Rattle.vs_run_active.proofs.ProcessPlacesLemmas.{roused_told, woken_told}
 use Rattle.vs_run_active.proofs.TimelinesLemmas.{all_roused, all_woken_at, kept_all_roused, kept_all_woken, least_wake}
 use Rattle.vs_run_steps.specs.declared.run.RunState.{RunState}
 use Rattle.vs_run_steps.specs.Runs.{Agrees, AreScriptsIn, IsRunOf, IsScriptIn, counters_of, plan_of, state_of}
 use Rattle.vs_run_steps.proofs.RunsLemmas.{keeps_regions, plan_in}
 use Rattle.vs_run_steps.specs.vs_run_active.specs.declared.events.Events.{Events}
-use Rattle.vs_run_steps.specs.vs_run_active.specs.declared.watchers.ListedTerm.{ListedTerm}
+use Rattle.vs_run_steps.specs.vs_run_active.specs.declared.watchers.ProcessTerm.{ProcessTerm}
 use Rattle.vs_run_steps.specs.vs_run_active.specs.Waiting.{AreWaiting, IsWaiting, places_of}
 use Rattle.vs_run_regions.specs.Active.{is_active}
 use Rattle.vs_run_regions.specs.Regions.{Waiting}
@@ -80,7 +80,7 @@ each_holds P f still (n ∷ ns) ps h = each_holds P f still ns (changed_at f n p
 abbrev pub left_run : {Q : Type 0} → RunState Q → Waiting → Events → Vec Called Global → Vec ℕ Global → RunState Q
 left_run r v ev calls room = record r { regions = v; watched = record r.watched { events = ev }; calls = calls; woken = room }
 
-left_agrees : {Q : Type 0} (d : Parts) (terms : List ListedTerm) (r : RunState Q) (v : Waiting) (ev : Events) (calls : Vec Called Global) (room : Vec ℕ Global) (f : Process → Process) (ns : List ℕ) →
+left_agrees : {Q : Type 0} (d : Parts) (terms : List ProcessTerm) (r : RunState Q) (v : Waiting) (ev : Events) (calls : Vec Called Global) (room : Vec ℕ Global) (f : Process → Process) (ns : List ℕ) →
     ((p : Process) → (f p).script.now ≡ p.script.now) → ((k : ℕ) (p : Process) → IsWaiting terms k p.wait → IsWaiting terms k (f p).wait) → Agrees d terms r →
     ev.processes ≡ changed_each f ns r.watched.events.processes → ev.assigns ≡ r.watched.events.assigns → v.listed.signals ≡ r.regions.listed.signals →
     AreKept (places_of (counters_of r) ev.processes) v.inactive v.sleepers → Agrees d terms (left_run r v ev calls room)
@@ -112,7 +112,7 @@ left_places r ev f g ns told processes all = ap (places_of (counters_of r)) proc
 
 -- ---- the inactive processes go on
 
-roused_still : (terms : List ListedTerm) (k : ℕ) (w : Wait) → IsWaiting terms k w → IsWaiting terms k (roused_wait w)
+roused_still : (terms : List ProcessTerm) (k : ℕ) (w : Wait) → IsWaiting terms k w → IsWaiting terms k (roused_wait w)
 roused_still terms k (Nothing gait) h = h
 roused_still terms k (Until due) h = h
 roused_still terms k Inactive h = tt
@@ -149,16 +149,12 @@ rouse_run d r v ev room ns h handed left processes assigns =
 
 -- ---- the updates are activated
 
-not_true : (b : Bool) → not b ≡ true → b ≡ false
-not_true true h = absurd (false≢true h)
-not_true false h = refl
-
 idle_updates : (s : State) → is_busy s ≡ false → list_any is_active s.updates ≡ false
 idle_updates s idle =
     (or_parts (list_any is_going s.places || list_any (λ (x : AssignState). x.needs || is_some x.pending) s.assigns) (list_any is_active s.updates) idle).1
 
 pub activate_idle : (s : State) → is_enabled s Activate ≡ true → list_any is_active s.updates ≡ false
-activate_idle s h = idle_updates s (not_true (is_busy s) (and_parts _ _ (and_parts _ _ h).0).0)
+activate_idle s h = idle_updates s (not-true (is_busy s) (and_parts _ _ (and_parts _ _ h).0).0)
 
 pub activate_made : {Q : Type 0} (r : RunState Q) (v : Waiting) → v.updates ≡ map (activated r.regions.time) r.regions.updates → v.time ≡ r.regions.time →
     state_of (record r { regions = v }) ≡ apply Activate (state_of r)
@@ -176,7 +172,7 @@ pub end_idle : (s : State) → is_enabled s EndSlot ≡ true → (list_any is_ac
 end_idle s h =
     let both = and_parts _ _ h in
     let first = and_parts _ _ both.0 in
-    (idle_updates s (not_true (is_busy s) first.0), not_true (has_due s) both.1)
+    (idle_updates s (not-true (is_busy s) first.0), not-true (has_due s) both.1)
 
 pub end_over : (s : State) → ends s ≡ true → record s { calls = []; over = true } ≡ apply EndSlot s
 end_over s over = ap (λ (b : Bool). record s { places = places_at b (next_time s) s.places; calls = []; time = time_at b (next_time s) s.time; over = b }) (sym over)
@@ -226,11 +222,11 @@ stop_made r calls none over = ap (λ (l : List Called). record (state_of r) { ca
 
 -- time goes on
 
-woken_if : (terms : List ListedTerm) (k due : ℕ) (b : Bool) → IsWaiting terms k (if b then Nothing Woken else Until due)
+woken_if : (terms : List ProcessTerm) (k due : ℕ) (b : Bool) → IsWaiting terms k (if b then Nothing Woken else Until due)
 woken_if terms k due true = tt
 woken_if terms k due false = tt
 
-woken_still : (time : ℕ) (terms : List ListedTerm) (k : ℕ) (w : Wait) → IsWaiting terms k w → IsWaiting terms k (woken_wait time w)
+woken_still : (time : ℕ) (terms : List ProcessTerm) (k : ℕ) (w : Wait) → IsWaiting terms k w → IsWaiting terms k (woken_wait time w)
 woken_still time terms k (Nothing gait) h = h
 woken_still time terms k (Until due) h = woken_if terms k due (due == time)
 woken_still time terms k Inactive h = h

@@ -6,7 +6,7 @@ mod ScriptLemmas
 mod StartLemmas
 pub mod MarkingLemmas
 pub mod RegionLemmas
-pub mod StandingLemmas
+pub mod SnapshotLemmas
 pub mod RunsLemmas
 pub mod ShowsLemmas
-pub mod StandsLemmas
+pub mod RunPointLemmas

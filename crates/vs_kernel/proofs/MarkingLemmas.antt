@@ -25,7 +25,7 @@ use Rattle.vs_kernel.specs.vs_run_active.proofs.MarkingLemmas.{unmarked}
 use Rattle.vs_vcd_writing.specs.Progress.{Covers, HasWritten, Progress, vcd_slot}
 use Rattle.vs_run_steps.specs.Recording.{CoversNoted, HasNoted, HasRoom}
 use Rattle.vs_run_steps.specs.Runs.{Running, marks_of, state_of}
-use Rattle.vs_kernel.specs.Standing.{HasKept, IsKept}
+use Rattle.vs_kernel.specs.Snapshot.{HasKept, IsKept}
 
 -- ---- the marks cover what changes
 

@@ -13,8 +13,9 @@ use Rattle.vs_run_regions.specs.vs_process.specs.declared.moves.Move.{Move}
 use Rattle.vs_run_regions.specs.vs_process.specs.declared.moves.Move.TheVariants.{Step, Evaluate, Propagate, Make, Rouse, Activate, EndSlot}
 use Rattle.vs_run_regions.specs.vs_process.specs.Executions.{after, Legal, slots, trace, is_by, is_combinational, is_enabled, is_free, allowed, apply, ended_slot, finish_time, lines_of, move_lines, is_complete, next_time, time_at}
 use Rattle.vs_run_regions.specs.vs_process.specs.Places.{Place}
-use Rattle.vs_run_regions.specs.vs_process.specs.Blocks.{BlocksExclude, InsideFollows, inside_behind, inside_block, is_inside_at, is_inside_number, is_step_of_any}
-use Rattle.vs_kernel.specs.vs_run_steps.specs.Insides.{inside_told, is_told}
+use Rattle.vs_run_regions.specs.vs_process.specs.Blocks.{BlocksExclude, InsideFollows, inside_after_move, inside_block, is_inside_at, is_inside_number, is_step_of_any}
+use Rattle.vs_design.specs.vs_logic4.proofs.Basics.{right_false, left_false}
+use Rattle.vs_kernel.specs.vs_run_steps.specs.Insides.{inside_by_flags, is_block_inside}
 use Rattle.vs_run_regions.specs.vs_process.specs.States.{State, start}
 use Rattle.vs_vcd_writing.specs.Progress.{Progress}
 use Rattle.vs_vcd_writing.specs.Sinks.{AppendsPart}
@@ -62,19 +63,19 @@ permitted_block {d} {until} {steps} {taken} {now} {writer} {old} {new} {lold} {l
     in
     three now.over (is_enabled now m) (is_free Block d now m) over enabled (same ∙ ap (λ (o : Option ℕ). is_step_of_any o m) (sym here) ∙ free)
 
-told_at : (ps : List Process) (xs : List Place) (i : ℕ) → is_told (slice_get (map is_combinational ps) i) (slice_get xs i) ≡ is_inside_number ps xs i
+told_at : (ps : List Process) (xs : List Place) (i : ℕ) → is_block_inside (slice_get (map is_combinational ps) i) (slice_get xs i) ≡ is_inside_number ps xs i
 told_at [] xs i = refl
 told_at (p ∷ ps) [] zero = refl
 told_at (p ∷ ps) [] (suc i) = told_none ps i
   where
-    told_none : (ps : List Process) (i : ℕ) → is_told (slice_get (map is_combinational ps) i) None ≡ is_inside_at (slice_get ps i) None
+    told_none : (ps : List Process) (i : ℕ) → is_block_inside (slice_get (map is_combinational ps) i) None ≡ is_inside_at (slice_get ps i) None
     told_none [] i = refl
     told_none (p ∷ ps) zero = refl
     told_none (p ∷ ps) (suc i) = told_none ps i
 told_at (p ∷ ps) (x ∷ xs) zero = refl
 told_at (p ∷ ps) (x ∷ xs) (suc i) = told_at ps xs i
 
-told_behind : (ps : List Process) (xs : List Place) (m : Move) → inside_told (map is_combinational ps) xs m ≡ inside_behind ps xs m
+told_behind : (ps : List Process) (xs : List Place) (m : Move) → inside_by_flags (map is_combinational ps) xs m ≡ inside_after_move ps xs m
 told_behind ps xs (Step i) = ap (λ (b : Bool). if b then Some i else None) (told_at ps xs i)
 told_behind ps xs (Evaluate j) = refl
 told_behind ps xs (Propagate j) = refl
@@ -85,10 +86,10 @@ told_behind ps xs EndSlot = refl
 
 -- the block that has left its control behind a move
 pub inside_next : (d : Parts) (s t : State) (m : Move) (blocks : List Bool) (inside : Option ℕ) → InsideFollows → blocks ≡ map is_combinational d.processes → allowed Block d s m ≡ true → t ≡ apply m s →
-    inside ≡ inside_told blocks t.places m → inside ≡ inside_block d.processes t.places
+    inside ≡ inside_by_flags blocks t.places m → inside ≡ inside_block d.processes t.places
 inside_next d s t m blocks inside follows told block next is =
-    is ∙ ap (λ (l : List Bool). inside_told l t.places m) told ∙ told_behind d.processes t.places m
-    ∙ subst (λ (r : State). inside_behind d.processes r.places m ≡ inside_block d.processes r.places) (sym next) (sym (follows d s m block))
+    is ∙ ap (λ (l : List Bool). inside_by_flags l t.places m) told ∙ told_behind d.processes t.places m
+    ∙ subst (λ (r : State). inside_after_move d.processes r.places m ≡ inside_block d.processes r.places) (sym next) (sym (follows d s m block))
 
 -- a slot that ends by the moment is one of the trace
 ended_kept : (until : ℕ) (m : Move) (s : State) → s.time ≤ until → filter (is_by until) (ended_slot m s) ≡ ended_slot m s
@@ -103,17 +104,9 @@ ended_kept until Activate s h = refl
 kept_more : (p : Slot → Bool) (xs ys : List Slot) → filter p xs ≡ xs → filter p ys ≡ ys → filter p (xs ++ ys) ≡ xs ++ ys
 kept_more p xs ys h k = filter-append p xs ys ∙ ap (λ (l : List Slot). l ++ filter p ys) h ∙ ap (λ (l : List Slot). xs ++ l) k
 
-or_false_left : (a b : Bool) → a || b ≡ false → a ≡ false
-or_false_left true b h = cc
-or_false_left false b h = refl
-
-or_false_right : (a b : Bool) → a || b ≡ false → b ≡ false
-or_false_right true b h = cc
-or_false_right false b h = h
-
 -- an execution that isn't complete isn't past the moment
-by_then : (until : ℕ) (s : State) → is_complete until s ≡ false → s.time ≤ until
-by_then until s h = ltb-false until s.time (or_false_right s.over (nat_lt until s.time) h)
+pub by_then : (until : ℕ) (s : State) → is_complete until s ≡ false → s.time ≤ until
+by_then until s h = ltb-false until s.time (right_false s.over (nat_lt until s.time) h)
 
 -- an execution that isn't over and not past the moment isn't complete
 pub incomplete : (until : ℕ) (s : State) → s.over ≡ false → s.time ≤ until → is_complete until s ≡ false
@@ -241,7 +234,7 @@ over_behind until EndSlot s going early over = stays_by until s _ over early
 over_by : (until : ℕ) (d : Parts) (moves : List Move) → StopsAt until d moves → (after d moves).over ≡ true → (after d moves).time ≤ until
 over_by until d [] stops over = cc
 over_by until d (m ∷ before) stops over =
-    over_behind until m (after d before) (or_false_left (after d before).over (nat_lt until (after d before).time) stops.1) (by_then until (after d before) stops.1) over
+    over_behind until m (after d before) (left_false (after d before).over (nat_lt until (after d before).time) stops.1) (by_then until (after d before) stops.1) over
 
 -- the moment at which the dump of a run ends
 run_end : {d : Parts} {until steps taken : ℕ} {now : State} {writer : Option Progress} {old new lold lnew : Option (List ℕ)} →

@@ -1,6 +1,6 @@
 -- The start of a run.
 use Rattle.std.proofs.Common.{◌≡◌, ℕ, zero, suc, ◌<◌, Bool, false, Some, List, [], ◌∷◌, ◌++◌, map, length, slice_get, get_or, replicate, refl, sym, ◌∙◌, ap, ap₂, subst, arith}
-use Rattle.std.proofs.lemmas.Option.{none-some, same_Some}
+use Rattle.std.proofs.lemmas.Option.{none-some, same_Some, slice_get_within}
 use Rattle.vs_design.specs.vs_logic4.specs.declared.digit.Digit.{Digit}
 use Rattle.vs_design.specs.declared.design.Assign.{Assign}
 use Rattle.vs_design.specs.declared.design.Process as design
@@ -18,17 +18,18 @@ use Rattle.vs_run_active.specs.vs_process.specs.States.{AssignState, Called, sta
 use Rattle.vs_run_active.specs.declared.process.Process.{Process}
 use Rattle.vs_run_active.specs.declared.process.Wait.{Wait}
 use Rattle.vs_run_active.specs.declared.process.Wait.TheVariants.{Nothing, Until, Inactive, Terms}
-use Rattle.vs_run_active.specs.Standings.{IsWaitOf}
+use Rattle.vs_run_active.specs.ProcessPlaces.{IsWaitOf}
 use Rattle.vs_run_active.proofs.TimelinesLemmas.{kept_started}
 use Rattle.vs_run_steps.specs.declared.run.RunState.{RunState}
 use Rattle.vs_run_steps.specs.Runs.{IsRunOf, counters_of, state_of}
-use Rattle.vs_run_active.specs.declared.watchers.ListedTerm.{ListedTerm}
+use Rattle.vs_run_active.specs.declared.watchers.ProcessTerm.{ProcessTerm}
 use Rattle.vs_run_active.specs.Rows.{AreRows}
-use Rattle.vs_run_active.specs.Terms.{TermsAreListed, terms_from}
+use Rattle.vs_run_active.specs.Terms.{TermsAreFound, terms_from}
 use Rattle.vs_run_active.specs.Waiting.{IsWaiting, places_of}
 use Rattle.vs_run_active.specs.Waking.{terms_at}
 use Rattle.vs_run_regions.specs.Regions.{Waiting}
 use Rattle.vs_run_active.specs.Touches.{AreOf}
+use Rattle.vs_design.specs.vs_logic4.proofs.Basics.{there as slice_there}
 use Rattle.vs_kernel.specs.Scripts.{AreScripts, IsScriptFor}
 use Rattle.vs_kernel.specs.Starting.{AreCounted, AreStarted, IsStarted}
 
@@ -140,36 +141,26 @@ start_state d scripts r h =
     ∙ ap (λ (l : List Called). record (start d) { calls = l; finishing = r.finishing; over = r.over }) h.calls
     ∙ ap₂ (λ (a b : Bool). record (start d) { finishing = a; over = b }) h.finishing h.over
 
-waits_start : (terms : List ListedTerm) (i : ℕ) (c : Text) (w : Wait) → ((n : ℕ) (ts : List EventTerm) → HasControl c n ts → ts ≡ terms_at i n terms) → IsWaitOf c w → IsWaiting terms i w
+waits_start : (terms : List ProcessTerm) (i : ℕ) (c : Text) (w : Wait) → ((n : ℕ) (ts : List EventTerm) → HasControl c n ts → ts ≡ terms_at i n terms) → IsWaitOf c w → IsWaiting terms i w
 waits_start terms i c (Nothing gait) listed h = tt
 waits_start terms i c (Until due) listed h = tt
 waits_start terms i c Inactive listed h = tt
 waits_start terms i c (Terms n ts) listed h = listed n ts.now h
 
-slice_there : {A : Type 0} (xs : List A) (i : ℕ) → i < length xs → (x : A) × (slice_get xs i ≡ Some x)
-slice_there [] i h = absurd (omega (arith, h))
-slice_there (x ∷ xs) zero h = (x, refl)
-slice_there (x ∷ xs) (suc i) h = slice_there xs i (omega (arith, h))
-
-below_there : {A : Type 0} (xs : List A) (i : ℕ) (x : A) → slice_get xs i ≡ Some x → i < length xs
-below_there [] i x at = absurd (none-some x at)
-below_there (y ∷ ys) zero x at = omega arith
-below_there (y ∷ ys) (suc i) x at = let rest : i < length ys = below_there ys i x at in omega (arith, rest)
-
 script_start : (d : Parts) (scripts : List Text) (i : ℕ) (c : Text) → AreScripts d scripts → slice_get scripts i ≡ Some c → (x : design.Process) × IsScriptFor d x c
 script_start d scripts i c h at =
-    let below : i < length scripts = below_there scripts i c at in
+    let below : i < length scripts = slice_get_within scripts i c at in
     let x = slice_there d.processes i (omega (arith, below, h.count)) in
     (x.0, h.each i c x.0 at x.1)
 
-listed_start : TermsAreListed → (d : Parts) (scripts : List Text) (i : ℕ) (c : Text) → AreScripts d scripts → slice_get scripts i ≡ Some c → (n : ℕ) (ts : List EventTerm) → HasControl c n ts → ts ≡ terms_at i n (terms_from 0 scripts)
+listed_start : TermsAreFound → (d : Parts) (scripts : List Text) (i : ℕ) (c : Text) → AreScripts d scripts → slice_get scripts i ≡ Some c → (n : ℕ) (ts : List EventTerm) → HasControl c n ts → ts ≡ terms_at i n (terms_from 0 scripts)
 listed_start law d scripts i c h at n ts control = law scripts i n c ts at (script_start d scripts i c h at).1.apart control
 
-pub start_run : {Q : Type 0} → TermsAreListed → (d : Parts) (scripts : List Text) (r : RunState Q) → IsAtStart d scripts r → IsRunOf d r
+pub start_run : {Q : Type 0} → TermsAreFound → (d : Parts) (scripts : List Text) (r : RunState Q) → IsAtStart d scripts r → IsRunOf d r
 start_run law d scripts r h =
-    let terms : List ListedTerm = r.terms.items in
+    let terms : List ProcessTerm = r.terms.items in
     let listed : (i : ℕ) (c : Text) → slice_get scripts i ≡ Some c → (n : ℕ) (ts : List EventTerm) → HasControl c n ts → ts ≡ terms_at i n terms =
-    λ i c at. subst (λ (l : List ListedTerm). (n : ℕ) (ts : List EventTerm) → HasControl c n ts → ts ≡ terms_at i n l) (sym h.terms_are) (listed_start law d scripts i c h.scripts_are at)
+    λ i c at. subst (λ (l : List ProcessTerm). (n : ℕ) (ts : List EventTerm) → HasControl c n ts → ts ≡ terms_at i n l) (sym h.terms_are) (listed_start law d scripts i c h.scripts_are at)
     in (
       terms,
       record {

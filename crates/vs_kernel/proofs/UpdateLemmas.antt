@@ -14,7 +14,7 @@ use Rattle.vs_run_regions.specs.vs_process.proofs.ProcessLists.{none_at}
 use Rattle.vs_run_steps.specs.declared.run.RunState.{RunState}
 use Rattle.vs_run_steps.specs.Runs.{Agrees, Keeps, state_of}
 use Rattle.vs_run_steps.proofs.RunsLemmas.{keeps_regions}
-use Rattle.vs_run_steps.specs.vs_run_active.specs.declared.watchers.ListedTerm.{ListedTerm}
+use Rattle.vs_run_steps.specs.vs_run_active.specs.declared.watchers.ProcessTerm.{ProcessTerm}
 use Rattle.vs_run_steps.specs.Turns.{AreMade}
 use Rattle.vs_run_steps.proofs.AssignLemmas.{updated}
 use Rattle.vs_run_steps.proofs.MadeLemmas.{made_one}
@@ -52,7 +52,7 @@ written_from r v us w t updates time made = made ∙ ap (λ (s : State). written
 abbrev pub IsNext : declared.Update → Waiting → Waiting → Type 0
 IsNext x old v = v ≡ record old { updates = without_oldest x old.updates; listed = record old.listed { active = v.listed.active } }
 
-pub next_keeps : {Q : Type 0} (d : Parts) (terms : List ListedTerm) (r : RunState Q) (v : Waiting) (x : declared.Update) → Agrees d terms r → IsNext x r.regions v → Keeps d terms r (record r { regions = v })
+pub next_keeps : {Q : Type 0} (d : Parts) (terms : List ProcessTerm) (r : RunState Q) (v : Waiting) (x : declared.Update) → Agrees d terms r → IsNext x r.regions v → Keeps d terms r (record r { regions = v })
 next_keeps d terms r v x h rest =
     keeps_regions d terms r v h (ap (λ (w : Waiting). w.time) rest) (ap (λ (w : Waiting). w.inactive) rest) (SameBag-from_eq (ap (λ (w : Waiting). w.sleepers) rest))
     (ap (λ (w : Waiting). w.listed.signals) rest)
@@ -104,7 +104,7 @@ some_active r active none =
 abbrev pub IsTaken : ℕ → Waiting → Waiting → Type 0
 IsTaken n old v = v ≡ record old { updates = without (place_of_number n old) old.updates; listed = record old.listed { active = slice_set old.listed.active n None } }
 
-pub taken_keeps : {Q : Type 0} (d : Parts) (terms : List ListedTerm) (r : RunState Q) (v : Waiting) (n : ℕ) → Agrees d terms r → IsTaken n r.regions v → Keeps d terms r (record r { regions = v })
+pub taken_keeps : {Q : Type 0} (d : Parts) (terms : List ProcessTerm) (r : RunState Q) (v : Waiting) (n : ℕ) → Agrees d terms r → IsTaken n r.regions v → Keeps d terms r (record r { regions = v })
 taken_keeps d terms r v n h rest =
     keeps_regions d terms r v h (ap (λ (w : Waiting). w.time) rest) (ap (λ (w : Waiting). w.inactive) rest) (SameBag-from_eq (ap (λ (w : Waiting). w.sleepers) rest))
     (ap (λ (w : Waiting). w.listed.signals) rest)

@@ -21,7 +21,7 @@ FaultAt statuses.Done fault = fault ≡ Done
 FaultAt statuses.Failed fault = fault ≡ Failed
 
 -- how far a kernel has come behind a fault
-abbrev pub behind_fault : Status → Status
-behind_fault statuses.Ready = statuses.Failed
-behind_fault statuses.Done = statuses.Done
-behind_fault statuses.Failed = statuses.Failed
+abbrev pub after_fault : Status → Status
+after_fault statuses.Ready = statuses.Failed
+after_fault statuses.Done = statuses.Done
+after_fault statuses.Failed = statuses.Failed

@@ -5,7 +5,7 @@ pub use Rattle.vs_run_regions
 pub use Rattle.vs_run_active
 pub mod Scripts
 pub mod Starting
-pub mod Standing
+pub mod Snapshot
 pub use Rattle.vs_run_steps
 pub mod Ends
 pub mod Faults

@@ -5,7 +5,7 @@ use Rattle.vs_process.specs.Places.{start_place}
 use Rattle.vs_process.specs.Scripts.{StartsWith}
 use Rattle.vs_process.specs.Texts.{Text}
 use Rattle.vs_run_active.specs.declared.process.Process.{Process}
-use Rattle.vs_run_active.specs.Standings.{IsWaitOf, place_in}
+use Rattle.vs_run_active.specs.ProcessPlaces.{IsWaitOf, place_in}
 
 -- a process is at the start of a script
 pub record IsStarted (c : Text) (p : Process) : Type 0 where

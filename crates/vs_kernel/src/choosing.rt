@@ -3,9 +3,9 @@ ghost use Rattle.std.specs.Prelude.{◌≡◌, ◌<◌, false, true, None, IfNon
 ghost use Rattle.vs_run_active.specs.vs_process.specs.Blocks.{is_step_of_any};
 ghost use Rattle.vs_run_active.specs.vs_process.specs.Executions as executions;
 ghost use Rattle.vs_kernel.specs.Running.{IsChoice, move_of};
-ghost use Rattle.vs_kernel.specs.Standing.{IsStanding};
+ghost use Rattle.vs_kernel.specs.Snapshot.{IsSnapshot};
 ghost use Rattle.vs_run_steps.specs.Runs.{state_of};
-ghost use Rattle.vs_run_steps.specs.Insides.{inside_told};
+ghost use Rattle.vs_run_steps.specs.Insides.{inside_by_flags};
 ghost use Rattle.vs_run_steps.specs.Turns.{GoesOn};
 
 use crate::run::Run;
@@ -53,7 +53,7 @@ impl<'a, Q: EventQueue<Due>> Run<'a, Q> {
 
     /// The combinational block that has taken a step since its control, after the move of an event: that of the step, if it is one.
     pub(crate) fn inside_after(&self, event: Event) -> Option<usize>
-        ensures { result ≡ inside_told self.now.blocks (state_of self.now.running).places (move_of self.now.running event) }
+        ensures { result ≡ inside_by_flags self.now.blocks (state_of self.now.running).places (move_of self.now.running event) }
     {
         let Event::Step(process) = event else {
             return None;
@@ -70,7 +70,7 @@ impl<'a, Q: EventQueue<Due>> Run<'a, Q> {
 
     /// What a move between events has woken enters the list.
     pub(crate) fn list_woken(&mut self) -> Result<(), AllocError>
-        ensures run { IsStanding self.old → IsStanding self.new }
+        ensures run { IsSnapshot self.old → IsSnapshot self.new }
         ensures same { self.new ≡ record self.old { running = self.new.running } }
         ensures state { state_of self.new.running ≡ state_of self.old.running }
     {
@@ -83,7 +83,7 @@ impl<'a, Q: EventQueue<Due>> Run<'a, Q> {
 
     /// The list is brought up to date after the move of an event.
     pub(crate) fn follow(&mut self, event: Event) -> Result<(), AllocError>
-        ensures run { IsStanding self.old → IsStanding self.new }
+        ensures run { IsSnapshot self.old → IsSnapshot self.new }
         ensures same { self.new ≡ record self.old { running = self.new.running } }
         ensures state { state_of self.new.running ≡ state_of self.old.running }
     {

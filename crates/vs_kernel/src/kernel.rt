@@ -1,6 +1,6 @@
 //! The kernel: one run of a design.
 ghost use Rattle.std.specs.Prelude.{◌≡◌, [], ◌<◌, ◌^◌, IfOk, IfErr, OnOk, OnErr};
-ghost use Rattle.vs_kernel.specs.Faults.{is_write, FaultAt, OneFailed, behind_fault};
+ghost use Rattle.vs_kernel.specs.Faults.{is_write, FaultAt, OneFailed, after_fault};
 ghost use Rattle.vs_kernel.specs.Runs.{RanTo, HasBegun};
 ghost use Rattle.vs_kernel.specs.declared.kernel.Status.TheVariants as statuses;
 ghost use Rattle.vs_run_regions.specs.vs_process.specs.Permitted.{NeverStuck};
@@ -97,7 +97,7 @@ impl<'a, Q: EventQueue<Due> + Drop, P: Pick + Drop> Kernel<'a, Q, P> {
         ensures begun { OnErr result (self.old.status ≡ statuses.Ready
             → HasBegun self.old.design until steps (V.bytes vcd.old) (V.bytes vcd.new) (L.bytes lines.old) (L.bytes lines.new)) }
         ensures fault { IfErr result (λ fault. FaultAt self.old.status fault) }
-        ensures err { OnErr result (self.new.status ≡ behind_fault self.old.status) }
+        ensures err { OnErr result (self.new.status ≡ after_fault self.old.status) }
         ensures design { self.new.design ≡ self.old.design }
         ensures again { (self.old.status ≡ statuses.Ready → ⊥) → vcd.new ≡ vcd.old }
         ensures lines_again { (self.old.status ≡ statuses.Ready → ⊥) → lines.new ≡ lines.old }

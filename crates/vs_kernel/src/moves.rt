@@ -5,7 +5,7 @@ ghost use Rattle.vs_run_regions.specs.vs_process.specs.Executions as executions;
 ghost use Rattle.vs_kernel.specs.Leaving.{changed_each};
 ghost use Rattle.vs_kernel.specs.Making.{WritesUpdate};
 ghost use Rattle.vs_kernel.specs.Running.{IsActive, IsMade, IsSingle, move_of, region_move};
-ghost use Rattle.vs_run_active.specs.Standings as standings;
+ghost use Rattle.vs_run_active.specs.ProcessPlaces as standings;
 ghost use Rattle.vs_run_steps.specs.Runs.{Agrees, IsRunOf, Keeps, marks_of, plan_of, state_of};
 ghost use Rattle.vs_run_steps.specs.Prints.{lines_text};
 ghost use Rattle.vs_run_steps.specs.Turns.{AreMade, EventTurned, EventTurnedPart};
@@ -19,7 +19,7 @@ use std::alloc::AllocError;
 use vs_run_regions::vs_time_wheel::EventQueue;
 use vs_run_regions::{Due, Event, Update};
 use vs_run_steps::vs_run_active::Events;
-use vs_run_steps::{Forms, RunState, evaluate, propagate, run_group};
+use vs_run_steps::{Forms, RunState, evaluate, may_follow, propagate, run_group};
 use vs_vcd_writing::{Sink, WriterFault};
 
 /// Writes what an update writes, where it isn't gone: whether it isn't.
@@ -37,7 +37,7 @@ fn make<Q: EventQueue<Due>>(run: &mut RunState<Q>, update: Update) -> Result<boo
             Ok(true)
         }
         Update::Any(number) => {
-            run.write_listed(number)?;
+            run.write_activated(number)?;
             Ok(true)
         }
         Update::Gone => Ok(false),
@@ -134,7 +134,8 @@ pub fn run_event<Q: EventQueue<Due>, L: Sink>(
             Ok(taken)
         }
         Event::Evaluate(assign) => {
-            let made = evaluate(run, forms, assign, limit)?;
+            let at_once = may_follow(run, assign, limit);
+            let made = evaluate(run, forms, assign, limit, at_once)?;
             Ok(made)
         }
         Event::Propagate(assign) => {

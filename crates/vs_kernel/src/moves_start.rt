@@ -3,7 +3,7 @@ ghost use Rattle.std.specs.Io.KnownBytes.{Appends};
 ghost use Rattle.std.specs.Prelude.{◌≡◌, ◌≤◌, ◌^◌, [], None, IfOk, OnOk, OnErr, length, map};
 ghost use Rattle.vs_run_active.specs.vs_process.specs.Executions as executions;
 ghost use Rattle.vs_run_active.specs.vs_process.specs.States as states;
-ghost use Rattle.vs_kernel.specs.Standing.{IsStanding};
+ghost use Rattle.vs_kernel.specs.Snapshot.{IsSnapshot};
 ghost use Rattle.vs_kernel.specs.Scripts.{AreScripts};
 ghost use Rattle.vs_run_steps.specs.Runs.{IsRunOf, marks_of, state_of};
 ghost use Rattle.vs_run_steps.specs.Recording.{HasNoted, HasRoom};
@@ -102,7 +102,7 @@ impl<'a, Q: EventQueue<Due>> Run<'a, Q> {
         requires empty { Q.bag wheel ≡ [] }
         requires at_zero { Q.clock wheel ≡ 0 }
         requires scripts { AreScripts design.now scripts.now }
-        ensures run { IfOk result (λ run. IsStanding run) }
+        ensures run { IfOk result (λ run. IsSnapshot run) }
         ensures state { IfOk result (λ run. state_of run.running ≡ states.start design.entry.now) }
         ensures design { IfOk result (λ run. run.design ≡ design.entry.now) }
         ensures blocks { IfOk result (λ run. run.blocks ≡ map executions.is_combinational design.entry.now.processes) }

@@ -56,9 +56,9 @@ impl<'a, Q: EventQueue<Due>> Model for Run<'a, Q> {
     ghost use Rattle.std.specs.Coded.{codes};
     ghost use Rattle.vs_design.specs.contracts.expression.Typed as expression;
     ghost use Rattle.vs_design.specs.contracts.statement.Statement as statement;
-    ghost use Rattle.vs_kernel.specs.Standing.{Standing};
+    ghost use Rattle.vs_kernel.specs.Snapshot.{Snapshot};
 
-    ghost Value = { Standing };
+    ghost Value = { Snapshot };
 
     ghost coded = { Prim.hlevel (codes, statement.the_row.coded, expression.the_row.coded) };
 

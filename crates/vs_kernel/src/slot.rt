@@ -6,7 +6,7 @@ ghost use Rattle.vs_run_active.specs.vs_process.specs.Executions as executions;
 ghost use Rattle.vs_run_active.specs.vs_process.specs.declared.moves.Move.TheVariants as moves;
 ghost use Rattle.vs_design.specs.Parts.{Parts};
 ghost use Rattle.vs_kernel.specs.Running.{IsActive, IsSingle, move_of};
-ghost use Rattle.vs_kernel.specs.Standing.{HasMoved, HasMovedPart, IsRecorded, IsRecordedPart, IsStanding, point_of};
+ghost use Rattle.vs_kernel.specs.Snapshot.{HasMoved, HasMovedPart, IsRecorded, IsRecordedPart, IsSnapshot, point_of};
 ghost use Rattle.vs_run_steps.specs.Runs.{IsRunOf, marks_of, running_of, state_of};
 ghost use Rattle.vs_run_steps.specs.Failures.{OneFailed};
 ghost use Rattle.vs_run_steps.specs.Prints.{lines_text};
@@ -152,12 +152,12 @@ impl<'a, Q: EventQueue<Due>> Run<'a, Q> {
     /// Ends the slot: it is written to the dump, after which nothing is marked where slots are written, then its lines, and time goes on.
     #[inline(never)]
     fn end_slot<V: Sink, L: Sink>(&mut self, vcd: &mut V, lines: &mut L) -> Result<(), WriterFault>
-        requires run { IsStanding self.old }
+        requires run { IsSnapshot self.old }
         requires going { (state_of self.old.running).over ≡ false }
         requires early { (state_of self.old.running).time < 2 ^ 62 }
         requires enabled { executions.is_enabled (state_of self.old.running) moves.EndSlot ≡ true }
         requires none { self.old.inside ≡ None }
-        ensures run { OnOk result (IsStanding self.new) }
+        ensures run { OnOk result (IsSnapshot self.new) }
         ensures same { self.new ≡ record self.old { running = self.new.running; writer = self.new.writer } }
         ensures ok { OnOk result (Turned self.old.blocks (point_of self.old None (V.bytes vcd.old) (L.bytes lines.old))
             (point_of self.new None (V.bytes vcd.new) (L.bytes lines.new))) }
@@ -191,12 +191,12 @@ impl<'a, Q: EventQueue<Due>> Run<'a, Q> {
         vcd: &mut V,
         lines: &mut L,
     ) -> Result<bool, WriterFault>
-        requires run { IsStanding self.old }
+        requires run { IsSnapshot self.old }
         requires going { (state_of self.old.running).over ≡ false }
         requires early { (state_of self.old.running).time < 2 ^ 62 }
         requires idle { executions.is_busy (state_of self.old.running) ≡ false }
         requires none { self.old.inside ≡ None }
-        ensures run { OnOk result (IsStanding self.new) }
+        ensures run { OnOk result (IsSnapshot self.new) }
         ensures same { self.new ≡ record self.old { running = self.new.running; writer = self.new.writer } }
         ensures ok { OnOk result (Turned self.old.blocks (point_of self.old None (V.bytes vcd.old) (L.bytes lines.old))
             (point_of self.new None (V.bytes vcd.new) (L.bytes lines.new))) }
@@ -232,12 +232,12 @@ impl<'a, Q: EventQueue<Due>> Run<'a, Q> {
         vcd: &mut V,
         lines: &mut L,
     ) -> Result<bool, WriterFault>
-        requires run { IsStanding self.old }
+        requires run { IsSnapshot self.old }
         requires going { (state_of self.old.running).over ≡ false }
         requires early { (state_of self.old.running).time < 2 ^ 62 }
         requires idle { executions.is_busy (state_of self.old.running) ≡ false }
         requires none { self.old.inside ≡ None }
-        ensures run { OnOk result (IsStanding self.new) }
+        ensures run { OnOk result (IsSnapshot self.new) }
         ensures same { OnOk result (self.new ≡ record self.old { running = self.new.running; writer = self.new.writer }) }
         ensures ok { OnOk result (Turned self.old.blocks (point_of self.old None (V.bytes vcd.old) (L.bytes lines.old))
             (point_of self.new None (V.bytes vcd.new) (L.bytes lines.new))) }
@@ -258,9 +258,9 @@ impl<'a, Q: EventQueue<Due>> Run<'a, Q> {
     /// The next active event, where there is one: the one that a policy chooses, else the first.
     #[inline(always)]
     fn next<P: Pick>(&mut self, chooses: bool, policy: &mut P) -> Option<Event>
-        requires run { IsStanding self.old }
+        requires run { IsSnapshot self.old }
         requires chooses { self.old.chooses ≡ chooses }
-        ensures run { IsStanding self.new }
+        ensures run { IsSnapshot self.new }
         ensures same { self.new ≡ record self.old { running = self.new.running } }
         ensures state { state_of self.new.running ≡ state_of self.old.running }
         ensures active { IfSome result (λ event. IsActive self.new.running event) }
@@ -282,7 +282,7 @@ impl<'a, Q: EventQueue<Due>> Run<'a, Q> {
         limit: u64,
         lines: &mut L,
     ) -> Result<u64, WriterFault>
-        requires run { IsStanding self.old }
+        requires run { IsSnapshot self.old }
         requires chooses { self.old.chooses ≡ true }
         requires limit { 0 < limit }
         requires going { (state_of self.old.running).over ≡ false }
@@ -290,7 +290,7 @@ impl<'a, Q: EventQueue<Due>> Run<'a, Q> {
         requires active { IsActive self.old.running event }
         requires single { IsSingle event }
         requires free { is_step_of_any self.old.inside (move_of self.old.running event) ≡ true }
-        ensures run { OnOk result (IsStanding self.new) }
+        ensures run { OnOk result (IsSnapshot self.new) }
         ensures same { OnOk result (self.new ≡ record self.old { running = self.new.running; inside = self.new.inside }) }
         ensures some { IfOk result (λ taken. 0 < taken) }
         ensures ok { IfOk result (λ taken. HasMoved limit taken self.old self.new (L.bytes lines.old) (L.bytes lines.new)) }
@@ -312,7 +312,7 @@ impl<'a, Q: EventQueue<Due>> Run<'a, Q> {
         limit: u64,
         lines: &mut L,
     ) -> Result<u64, WriterFault>
-        requires run { IsStanding self.old }
+        requires run { IsSnapshot self.old }
         requires chooses { self.old.chooses ≡ chooses }
         requires limit { 0 < limit }
         requires going { (state_of self.old.running).over ≡ false }
@@ -320,7 +320,7 @@ impl<'a, Q: EventQueue<Due>> Run<'a, Q> {
         requires active { IsActive self.old.running event }
         requires single { chooses ≡ true → IsSingle event }
         requires free { is_step_of_any self.old.inside (move_of self.old.running event) ≡ true }
-        ensures run { OnOk result (IsStanding self.new) }
+        ensures run { OnOk result (IsSnapshot self.new) }
         ensures same { OnOk result (self.new ≡ record self.old { running = self.new.running; inside = self.new.inside }) }
         ensures some { IfOk result (λ taken. 0 < taken) }
         ensures ok { IfOk result (λ taken. HasMoved limit taken self.old self.new (L.bytes lines.old) (L.bytes lines.new)) }
@@ -343,12 +343,12 @@ impl<'a, Q: EventQueue<Due>> Run<'a, Q> {
         vcd: &mut V,
         lines: &mut L,
     ) -> Result<u64, WriterFault>
-        requires run { IsStanding self.old }
+        requires run { IsSnapshot self.old }
         requires chooses { self.old.chooses ≡ CHOOSES }
         requires steps { 0 < steps }
         requires going { (state_of self.old.running).over ≡ false }
         requires early { (state_of self.old.running).time < 2 ^ 62 }
-        ensures run { OnOk result (IsStanding self.new) }
+        ensures run { OnOk result (IsSnapshot self.new) }
         ensures same { OnOk result
             (self.new ≡ record self.old { running = self.new.running; inside = self.new.inside; writer = self.new.writer }) }
         ensures some { IfOk result (λ left. left < steps) }
@@ -391,11 +391,11 @@ impl<'a, Q: EventQueue<Due>> Run<'a, Q> {
         vcd: &mut V,
         lines: &mut L,
     ) -> Result<u64, WriterFault>
-        requires run { IsStanding self.old }
+        requires run { IsSnapshot self.old }
         requires steps { 0 < steps }
         requires going { (state_of self.old.running).over ≡ false }
         requires early { (state_of self.old.running).time < 2 ^ 62 }
-        ensures run { OnOk result (IsStanding self.new) }
+        ensures run { OnOk result (IsSnapshot self.new) }
         ensures same { OnOk result
             (self.new ≡ record self.old { running = self.new.running; inside = self.new.inside; writer = self.new.writer }) }
         ensures some { IfOk result (λ left. left < steps) }

@@ -14,7 +14,7 @@ use std::alloc::{AllocError, Global};
 use vs_design::{Design, Store};
 use vs_process::Script;
 use vs_run_active::{
-    Assigns, Events, ListedTerm, Process as Started, Processes, Queue, Tables, terms_are_listed,
+    Assigns, Events, Process as Started, ProcessTerm, Processes, Queue, Tables, terms_are_found,
     terms_of,
 };
 use vs_run_regions::vs_time_wheel::EventQueue;
@@ -25,7 +25,7 @@ use vs_run_steps::{RunState, Watched};
 fn tables_of(
     alloc: Global,
     design: &Design,
-    terms: &[ListedTerm],
+    terms: &[ProcessTerm],
     copies: &[bool],
 ) -> Result<Tables, AllocError>
     ensures { IfOk result (λ tables. AreRows (length design.now.signals) design.now.assigns terms.now
@@ -111,7 +111,7 @@ fn state_at_start<'a, Q: EventQueue<Due>>(
     alloc: Global,
     design: &'a Design,
     scripts: &'a [Script<'a>],
-    terms: Vec<ListedTerm>,
+    terms: Vec<ProcessTerm>,
     wheel: Q,
     watched: Watched<'a>,
 ) -> Result<RunState<'a, Q>, AllocError>
@@ -130,7 +130,7 @@ where
     ensures run { IfOk result (λ run. IsRunOf design.entry.now run) }
     ensures marks { IfOk result (λ run. marks_of run ≡ watched.entry.marks.items) }
 {
-    terms_are_listed();
+    terms_are_found();
     let regions = Regions::start(alloc, design, wheel);
     let counters = counters_of(alloc, scripts)?;
     Ok(RunState {

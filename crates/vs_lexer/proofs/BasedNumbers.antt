@@ -9,7 +9,7 @@ use Rattle.vs_lexer.specs.declared.piece.Lexed.{Lexed}
 use Rattle.vs_lexer.specs.Bytes.{is_white, in_decimal, begins, after_run}
 use Rattle.vs_lexer.specs.Numbers.{base_of, is_sign, starts_digits, in_digits}
 use Rattle.vs_lexer.specs.Forms.{Form, Begins}
-use Rattle.vs_lexer.specs.Literals.{decimal_piece, literal_piece, digits_form, base_form, quote_form, behind_size, number_form, apostrophe_form}
+use Rattle.vs_lexer.specs.Literals.{decimal_piece, literal_piece, digits_form, base_form, quote_form, after_size, number_form, apostrophe_form}
 use Rattle.vs_lexer.specs.Reading.{Reads, HasNone}
 use Rattle.vs_lexer.proofs.LongestRuns.{fails_all, after_all, front_all, after_front}
 
@@ -139,7 +139,7 @@ other_digit base digits rest behind more first splits some h = rw (splits, some)
 
 -- a number without a base
 pub plain_reads : (digits after white behind bytes : List ℕ) (read : Lexed) → bytes ≡ digits ++ after → list_all in_decimal digits ≡ true → begins in_decimal after ≡ false → after ≡ white ++ behind → list_all is_white white ≡ true → begins is_white behind ≡ false → begins (λ b. b == 39) behind ≡ false → read.rest.now ≡ after → read.piece ≡ decimal_piece digits after → Reads number_form bytes read
-unfolding number_form behind_size
+unfolding number_form after_size
 plain_reads digits after white behind bytes read splits all stops cut whites black no_quote at is = record {
   text = digits;
   begins = record {
@@ -156,13 +156,13 @@ plain_reads digits after white behind bytes read splits all stops cut whites bla
   };
 }
   where
-    quoteless : (bs rest : List ℕ) → begins (λ c. c == 39) bs ≡ false → behind_size digits bs rest ≡ None
+    quoteless : (bs rest : List ℕ) → begins (λ c. c == 39) bs ≡ false → after_size digits bs rest ≡ None
     quoteless [] rest h = refl
     quoteless (b ∷ bs) rest h = rw h refl
 
 -- a number with a size and a base
 pub sized_reads : (digits after white behind body bytes : List ℕ) (quote : ℕ) (read : Lexed) → bytes ≡ digits ++ after → list_all in_decimal digits ≡ true → begins in_decimal after ≡ false → after ≡ white ++ behind → list_all is_white white ≡ true → behind ≡ quote ∷ body → quote ≡ 39 → Reads (quote_form (Some digits)) body read → Reads number_form bytes read
-unfolding number_form behind_size
+unfolding number_form after_size
 sized_reads digits after white behind body bytes quote read splits all stops cut whites some is reads =
     behind_prefix number_form (quote_form (Some digits)) (digits ++ (white ++ quote ∷ [])) body bytes read whole same reads
   where

@@ -15,9 +15,9 @@ use Rattle.vs_lexer.specs.declared.token.Kind.TheVariants as k
 use Rattle.vs_lexer.specs.declared.token.Literal.{Literal}
 use Rattle.vs_lexer.specs.Bytes.{is_white, in_name, in_escaped, in_decimal, in_line, in_comment, in_attribute, front_run, after_run}
 use Rattle.vs_lexer.specs.Forms.{run_of}
-use Rattle.vs_lexer.specs.Literals.{number_form, behind_size, quote_form, base_form, digits_form, literal_piece, decimal_piece, continues_number, apostrophe_form}
+use Rattle.vs_lexer.specs.Literals.{number_form, after_size, quote_form, base_form, digits_form, literal_piece, decimal_piece, continues_number, apostrophe_form}
 use Rattle.vs_lexer.specs.Numbers.{base_of, is_sign, starts_digits, in_digits, is_well_formed, fits_unsized, value_after, plain_literal, based_literal}
-use Rattle.vs_lexer.specs.Texts.{TextEnd, ended, open_yet, behind_octal, is_escape, is_octal, is_above_377, text_end, text_piece, text_form}
+use Rattle.vs_lexer.specs.Texts.{TextEnd, ended, open_yet, after_octal, is_escape, is_octal, is_above_377, text_end, text_piece, text_form}
 use Rattle.vs_lexer.specs.Tokens.{Lexeme, name_of}
 use Rattle.vs_lexer.specs.Directives.{directive_at}
 use Rattle.vs_lexer.specs.NameLines.{is_one_line, has_one_line_name, is_one_line_token}
@@ -27,20 +27,20 @@ use Rattle.vs_lexer.specs.Spelling.{Spells, ends, skips, reads}
 use Rattle.vs_lexer.proofs.Forms.{by_form}
 
 -- whether it is no token that is a name
-abbrev no_name : Option Piece → Bool
+abbrev pub no_name : Option Piece → Bool
 no_name (Some (Token k.Name)) = false
 no_name _ = true
 
-record NoName (piece : Option Piece) : Type 0 where
-  is : no_name piece ≡ true
+pub record NoName (piece : Option Piece) : Type 0 where
+  pub is : no_name piece ≡ true
 
-none : NoName None
+pub none : NoName None
 none = record { is = refl }
 
 skipped : NoName (Some Skipped)
 skipped = record { is = refl }
 
-refused : (why : Refusal) → NoName (Some (Refused why))
+pub refused : (why : Refusal) → NoName (Some (Refused why))
 refused why = record { is = refl }
 
 number : (literal : Literal) → NoName (Some (Token (k.Number literal)))
@@ -54,11 +54,11 @@ one_line text _ = true
 record OneLine (text : List ℕ) (piece : Option Piece) : Type 0 where
   is : one_line text piece ≡ true
 
-either : {A : Type 0} (P : A → Type 0) (t : Bool) {x y : A} → P x → P y → P (if t then x else y)
+pub either : {A : Type 0} (P : A → Type 0) (t : Bool) {x y : A} → P x → P y → P (if t then x else y)
 either P true p q = p
 either P false p q = q
 
-abbrev NoNamePiece : Piece → Type 0
+abbrev pub NoNamePiece : Piece → Type 0
 NoNamePiece piece = NoName (Some piece)
 
 -- ---- numbers
@@ -94,17 +94,17 @@ unfolding quote_form
 quote_no_name size [] rest = refused r.BadLiteral
 quote_no_name size (b ∷ bs) rest = either NoName (is_sign b) (base_no_name size true bs rest) (base_no_name size false (b ∷ bs) rest)
 
-behind_size_no_name : (size text rest : List ℕ) → NoName (behind_size size text rest)
-unfolding behind_size
+behind_size_no_name : (size text rest : List ℕ) → NoName (after_size size text rest)
+unfolding after_size
 behind_size_no_name size [] rest = none
 behind_size_no_name size (b ∷ bs) rest = either NoName (b == 39) (quote_no_name (Some size) bs rest) none
 
-number_no_name : (text rest : List ℕ) → NoName (number_form text rest)
+pub number_no_name : (text rest : List ℕ) → NoName (number_form text rest)
 unfolding number_form
 number_no_name text rest =
     either NoName (list_all in_decimal text) (decimal_no_name text rest) (behind_size_no_name (front_run in_decimal text) (after_run is_white (after_run in_decimal text)) rest)
 
-apostrophe_no_name : (text rest : List ℕ) → NoName (apostrophe_form text rest)
+pub apostrophe_no_name : (text rest : List ℕ) → NoName (apostrophe_form text rest)
 unfolding apostrophe_form
 apostrophe_no_name [] rest = none
 apostrophe_no_name (b ∷ bs) rest = quote_no_name None bs rest
@@ -127,7 +127,7 @@ text_ended rest = ended_no_name (Token k.Text) rest (record { is = refl })
 refused_ended : (why : Refusal) (rest : List ℕ) → NoNameEnd (ended (Refused why) rest)
 refused_ended why rest = ended_no_name (Refused why) rest (refused why)
 
-octal_no_name : (text : List ℕ) → NoNameEnd (behind_octal text)
+octal_no_name : (text : List ℕ) → NoNameEnd (after_octal text)
 octal_no_name [] = open_no_name
 octal_no_name (b ∷ []) = open_no_name
 octal_no_name (b ∷ c ∷ bs) = refused_ended r.BadLiteral bs
@@ -145,14 +145,14 @@ end_no_name (b ∷ c ∷ bs) =
     let behind = either NoNameEnd (b == 92) escape plain in
     either NoNameEnd (b == 34) (text_ended (c ∷ bs)) (either NoNameEnd (b == 10) (refused_ended r.Unclosed (c ∷ bs)) behind)
 
-text_no_name : (text rest : List ℕ) → NoName (text_form text rest)
+pub text_no_name : (text rest : List ℕ) → NoName (text_form text rest)
 unfolding text_form
 text_no_name [] rest = none
 text_no_name (b ∷ bs) rest = (end_no_name bs).is
 
 -- ---- white space, comments, attributes, marks and directives
 
-white_no_name : (text rest : List ℕ) → NoName (run_of is_white white_piece text rest)
+pub white_no_name : (text rest : List ℕ) → NoName (run_of is_white white_piece text rest)
 white_no_name text rest = either NoName (list_all is_white text) skipped none
 
 among_no_name : (allowed : ℕ → Bool) (text : List ℕ) (piece : Piece) → NoNamePiece piece → NoNamePiece (among allowed text piece)
@@ -163,7 +163,7 @@ closed_no_name allowed body None = among_no_name allowed body (Refused r.Unclose
 closed_no_name allowed body (Some []) = among_no_name allowed body Skipped skipped
 closed_no_name allowed body (Some (b ∷ bs)) = none
 
-slash_no_name : (text rest : List ℕ) → NoName (slash_form text rest)
+pub slash_no_name : (text rest : List ℕ) → NoName (slash_form text rest)
 unfolding slash_form
 slash_no_name [] rest = none
 slash_no_name (b ∷ []) rest = record { is = refl }
@@ -172,7 +172,7 @@ slash_no_name (b ∷ c ∷ bs) rest =
     let block = either NoName (c == 42) (closed_no_name in_comment bs (after_pair 42 47 bs)) none in
     either NoName (c == 47) line block
 
-parenthesis_no_name : (text rest : List ℕ) → NoName (parenthesis_form text rest)
+pub parenthesis_no_name : (text rest : List ℕ) → NoName (parenthesis_form text rest)
 unfolding parenthesis_form
 parenthesis_no_name [] rest = none
 parenthesis_no_name (b ∷ []) rest = record { is = refl }
@@ -192,7 +192,7 @@ one_byte_no_name : (kind : Option Kind) → NoNameKind kind → NoNamePiece (one
 one_byte_no_name None h = refused r.BadByte
 one_byte_no_name (Some kind) h = h
 
-mark_no_name : (text rest : List ℕ) → NoName (mark_form text rest)
+pub mark_no_name : (text rest : List ℕ) → NoName (mark_form text rest)
 unfolding mark_form
 mark_no_name [] rest = none
 mark_no_name (a ∷ []) rest = one_byte_no_name (kind_in one_byte_marks (a ∷ [])) (table_no_name one_byte_marks (a ∷ []) refl)
@@ -208,7 +208,7 @@ directive_piece_no_name (Some x) = whole x.0 x.1
     whole directive [] = record { is = refl }
     whole directive (b ∷ bs) = none
 
-directive_no_name : (text rest : List ℕ) → NoName (directive_form text rest)
+pub directive_no_name : (text rest : List ℕ) → NoName (directive_form text rest)
 unfolding directive_form
 directive_no_name [] rest = none
 directive_no_name (b ∷ []) rest = refused r.BadDirective

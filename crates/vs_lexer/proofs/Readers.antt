@@ -17,7 +17,7 @@ use Rattle.vs_lexer.specs.declared.piece.Piece.TheVariants.{Token, Refused}
 use Rattle.vs_lexer.specs.declared.piece.Lexed.{Lexed}
 use Rattle.vs_lexer.specs.declared.token.Kind.TheVariants as k
 use Rattle.vs_lexer.specs.Bytes.{is_white, after_run}
-use Rattle.vs_lexer.specs.Directives.{Reader, done, nowhere, with_rest, behind, text, behind_white, white, next_is, next_is_white, by_next, some_white, follow, ◌then◌, number_at, unit_at, time_at, timescale_of, timescale_at, nettype_at, directive_at}
+use Rattle.vs_lexer.specs.Directives.{Reader, done, nowhere, with_rest, after_prefix, text, skip_white, white, next_is, next_is_white, by_next, some_white, follow, ◌then◌, number_at, unit_at, time_at, timescale_of, timescale_at, nettype_at, directive_at}
 use Rattle.vs_lexer.specs.Times.{exponent}
 use Rattle.vs_lexer.specs.Pieces.{directive_piece, directive_form}
 use Rattle.vs_lexer.specs.Forms.{Longest}
@@ -48,45 +48,45 @@ strong_done {A} x = record {
 }
 
 -- behind a text
-behind_splits : (cs xs rest : List ℕ) → behind cs xs ≡ Some rest → xs ≡ cs ++ rest
-unfolding behind
+behind_splits : (cs xs rest : List ℕ) → after_prefix cs xs ≡ Some rest → xs ≡ cs ++ rest
+unfolding after_prefix
 behind_splits [] xs rest e = cc
 behind_splits (c ∷ cs) [] rest e = absurd cc
 behind_splits (c ∷ cs) (b ∷ bs) rest e = split (behind_splits cs bs rest) (nat_eq b c) refl
   where
-    split : (behind cs bs ≡ Some rest → bs ≡ cs ++ rest) → (t : Bool) → nat_eq b c ≡ t → b ∷ bs ≡ c ∷ (cs ++ rest)
+    split : (after_prefix cs bs ≡ Some rest → bs ≡ cs ++ rest) → (t : Bool) → nat_eq b c ≡ t → b ∷ bs ≡ c ∷ (cs ++ rest)
     split more true h =
-        let found : behind cs bs ≡ Some rest = rw h at e in
+        let found : after_prefix cs bs ≡ Some rest = rw h at e in
         let heads : b ≡ c = eqb-true b c h in
         let tails = more found in
         cc
     split more false h = let none : None ≡ Some rest = rw h at e in absurd cc
 
-behind_again : (cs others : List ℕ) → behind cs (cs ++ others) ≡ Some others
-unfolding behind
+behind_again : (cs others : List ℕ) → after_prefix cs (cs ++ others) ≡ Some others
+unfolding after_prefix
 behind_again [] others = refl
 behind_again (c ∷ cs) others = rw (eq-eqb c c refl) (behind_again cs others)
 
 module _ {A : Type 0} where
   strong_text : (cs : List ℕ) (p : Reader A) → Strong p → Strong (text cs p)
-  strong_text cs p strong = record { part = λ xs v rest e. at xs v rest (behind cs xs) refl e }
+  strong_text cs p strong = record { part = λ xs v rest e. at xs v rest (after_prefix cs xs) refl e }
     where
-      at : (xs : List ℕ) (v : A) (rest : List ℕ) (o : Option (List ℕ)) → behind cs xs ≡ o → with_rest o p ≡ Some (v, rest) → ReadFront (text cs p) xs v rest
+      at : (xs : List ℕ) (v : A) (rest : List ℕ) (o : Option (List ℕ)) → after_prefix cs xs ≡ o → with_rest o p ≡ Some (v, rest) → ReadFront (text cs p) xs v rest
       at xs v rest None h e = absurd cc
       at xs v rest (Some mid) h e =
           let inner = strong.part mid v rest e in
           record {
             front = cs ++ inner.front;
             splits = behind_splits cs xs mid h ∙ ap (λ (u : List ℕ). cs ++ u) inner.splits ∙ sym (append_assoc cs inner.front rest);
-            again = λ others. ap (λ (u : List ℕ). with_rest (behind cs u) p) (append_assoc cs inner.front others) ∙ ap (λ (o : Option (List ℕ)). with_rest o p) (behind_again cs (inner.front ++ others)) ∙ inner.again others;
+            again = λ others. ap (λ (u : List ℕ). with_rest (after_prefix cs u) p) (append_assoc cs inner.front others) ∙ ap (λ (o : Option (List ℕ)). with_rest o p) (behind_again cs (inner.front ++ others)) ∙ inner.again others;
           }
 
   firm_text : (c : ℕ) (cs : List ℕ) (p : Reader A) → Firm (text (c ∷ cs) p)
-  unfolding behind
+  unfolding after_prefix
   firm_text c cs p = record { none = refl }
 
   firm_white : (p : Reader A) → Firm p → Firm (white p)
-  unfolding behind_white
+  unfolding skip_white
   firm_white p firm = record { none = firm.none }
 
   -- where a test looks at the first byte alone
@@ -141,7 +141,7 @@ whites (x ∷ xs) y ys e = split (whites xs y ys) (is_white x) refl
 
 module _ {A : Type 0} (p : Reader A) (firm : Firm p) (strong : Strong p) where
   strong_white : Strong (white p)
-  unfolding behind_white
+  unfolding skip_white
   strong_white = record { part = λ xs v rest e. at xs v rest (after_run is_white xs) refl e }
     where
       inside : (xs : List ℕ) (v : A) (rest : List ℕ) (y : ℕ) (ys : List ℕ) (w : Whites xs y ys) (front : List ℕ) → y ∷ ys ≡ front ++ rest → ((others : List ℕ) → p (front ++ others) ≡ Some (v, others)) → ReadFront (white p) xs v rest
@@ -195,16 +195,16 @@ weak_done {A} x = record {
 
 module _ {A : Type 0} where
   weak_text : (cs : List ℕ) (p : Reader A) → Weak p → Weak (text cs p)
-  weak_text cs p weak = record { part = λ xs v y rest e. at xs v y rest (behind cs xs) refl e }
+  weak_text cs p weak = record { part = λ xs v y rest e. at xs v y rest (after_prefix cs xs) refl e }
     where
-      at : (xs : List ℕ) (v : A) (y : ℕ) (rest : List ℕ) (o : Option (List ℕ)) → behind cs xs ≡ o → with_rest o p ≡ Some (v, y ∷ rest) → WeakReadFront (text cs p) xs v y rest
+      at : (xs : List ℕ) (v : A) (y : ℕ) (rest : List ℕ) (o : Option (List ℕ)) → after_prefix cs xs ≡ o → with_rest o p ≡ Some (v, y ∷ rest) → WeakReadFront (text cs p) xs v y rest
       at xs v y rest None h e = absurd cc
       at xs v y rest (Some mid) h e =
           let inner = weak.part mid v y rest e in
           record {
             front = cs ++ inner.front;
             splits = behind_splits cs xs mid h ∙ ap (λ (u : List ℕ). cs ++ u) inner.splits ∙ sym (append_assoc cs inner.front (y ∷ rest));
-            again = λ others. ap (λ (u : List ℕ). with_rest (behind cs u) p) (append_assoc cs inner.front (y ∷ others)) ∙ ap (λ (o : Option (List ℕ)). with_rest o p) (behind_again cs (inner.front ++ y ∷ others)) ∙ inner.again others;
+            again = λ others. ap (λ (u : List ℕ). with_rest (after_prefix cs u) p) (append_assoc cs inner.front (y ∷ others)) ∙ ap (λ (o : Option (List ℕ)). with_rest o p) (behind_again cs (inner.front ++ y ∷ others)) ∙ inner.again others;
           }
 
   module _ (test : List ℕ → Bool) (local : (b : ℕ) (xs ys : List ℕ) → test (b ∷ xs) ≡ test (b ∷ ys)) (p q : Reader A) where

@@ -10,7 +10,7 @@ use Rattle.vs_lexer.specs.declared.piece.Piece.TheVariants.{Token, Refused}
 use Rattle.vs_lexer.specs.declared.piece.Lexed.{Lexed}
 use Rattle.vs_lexer.specs.declared.token.Kind.TheVariants as k
 use Rattle.vs_lexer.specs.Bytes.{in_comment}
-use Rattle.vs_lexer.specs.Texts.{is_escape, is_octal, has_two_octal, is_above_377, TextEnd, ended, open_yet, behind_octal, text_end, text_form, text_piece}
+use Rattle.vs_lexer.specs.Texts.{is_escape, is_octal, has_two_octal, is_above_377, TextEnd, ended, open_yet, after_octal, text_end, text_form, text_piece}
 use Rattle.vs_lexer.specs.Reading.{Reads, ReadsText, to_end, unclosed}
 
 module _ (b : ℕ) where
@@ -45,7 +45,7 @@ module _ (c : ℕ) (bs : List ℕ) where
       pub text_octal : is_above_377 c bs ≡ false → text_end (92 ∷ c ∷ bs) ≡ text_end bs
       text_octal e = rw (no_escape, octal, e) refl
 
-      pub text_above : is_above_377 c bs ≡ true → text_end (92 ∷ c ∷ bs) ≡ behind_octal bs
+      pub text_above : is_above_377 c bs ≡ true → text_end (92 ∷ c ∷ bs) ≡ after_octal bs
       text_above e = rw (no_escape, octal, e) refl
 
 -- two octal digits do not stand in fewer bytes
@@ -143,10 +143,10 @@ front_not_above c [] rs h = and-false _
 front_not_above c (x ∷ []) rs h = and-false _
 front_not_above c (x ∷ y ∷ front) rs h = h
 
-behind_octal-append : (bs rs zs : List ℕ) (p : Piece) → behind_octal bs ≡ ended p rs → behind_octal (bs ++ zs) ≡ ended p (rs ++ zs)
-behind_octal-append [] rs zs p e = absurd (never_ended p rs _ refl e)
-behind_octal-append (x ∷ []) rs zs p e = absurd (never_ended p rs _ refl e)
-behind_octal-append (x ∷ y ∷ bs) rs zs p e = ended_here _ p bs rs zs _ _ refl e refl
+after_octal-append : (bs rs zs : List ℕ) (p : Piece) → after_octal bs ≡ ended p rs → after_octal (bs ++ zs) ≡ ended p (rs ++ zs)
+after_octal-append [] rs zs p e = absurd (never_ended p rs _ refl e)
+after_octal-append (x ∷ []) rs zs p e = absurd (never_ended p rs _ refl e)
+after_octal-append (x ∷ y ∷ bs) rs zs p e = ended_here _ p bs rs zs _ _ refl e refl
 
 above_more : (c : ℕ) (bs zs : List ℕ) → is_above_377 c bs ≡ true → is_above_377 c (bs ++ zs) ≡ true
 above_more c [] zs h = let no : is_above_377 c [] ≡ false = and-false _ in absurd (cc (no, h))
@@ -173,8 +173,8 @@ text_end-append (b ∷ c ∷ bs) zs p rs e = by (head b) (text_end-append (c ∷
         let inner : text_end bs ≡ ended p rs = sym (text_octal c bs n o h) ∙ f in
         text_octal c (bs ++ zs) n o (still_not_above c bs zs p rs h inner) ∙ more inner
     escaped (above n o h) f more =
-        let inner : behind_octal bs ≡ ended p rs = sym (text_above c bs n o h) ∙ f in
-        text_above c (bs ++ zs) n o (above_more c bs zs h) ∙ behind_octal-append bs rs zs p inner
+        let inner : after_octal bs ≡ ended p rs = sym (text_above c bs n o h) ∙ f in
+        text_above c (bs ++ zs) n o (above_more c bs zs h) ∙ after_octal-append bs rs zs p inner
 
     by : Head b → (text_end (c ∷ bs) ≡ ended p rs → text_end (c ∷ (bs ++ zs)) ≡ ended p (rs ++ zs)) → (text_end bs ≡ ended p rs → text_end (bs ++ zs) ≡ ended p (rs ++ zs)) → text_end (b ∷ c ∷ (bs ++ zs)) ≡ ended p (rs ++ zs)
     by (a_quote h) more after = ended_here _ p (c ∷ bs) rs zs _ _ (text_quote b (c ∷ bs) h) e (text_quote b (c ∷ (bs ++ zs)) h)
@@ -214,7 +214,7 @@ consumed (b ∷ []) p rs e = by (head b)
     by (a_bad m n o h) = one_byte _ p b [] rs (text_bad_byte b m n o [] h) e (text_bad_byte b m n o [] h)
 consumed (b ∷ c ∷ bs) p rs e = by (head b) (consumed (c ∷ bs) p rs) (consumed bs p rs)
   where
-    above_front : (ys : List ℕ) → is_escape c ≡ false → is_octal c ≡ true → is_above_377 c ys ≡ true → behind_octal ys ≡ ended p rs → Consumed p rs (92 ∷ c ∷ ys)
+    above_front : (ys : List ℕ) → is_escape c ≡ false → is_octal c ≡ true → is_above_377 c ys ≡ true → after_octal ys ≡ ended p rs → Consumed p rs (92 ∷ c ∷ ys)
     above_front [] n o h f = absurd (never_ended p rs _ refl f)
     above_front (x ∷ []) n o h f = absurd (never_ended p rs _ refl f)
     above_front (x ∷ y ∷ ys) n o h f =

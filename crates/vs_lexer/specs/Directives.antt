@@ -28,22 +28,22 @@ with_rest None next = None
 with_rest (Some rest) next = next rest
 
 -- the bytes behind a text
-unfoldable pub behind : List ℕ → List ℕ → Option (List ℕ)
-behind [] bytes = Some bytes
-behind (c ∷ cs) [] = None
-behind (c ∷ cs) (b ∷ bs) = if b == c then behind cs bs else None
+unfoldable pub after_prefix : List ℕ → List ℕ → Option (List ℕ)
+after_prefix [] bytes = Some bytes
+after_prefix (c ∷ cs) [] = None
+after_prefix (c ∷ cs) (b ∷ bs) = if b == c then after_prefix cs bs else None
 
 -- a text, and then more
 abbrev pub text : {A : Type 0} → List ℕ → Reader A → Reader A
-text cs next bytes = with_rest (behind cs bytes) next
+text cs next bytes = with_rest (after_prefix cs bytes) next
 
 -- the bytes behind white space, if there is any
-unfoldable pub behind_white : List ℕ → List ℕ
-behind_white bytes = after_run is_white bytes
+unfoldable pub skip_white : List ℕ → List ℕ
+skip_white bytes = after_run is_white bytes
 
 -- white space, if there is any, and then more
 abbrev pub white : {A : Type 0} → Reader A → Reader A
-white next bytes = next (behind_white bytes)
+white next bytes = next (skip_white bytes)
 
 -- the next byte is this one
 unfoldable pub next_is : ℕ → List ℕ → Bool

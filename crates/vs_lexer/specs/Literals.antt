@@ -56,15 +56,15 @@ quote_form size (b ∷ bs) rest =
     if is_sign b then base_form size true bs rest else base_form size false (b ∷ bs) rest
 
 -- what stands behind a size and white space
-unfoldable pub behind_size : List ℕ → Form
-behind_size size [] rest = None
-behind_size size (b ∷ bs) rest = if b == 39 then quote_form (Some size) bs rest else None
+unfoldable pub after_size : List ℕ → Form
+after_size size [] rest = None
+after_size size (b ∷ bs) rest = if b == 39 then quote_form (Some size) bs rest else None
 
 -- what a digit begins: a decimal number, or one with a size and a base (clause 3.5.1)
 unfoldable pub number_form : Form
 number_form text rest =
     if list_all in_decimal text then Some (decimal_piece text rest)
-    else behind_size (front_run in_decimal text) (after_run is_white (after_run in_decimal text)) rest
+    else after_size (front_run in_decimal text) (after_run is_white (after_run in_decimal text)) rest
 
 -- what a quote begins: a number with a base and without a size (clause 3.5.1)
 unfoldable pub apostrophe_form : Form

@@ -32,10 +32,10 @@ pub data TextEnd : Type 0 where
   open_yet : TextEnd
 
 -- the end of three octal digits that are above 377, behind the first of them
-abbrev pub behind_octal : List ℕ → TextEnd
-behind_octal [] = open_yet
-behind_octal (b ∷ []) = open_yet
-behind_octal (b ∷ c ∷ bs) = ended (Refused r.BadLiteral) bs
+abbrev pub after_octal : List ℕ → TextEnd
+after_octal [] = open_yet
+after_octal (b ∷ []) = open_yet
+after_octal (b ∷ c ∷ bs) = ended (Refused r.BadLiteral) bs
 
 -- what ends a text, behind its first quotation mark: the other one, a line's end, a byte that may not stand there, a bad
 -- escape (clause 3.6.3; profile: no number above 377 and no other escape)
@@ -51,7 +51,7 @@ text_end (b ∷ c ∷ bs) =
     else (if b == 10 then ended (Refused r.Unclosed) (c ∷ bs)
     else (if b == 92 then
     (if is_escape c then text_end bs
-    else (if is_octal c then (if is_above_377 c bs then behind_octal bs else text_end bs)
+    else (if is_octal c then (if is_above_377 c bs then after_octal bs else text_end bs)
     else ended (Refused r.BadLiteral) bs))
     else (if in_comment b then text_end (c ∷ bs)
     else ended (Refused r.BadByte) (c ∷ bs))))

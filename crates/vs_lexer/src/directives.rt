@@ -1,6 +1,6 @@
 //! Directives (IEEE 1364-2005, clause 19).
 ghost use Rattle.std.specs.Prelude.{◌≡◌, ◌∷◌, MatchOption, None, Some, nat_lt};
-ghost use Rattle.vs_lexer.specs.Directives.{behind, behind_white, done, text, next_is, next_is_white, number_at, unit_at, time_at, timescale_at, nettype_at, directive_at};
+ghost use Rattle.vs_lexer.specs.Directives.{after_prefix, skip_white, done, text, next_is, next_is_white, number_at, unit_at, time_at, timescale_at, nettype_at, directive_at};
 ghost use Rattle.vs_lexer.specs.Pieces.{directive_form};
 ghost use Rattle.vs_lexer.specs.Reading.{Reads};
 ghost use Rattle.vs_lexer.specs.Times.{exponent};
@@ -12,9 +12,9 @@ use crate::{
 };
 
 /// The bytes behind a text, if they begin with it.
-#[tactic(auto, unfolding(crate::specs::Directives::behind))]
-fn behind<'s>(text: &[u8], bytes: &'s [u8]) -> Option<&'s [u8]>
-    ensures { MatchOption result (behind text.now bytes.now ≡ None) (λ rest. behind text.now bytes.now ≡ Some rest.now) }
+#[tactic(auto, unfolding(crate::specs::Directives::after_prefix))]
+fn after_prefix<'s>(text: &[u8], bytes: &'s [u8]) -> Option<&'s [u8]>
+    ensures { MatchOption result (after_prefix text.now bytes.now ≡ None) (λ rest. after_prefix text.now bytes.now ≡ Some rest.now) }
 {
     let Some((wanted, more)) = first_and_rest(text) else {
         return Some(bytes);
@@ -25,12 +25,12 @@ fn behind<'s>(text: &[u8], bytes: &'s [u8]) -> Option<&'s [u8]>
     if found != wanted {
         return None;
     }
-    behind(more, after)
+    after_prefix(more, after)
 }
 
 /// The bytes behind white space.
-fn behind_white(bytes: &[u8]) -> &[u8]
-    ensures { result.now ≡ behind_white bytes.now }
+fn skip_white(bytes: &[u8]) -> &[u8]
+    ensures { result.now ≡ skip_white bytes.now }
 {
     let (_, rest) = split_run(bytes, ByteClass::White);
     rest
@@ -62,7 +62,7 @@ fn next_is_white(bytes: &[u8]) -> bool
 fn spelled<'s, T: Copy>(spelling: &[u8], meaning: T, bytes: &'s [u8]) -> Option<(T, &'s [u8])>
     ensures { Gives (text spelling.now (done meaning)) bytes.now result }
 {
-    let rest = behind(spelling, bytes)?;
+    let rest = after_prefix(spelling, bytes)?;
     Some((meaning, rest))
 }
 
@@ -71,11 +71,11 @@ fn spelled<'s, T: Copy>(spelling: &[u8], meaning: T, bytes: &'s [u8]) -> Option<
 fn number_at(bytes: &[u8]) -> Option<(TextMagnitude, &[u8])>
     ensures { Gives number_at bytes.now result }
 {
-    let one = behind(b"1", bytes)?;
+    let one = after_prefix(b"1", bytes)?;
     if !next_is(one, b'0') {
         return Some((TextMagnitude::One, one));
     }
-    let ten = behind(b"0", one)?;
+    let ten = after_prefix(b"0", one)?;
     if !next_is(ten, b'0') {
         return Some((TextMagnitude::Ten, ten));
     }
@@ -111,7 +111,7 @@ fn time_at(bytes: &[u8]) -> Option<(Time, &[u8])>
     ensures { Gives time_at bytes.now result }
 {
     let (number, after) = number_at(bytes)?;
-    let (unit, rest) = unit_at(behind_white(after))?;
+    let (unit, rest) = unit_at(skip_white(after))?;
     Some((Time { number, unit }, rest))
 }
 
@@ -127,13 +127,13 @@ fn is_coarser(precision: Time, unit: Time) -> bool
 fn timescale_at(bytes: &[u8]) -> Option<(Directive, &[u8])>
     ensures { Gives timescale_at bytes.now result }
 {
-    let after = behind(b"timescale", bytes)?;
+    let after = after_prefix(b"timescale", bytes)?;
     if !next_is_white(after) {
         return None;
     }
-    let (unit, after) = time_at(behind_white(after))?;
-    let after = behind(b"/", behind_white(after))?;
-    let (precision, rest) = time_at(behind_white(after))?;
+    let (unit, after) = time_at(skip_white(after))?;
+    let after = after_prefix(b"/", skip_white(after))?;
+    let (precision, rest) = time_at(skip_white(after))?;
     if is_coarser(precision, unit) {
         return None;
     }
@@ -145,11 +145,11 @@ fn timescale_at(bytes: &[u8]) -> Option<(Directive, &[u8])>
 fn nettype_at(bytes: &[u8]) -> Option<(Directive, &[u8])>
     ensures { Gives nettype_at bytes.now result }
 {
-    let after = behind(b"default_nettype", bytes)?;
+    let after = after_prefix(b"default_nettype", bytes)?;
     if !next_is_white(after) {
         return None;
     }
-    let after = behind_white(after);
+    let after = skip_white(after);
     if next_is(after, b'w') {
         return spelled(b"wire", Directive::DefaultNettype(ImplicitNet::Wire), after);
     }

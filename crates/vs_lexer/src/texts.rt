@@ -88,7 +88,7 @@ fn step_text<'s>(bytes: &'s [u8]) -> TextStep<'s>
 }
 
 /// Reads a text, behind its first quotation mark.
-fn read_behind_quote(bytes: &[u8]) -> Lexed<'_>
+fn read_text_body(bytes: &[u8]) -> Lexed<'_>
     ensures { ReadsText bytes.now result }
 {
     let mut rest = bytes;
@@ -106,5 +106,5 @@ fn read_behind_quote(bytes: &[u8]) -> Lexed<'_>
 pub fn read_text(quote: u8, after: &[u8]) -> Lexed<'_>
     ensures { Reads text_form (quote ∷ after.now) result }
 {
-    read_behind_quote(after)
+    read_text_body(after)
 }

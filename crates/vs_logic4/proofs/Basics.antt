@@ -1,9 +1,9 @@
 -- Lemmas on truth values, numbers and lists, which proofs of many layers use.
-use Rattle.std.proofs.Common.{Bool, List, None, Option, Some, [], ap, arith, cond, drop, false, filter, get_or, inl, inr, is_some, length, lit<, map, max, not, pos, refl, slice_get, subst, suc, sym, take, true, zero, zero-add, ℕ, ℤ, ⊎_elim, ◌%◌, ◌&&◌, ◌*◌, ◌++◌, ◌+ℤ◌, ◌+◌, ◌-◌, ◌/◌, ◌<◌, ◌==◌, ◌^◌, ◌||◌, ◌∙◌, ◌∷◌, ◌≡◌, ◌≤◌, ◌⊎◌}
+use Rattle.std.proofs.Common.{Bool, List, None, Option, Some, [], ap, arith, cond, drop, false, filter, get_or, inl, inr, is_some, length, lit<, map, max, not, pos, refl, slice_get, subst, suc, sym, take, true, zero, zero-add, ℕ, ℤ, ⊎_elim, ◌%◌, ◌&&◌, ◌*◌, ◌++◌, ◌+ℤ◌, ◌+◌, ◌-◌, ◌/◌, ◌<◌, ◌==◌, ◌^◌, ◌||◌, ◌∙◌, ◌∷◌, ◌≡◌, ◌≤◌, ◌⊎◌, ◌↔◌, IsTrue, slice_set}
 use Rattle.std.proofs.lemmas.Bool.{and_parts, cases_Bool, false_from_ne_true, false≢true}
 use Rattle.std.proofs.lemmas.Bool.Decides.{eqb_tells, nat_tests}
 use Rattle.std.proofs.lemmas.Int.{ints}
-use Rattle.std.proofs.lemmas.List.{drop_more, take_more}
+use Rattle.std.proofs.lemmas.List.{drop_more, take_more, get_or_default}
 use Rattle.std.proofs.lemmas.Nat.{shr-shr, shr_split}
 use Rattle.std.proofs.lemmas.Nat.Bits.{bit_at_cat_low}
 use Rattle.std.proofs.lemmas.Option.{get_or_from_slice_get, none-some, same_Some, slice_get-get_or}
@@ -71,6 +71,7 @@ pub any_map : {A B : Type 0} (p : B → Bool) (f : A → B) (xs : List A) → li
 any_map p f [] = refl
 any_map p f (x ∷ xs) = ap (λ z. p (f x) || z) (any_map p f xs)
 
+-- two tests that follow from each other
 pub same_tests : (a b : Bool) → (a ≡ true → b ≡ true) → (b ≡ true → a ≡ true) → a ≡ b
 same_tests true b f g = sym (f refl)
 same_tests false true f g = g refl
@@ -247,3 +248,63 @@ none_left limit i h = omega arith
 pub or_false : (b c : Bool) → c ≡ false → (b || c) ≡ b
 or_false true c h = refl
 or_false false c h = h
+
+-- a number below the next one is below, or is it
+pub below_or : (i n : ℕ) → i < n + 1 → (i < n) ⊎ (i ≡ n)
+below_or i n h = grind (arith, h)
+
+-- what holds of each element, and of one more
+pub each_more : {A : Type 0} (P : ℕ → A → Type 0) (xs : List A) (x : A) → ((k : ℕ) (y : A) → slice_get xs k ≡ Some y → P k y) → P (length xs) x →
+    (k : ℕ) (y : A) → slice_get (xs ++ x ∷ []) k ≡ Some y → P k y
+each_more P [] x before here zero y is = subst (P 0) (same_Some x y is) here
+each_more P [] x before here (suc k) y is = absurd (none-some y is)
+each_more P (z ∷ xs) x before here zero y is = before 0 y is
+each_more P (z ∷ xs) x before here (suc k) y is = each_more (λ n w. P (suc n) w) xs x (λ n w e. before (suc n) w e) here k y is
+
+pub none_in : {A : Type 0} (x : A) → Contains [] x → ⊥
+none_in x h = omega (arith, h.1)
+
+-- what was read stands at its place
+pub got : {A : Type 0} (xs : List A) (i : ℕ) (x : A) → i < length xs → x ≡ get_or xs i x → slice_get xs i ≡ Some x
+got xs i x h e = slice_get-get_or xs i x h ∙ ap Some (sym e)
+
+pub map_at : {A B : Type 0} (f : A → B) (xs : List A) (i : ℕ) (x : A) → slice_get xs i ≡ Some x → slice_get (map f xs) i ≡ Some (f x)
+map_at f [] i x h = absurd (none-some x h)
+map_at f (y ∷ ys) zero x h = ap (λ z. Some (f z)) (same_Some y x h)
+map_at f (y ∷ ys) (suc i) x h = map_at f ys i x h
+
+pub declared_3 : (n : ℕ) → n < 3 → Contains (0 ∷ 1 ∷ 2 ∷ []) n
+declared_3 zero h = (0, lit< tt, refl)
+declared_3 (suc zero) h = (1, lit< tt, refl)
+declared_3 (suc (suc zero)) h = (2, lit< tt, refl)
+declared_3 (suc (suc (suc n))) h = absurd (omega (arith, h))
+
+pub one_in : {A : Type 0} (x z : A) → Contains (x ∷ []) z → x ≡ z
+one_in x z (zero, within, is) = is
+one_in x z (suc k, within, is) = absurd (omega (arith, within))
+
+pub set_here : {A : Type 0} (xs : List A) (i : ℕ) (y : A) → i < length xs → slice_get (slice_set xs i y) i ≡ Some y
+set_here [] i y h = absurd (omega arith)
+set_here (x ∷ xs) zero y h = refl
+set_here (x ∷ xs) (suc i) y h = set_here xs i y (omega arith)
+
+pub all_do : (P : ℕ → Type 0) (xs : List ℕ) (i : ℕ) → length xs ≤ i → ((k : ℕ) → k < i → P (get_or xs k 0)) → (IsTrue true ↔ ((r : ℕ) → Contains xs r → P r))
+all_do P xs i h all = (λ t r c. subst P (get_or_default xs c.0 0 r c.1 ∙ c.2) (all c.0 (omega (arith, h, c.1))), λ f. grind arith)
+
+pub one_not : (P : ℕ → Type 0) (xs : List ℕ) (i : ℕ) → i < length xs → (P (get_or xs i 0) → IsTrue false) → (IsTrue false ↔ ((r : ℕ) → Contains xs r → P r))
+one_not P xs i h not = (λ t. absurd (grind (arith, t)), λ f. not (f (get_or xs i 0) (i, h, get_or_default xs i (get_or xs i 0) 0 h)))
+
+pub inside : {A : Type 0} (xs : List A) (k : ℕ) → k < length xs → slice_get xs k ≡ None → ⊥
+inside [] k l e = omega (arith, l)
+inside (x ∷ xs) zero l e = none-some x (sym e)
+inside (x ∷ xs) (suc k) l e = inside xs k (omega (arith, l)) e
+
+pub set_twice : {A : Type 0} (xs : List A) (i : ℕ) (x y : A) → slice_set (slice_set xs i x) i y ≡ slice_set xs i y
+set_twice [] i x y = refl
+set_twice (z ∷ zs) zero x y = refl
+set_twice {A} (z ∷ zs) (suc i) x y = ap (λ (l : List A). z ∷ l) (set_twice zs i x y)
+
+pub only_one : {A : Type 0} (xs : List A) (x : A) → length xs ≡ 1 → x ≡ get_or xs 0 x → xs ≡ x ∷ []
+only_one [] x h e = absurd (omega (arith, h))
+only_one (y ∷ []) x h e = ap (λ z. z ∷ []) (sym e)
+only_one (y ∷ z ∷ zs) x h e = absurd (omega (arith, h))

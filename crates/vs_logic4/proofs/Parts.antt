@@ -140,7 +140,7 @@ copies k (suc n) = 1 + (k + 1) * copies k n
 copies_step : (k g q : ℕ) → k * g + 1 ≡ q → k * (1 + (k + 1) * g) + 1 ≡ q * (k + 1)
 copies_step k g q h = omega (arith, ap (λ x. x * (k + 1)) h)
 
-power_of : (w : ℕ) → 2 ^ w - 1 + 1 ≡ 2 ^ w
+pub power_of : (w : ℕ) → 2 ^ w - 1 + 1 ≡ 2 ^ w
 power_of w = omega (arith, pow_pos w)
 
 copies_is : (w n : ℕ) → (2 ^ w - 1) * copies (2 ^ w - 1) n + 1 ≡ 2 ^ (w * n)

@@ -10,7 +10,7 @@ use Rattle.vs_process.specs.Places.{Todo, flat}
 use Rattle.vs_process.specs.Steps.{Next, wait}
 use Rattle.vs_process.specs.Numbers.{number_next}
 use Rattle.vs_process.specs.Ways.{Pause, none, delay, event, next_by}
-use Rattle.vs_process.specs.Stops.{Stop, stop_at, stop_statement, stops_tos, stops_behind, IsText}
+use Rattle.vs_process.specs.Stops.{Stop, stop_at, stop_statement, stops_tos, stops_next, IsText}
 use Rattle.vs_rules.specs.Points.{Goes, first_todo, nexts_by}
 use Rattle.vs_rules.specs.Paths.{ListsSignal, PathFromBy, IsPoint, IsLate, IsHot, WritesNow, WritesLater, HasTerm, is_plain}
 use Rattle.vs_graph.specs.Reached.{Reached}
@@ -78,7 +78,7 @@ pub walk_exact : (d : Parts) (i : ℕ) (q : Process) (stops : List Stop) (start 
     (WalkFrom (record { stops = stops; start = start }) along starts p ↔ PathFromAlong along d i sort (t.at p))
 walk_exact d i q stops start t is along starts sort sorts p n numbered = (
   walk_path d i q stops start t is along starts sort sorts p,
-  λ b. same_place (flat q.body) t.at start (stops_behind stops) (stops_tos stops) t.is_map (WalkFrom (record { stops = stops; start = start }) along starts) p n numbered
+  λ b. same_place (flat q.body) t.at start (stops_next stops) (stops_tos stops) t.is_map (WalkFrom (record { stops = stops; start = start }) along starts) p n numbered
       (path_walk d i q stops start t is along starts sort sorts (t.at p) b),
 )
 
@@ -134,7 +134,7 @@ hot_exact d i q stops start t is wide v =
 
 -- ---- terms
 
-terms_in : (pause : Pause) (l : Todo) (number : ℕ) (terms : List EventTerm) (behind : Todo) (term : EventTerm) → next_by pause l ≡ wait number terms behind → Contains terms term →
+pub terms_in : (pause : Pause) (l : Todo) (number : ℕ) (terms : List EventTerm) (behind : Todo) (term : EventTerm) → next_by pause l ≡ wait number terms behind → Contains terms term →
     Contains (pause_terms pause) term
 terms_in none l number terms behind term e h = absurd (cc)
 terms_in (delay n ticks) l number terms behind term e h = absurd (cc)
@@ -145,7 +145,7 @@ terms_out d i k l none term point goes h = absurd (omega (arith, h.1))
 terms_out d i k l (delay n ticks) term point goes h = absurd (omega (arith, h.1))
 terms_out d i k l (event n terms) term point goes h = record { control = k; number = n; terms = terms; behind = l; point = point; goes = goes; is = h }
 
-term_way : (q : Process) (stops : List Stop) (start : ℕ) (t : IsText q.body stops start) (p : ℕ) (pause : Pause) (term : EventTerm) → pause_of (stop_statement (stop_at stops p)) ≡ pause →
+pub term_way : (q : Process) (stops : List Stop) (start : ℕ) (t : IsText q.body stops start) (p : ℕ) (pause : Pause) (term : EventTerm) → pause_of (stop_statement (stop_at stops p)) ≡ pause →
     Contains (pause_terms pause) term → (to : ℕ) × Contains (stops_tos stops p) to
 term_way q stops start t p none term e h = absurd (omega (arith, h.1))
 term_way q stops start t p (delay n ticks) term e h = absurd (omega (arith, h.1))

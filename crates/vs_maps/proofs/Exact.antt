@@ -8,7 +8,7 @@ use Rattle.vs_process.specs.Steps.{Next}
 use Rattle.vs_process.specs.Numbers.{number_next}
 use Rattle.vs_process.specs.Ways.{Pause, next_by}
 use Rattle.vs_process.specs.Maps.{IsMap}
-use Rattle.vs_process.specs.Stops.{Stop, stops_tos, stops_behind, IsText}
+use Rattle.vs_process.specs.Stops.{Stop, stops_tos, stops_next, IsText}
 use Rattle.vs_rules.specs.Points.{first_todo}
 use Rattle.vs_graph.specs.Reached.{Reached}
 use Rattle.vs_rules.specs.Claims.{is_wide, kind_of}
@@ -28,7 +28,7 @@ from_sort : (d : Parts) (i : ℕ) (q : Process) (stops : List Stop) (start : ℕ
     (sort : Todo → Next → Type 0) (seeds : List ℕ) → AreBegun (record { stops = stops; start = start }) t.at sort seeds → (p n : ℕ) →
     number_next (t.at p) ≡ Some n → (Reached (stops_along along stops) seeds p ↔ PathFromAlong along d i sort (t.at p))
 from_sort d i q stops start is t along sort seeds all p n numbered = (there, back) where
-  begun : (s : ℕ) → (Contains seeds s ↔ IsBegun t.at start (stops_behind stops) (stops_tos stops) sort s)
+  begun : (s : ℕ) → (Contains seeds s ↔ IsBegun t.at start (stops_next stops) (stops_tos stops) sort s)
   begun s = (
     λ h. let b = (all s).0 h in record {
       point = b.point;
@@ -44,11 +44,11 @@ from_sort d i q stops start is t along sort seeds all p n numbered = (there, bac
     }),
   )
 
-  map_is : IsMap (first_todo d i) t.at start (stops_behind stops) (stops_tos stops)
-  map_is = subst (λ (f : Todo). IsMap f t.at start (stops_behind stops) (stops_tos stops)) (sym (begins_with d i q is)) t.is_map
+  map_is : IsMap (first_todo d i) t.at start (stops_next stops) (stops_tos stops)
+  map_is = subst (λ (f : Todo). IsMap f t.at start (stops_next stops) (stops_tos stops)) (sym (begins_with d i q is)) t.is_map
 
   both : Reached (tos_along (is_turned along) (passes along) t.at (stops_tos stops)) seeds p ↔ PathFromAlong along d i sort (t.at p)
-  both = path_from_exact d i t.at start (stops_behind stops) (stops_tos stops) (is_turned along) (ok_of along) (passes along) sort seeds map_is (alike along) begun p n numbered
+  both = path_from_exact d i t.at start (stops_next stops) (stops_tos stops) (is_turned along) (ok_of along) (passes along) sort seeds map_is (alike along) begun p n numbered
 
   there : Reached (stops_along along stops) seeds p → PathFromAlong along d i sort (t.at p)
   there h = both.0 (reached_same (stops_along along stops) (tos_along (is_turned along) (passes along) t.at (stops_tos stops)) seeds (along_is q.body stops start t along) p h)
@@ -61,14 +61,14 @@ from_is : (d : Parts) (i : ℕ) (q : Process) (stops : List Stop) (start : ℕ) 
     number_next (t.at p) ≡ Some n → (Reached (stops_along along stops) (start ∷ []) p ↔ PathAlong along (first_todo d i) (t.at p))
 from_is d i q stops start is t along p n numbered = (
   from_back d i q stops start t is along p,
-  λ h. same_place (flat q.body) t.at start (stops_behind stops) (stops_tos stops) t.is_map (Reached (stops_along along stops) (start ∷ [])) p n numbered (from_on d i q stops start t is along (t.at p) h),
+  λ h. same_place (flat q.body) t.at start (stops_next stops) (stops_tos stops) t.is_map (Reached (stops_along along stops) (start ∷ [])) p n numbered (from_on d i q stops start t is along (t.at p) h),
 )
 
 pub texts_are_exact : TextsAreExact
 texts_are_exact d i q stops start is t = record {
   point = λ p n numbered. (
     place_back d i q stops start t is p,
-    λ h. same_place (flat q.body) t.at start (stops_behind stops) (stops_tos stops) t.is_map (IsPlace (record { stops = stops; start = start })) p n numbered (place_of d i q stops start t is (t.at p) h),
+    λ h. same_place (flat q.body) t.at start (stops_next stops) (stops_tos stops) t.is_map (IsPlace (record { stops = stops; start = start })) p n numbered (place_of d i q stops start t is (t.at p) h),
   );
   slot0 = λ wide. from_is d i q stops start is t (ZeroTime wide);
   prologue = λ wide. from_is d i q stops start is t (Plain wide);

@@ -2,7 +2,7 @@
 use Rattle.std.proofs.Common.{◌≡◌, ℕ, zero, suc, ◌⊎◌, ◌↔◌, ◌&&◌, inl, inr, Bool, true, false, Some, List, [], ◌∷◌, map, refl, sym, ◌∙◌, ap, subst, arith, if◌then◌else◌}
 use Rattle.std.specs.List.{Contains}
 use Rattle.std.proofs.lemmas.Bool.{false≢true}
-use Rattle.vs_process.specs.Landings.{todo_behind}
+use Rattle.vs_process.specs.Landings.{todo_after}
 use Rattle.vs_process.specs.Places.{Todo}
 use Rattle.vs_process.specs.Steps.{Next, on, after, wait}
 use Rattle.vs_process.specs.Numbers.{number_next}
@@ -13,6 +13,7 @@ use Rattle.vs_rules.specs.Points as r
 use Rattle.vs_rules.specs.Paths.{Path, PathBy, PathFromBy}
 use Rattle.vs_rules.specs.Paths as x
 use Rattle.vs_graph.specs.Reached.{Reached, begins, goes_on}
+use Rattle.vs_graph.proofs.Sweep.{none_in}
 use Rattle.vs_process.specs.Maps.{todo_pause, IsMap, tos_by, steps}
 use Rattle.vs_maps.specs.Laws.{Alike, IsBegun, MapsAreExact}
 use Rattle.vs_maps.specs.Reaches.{tos_by_turn}
@@ -22,9 +23,6 @@ use Rattle.vs_maps.specs.Reaches.{tos_by_turn}
 split : (x b : ℕ) (xs : List ℕ) → Contains (x ∷ xs) b → (x ≡ b) ⊎ Contains xs b
 split x b xs (zero, l, e) = inl e
 split x b xs (suc n, l, e) = inr (n, omega (arith, l), e)
-
-none_in : (b : ℕ) → Contains [] b → ⊥
-none_in b h = omega (arith, h.1)
 
 pub head_in : (x : ℕ) (xs : List ℕ) → Contains (x ∷ xs) x
 head_in x xs = (0, omega arith, refl)
@@ -45,7 +43,7 @@ map_among f (x ∷ xs) t h = elim (split x t xs h) [
 ]
 
 -- what is left after a way
-pub behind_next : (pause : Pause) (l : Todo) → todo_behind (next_by pause l) ≡ l
+pub behind_next : (pause : Pause) (l : Todo) → todo_after (next_by pause l) ≡ l
 behind_next none l = refl
 behind_next (delay number ticks) l = refl
 behind_next (event number terms) l = refl
@@ -113,7 +111,7 @@ path_on first at start behind tos wide ok passes m alike seeds p in_seeds _ (x.g
     let c : passes (todo_pause (at a.0)) ≡ true = sym (alike (todo_pause (at a.0)) (at b.0)) ∙ ap ok b.2 ∙ passes_it in (
       b.0,
       goes_on a.0 b.0 a.1 (if_true (passes (todo_pause (at a.0))) (tos_by_turn (wide && todo_turns (at a.0)) (tos a.0)) b.0 c b.1),
-      sym (behind_next (todo_pause (at a.0)) (at b.0)) ∙ ap todo_behind b.2 ∙ is,
+      sym (behind_next (todo_pause (at a.0)) (at b.0)) ∙ ap todo_after b.2 ∙ is,
     )
 
 -- a place that is reached is one that a path leads to
@@ -170,10 +168,10 @@ point_back first at start behind tos m _ (goes_on a b h e) =
 
 -- a way from a point
 pointed : (first : Todo) (at : ℕ → Todo) (start : ℕ) (behind : ℕ → ℕ) (tos : ℕ → List ℕ) → IsMap first at start behind tos → (k : Todo) (next : Next) →
-    (p : ℕ) × Reached (steps behind tos) (start ∷ []) p × (at p ≡ k) → Goes k next → (p : ℕ) × Reached (steps behind tos) (start ∷ []) p × (at p ≡ todo_behind next)
+    (p : ℕ) × Reached (steps behind tos) (start ∷ []) p × (at p ≡ k) → Goes k next → (p : ℕ) × Reached (steps behind tos) (start ∷ []) p × (at p ≡ todo_after next)
 pointed first at start behind tos m k next y g =
     let b = go first at start behind tos m y.0 next (subst (λ (z : Todo). Goes z next) (sym y.2) g) in
-    (b.0, goes_on y.0 b.0 y.1 (tail_in (behind y.0) b.0 (tos y.0) b.1), sym (behind_next (todo_pause (at y.0)) (at b.0)) ∙ ap todo_behind b.2)
+    (b.0, goes_on y.0 b.0 y.1 (tail_in (behind y.0) b.0 (tos y.0) b.1), sym (behind_next (todo_pause (at y.0)) (at b.0)) ∙ ap todo_after b.2)
 
 pub point_on : (first : Todo) (at : ℕ → Todo) (start : ℕ) (behind : ℕ → ℕ) (tos : ℕ → List ℕ) → IsMap first at start behind tos → (k : Todo) → Point first k →
     (p : ℕ) × Reached (steps behind tos) (start ∷ []) p × (at p ≡ k)
@@ -218,7 +216,7 @@ path_from_exact d i at start behind tos wide ok passes sort seeds m alike all q 
       let g = go (first_todo d i) at start behind tos m y.0 b.next (subst (λ (z : Todo). Goes z b.next) (sym y.2) b.goes) in
       let f : sort (at y.0) (next_by (todo_pause (at y.0)) (at g.0)) =
       subst (λ (z : Todo). sort z (next_by (todo_pause (at y.0)) (at g.0))) (sym y.2) (subst (sort b.at) (sym g.2) b.starts) in
-      let e : todo_behind b.next ≡ at g.0 = sym (ap todo_behind g.2) ∙ behind_next (todo_pause (at y.0)) (at g.0) in
+      let e : todo_after b.next ≡ at g.0 = sym (ap todo_after g.2) ∙ behind_next (todo_pause (at y.0)) (at g.0) in
       same_place (first_todo d i) at start behind tos m (Reached (tos_along wide passes at tos) seeds) q n is
       (path_on (first_todo d i) at start behind tos wide ok passes m alike seeds g.0
       ((all g.0).1 (record { point = y.0; reached = y.1; leads = g.1; starts = f })) (at q) (subst (λ (t : Todo). PathBy (nexts_by wide) ok t (at q)) e b.path))

@@ -1,15 +1,13 @@
 -- The late places of all maps.
-use Rattle.std.proofs.Common.{◌≡◌, ℕ, zero, suc, ◌+◌, ◌<◌, ◌⊎◌, inl, inr, Bool, List, [], ◌∷◌, ◌++◌, length, get_or, slice_get, refl, sym, ◌∙◌, ap, subst, arith}
+use Rattle.std.proofs.Common.{◌≡◌, ℕ, zero, suc, ◌+◌, ◌<◌, inl, inr, Bool, List, [], ◌∷◌, ◌++◌, length, get_or, slice_get, refl, sym, ◌∙◌, ap, subst, arith}
 use Rattle.std.specs.declared.vec.Vec.{Vec}
 use Rattle.std.specs.declared.alloc.Global.{Global}
 use Rattle.std.proofs.lemmas.List.{length-append}
 use Rattle.std.proofs.lemmas.Option.{slice_get-get_or, same_Some}
+use Rattle.vs_design.specs.vs_logic4.proofs.Basics.{below_or}
 use Rattle.vs_maps.specs.Reaches.{Chart, places}
 use Rattle.vs_maps.specs.Walks.{AreMarked, InLate}
 use Rattle.vs_maps.specs.Texts.{AreLate, marks_of}
-
-below_or : (i n : ℕ) → i < n + 1 → (i < n) ⊎ (i ≡ n)
-below_or i n h = grind (arith, h)
 
 -- marks of the first maps
 pub record AreSoFar (charts : List Chart) (table : List (Vec Bool Global)) (n : ℕ) : Type 0 where

@@ -3,6 +3,7 @@ use Rattle.std.proofs.Common.{◌≡◌, ℕ, ◌<◌, ◌≤◌, ◌⊎◌, ◌
 use Rattle.std.specs.List.{Contains}
 use Rattle.std.proofs.lemmas.List.Elements.{Contains-append_left, Contains-append_right, Contains-append_cases}
 use Rattle.std.proofs.lemmas.Option.{slice_get_past, slice_get-get_or, slice_get_within, same_Some, none-some}
+use Rattle.std.proofs.lemmas.Bool.{cases_lt}
 use Rattle.vs_design.specs.declared.design.Process.{Process}
 use Rattle.vs_design.specs.declared.range.BitRange.{BitRange}
 use Rattle.vs_design.specs.declared.statement.EventTerm.{EventTerm}
@@ -13,10 +14,11 @@ use Rattle.vs_rules.specs.Paths.{ListsSignal, reads_for, reads_of, text_reads, w
 use Rattle.vs_maps.specs.Ranges.{HasSignal, HasTermAt}
 use Rattle.vs_maps.specs.Reaches.{Chart}
 use Rattle.vs_graph.specs.Rows.{AreRows}
-use Rattle.vs_maps.proofs.RangeLemmas.{first_in, later_in, in_either, lists_signal}
+use Rattle.vs_graph.proofs.RowLemmas.{head_in as first_in}
+use Rattle.vs_maps.proofs.RangeLemmas.{later_in, in_either, lists_signal}
 use Rattle.vs_maps.specs.Texts.{WaitsFor}
 
-image_in : {A B : Type 0} (f : A → B) (xs : List A) (v : B) → Contains (map f xs) v → (x : A) × Contains xs x × (f x ≡ v)
+pub image_in : {A B : Type 0} (f : A → B) (xs : List A) (v : B) → Contains (map f xs) v → (x : A) × Contains xs x × (f x ≡ v)
 image_in f [] v h = absurd (omega (arith, h.1))
 image_in f (x ∷ xs) v h = elim (in_either (f x) (map f xs) v h) [
   | inl e ↦ (x, first_in x xs, e)
@@ -78,15 +80,12 @@ pub reads_here : (d : Parts) (ps : List Process) (i : ℕ) (q : Process) (rs : L
     rs ≡ reads_of d i
 reads_here d ps i q rs e less is f = f ∙ ap (λ (x : Process). text_reads x.body) (sym is) ∙ sym (ap reads_for (process_at d ps i q e less is))
 
-below_cases : (i n : ℕ) → (i < n) ⊎ (n ≤ i)
-below_cases i n = grind arith
-
 -- a row of the processes whose texts have the signal
 pub texts_with : (d : Parts) (rs : ℕ → List BitRange) (n i v : ℕ) (row : List ℕ) → (n ≤ i → HasSignal (rs i) v → ⊥) →
     (Contains row i ↔ ((i < n) × HasSignal (rs i) v)) → (Contains row i ↔ ListsSignal d (rs i) v)
 texts_with d rs n i v row past f = let l = lists_signal d (rs i) v in (
   λ c. l.0 (f.0 c).1,
-  λ h. elim (below_cases i n) [ inl less ↦ f.1 (less, l.1 h) | inr more ↦ absurd (past more (l.1 h)) ],
+  λ h. elim (cases_lt i n) [ inl less ↦ f.1 (less, l.1 h) | inr more ↦ absurd (past more (l.1 h)) ],
 )
 
 -- what waits, by the terms of the text

@@ -1,7 +1,7 @@
 -- The table of sites.
 use Rattle.std.proofs.Common.{◌≡◌, ℕ, zero, suc, ◌+◌, ◌<◌, ◌≤◌, ◌⊎◌, ◌↔◌, inl, inr, true, false, IsTrue, List, [], ◌∷◌, ◌++◌, Some, length, map, slice_get, get_or, refl, sym, ◌∙◌, ap, subst, arith}
 use Rattle.std.specs.List.{Contains}
-use Rattle.std.proofs.lemmas.List.{length-append, length-replicate}
+use Rattle.std.proofs.lemmas.List.{length-replicate}
 use Rattle.std.proofs.lemmas.List.Elements.{Contains-append_left, Contains-append_right, Contains-append_cases}
 use Rattle.std.proofs.lemmas.Option.{get_or_from_slice_get, slice_get-get_or, slice_get_within, same_Some}
 use Rattle.std.proofs.lemmas.Bool.{false≢true}
@@ -9,6 +9,7 @@ use Rattle.vs_design.specs.declared.range.BitRange.{BitRange}
 use Rattle.vs_design.specs.declared.statement.EventTerm.{EventTerm}
 use Rattle.vs_graph.specs.Rows.{empty_rows, row, with_one}
 use Rattle.vs_graph.proofs.RowLemmas.{in_either, none_in, head_in, tail_in, length_one, one_has, row_empty}
+use Rattle.vs_design.specs.vs_logic4.proofs.Basics.{below_or}
 use Rattle.vs_maps.specs.Ranges.{HasSignal, now_at, later_at, reads_at, shows_at, pause_terms}
 use Rattle.vs_maps.specs.Reaches.{Chart, IsPlace, pause_at}
 use Rattle.vs_maps.specs.Sites.{AreSites, IsSite, IsWrite, UsesAt, all_filed, site_of, waiting_of}
@@ -17,9 +18,6 @@ use Rattle.vs_maps.specs.declared.sites.Site.{Site}
 use Rattle.vs_maps.specs.declared.sites.Use.{Use}
 use Rattle.vs_maps.specs.declared.sites.Use.TheVariants.{Now, Later, Reads, Shows, Waits}
 use Rattle.vs_maps.proofs.SignalLemmas.{images_put}
-
-below_or : (i n : ℕ) → i < n + 1 → (i < n) ⊎ (i ≡ n)
-below_or i n h = grind (arith, h)
 
 -- ---- of one place
 
@@ -153,9 +151,8 @@ filed_has (x ∷ sites) table v s =
       ],
     )
 
--- ---- rows of processes
+-- ---- a row more, at the end
 
--- a row more, at the end
 pub row_before : {A : Type 0} (table : List (List A)) (own : List A) (k : ℕ) → k < length table → row (table ++ own ∷ []) k ≡ row table k
 row_before [] own k h = absurd (omega (arith, h))
 row_before (x ∷ xs) own zero h = refl
@@ -165,29 +162,20 @@ pub row_last : {A : Type 0} (table : List (List A)) (own : List A) → row (tabl
 row_last [] own = refl
 row_last (x ∷ xs) own = row_last xs own
 
-row_past : (table : List (List Site)) (k : ℕ) → length table ≤ k → row table k ≡ []
-row_past [] k h = refl
-row_past (x ∷ xs) zero h = absurd (omega (arith, h))
-row_past (x ∷ xs) (suc k) h = row_past xs k (omega (arith, h))
-
 -- ---- of all texts
 
 -- the sites of the first texts
-pub record SitesBelow (charts : List Chart) (m n : ℕ) (signals processes : List (List Site)) : Type 0 where
+pub record SitesBelow (charts : List Chart) (m n : ℕ) (signals : List (List Site)) : Type 0 where
   pub long : length signals ≡ m
-  pub many : length processes ≡ n
   pub of_signals : (v : ℕ) (s : Site) → v < m → (Contains (row signals v) s ↔ ((s.process < n) × IsSite charts s × (s.range.signal ≡ v)))
-  pub of_processes : (i : ℕ) (s : Site) → i < n → (Contains (row processes i) s ↔ (IsSite charts s × (s.process ≡ i)))
 
-pub none_below : (charts : List Chart) (m : ℕ) (signals processes : List (List Site)) → signals ≡ empty_rows m → processes ≡ [] → SitesBelow charts m 0 signals processes
-none_below charts m signals processes e f = record {
+pub none_below : (charts : List Chart) (m : ℕ) (signals : List (List Site)) → signals ≡ empty_rows m → SitesBelow charts m 0 signals
+none_below charts m signals e = record {
   long = ap length e ∙ length-replicate m [];
-  many = ap length f;
   of_signals = λ v s h. (
     λ c. absurd (none_in s (subst (λ (l : List Site). Contains l s) (ap (λ (t : List (List Site)). row t v) e ∙ row_empty m v) c)),
     λ y. absurd (omega (arith, y.0)),
   );
-  of_processes = λ i s h. absurd (omega (arith, h));
 }
 
 -- the sites of a text are those of its process
@@ -204,19 +192,13 @@ own_sites charts i t own is those s = (
       ),
 )
 
-pub one_below : (charts : List Chart) (m n : ℕ) (t : Chart) (signals processes more_signals more_processes : List (List Site)) (own : List Site) → SitesBelow charts m n signals processes →
+pub one_below : (charts : List Chart) (m n : ℕ) (t : Chart) (signals more_signals : List (List Site)) (own : List Site) → SitesBelow charts m n signals →
     n < length charts → t ≡ get_or charts n t →
-    ((s : Site) → (Contains own s ↔ ((s.process ≡ n) × IsPlace t s.place × UsesAt t s.place s.usage s.range))) → more_signals ≡ all_filed own signals → more_processes ≡ processes ++ own ∷ [] →
-    SitesBelow charts m (n + 1) more_signals more_processes
-one_below charts m n t signals processes more_signals more_processes own before less told those filed pushed = record {
+    ((s : Site) → (Contains own s ↔ ((s.process ≡ n) × IsPlace t s.place × UsesAt t s.place s.usage s.range))) → more_signals ≡ all_filed own signals →
+    SitesBelow charts m (n + 1) more_signals
+one_below charts m n t signals more_signals own before less told those filed = record {
   long = ap length filed ∙ length_filed own signals ∙ before.long;
-  many = ap length pushed ∙ length-append processes (own ∷ []) ∙ ap (λ (k : ℕ). k + 1) before.many;
   of_signals = λ v s h. (there v s h, back v s h);
-  of_processes = λ i s h. subst (λ (l : List Site). (Contains l s ↔ (IsSite charts s × (s.process ≡ i)))) (sym (ap (λ (x : List (List Site)). row x i) pushed)) (elim (below_or i n h) [
-    | inl l ↦ subst (λ (x : List Site). (Contains x s ↔ (IsSite charts s × (s.process ≡ i)))) (sym (row_before processes own i (omega (arith, l, before.many)))) (before.of_processes i s l)
-    | inr e ↦ subst (λ (k : ℕ). (Contains (row (processes ++ own ∷ []) k) s ↔ (IsSite charts s × (s.process ≡ k)))) (sym e)
-        (subst (λ (x : List Site). (Contains x s ↔ (IsSite charts s × (s.process ≡ n)))) (sym (ap (row (processes ++ own ∷ [])) (sym before.many) ∙ row_last processes own)) (mine s))
-  ]);
 } where
   mine : (s : Site) → (Contains own s ↔ (IsSite charts s × (s.process ≡ n)))
   mine = own_sites charts n t own (slice_get-get_or charts n t less ∙ ap Some (sym told)) those
@@ -233,24 +215,14 @@ one_below charts m n t signals processes more_signals more_processes own before 
     | inr e ↦ inr (subst (λ (k : ℕ). v < k) (sym before.long) h, y.2, (mine s).1 (y.1, e))
   ]))
 
-pub all_below : (x : Texts) (m n : ℕ) (signals processes : List (List Site)) → m ≡ length x.design.signals → length x.charts ≤ n → SitesBelow x.charts m n signals processes →
-    AreSites x signals processes
-all_below x m n signals processes e past have = record {
+pub all_below : (x : Texts) (m n : ℕ) (signals : List (List Site)) → m ≡ length x.design.signals → length x.charts ≤ n → SitesBelow x.charts m n signals → AreSites x signals
+all_below x m n signals e past have = record {
   long = have.long ∙ e;
   of_signals = λ v s h. let both = have.of_signals v s (subst (λ (k : ℕ). v < k) (sym e) h) in (
     λ c. let y = both.0 c in (y.1, y.2),
     λ y. let l = slice_get_within x.charts s.process y.0.chart y.0.is in both.1 (omega (arith, l, past), y.0, y.1),
   );
-  of_processes = λ i s. elim (cases i) [
-    | inl l ↦ have.of_processes i s l
-    | inr g ↦ (
-      λ c. absurd (none_in s (subst (λ (l : List Site). Contains l s) (row_past processes i (omega (arith, g, have.many))) c)),
-      λ y. let l = slice_get_within x.charts s.process y.0.chart y.0.is in absurd (omega (arith, l, past, g, y.1)),
-    )
-  ];
-} where
-  cases : (i : ℕ) → (i < n) ⊎ (n ≤ i)
-  cases i = grind arith
+}
 
 -- ---- of one signal
 
@@ -265,28 +237,6 @@ written_so t p v Later r w h e = inr (r, h, e)
 written_so t p v Reads r w h e = absurd w
 written_so t p v Shows r w h e = absurd w
 written_so t p v (Waits edge) r w h e = absurd w
-
--- ---- of one process
-
--- a list has the sites of a process
-abbrev pub AreSitesIn : List Chart → ℕ → List Site → Type 0
-AreSitesIn charts i sites = (s : Site) → (Contains sites s ↔ (IsSite charts s × (s.process ≡ i)))
-
--- each is at a point of its map, which uses the range so
-pub site_here : (charts : List Chart) (i : ℕ) (t : Chart) → slice_get charts i ≡ Some t → (sites : List Site) → AreSitesIn charts i sites → (s : Site) → Contains sites s →
-    IsPlace t s.place × UsesAt t s.place s.usage s.range
-site_here charts i t at sites are s c =
-    let y = (are s).0 c in
-    let same : y.0.chart ≡ t = same_Some y.0.chart t (sym y.0.is ∙ ap (slice_get charts) y.1 ∙ at) in
-    (subst (λ (x : Chart). IsPlace x s.place) same y.0.point, subst (λ (x : Chart). UsesAt x s.place s.usage s.range) same y.0.uses)
-
--- a rule of its uses is one of its sites
-pub uses_keep : (charts : List Chart) (i : ℕ) (t : Chart) → slice_get charts i ≡ Some t → (sites : List Site) → AreSitesIn charts i sites → (keeps : ℕ → Use → BitRange → Type 0) →
-    (((s : Site) → Contains sites s → keeps s.place s.usage s.range) ↔ ((p : ℕ) (u : Use) (r : BitRange) → IsPlace t p → UsesAt t p u r → keeps p u r))
-uses_keep charts i t at sites are keeps = (
-  λ all p u r point uses. all (site_of i p u r) ((are (site_of i p u r)).1 (record { chart = t; is = at; point = point; uses = uses }, refl)),
-  λ all s c. let h = site_here charts i t at sites are s c in all s.place s.usage s.range h.0 h.1,
-)
 
 -- ---- rules of sites
 

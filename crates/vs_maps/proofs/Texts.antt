@@ -10,12 +10,12 @@ use Rattle.std.proofs.lemmas.Bool.{false≢true}
 use Rattle.std.proofs.lemmas.Option.{none-some, same_Some}
 use Rattle.vs_process.specs.declared.gait.Gait.TheVariants.{Fresh}
 use Rattle.vs_process.specs.Nexts.{statement_nexts}
-use Rattle.vs_process.specs.Landings.{todo_behind}
+use Rattle.vs_process.specs.Landings.{todo_after}
 use Rattle.vs_process.specs.Places.{perform, turns, Todo, active_at, ended, flat, start_place, todo_of}
 use Rattle.vs_process.specs.Steps.{Next, after, wait}
 use Rattle.vs_process.specs.Ways.{Pause, none, delay, event, next_by}
 use Rattle.vs_process.specs.Maps.{statement_pause, todo_pause}
-use Rattle.vs_process.specs.Stops.{Stop, stop_at, stop_statement, stops_tos, stops_behind, next_statement, IsText}
+use Rattle.vs_process.specs.Stops.{Stop, stop_at, stop_statement, stops_tos, stops_next, next_statement, IsText}
 use Rattle.vs_rules.specs.Points.{Among, Goes, Point, first_todo, nexts_by, todo_turns}
 use Rattle.vs_rules.specs.Paths.{PathBy, IsPoint, any_way, is_plain, is_zero_time}
 use Rattle.vs_graph.specs.Reached.{Reached, begins, goes_on}
@@ -80,14 +80,14 @@ PathAlong along k l = PathBy (nexts_by (is_turned along)) (ok_of along) k l
 pub walk_back : (body : Statement) (stops : List Stop) (start : ℕ) (t : IsText body stops start) (along : Along) (p q : ℕ) → Reached (stops_along along stops) (p ∷ []) q →
     PathAlong along (t.at p) (t.at q)
 walk_back body stops start t along p q h =
-    let y = path_back (flat body) t.at start (stops_behind stops) (stops_tos stops) (is_turned along) (ok_of along) (passes along) t.is_map (alike along) (p ∷ []) q
+    let y = path_back (flat body) t.at start (stops_next stops) (stops_tos stops) (is_turned along) (ok_of along) (passes along) t.is_map (alike along) (p ∷ []) q
     (reached_same (stops_along along stops) (tos_along (is_turned along) (passes along) t.at (stops_tos stops)) (p ∷ []) (along_is body stops start t along) q h) in
     subst (λ (a : ℕ). PathAlong along (t.at a) (t.at q)) (sym (only p y.0 y.1)) y.2
 
 pub walk_on : (body : Statement) (stops : List Stop) (start : ℕ) (t : IsText body stops start) (along : Along) (p : ℕ) (l : Todo) → PathAlong along (t.at p) l →
     (q : ℕ) × Reached (stops_along along stops) (p ∷ []) q × (t.at q ≡ l)
 walk_on body stops start t along p l h =
-    let y = path_on (flat body) t.at start (stops_behind stops) (stops_tos stops) (is_turned along) (ok_of along) (passes along) t.is_map (alike along) (p ∷ []) p (head_in p []) l h in
+    let y = path_on (flat body) t.at start (stops_next stops) (stops_tos stops) (is_turned along) (ok_of along) (passes along) t.is_map (alike along) (p ∷ []) p (head_in p []) l h in
     (y.0, reached_same (tos_along (is_turned along) (passes along) t.at (stops_tos stops)) (stops_along along stops) (p ∷ []) (λ p. sym (along_is body stops start t along p)) y.0 y.1, y.2)
 
 -- ---- of a process
@@ -109,12 +109,12 @@ begins_with d i q is = first_is d.processes i q is
 pub place_of : (d : Parts) (i : ℕ) (q : Process) (stops : List Stop) (start : ℕ) (t : IsText q.body stops start) → slice_get d.processes i ≡ Some q → (k : Todo) → IsPoint d i k →
     (p : ℕ) × IsPlace (record { stops = stops; start = start }) p × (t.at p ≡ k)
 place_of d i q stops start t is k h =
-    point_on (flat q.body) t.at start (stops_behind stops) (stops_tos stops) t.is_map k (subst (λ (f : Todo). Point f k) (begins_with d i q is) h)
+    point_on (flat q.body) t.at start (stops_next stops) (stops_tos stops) t.is_map k (subst (λ (f : Todo). Point f k) (begins_with d i q is) h)
 
 pub place_back : (d : Parts) (i : ℕ) (q : Process) (stops : List Stop) (start : ℕ) (t : IsText q.body stops start) → slice_get d.processes i ≡ Some q → (p : ℕ) →
     IsPlace (record { stops = stops; start = start }) p → IsPoint d i (t.at p)
 place_back d i q stops start t is p h =
-    subst (λ (f : Todo). Point f (t.at p)) (sym (begins_with d i q is)) (point_back (flat q.body) t.at start (stops_behind stops) (stops_tos stops) t.is_map p h)
+    subst (λ (f : Todo). Point f (t.at p)) (sym (begins_with d i q is)) (point_back (flat q.body) t.at start (stops_next stops) (stops_tos stops) t.is_map p h)
 
 -- from the start, along some ways
 pub from_on : (d : Parts) (i : ℕ) (q : Process) (stops : List Stop) (start : ℕ) (t : IsText q.body stops start) → slice_get d.processes i ≡ Some q → (along : Along) (k : Todo) →
@@ -132,13 +132,13 @@ from_back d i q stops start t is along p h =
 pub step_on : (body : Statement) (stops : List Stop) (start : ℕ) (t : IsText body stops start) (p : ℕ) (next : Next) → Goes (t.at p) next →
     (to : ℕ) × Contains (stops_tos stops p) to × (next_by (pause_of (stop_statement (stop_at stops p))) (t.at to) ≡ next)
 step_on body stops start t p next h =
-    let y = go (flat body) t.at start (stops_behind stops) (stops_tos stops) t.is_map p next h in
+    let y = go (flat body) t.at start (stops_next stops) (stops_tos stops) t.is_map p next h in
     (y.0, y.1, ap (λ (x : Pause). next_by x (t.at y.0)) (sym (pause_here body stops start t p)) ∙ y.2)
 
 pub step_back : (body : Statement) (stops : List Stop) (start : ℕ) (t : IsText body stops start) (p to : ℕ) → Contains (stops_tos stops p) to →
     Goes (t.at p) (next_by (pause_of (stop_statement (stop_at stops p))) (t.at to))
 step_back body stops start t p to h =
-    subst (λ (x : Pause). Goes (t.at p) (next_by x (t.at to))) (pause_here body stops start t p) (gone (flat body) t.at start (stops_behind stops) (stops_tos stops) t.is_map p to h)
+    subst (λ (x : Pause). Goes (t.at p) (next_by x (t.at to))) (pause_here body stops start t p) (gone (flat body) t.at start (stops_next stops) (stops_tos stops) t.is_map p to h)
 
 -- ---- a control has a way
 
@@ -175,5 +175,5 @@ control_on body stops start t p pause e h =
     (s.0, s.1)
 
 -- what is left after a way is that of its place
-pub behind_step : (pause : Pause) (l : Todo) (next : Next) → next_by pause l ≡ next → todo_behind next ≡ l
-behind_step pause l next e = sym (ap todo_behind e) ∙ behind_next pause l
+pub behind_step : (pause : Pause) (l : Todo) (next : Next) → next_by pause l ≡ next → todo_after next ≡ l
+behind_step pause l next e = sym (ap todo_after e) ∙ behind_next pause l

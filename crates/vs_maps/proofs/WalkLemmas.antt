@@ -3,7 +3,7 @@ use Rattle.std.proofs.Common.{◌≡◌, ℕ, suc, ◌<◌, ◌↔◌, ◌&&◌,
 use Rattle.std.specs.List.{Contains}
 use Rattle.std.proofs.lemmas.List.{length-map}
 use Rattle.vs_process.specs.declared.stops.TextMap as h
-use Rattle.vs_process.specs.Stops.{LeadsIn, stop_at, stop_statement, stops_tos, stops_behind, stop_view}
+use Rattle.vs_process.specs.Stops.{LeadsIn, stop_at, stop_statement, stops_tos, stops_next, stop_view}
 use Rattle.vs_graph.specs.Reached.{Reached, AreReached, begins, goes_on}
 use Rattle.vs_maps.specs.declared.along.Along.{Along}
 use Rattle.vs_maps.specs.Reaches.{Chart, IsPlace, chart_of, is_turned, places, statement_passes, statement_turns, stops_along, stops_steps, tos_by_turn}
@@ -36,7 +36,7 @@ walked : (t : Chart) (along : Along) (to : ℕ) → IsPlace t to → (p : ℕ) �
 walked t along to h _ (begins a c) = subst (IsPlace t) (only to a c) h
 walked t along to h _ (goes_on a b r c) =
     let first = is_turned along && statement_turns (stop_statement (stop_at t.stops a)) in
-    goes_on a b (walked t along to h a r) (tail_in (stops_behind t.stops a) b (stops_tos t.stops a)
+    goes_on a b (walked t along to h a r) (tail_in (stops_next t.stops a) b (stops_tos t.stops a)
     (by_turn_in first (stops_tos t.stops a) b (true_if (statement_passes along (stop_statement (stop_at t.stops a))) (tos_by_turn first (stops_tos t.stops a)) b c).1))
 
 -- from the start they do
@@ -44,7 +44,7 @@ pub start_walked : (t : Chart) (along : Along) (p : ℕ) → Reached (stops_alon
 start_walked t along p h = walked t along t.start (begins t.start (head_in t.start [])) p h
 
 pub walk_place : (t : Chart) (along : Along) (sort : ℕ → Type 0) (p : ℕ) → WalkFrom t along sort p → IsPlace t p
-walk_place t along sort p w = walked t along w.to (goes_on w.from w.to w.is_place (tail_in (stops_behind t.stops w.from) w.to (stops_tos t.stops w.from) w.leads)) p w.reached
+walk_place t along sort p w = walked t along w.to (goes_on w.from w.to w.is_place (tail_in (stops_next t.stops w.from) w.to (stops_tos t.stops w.from) w.leads)) p w.reached
 
 -- from one of some seeds
 one_seed : (nexts : ℕ → List ℕ) (seeds : List ℕ) (p : ℕ) → Reached nexts seeds p → (s : ℕ) × Contains seeds s × Reached nexts (s ∷ []) p

@@ -2,7 +2,7 @@
 use Rattle.std.specs.Prelude.{ℕ, ◌<◌, ◌&&◌, Bool, true, false, List, [], ◌∷◌, get_or, if◌then◌else◌}
 use Rattle.std.specs.List.{Contains, All}
 use Rattle.std.proofs.lemmas.List.Elements.{All-nil, All-cons, All-head, All-contains, Contains-get_or}
-use Rattle.vs_process.specs.Stops.{LeadsIn, Stop, stop_at, stop_statement, stops_tos, stops_behind}
+use Rattle.vs_process.specs.Stops.{LeadsIn, Stop, stop_at, stop_statement, stops_tos, stops_next}
 use Rattle.vs_maps.specs.declared.along.Along.{Along}
 use Rattle.vs_maps.specs.Reaches.{is_turned, statement_passes, statement_turns, stops_along, stops_steps, tos_by_turn}
 
@@ -30,4 +30,4 @@ along_in along n stops h a b c =
 pub steps_in : (n : ℕ) (stops : List Stop) → LeadsIn n stops → (a b : ℕ) → Contains (stops_steps stops a) b → b < n
 steps_in n stops h a b c =
     All-contains (λ q. q < n) (stops_steps stops a) b
-    (All-cons (λ q. q < n) (stops_behind stops a) (stops_tos stops a) (h.behind a) (all_below (stops_tos stops a) n (h.ways a))) c
+    (All-cons (λ q. q < n) (stops_next stops a) (stops_tos stops a) (h.behind a) (all_below (stops_tos stops a) n (h.ways a))) c

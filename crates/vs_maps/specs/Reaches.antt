@@ -7,7 +7,7 @@ use Rattle.vs_process.specs.Maps.{statement_pause}
 use denote.Ref.{Bor}
 use Rattle.vs_process.specs.declared.stops.Stop as k
 use Rattle.vs_process.specs.declared.stops.TextMap as h
-use Rattle.vs_process.specs.Stops.{LeadsIn, Stop, stop_view, stop_at, stop_statement, stops_tos, stops_behind}
+use Rattle.vs_process.specs.Stops.{LeadsIn, Stop, stop_view, stop_at, stop_statement, stops_tos, stops_next}
 use Rattle.vs_graph.specs.Reached.{Reached, AreReached}
 use Rattle.vs_rules.specs.Points.{first_alone, surely_turns}
 use Rattle.vs_maps.specs.declared.along.Along.{Along}
@@ -61,7 +61,7 @@ stop_turns s = statement_turns s.statement
 
 -- where it leads by all its ways, and by leaving out what is done at a place
 abbrev pub stops_steps : List Stop → ℕ → List ℕ
-stops_steps stops p = stops_behind stops p ∷ stops_tos stops p
+stops_steps stops p = stops_next stops p ∷ stops_tos stops p
 
 -- how ways go on, as it is told
 abbrev pub pause_view : p.Pause → Pause

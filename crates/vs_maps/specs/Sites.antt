@@ -32,11 +32,10 @@ IsWrite Now = Unit {0}
 IsWrite Later = Unit {0}
 IsWrite _ = ⊥
 
--- rows of the sites of each signal, and of each process
-pub record AreSites (x : Texts) (signals processes : List (List Site)) : Type 0 where
+-- rows of the sites of each signal
+pub record AreSites (x : Texts) (signals : List (List Site)) : Type 0 where
   pub long : length signals ≡ length x.design.signals
   pub of_signals : (v : ℕ) (s : Site) → v < length x.design.signals → (Contains (row signals v) s ↔ (IsSite x.charts s × (s.range.signal ≡ v)))
-  pub of_processes : (i : ℕ) (s : Site) → (Contains (row processes i) s ↔ (IsSite x.charts s × (s.process ≡ i)))
 
 -- a site of a place that uses a range so
 abbrev pub site_of : ℕ → ℕ → Use → BitRange → Site

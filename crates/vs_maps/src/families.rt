@@ -1,5 +1,5 @@
 //! The signals of each text, and of each of its points.
-ghost use Rattle.std.specs.Prelude.{ℕ, ◌≡◌, ◌↔◌, ◌⊎◌, OnOk};
+ghost use Rattle.std.specs.Prelude.{ℕ, ◌≡◌, ◌↔◌, ◌⊎◌, OnOk, IsTrue};
 ghost use Rattle.std.specs.List.{Contains};
 ghost use Rattle.vs_rules.specs.Paths.{reads_of, writes_of};
 ghost use Rattle.vs_maps.specs.Ranges.{HasSignal};
@@ -20,6 +20,18 @@ pub fn push_signals(out: &mut Vec<usize>, ranges: &[BitRange]) -> Result<(), All
         out.push(r.signal)?;
     }
     Ok(())
+}
+
+/// Whether one of some ranges is of a signal.
+pub fn has_signal(ranges: &[BitRange], signal: usize) -> bool
+    ensures { IsTrue result ↔ HasSignal ranges.now signal }
+{
+    for range in ranges {
+        if range.signal == signal {
+            return true;
+        }
+    }
+    false
 }
 
 // Puts the signals of terms at a list's end.

@@ -18,10 +18,10 @@ mod walks;
 
 pub use along::Along;
 pub use delays::controls;
-pub use families::push_signals;
+pub use families::{has_signal, push_signals};
 pub use laws::{maps_are_exact, texts_are_exact};
 pub use paths::tos_by_turn;
-pub use pauses::Pause;
+pub use pauses::{Pause, takes_no_time};
 pub use readings::text_reads;
 pub use sites::{Site, SiteRule, Sites, Use, is_now, is_write, is_write_of, places_written};
 pub use tables::Tables;

@@ -1,8 +1,9 @@
 //! How paths of a text go on from a place.
-ghost use Rattle.std.specs.Prelude.{◌≡◌};
+ghost use Rattle.std.specs.Prelude.{◌≡◌, false};
 ghost use Rattle.vs_design.specs.declared.statement.Statement.TheViews.{out-Statement};
 ghost use Rattle.vs_process.specs.Maps.{statement_pause};
 ghost use Rattle.vs_process.specs.Stops.{statement_view};
+ghost use Rattle.vs_maps.specs.declared.along.Along.TheVariants.{ZeroTime};
 ghost use Rattle.vs_maps.specs.Reaches.{pause_of, pause_view, passes};
 
 use crate::along::Along;
@@ -56,4 +57,11 @@ pub(crate) fn passes(along: Along, pause: Pause) -> bool
             Along::Plain(_) | Along::ZeroTime(_) => false,
         },
     }
+}
+
+/// Whether a way that goes on so takes no time.
+pub fn takes_no_time(pause: Pause) -> bool
+    ensures { result ≡ passes (ZeroTime false) (pause_view pause.entry) }
+{
+    passes(Along::ZeroTime(false), pause)
 }

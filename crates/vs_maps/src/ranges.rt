@@ -188,7 +188,7 @@ fn writes_later_of(s: Option<&Statement>, signal: usize) -> bool
 
 impl<'a> Tables<'a> {
     /// The statement at a place, where there is one.
-    fn statement(&self, place: usize) -> Option<&'a Statement>
+    pub fn statement(&self, place: usize) -> Option<&'a Statement>
         ensures { statement_view result ≡ ranges.statement_at self.now place }
     {
         match self.stop(place) {

@@ -145,13 +145,12 @@ fn file(rows: &mut Rows<Site>, sites: &[Site]) -> Result<(), AllocError>
     Ok(())
 }
 
-/// The sites of a design, by their signals and by their processes. A contract sees the design and the maps of its texts.
+/// The sites of a design, by their signals. A contract sees the design and the maps of its texts.
 #[derive(Drop)]
 pub struct Sites<'a> {
     design: &'a Design,
     tables: &'a [Tables<'a>],
     of_signals: Rows<Site>,
-    of_processes: Rows<Site>,
 }
 
 impl<'a> Model for Sites<'a> {
@@ -167,7 +166,7 @@ impl<'a> Model for Sites<'a> {
 
     ghost view = { λ s. texts_of s.design.now s.tables.now };
 
-    ghost invariant = { λ s. AreSites (texts_of s.design.now s.tables.now) s.of_signals s.of_processes };
+    ghost invariant = { λ s. AreSites (texts_of s.design.now s.tables.now) s.of_signals };
 }
 
 impl<'a> Sites<'a> {
@@ -180,17 +179,14 @@ impl<'a> Sites<'a> {
         ensures { IfOk result (λ s. s ≡ texts_of design.entry.now tables.entry.now) }
     {
         let mut of_signals = Rows::empty(alloc, design.signals().len())?;
-        let mut of_processes = Rows::none(alloc);
         for i in 0..tables.len() {
             let own = sites_of(alloc, &tables[i], i)?;
             file(&mut of_signals, &own)?;
-            of_processes.push(own)?;
         }
         Ok(Sites {
             design,
             tables,
             of_signals,
-            of_processes,
         })
     }
 
@@ -207,13 +203,6 @@ impl<'a> Sites<'a> {
         ensures { (s : Site) → (Contains result.now s ↔ (IsSite self.now.charts s × (s.range.signal ≡ v))) }
     {
         self.of_signals.row(v)
-    }
-
-    /// The sites of a process, in the order of places.
-    pub fn of_process(&self, i: usize) -> &[Site]
-        ensures { (s : Site) → (Contains result.now s ↔ (IsSite self.now.charts s × (s.process ≡ i))) }
-    {
-        self.of_processes.row(i)
     }
 }
 

@@ -99,6 +99,13 @@ impl<'a> Tables<'a> {
         self.text.stops.len() + 1
     }
 
+    /// The place of the start.
+    pub fn start(&self) -> usize
+        ensures { result ≡ self.now.start }
+    {
+        self.text.start
+    }
+
     /// The stop at a place, where there is one: place 0 is the end, and the others are numbered from 1 on.
     pub fn stop(&self, place: usize) -> Option<&'a Stop<'a>>
         ensures { stop_seen result ≡ stop_at self.now.stops place }

@@ -1,14 +1,14 @@
 //! What is told of a source, a certificate or a design that is refused, and of a run that takes too many steps.
 
+use crate::fault_line::FaultLine;
 use crate::file_places::Sheet;
 use crate::given::{Extent, Given};
-use crate::told::Told;
 use std::alloc::{AllocError, Global};
 use std::io::Write;
 use vs_explain::vs_certificate::CertFault;
 use vs_explain::vs_simulate::SimFault;
 use vs_explain::{
-    Explanation, Further, Offender, Stands, explain, explain_after, explain_certificate,
+    CertificatePlace, Explanation, Further, Offender, explain, explain_after, explain_certificate,
     explain_limit, explain_rule,
 };
 use vs_preprocess::Places;
@@ -68,7 +68,7 @@ fn placed_text(
     given: &Given,
     places: &Places,
     certificate: &[u8],
-    told: Told,
+    told: FaultLine,
     explanation: &Explanation,
 ) -> Result<Vec<u8>, AllocError> {
     let sheet = Sheet {
@@ -92,7 +92,7 @@ fn tell_explained<E: Write>(
     alloc: Global,
     given: &Given,
     certificate: &[u8],
-    told: Told,
+    told: FaultLine,
     explanation: Result<Explanation, AllocError>,
     err: &mut E,
 ) {
@@ -123,8 +123,8 @@ pub fn tell_source<E: Write>(
     err: &mut E,
 ) {
     let told = match fault {
-        SimFault::Lex(_) | SimFault::Parse(_) => Told::of_place(line),
-        SimFault::Elab(_) => Told::of_line(line),
+        SimFault::Lex(_) | SimFault::Parse(_) => FaultLine::of_place(line),
+        SimFault::Elab(_) => FaultLine::of_line(line),
         SimFault::Run(_) | SimFault::Memory => return tell_line(err, line),
     };
     if given.places.is_none() {
@@ -153,16 +153,16 @@ pub fn tell_certificate<E: Write>(
     }
     if given.wants_place() {
         let stands = if given.is_in_front {
-            Stands::First
+            CertificatePlace::First
         } else {
-            Stands::Alone
+            CertificatePlace::Alone
         };
         let explanation = explain_certificate(alloc, given.certificate, given.rules, stands, fault);
         tell_explained(
             alloc,
             given,
             given.certificate,
-            Told::of_line(line),
+            FaultLine::of_line(line),
             explanation,
             err,
         );
@@ -209,7 +209,7 @@ pub fn tell_broken<E: Write>(
             alloc,
             given,
             given.certificate,
-            Told::of_line(line),
+            FaultLine::of_line(line),
             explanation,
             err,
         );
@@ -262,7 +262,7 @@ pub fn tell_rejected<E: Write>(
             alloc,
             given,
             offender.certificate,
-            Told::of_line(line),
+            FaultLine::of_line(line),
             explanation,
             err,
         );

@@ -1,10 +1,10 @@
 //! The first line of what is told of a refusal in files: its place, what is wrong in a clause, and its number. What follows it are the line of
 //! the file, notes of other places, and the rest of what is said.
 
+use crate::fault_line::FaultLine;
 use crate::file_places::{Sheet, push_line, push_mark, push_note};
 use crate::given::Extent;
 use crate::remedies::{remedy_of, without_mark};
-use crate::told::Told;
 use std::alloc::AllocError;
 use vs_explain::{Explanation, PlaceForm, Placed};
 
@@ -146,7 +146,7 @@ impl<'p> Sheet<'p> {
     pub(crate) fn short_of(
         &self,
         explanation: &Explanation,
-        told: Told,
+        told: FaultLine,
     ) -> Result<Option<Vec<u8>>, AllocError> {
         let Some(first) = explanation.places.first() else {
             return Ok(None);
@@ -168,7 +168,7 @@ impl<'p> Sheet<'p> {
     pub(crate) fn whole_of(
         &self,
         explanation: &Explanation,
-        told: Told,
+        told: FaultLine,
     ) -> Result<Option<Vec<u8>>, AllocError> {
         let Some(first) = explanation.places.first() else {
             return Ok(None);
@@ -198,7 +198,7 @@ impl<'p> Sheet<'p> {
     pub(crate) fn unplaced_of(
         &self,
         explanation: &Explanation,
-        told: Told,
+        told: FaultLine,
         extent: Extent,
     ) -> Result<Vec<u8>, AllocError> {
         let mut text = Vec::from_slice(self.alloc, b"vsim: ")?;

@@ -5,6 +5,7 @@
 mod buffered;
 mod commands;
 mod disk;
+mod fault_line;
 mod faults;
 mod file;
 mod file_places;
@@ -14,7 +15,6 @@ mod late;
 mod preprocessed;
 mod remedies;
 mod sheet;
-mod told;
 
 pub use buffered::{Buffered, ROOM};
 pub use commands::push_sources;

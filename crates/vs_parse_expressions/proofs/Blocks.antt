@@ -4,7 +4,7 @@ use Rattle.std.proofs.Common.{ap, subst, arith}
 use Rattle.vs_syntax.specs.vs_lexer.specs.declared.token.Token.{Token}
 use Rattle.vs_syntax.specs.vs_lexer.specs.declared.token.Word.TheVariants as w
 use Rattle.vs_syntax.specs.Symbols.{Symbol, a_word}
-use Rattle.vs_syntax.specs.Grammar.{Grammar, ◌·◌, many, word, name, form, listed, local_declaration, a_local}
+use Rattle.vs_syntax.specs.Grammar.{Grammar, ◌·◌, many, word, name, form, comma_list, local_declaration, a_local}
 use Rattle.vs_syntax.specs.Tables.{goes}
 use Rattle.vs_syntax.specs.Derivation.{Tree, leaf, both}
 use Rattle.vs_syntax.specs.Reading.{Gets, Stuck, stuck_second, stuck_left, stuck_right}
@@ -19,8 +19,8 @@ name_and_locals = name · many local_declaration
 
 -- what stands behind the word of a declaration
 abbrev pub behind_word : LocalWord → Grammar
-behind_word l.Reg = form · listed a_local
-behind_word l.Integer = listed a_local
+behind_word l.Reg = form · comma_list a_local
+behind_word l.Integer = comma_list a_local
 
 pub local_goes : (ts after : List Symbol) (k : LocalWord) → ts ≡ a_word (local_word k) ∷ after → goes local_declaration ts ≡ true
 local_goes ts after l.Reg e = ap (goes local_declaration) e

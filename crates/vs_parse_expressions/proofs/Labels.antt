@@ -10,7 +10,7 @@ use Rattle.vs_syntax.specs.Reading.{Gets, Stuck, stuck_second, stuck_left, stuck
 use Rattle.vs_syntax.specs.Views.{colon_tree, labelled_tree}
 use Rattle.vs_syntax.specs.declared.tree.CaseLabel.TheVariants as n
 use Rattle.vs_syntax.proofs.Gets.{gets_nothing, gets_token, gets_seq, gets_left, gets_right, gets_part}
-use Rattle.vs_parse_expressions.specs.Lists.{behind_commas}
+use Rattle.vs_parse_expressions.specs.Lists.{comma_tail}
 use Rattle.vs_parse_expressions.specs.Parts.{Beyond}
 
 -- the colon behind `default`, or nothing
@@ -32,7 +32,7 @@ default_beyond depth ts after rest colon h e q = record {
 
 -- expressions, a colon and a statement
 abbrev pub chosen : Grammar
-chosen = part an_expr · behind_commas (part an_expr) · mark m.Colon · part a_stmt
+chosen = part an_expr · comma_tail (part an_expr) · mark m.Colon · part a_stmt
 
 pub chosen_stuck : (depth : ℕ) (deep : Bool) (ts at : List Symbol) → 1 ≤ depth → goes (word w.Default) ts ≡ false → Stuck chosen depth deep ts at → Stuck (part a_case_item) depth deep ts at
 chosen_stuck depth deep ts at h i s = stuck_part (stuck_right i h s)

@@ -8,14 +8,14 @@ use Rattle.vs_syntax.specs.Grammar.{Grammar, ◌·◌, mark}
 use Rattle.vs_syntax.specs.Tables.{low, goes}
 use Rattle.vs_syntax.specs.Derivation.{Tree, leaf, both, tokens}
 use Rattle.vs_syntax.specs.Reading.{Gets, Stuck, stuck_second, stuck_many}
-use Rattle.vs_syntax.specs.Views.{commas_tree, listed_tree}
+use Rattle.vs_syntax.specs.Views.{commas_tree, comma_list_tree}
 use Rattle.vs_syntax.proofs.Fronts.{same_class-refl}
 use Rattle.std.proofs.lemmas.Bool.{or_left}
 use Rattle.vs_syntax.proofs.Gets.{gets_token, gets_seq, gets_stop}
 use Rattle.vs_syntax.specs.vs_lexer.specs.declared.token.Token.{Token}
 use Rattle.vs_parse_expressions.specs.Answers.{seen}
 use Rattle.vs_parse_expressions.proofs.Rows.{Along, along_none, along_push, all_read}
-use Rattle.vs_parse_expressions.specs.Lists.{behind_commas, Grown}
+use Rattle.vs_parse_expressions.specs.Lists.{comma_tail, Grown}
 
 -- a tree behind its comma
 abbrev pub comma_before : Tree → Tree
@@ -49,7 +49,7 @@ pub comma_shorter : (g : Grammar) (depth : ℕ) (ts after rest : List Symbol) (x
 comma_shorter g depth ts after rest x e p = omega (arith, ap length e, ap length p.text, length-append (tokens x) rest)
 
 -- what stops one of them behind its comma
-pub adding_stuck : {X : Type 0} (g : Grammar) (depth : ℕ) (deep : Bool) (tree : X → Tree) (start rest after at : List Symbol) (xs ys : List X) → low g ≤ depth → Adding g depth tree start rest xs ys → rest ≡ a_mark m.Comma ∷ after → Stuck g depth deep after at → Stuck (behind_commas g) depth deep start at
+pub adding_stuck : {X : Type 0} (g : Grammar) (depth : ℕ) (deep : Bool) (tree : X → Tree) (start rest after at : List Symbol) (xs ys : List X) → low g ≤ depth → Adding g depth tree start rest xs ys → rest ≡ a_mark m.Comma ∷ after → Stuck g depth deep after at → Stuck (comma_tail g) depth deep start at
 adding_stuck g depth deep tree start rest after at xs ys n l e s =
     let k : low (mark m.Comma · g) ≤ depth = omega (arith, n) in
     l.along.stops deep at (stuck_many (goes_comma g rest after e) k (subst (λ (u : List Symbol). Stuck (mark m.Comma · g) depth deep u at) (sym e) (stuck_second (gets_token refl) s)))
@@ -63,10 +63,10 @@ all_added g depth tree start rest xs ys l h = record {
 }
 
 -- what was added to nothing
-pub grown_none : {X : Type 0} (g : Grammar) (depth : ℕ) (tree : X → Tree) (ts rest : List Symbol) (xs ys : List X) → Grown g depth tree ts rest xs ys → xs ≡ [] → Gets (behind_commas g) depth ts (commas_tree (map tree ys)) rest
+pub grown_none : {X : Type 0} (g : Grammar) (depth : ℕ) (tree : X → Tree) (ts rest : List Symbol) (xs ys : List X) → Grown g depth tree ts rest xs ys → xs ≡ [] → Gets (comma_tail g) depth ts (commas_tree (map tree ys)) rest
 grown_none g depth tree ts rest xs ys l e =
     let i : ys ≡ l.others = l.all ∙ ap (λ u. u ++ l.others) e in
-    subst (λ u. Gets (behind_commas g) depth ts (commas_tree (map tree u)) rest) (sym i) l.gets
+    subst (λ u. Gets (comma_tail g) depth ts (commas_tree (map tree u)) rest) (sym i) l.gets
 
 -- what was added to one
 pub grown_one : {X : Type 0} (g : Grammar) (depth : ℕ) (tree : X → Tree) (ts rest : List Symbol) (x : X) (xs ys : List X) (P : List X → Type 0) → (l : Grown g depth tree ts rest xs ys) → xs ≡ x ∷ [] → P (x ∷ l.others) → P ys
@@ -75,9 +75,9 @@ grown_one g depth tree ts rest x xs ys P l e p =
     subst P (sym i) p
 
 -- a list with its end: the first, the others and what stands behind them
-pub listed_read : {X : Type 0} (g : Grammar) (depth : ℕ) (tree : X → Tree) (ts start rest at : List Symbol) (x : X) (xs ys : List X) → Gets g depth ts (tree x) start → Grown g depth tree start rest xs ys → xs ≡ x ∷ [] → Gets (mark m.Semicolon) depth rest (leaf (a_mark m.Semicolon)) at → Gets (g · behind_commas g · mark m.Semicolon) depth ts (listed_tree (map tree ys)) at
+pub listed_read : {X : Type 0} (g : Grammar) (depth : ℕ) (tree : X → Tree) (ts start rest at : List Symbol) (x : X) (xs ys : List X) → Gets g depth ts (tree x) start → Grown g depth tree start rest xs ys → xs ≡ x ∷ [] → Gets (mark m.Semicolon) depth rest (leaf (a_mark m.Semicolon)) at → Gets (g · comma_tail g · mark m.Semicolon) depth ts (comma_list_tree (map tree ys)) at
 listed_read g depth tree ts start rest at x xs ys q l e r =
-    grown_one g depth tree start rest x xs ys (λ u. Gets (g · behind_commas g · mark m.Semicolon) depth ts (listed_tree (map tree u)) at) l e
+    grown_one g depth tree start rest x xs ys (λ u. Gets (g · comma_tail g · mark m.Semicolon) depth ts (comma_list_tree (map tree u)) at) l e
     (gets_seq q (gets_seq l.gets r))
 
 -- the first of a list

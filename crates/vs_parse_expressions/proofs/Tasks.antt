@@ -22,7 +22,7 @@ use Rattle.vs_parse_expressions.specs.declared.reading.Parsed.{Parsed}
 use Rattle.vs_parse_expressions.specs.declared.reading.ReadFault.{ReadFault}
 use Rattle.vs_parse_expressions.proofs.Exits.{fails_by}
 use Rattle.vs_parse_expressions.proofs.Tokens.{seen_kind, read_token, system_class}
-use Rattle.vs_parse_expressions.specs.Lists.{behind_commas}
+use Rattle.vs_parse_expressions.specs.Lists.{comma_tail}
 use Rattle.vs_parse_expressions.specs.Parts.{ReadsWithin, headed}
 use Rattle.vs_parse_expressions.specs.Tasks.{text_and_arguments, printed, counted}
 use Rattle.vs_parse_expressions.proofs.Forms.{absent, present_stuck, present_read}
@@ -52,13 +52,13 @@ dumped_read depth ts rest x h p = gets_part (gets_right h p)
 
 -- a text and what it prints
 abbrev pub listing : Grammar
-listing = token any_text · behind_commas (part an_argument)
+listing = token any_text · comma_tail (part an_argument)
 
 text_goes : (ts : List Symbol) → goes (token any_text) ts ≡ true → goes listing ts ≡ true
-text_goes ts h = goes-seq (token any_text) (behind_commas (part an_argument)) ts ∙ or_left (goes (token any_text) ts) false h
+text_goes ts h = goes-seq (token any_text) (comma_tail (part an_argument)) ts ∙ or_left (goes (token any_text) ts) false h
 
 no_text_goes : (ts : List Symbol) → goes (token any_text) ts ≡ false → goes listing ts ≡ false
-no_text_goes ts h = goes-seq (token any_text) (behind_commas (part an_argument)) ts ∙ ap (λ b. b || false) h
+no_text_goes ts h = goes-seq (token any_text) (comma_tail (part an_argument)) ts ∙ ap (λ b. b || false) h
 
 pub listing_stuck : (depth : ℕ) (deep : Bool) (ts at : List Symbol) → goes (token any_text) ts ≡ true → Stuck listing depth deep ts at → Stuck printed depth deep ts at
 listing_stuck depth deep ts at h s = stuck_first (stuck_left (text_goes ts h) (omega arith) s)

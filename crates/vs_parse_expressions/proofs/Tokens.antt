@@ -2,6 +2,7 @@
 use Rattle.std.specs.Prelude.{◌≡◌, ℕ, Bool, true, false, not, ◌&&◌, ◌∷◌, if◌then◌else◌, List, [], refl}
 use Rattle.std.proofs.Common.{sym, ◌∙◌, ap}
 use Rattle.std.specs.Str.{bytes_eq}
+use Rattle.std.proofs.lemmas.Bool.{not-true as not_true}
 use Rattle.vs_syntax.specs.vs_lexer.specs.declared.token.Kind.{Kind}
 use Rattle.vs_syntax.specs.vs_lexer.specs.declared.token.Kind.TheVariants as k
 use Rattle.vs_syntax.specs.vs_lexer.specs.declared.token.Literal.{Literal}
@@ -15,7 +16,6 @@ use Rattle.vs_syntax.specs.Tables.{goes}
 use Rattle.vs_syntax.specs.Derivation.{leaf}
 use Rattle.vs_syntax.specs.Reading.{Gets}
 use Rattle.vs_syntax.proofs.Gets.{gets_token}
-use Rattle.vs_syntax.proofs.Least.{not_true}
 use Rattle.vs_syntax.specs.vs_logic4.proofs.Basics.{and_left, and_right}
 use Rattle.vs_parse_expressions.specs.Answers.{seen}
 

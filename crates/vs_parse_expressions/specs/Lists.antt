@@ -8,11 +8,11 @@ use Rattle.vs_syntax.specs.Reading.{Gets}
 use Rattle.vs_syntax.specs.Views.{commas_tree}
 
 -- parts with a comma before each of them
-abbrev pub behind_commas : Grammar → Grammar
-behind_commas g = many (mark m.Comma · g)
+abbrev pub comma_tail : Grammar → Grammar
+comma_tail g = many (mark m.Comma · g)
 
 -- To the elements `xs` those were added that the symbols begin with, each behind its comma.
 pub record Grown {X : Type 0} (g : Grammar) (depth : ℕ) (tree : X → Tree) (ts rest : List Symbol) (xs ys : List X) : Type 0 where
   pub others : List X
   pub all : ys ≡ xs ++ others
-  pub gets : Gets (behind_commas g) depth ts (commas_tree (map tree others)) rest
+  pub gets : Gets (comma_tail g) depth ts (commas_tree (map tree others)) rest

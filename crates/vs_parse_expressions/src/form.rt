@@ -5,12 +5,12 @@ ghost use Rattle.vs_syntax.specs.vs_lexer.specs.declared.token.Word.TheVariants 
 ghost use Rattle.vs_syntax.specs.Grammar.{nothing, mark, word, ◌·◌, ◌or◌, form, range};
 ghost use Rattle.vs_syntax.specs.Tables.{low};
 ghost use Rattle.vs_syntax.specs.Derivation.{both};
-ghost use Rattle.vs_syntax.specs.Views.{listed_tree, signed_tree, range_tree, form_tree};
+ghost use Rattle.vs_syntax.specs.Views.{comma_list_tree, signed_tree, range_tree, form_tree};
 ghost use Rattle.vs_syntax.specs.Reading.{Gets};
 ghost use Rattle.vs_parse_expressions.specs.Answers.{seen, ReadsTree};
-ghost use Rattle.vs_parse_expressions.specs.Lists.{behind_commas};
+ghost use Rattle.vs_parse_expressions.specs.Lists.{comma_tail};
 
-use crate::list::{Element, ended, listed};
+use crate::list::{Element, comma_list, ended};
 use crate::{Parsed, ReadFault, expect_mark, expr, mark_at, word_at};
 use std::alloc::Global;
 use vs_syntax::vs_lexer::{Mark, Token, Word};
@@ -24,11 +24,11 @@ pub fn declared<'t, 's, T: Element>(
     tokens: &'t [Token<'s>],
 ) -> Result<Parsed<'t, 's, (Form, Vec<T::Syntax>)>, ReadFault<'t, 's>>
     requires { low T.grammar ≤ depth }
-    ensures { ReadsTree (form · T.grammar · behind_commas T.grammar · mark m.Semicolon) depth tokens.now
-        (λ x. both (form_tree x.0) (listed_tree (map T.tree_of x.1.items))) result }
+    ensures { ReadsTree (form · T.grammar · comma_tail T.grammar · mark m.Semicolon) depth tokens.now
+        (λ x. both (form_tree x.0) (comma_list_tree (map T.tree_of x.1.items))) result }
 {
     let said = declared_form(alloc, depth, tokens)?;
-    let names = listed::<T>(alloc, depth, said.rest)?;
+    let names = comma_list::<T>(alloc, depth, said.rest)?;
     Ok(Parsed {
         tree: (said.tree, names.tree),
         rest: names.rest,

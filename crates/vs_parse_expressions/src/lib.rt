@@ -19,7 +19,7 @@ pub use form::{declared, declared_form, declared_range};
 pub use head::begins_expr;
 pub use label::case_label;
 pub use left_side::{left, name_selects};
-pub use list::{Element, ended, listed, others};
+pub use list::{Element, comma_list, ended, others};
 pub use local::{BlockName, naming};
 pub use reading::{Parsed, ReadFault};
 pub use task::{dump_stmt, finish_stmt, print_stmt};

@@ -5,9 +5,9 @@ ghost use Rattle.vs_syntax.specs.Grammar.{Grammar, ◌·◌, mark};
 ghost use Rattle.vs_syntax.specs.Tables.{low};
 ghost use Rattle.vs_syntax.specs.Symbols.{a_mark};
 ghost use Rattle.vs_syntax.specs.Derivation.{Tree, leaf};
-ghost use Rattle.vs_syntax.specs.Views.{listed_tree};
+ghost use Rattle.vs_syntax.specs.Views.{comma_list_tree};
 ghost use Rattle.vs_parse_expressions.specs.Answers.{seen, Answers, FailsToRead, ReadsTree};
-ghost use Rattle.vs_parse_expressions.specs.Lists.{behind_commas, Grown};
+ghost use Rattle.vs_parse_expressions.specs.Lists.{comma_tail, Grown};
 
 use crate::{Parsed, ReadFault, expect_mark, mark_at};
 use std::alloc::Global;
@@ -45,7 +45,7 @@ pub fn others<'t, 's, T: Element>(
     requires { low T.grammar ≤ depth }
     ensures { MatchResult result
         (λ r. Grown T.grammar depth T.tree_of (seen tokens.now) (seen r.rest.now) tree.items r.tree.items)
-        (λ e. FailsToRead (behind_commas T.grammar) depth (seen tokens.now) e) }
+        (λ e. FailsToRead (comma_tail T.grammar) depth (seen tokens.now) e) }
 {
     // All of them, but from a call: so the borrow checker can join it with what the loop sets.
     let (_none, mut rest) = tokens.split_at(0);
@@ -59,14 +59,14 @@ pub fn others<'t, 's, T: Element>(
 
 /// Reads one or more with commas between them, and the semicolon behind them, in at most `depth`
 /// nodes below one another.
-pub fn listed<'t, 's, T: Element>(
+pub fn comma_list<'t, 's, T: Element>(
     alloc: Global,
     depth: u32,
     tokens: &'t [Token<'s>],
 ) -> Result<Parsed<'t, 's, Vec<T::Syntax>>, ReadFault<'t, 's>>
     requires { low T.grammar ≤ depth }
-    ensures { ReadsTree (T.grammar · behind_commas T.grammar · mark m.Semicolon) depth tokens.now
-        (λ xs. listed_tree (map T.tree_of xs.items)) result }
+    ensures { ReadsTree (T.grammar · comma_tail T.grammar · mark m.Semicolon) depth tokens.now
+        (λ xs. comma_list_tree (map T.tree_of xs.items)) result }
 {
     let first = T::read(alloc, depth, tokens)?;
     let mut tree = Vec::with_capacity(alloc, 1)?;

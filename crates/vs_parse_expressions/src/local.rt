@@ -10,7 +10,7 @@ ghost use Rattle.vs_parse_expressions.specs.Blocks.{local_word, naming_tree};
 ghost use Rattle.vs_parse_expressions.specs.Parts.{ReadsWithin, marked};
 
 use crate::form::{declared, declared_range};
-use crate::list::{Element, listed};
+use crate::list::{Element, comma_list};
 use crate::{Parsed, ReadFault, expect_name, mark_at, next};
 use std::alloc::Global;
 use vs_syntax::vs_lexer::{Kind, Mark, Token, Word};
@@ -154,7 +154,7 @@ fn declaration<'t, 's>(
             })
         }
         LocalWord::Integer => {
-            let integers = listed::<LocalVariable>(alloc, depth, after)?;
+            let integers = comma_list::<LocalVariable>(alloc, depth, after)?;
             Ok(Parsed {
                 tree: LocalDeclaration::Integer(integers.tree),
                 rest: integers.rest,

@@ -9,7 +9,7 @@ use Rattle.vs_syntax.specs.Grammar.{Nonterminal, Grammar, nothing, token, ◌·�
 use Rattle.vs_syntax.specs.Tables.{low, goes}
 use Rattle.vs_syntax.specs.Derivation.{Tree, leaf, both}
 use Rattle.vs_syntax.specs.Reading.{Gets, Stuck, stuck_second, stuck_left, stuck_right, stuck_part}
-use Rattle.vs_syntax.specs.Views.{range_tree, told_tree}
+use Rattle.vs_syntax.specs.Views.{range_tree, declarator_rest_tree}
 use Rattle.vs_syntax.specs.declared.tree.Range.{Range}
 use Rattle.vs_syntax.proofs.Gets.{gets_token, gets_seq, gets_left, gets_right, gets_part}
 use Rattle.vs_parse_expressions.specs.declared.reading.Parsed.{Parsed}
@@ -41,7 +41,7 @@ pub value_read : (depth : ℕ) (ts after rest : List Symbol) (x : Tree) → ts �
 value_read depth ts after rest x e p = rw e (gets_left refl (gets_seq (gets_token refl) p))
 
 -- what stands behind a name without a declaration assignment
-pub told_range : (r : Option Range) → range_tree r ≡ told_tree r None
+pub told_range : (r : Option Range) → range_tree r ≡ declarator_rest_tree r None
 told_range None = refl
 told_range (Some r) = refl
 

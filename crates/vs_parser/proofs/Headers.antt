@@ -19,7 +19,7 @@ use Rattle.vs_parse_expressions.specs.declared.reading.Parsed.{Parsed}
 use Rattle.vs_parse_expressions.specs.declared.reading.ReadFault.{ReadFault}
 use Rattle.vs_parse_expressions.specs.Answers.{seen, ReadsTree}
 use Rattle.vs_parser.proofs.Declarations.{beyond_present, within_beyond}
-use Rattle.vs_parse_expressions.specs.Lists.{behind_commas, Grown}
+use Rattle.vs_parse_expressions.specs.Lists.{comma_tail, Grown}
 use Rattle.vs_parse_expressions.specs.Parts.{Within, ReadsWithin, Beyond}
 use Rattle.vs_parse_expressions.proofs.Parts.{beyond_part, beyond_behind}
 
@@ -28,14 +28,14 @@ abbrev pub first_parameter : Grammar
 first_parameter = (word w.Parameter · parameter_form) · part a_constant
 
 abbrev pub parameters_within : Grammar
-parameters_within = mark m.Open · first_parameter · behind_commas (part a_header_parameter) · mark m.Close
+parameters_within = mark m.Open · first_parameter · comma_tail (part a_header_parameter) · mark m.Close
 
 pub no_parameters : (depth : ℕ) (ts : List Symbol) (xs : List HeaderParameter) → goes (mark m.Hash) ts ≡ false → xs ≡ [] → Gets (header_parameters or nothing) depth ts (header_parameters_tree (map header_parameter_tree xs)) ts
 no_parameters depth ts xs h e = subst (λ u. Gets (header_parameters or nothing) depth ts (header_parameters_tree (map header_parameter_tree u)) ts) (sym e) (gets_right h gets_nothing)
 
 -- what stands behind the mark before the parameters
 abbrev pub parameters_inside : Grammar
-parameters_inside = first_parameter · behind_commas (part a_header_parameter) · mark m.Close
+parameters_inside = first_parameter · comma_tail (part a_header_parameter) · mark m.Close
 
 pub inside_read : (depth : ℕ) (ts start rest at : List Symbol) (x : HeaderParameter) (ys : Vec HeaderParameter Global) → Gets first_parameter depth ts (header_parameter_tree x) start → Grown (part a_header_parameter) depth header_parameter_tree start rest (x ∷ []) ys.items →
     Gets (mark m.Close) depth rest (leaf (a_mark m.Close)) at → Within (λ (xs : Vec HeaderParameter Global). header_parameters_tree (map header_parameter_tree xs.items)) (λ y. both (leaf (a_mark m.Hash)) (both (leaf (a_mark m.Open)) y)) parameters_inside depth ts ys at

@@ -12,16 +12,16 @@ use Rattle.vs_parser.specs.declared.head.StatementWord.{StatementWord}
 use Rattle.vs_parser.specs.declared.head.StatementWord.TheVariants as s
 use Rattle.vs_parser.specs.declared.head.StatementHead.{StatementHead}
 use Rattle.vs_parser.specs.declared.head.StatementHead.TheVariants as h
-use Rattle.vs_parser.specs.Heads.{symbol_of, behind_of, BeginsStatement, class_of_statement}
+use Rattle.vs_parser.specs.Heads.{symbol_of, grammar_after, BeginsStatement, class_of_statement}
 use Rattle.vs_parse_expressions.proofs.Exits.{deep_at, goes_at}
 use Rattle.vs_parse_expressions.proofs.Choices.{branch}
 
 -- each statement with a word or a mark of its own, by it
-pub word_branch : (k : StatementWord) → branch (class_of (symbol_of k)) statements ≡ Some (behind_of k)
+pub word_branch : (k : StatementWord) → branch (class_of (symbol_of k)) statements ≡ Some (grammar_after k)
 word_branch s.Null = refl
 word_branch _ = refl
 
-pub word_need : (k : StatementWord) → need (class_of (symbol_of k)) (fronts_of a_stmt) ≡ suc (low (behind_of k))
+pub word_need : (k : StatementWord) → need (class_of (symbol_of k)) (fronts_of a_stmt) ≡ suc (low (grammar_after k))
 word_need s.Null = refl
 word_need _ = refl
 

@@ -15,7 +15,7 @@ use Rattle.vs_parse_expressions.specs.declared.reading.Parsed.{Parsed}
 use Rattle.vs_parse_expressions.specs.declared.reading.ReadFault.{ReadFault}
 use Rattle.vs_parse_expressions.specs.Answers.{seen, ReadsTree}
 use Rattle.vs_parse_expressions.proofs.Exits.{fails_by, goes_at}
-use Rattle.vs_parse_expressions.specs.Lists.{behind_commas}
+use Rattle.vs_parse_expressions.specs.Lists.{comma_tail}
 
 -- connections in parentheses
 abbrev pub within : Grammar
@@ -23,10 +23,10 @@ within = mark m.Open · connections · mark m.Close
 
 -- connections by name, and connections in order
 abbrev pub named : Grammar
-named = part a_connection · behind_commas (part a_connection)
+named = part a_connection · comma_tail (part a_connection)
 
 abbrev pub ordered : Grammar
-ordered = an_end · behind_commas an_end
+ordered = an_end · comma_tail an_end
 
 named_goes : (ts after : List Symbol) → ts ≡ a_mark m.Dot ∷ after → goes named ts ≡ true
 named_goes ts after e = goes_at named ts (the_mark m.Dot) true (ap first e) refl

@@ -8,7 +8,7 @@ use Rattle.vs_syntax.specs.vs_lexer.specs.declared.token.Mark.TheVariants as m
 use Rattle.vs_syntax.specs.vs_lexer.specs.declared.token.Word.TheVariants as w
 use Rattle.vs_syntax.specs.vs_lexer.specs.declared.token.Token.{Token}
 use Rattle.vs_syntax.specs.Symbols.{Symbol, a_mark, a_word, the_mark, the_word, same_class, first}
-use Rattle.vs_syntax.specs.Grammar.{Grammar, nothing, either, ◌·◌, ◌or◌, part, mark, word, name, form, variable_kind, net_kind, direction, told_ports, net_ports, variable_ports, port_names, may_value, an_expr, rule}
+use Rattle.vs_syntax.specs.Grammar.{Grammar, nothing, either, ◌·◌, ◌or◌, part, mark, word, name, form, variable_kind, net_kind, direction, directed_ports, net_ports, variable_ports, port_names, may_value, an_expr, rule}
 use Rattle.vs_syntax.specs.Tables.{among, fronts, low, goes}
 use Rattle.vs_syntax.specs.Derivation.{Tree, empty, leaf, both, tokens}
 use Rattle.vs_syntax.specs.Reading.{Gets, Stuck, stuck_first, stuck_second, stuck_left, stuck_right, stuck_part}
@@ -100,30 +100,30 @@ direction_read : (d : Direction) (depth : ℕ) (after : List Symbol) → Gets di
 direction_read o.Input depth after = gets_left refl (gets_token refl)
 direction_read o.Output depth after = gets_right refl (gets_token refl)
 
-direction_among : (d : Direction) → among (the_word (direction_word d)) (fronts (part told_ports)) ≡ true
+direction_among : (d : Direction) → among (the_word (direction_word d)) (fronts (part directed_ports)) ≡ true
 direction_among o.Input = refl
 direction_among o.Output = refl
 
-direction_goes : (d : Direction) (ts after : List Symbol) → ts ≡ a_word (direction_word d) ∷ after → goes (part told_ports) ts ≡ true
-direction_goes d ts after e = goes_at (part told_ports) ts (the_word (direction_word d)) true (ap first e) (direction_among d)
+direction_goes : (d : Direction) (ts after : List Symbol) → ts ≡ a_word (direction_word d) ∷ after → goes (part directed_ports) ts ≡ true
+direction_goes d ts after e = goes_at (part directed_ports) ts (the_word (direction_word d)) true (ap first e) (direction_among d)
 
-direction_beyond : (depth : ℕ) (d : Direction) (ts after : List Symbol) → ts ≡ a_word (direction_word d) ∷ after → Beyond (variable_form or net_form) (part told_ports) (both (leaf (a_word (direction_word d)))) depth ts after
+direction_beyond : (depth : ℕ) (d : Direction) (ts after : List Symbol) → ts ≡ a_word (direction_word d) ∷ after → Beyond (variable_form or net_form) (part directed_ports) (both (leaf (a_word (direction_word d)))) depth ts after
 direction_beyond depth d ts after e =
-    subst (λ (u : List Symbol). Beyond (variable_form or net_form) (part told_ports) (both (leaf (a_word (direction_word d)))) depth u after) (sym e) (record {
+    subst (λ (u : List Symbol). Beyond (variable_form or net_form) (part directed_ports) (both (leaf (a_word (direction_word d)))) depth u after) (sym e) (record {
       reads = λ y at q. gets_part (gets_seq (direction_read d depth after) q);
       stops = λ deep at s. stuck_part (stuck_second (direction_read d depth after) s);
     })
 
 pub form_beyond : (depth : ℕ) (d : Direction) (o : Option PortKind) (f : Form) (ts after mid rest : List Symbol) → ts ≡ a_word (direction_word d) ∷ after → IsKind after o mid → Gets form depth mid (form_tree f) rest →
-    Beyond (part (named_by (said_of o))) (part told_ports) (port_form_tree (Some (record { direction = d; kind = o; form = f }))) depth ts rest
+    Beyond (part (named_by (said_of o))) (part directed_ports) (port_form_tree (Some (record { direction = d; kind = o; form = f }))) depth ts rest
 form_beyond depth d o f ts after mid rest e h p =
     let named = part (named_by (said_of o)) in
-    beyond_behind named (variable_form or net_form) (part told_ports) (λ y. both (kind_tree o) (both (form_tree f) y)) (both (leaf (a_word (direction_word d)))) depth ts after rest (direction_beyond depth d ts after e)
+    beyond_behind named (variable_form or net_form) (part directed_ports) (λ y. both (kind_tree o) (both (form_tree f) y)) (both (leaf (a_word (direction_word d)))) depth ts after rest (direction_beyond depth d ts after e)
     (beyond_behind named (form · named) (variable_form or net_form) (both (form_tree f)) (both (kind_tree o)) depth after mid rest (kind_beyond depth o after mid h) (beyond_part form named depth mid rest (form_tree f) p))
 
-pub form_fails : (depth : ℕ) (d : Direction) (o : Option PortKind) (ts after mid : List Symbol) (e : ReadFault) → ts ≡ a_word (direction_word d) ∷ after → IsKind after o mid → FailsToRead form depth mid e → FailsToRead (part told_ports) depth ts e
+pub form_fails : (depth : ℕ) (d : Direction) (o : Option PortKind) (ts after mid : List Symbol) (e : ReadFault) → ts ≡ a_word (direction_word d) ∷ after → IsKind after o mid → FailsToRead form depth mid e → FailsToRead (part directed_ports) depth ts e
 form_fails depth d o ts after mid e i h f =
-    fails_by form (part told_ports) depth depth mid ts (λ deep at s. (direction_beyond depth d ts after i).stops deep at ((kind_beyond depth o after mid h).stops deep at (stuck_first s))) e f
+    fails_by form (part directed_ports) depth depth mid ts (λ deep at s. (direction_beyond depth d ts after i).stops deep at ((kind_beyond depth o after mid h).stops deep at (stuck_first s))) e f
 
 -- ---- names
 
@@ -175,12 +175,12 @@ comma_shorter ts after rest e h = omega (arith, ap length e, h)
 
 -- ---- a port
 
-pub told_leads : (said : Said) (depth : ℕ) (ts mid : List Token) (f : PortForm) (r : Result (Parsed Port) ReadFault) → Beyond (part (named_by (said_of f.kind))) (part told_ports) (port_form_tree (Some f)) depth (seen ts) (seen mid) →
-    Leads (others_by (said_of f.kind)) (part (named_by (said_of f.kind))) named_port_tree depth mid r → IfOk r (λ x. x.tree.form ≡ Some f) → LeadsOn said (part told_ports) depth ts r
+pub told_leads : (said : Said) (depth : ℕ) (ts mid : List Token) (f : PortForm) (r : Result (Parsed Port) ReadFault) → Beyond (part (named_by (said_of f.kind))) (part directed_ports) (port_form_tree (Some f)) depth (seen ts) (seen mid) →
+    Leads (others_by (said_of f.kind)) (part (named_by (said_of f.kind))) named_port_tree depth mid r → IfOk r (λ x. x.tree.form ≡ Some f) → LeadsOn said (part directed_ports) depth ts r
 told_leads said depth ts mid f (Ok x) b l e =
-    subst (λ (u : Option PortForm). Beyond (others_by (said_after said u)) (part told_ports) (λ y. port_form_tree u (named_port_tree x.tree y)) depth (seen ts) (seen x.rest.now)) (sym e)
-    (beyond_behind (others_by (said_of f.kind)) (part (named_by (said_of f.kind))) (part told_ports) (named_port_tree x.tree) (port_form_tree (Some f)) depth (seen ts) (seen mid) (seen x.rest.now) b l)
-told_leads said depth ts mid f (Err e) b l h = beyond_fails (part (named_by (said_of f.kind))) (part told_ports) (port_form_tree (Some f)) depth (seen ts) (seen mid) e b l
+    subst (λ (u : Option PortForm). Beyond (others_by (said_after said u)) (part directed_ports) (λ y. port_form_tree u (named_port_tree x.tree y)) depth (seen ts) (seen x.rest.now)) (sym e)
+    (beyond_behind (others_by (said_of f.kind)) (part (named_by (said_of f.kind))) (part directed_ports) (named_port_tree x.tree) (port_form_tree (Some f)) depth (seen ts) (seen mid) (seen x.rest.now) b l)
+told_leads said depth ts mid f (Err e) b l h = beyond_fails (part (named_by (said_of f.kind))) (part directed_ports) (port_form_tree (Some f)) depth (seen ts) (seen mid) e b l
 
 -- a name alone
 alone_beyond : (a g : Grammar) (depth : ℕ) (ts rest : List Symbol) (x : Port) → x.form ≡ None → Beyond a g (named_port_tree x) depth ts rest → Beyond a g (port_tree x) depth ts rest
@@ -200,20 +200,20 @@ leads_right said a b depth ts (Ok x) h n l = record { reads = λ y at q. gets_ri
 leads_right said a b depth ts (Err e) h n l = fails_by b (a or b) depth depth (seen ts) (seen ts) (λ deep at s. stuck_right h n s) e l
 
 -- a port with its direction, where a name alone may stand too, and the other way round
-pub told_first : (said : Said) (depth : ℕ) (d : Direction) (ts : List Token) (after : List Symbol) (r : Result (Parsed Port) ReadFault) → seen ts ≡ a_word (direction_word d) ∷ after → LeadsOn said (part told_ports) depth ts r → LeadsOn said (part told_ports or part (named_by said)) depth ts r
+pub told_first : (said : Said) (depth : ℕ) (d : Direction) (ts : List Token) (after : List Symbol) (r : Result (Parsed Port) ReadFault) → seen ts ≡ a_word (direction_word d) ∷ after → LeadsOn said (part directed_ports) depth ts r → LeadsOn said (part directed_ports or part (named_by said)) depth ts r
 told_first said depth d ts after r e l =
     let none : 0 ≤ depth = omega arith in
-    leads_left said (part told_ports) (part (named_by said)) depth ts r (direction_goes d (seen ts) after e) none l
+    leads_left said (part directed_ports) (part (named_by said)) depth ts r (direction_goes d (seen ts) after e) none l
 
 low_by : (said : Said) → low (part (named_by said)) ≡ 0
 low_by s.Nothing = refl
 low_by s.Net = refl
 low_by s.Variable = refl
 
-pub named_second : (said : Said) (depth : ℕ) (ts : List Token) (r : Result (Parsed Port) ReadFault) → goes direction (seen ts) ≡ false → LeadsOn said (part (named_by said)) depth ts r → LeadsOn said (part told_ports or part (named_by said)) depth ts r
+pub named_second : (said : Said) (depth : ℕ) (ts : List Token) (r : Result (Parsed Port) ReadFault) → goes direction (seen ts) ≡ false → LeadsOn said (part (named_by said)) depth ts r → LeadsOn said (part directed_ports or part (named_by said)) depth ts r
 named_second said depth ts r h l =
     let none : low (part (named_by said)) ≤ depth = omega (arith, low_by said) in
-    leads_right said (part told_ports) (part (named_by said)) depth ts r h none l
+    leads_right said (part directed_ports) (part (named_by said)) depth ts r h none l
 
 -- ---- the ports behind one
 
@@ -264,19 +264,19 @@ followed_answers : (a g : Grammar) (depth : ℕ) (ts mid : List Token) (x : Port
 followed_answers a g depth ts mid x (Ok y) b f = subst (λ (u : List Port). Gets g depth (seen ts) (ports_tree u) (seen y.rest.now)) (sym f.all_are) (b.reads (more_ports_tree f.others) (seen y.rest.now) f.gets)
 followed_answers a g depth ts mid x (Err e) b f = beyond_fails a g (port_tree x) depth (seen ts) (seen mid) e b f
 
-told_within : (depth : ℕ) (ts : List Token) (r : Result (Parsed (Vec Port Global)) ReadFault) → goes (part told_ports) (seen ts) ≡ true → ReadsTree (part told_ports) depth ts (λ ps. ports_tree ps.items) r → ReadsTree ports_within depth ts (λ ps. ports_tree ps.items) r
+told_within : (depth : ℕ) (ts : List Token) (r : Result (Parsed (Vec Port Global)) ReadFault) → goes (part directed_ports) (seen ts) ≡ true → ReadsTree (part directed_ports) depth ts (λ ps. ports_tree ps.items) r → ReadsTree ports_within depth ts (λ ps. ports_tree ps.items) r
 told_within depth ts (Ok y) h q = gets_left h q
 told_within depth ts (Err s) h q =
     let none : 0 ≤ depth = omega arith in
-    fails_by (part told_ports) ports_within depth depth (seen ts) (seen ts) (λ deep at t. stuck_left h none t) s q
+    fails_by (part directed_ports) ports_within depth depth (seen ts) (seen ts) (λ deep at t. stuck_left h none t) s q
 
 pub told_answers : (depth : ℕ) (d : Direction) (ts mid : List Token) (after : List Symbol) (x : Port) (r : Result (Parsed (Vec Port Global)) ReadFault) → seen ts ≡ a_word (direction_word d) ∷ after →
-    Beyond (others_by (said_after s.Nothing x.form)) (part told_ports) (port_tree x) depth (seen ts) (seen mid) →
+    Beyond (others_by (said_after s.Nothing x.form)) (part directed_ports) (port_tree x) depth (seen ts) (seen mid) →
     MatchResult r (λ y. Followed (others_by (said_after s.Nothing x.form)) depth (seen mid) (seen y.rest.now) x y.tree.items) (λ e. FailsToRead (others_by (said_after s.Nothing x.form)) depth (seen mid) e) →
     ReadsTree ports_within depth ts (λ ps. ports_tree ps.items) r
-told_answers depth d ts mid after x r e b f = told_within depth ts r (direction_goes d (seen ts) after e) (followed_answers (others_by (said_after s.Nothing x.form)) (part told_ports) depth ts mid x r b f)
+told_answers depth d ts mid after x r e b f = told_within depth ts r (direction_goes d (seen ts) after e) (followed_answers (others_by (said_after s.Nothing x.form)) (part directed_ports) depth ts mid x r b f)
 
-pub told_stuck : (depth : ℕ) (deep : Bool) (d : Direction) (ts after at : List Symbol) → ts ≡ a_word (direction_word d) ∷ after → Stuck (part told_ports) depth deep ts at → Stuck ports_within depth deep ts at
+pub told_stuck : (depth : ℕ) (deep : Bool) (d : Direction) (ts after at : List Symbol) → ts ≡ a_word (direction_word d) ∷ after → Stuck (part directed_ports) depth deep ts at → Stuck ports_within depth deep ts at
 told_stuck depth deep d ts after at e s =
     let none : 0 ≤ depth = omega arith in
     stuck_left (direction_goes d ts after e) none s

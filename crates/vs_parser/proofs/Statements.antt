@@ -19,7 +19,7 @@ use Rattle.vs_parser.specs.declared.head.StatementWord.{StatementWord}
 use Rattle.vs_parser.specs.declared.head.StatementWord.TheVariants as s
 use Rattle.vs_parser.specs.declared.head.StatementHead.{StatementHead}
 use Rattle.vs_parser.specs.declared.head.StatementHead.TheVariants as h
-use Rattle.vs_parser.specs.Heads.{symbol_of, behind_of, BeginsStatement, class_of_statement}
+use Rattle.vs_parser.specs.Heads.{symbol_of, grammar_after, BeginsStatement, class_of_statement}
 use Rattle.vs_parser.specs.Timings.{timing}
 use Rattle.vs_parse_expressions.specs.Parts.{Within, ReadsWithin, headed}
 use Rattle.vs_parser.proofs.Heads.{word_branch, word_need}
@@ -44,19 +44,19 @@ word_apart s.Null after = refl
 word_apart _ after = refl
 
 -- a statement with a word or a mark of its own
-word_read : (k : StatementWord) (depth : ℕ) (ts after rest : List Symbol) (x : Tree) → ts ≡ symbol_of k ∷ after → 0 < depth → Gets (behind_of k) (depth - 1) after x rest → Gets (part a_stmt) depth ts (headed (symbol_of k) x) rest
-word_read k depth ts after rest x e h p = rw e (gets_part (gets_node h (gets_right (word_apart k after) (choice_read statements (behind_of k) (depth - 1) (symbol_of k) after rest x (word_branch k) p))))
+word_read : (k : StatementWord) (depth : ℕ) (ts after rest : List Symbol) (x : Tree) → ts ≡ symbol_of k ∷ after → 0 < depth → Gets (grammar_after k) (depth - 1) after x rest → Gets (part a_stmt) depth ts (headed (symbol_of k) x) rest
+word_read k depth ts after rest x e h p = rw e (gets_part (gets_node h (gets_right (word_apart k after) (choice_read statements (grammar_after k) (depth - 1) (symbol_of k) after rest x (word_branch k) p))))
 
-word_stuck : (k : StatementWord) (depth : ℕ) (deep : Bool) (ts after at : List Symbol) → ts ≡ symbol_of k ∷ after → 0 < depth → low (behind_of k) ≤ depth - 1 → Stuck (behind_of k) (depth - 1) deep after at → Stuck (part a_stmt) depth deep ts at
+word_stuck : (k : StatementWord) (depth : ℕ) (deep : Bool) (ts after at : List Symbol) → ts ≡ symbol_of k ∷ after → 0 < depth → low (grammar_after k) ≤ depth - 1 → Stuck (grammar_after k) (depth - 1) deep after at → Stuck (part a_stmt) depth deep ts at
 word_stuck k depth deep ts after at e h l p =
     let none : 0 ≤ depth - 1 = omega arith in
-    rw e (stuck_part (stuck_node h (stuck_right (word_apart k after) none (choice_stuck statements (behind_of k) (depth - 1) deep (symbol_of k) after at (word_branch k) l p))))
+    rw e (stuck_part (stuck_node h (stuck_right (word_apart k after) none (choice_stuck statements (grammar_after k) (depth - 1) deep (symbol_of k) after at (word_branch k) l p))))
 
 -- what was read behind the first symbol makes the statement
-pub word_stmt : (k : StatementWord) (depth : ℕ) (ts after : List Token) (r : Result (Parsed Stmt) ReadFault) → seen ts ≡ symbol_of k ∷ seen after → low (behind_of k) < depth → ReadsWithin stmt_tree (headed (symbol_of k)) (behind_of k) (depth - 1) after r → ReadsTree (part a_stmt) depth ts stmt_tree r
+pub word_stmt : (k : StatementWord) (depth : ℕ) (ts after : List Token) (r : Result (Parsed Stmt) ReadFault) → seen ts ≡ symbol_of k ∷ seen after → low (grammar_after k) < depth → ReadsWithin stmt_tree (headed (symbol_of k)) (grammar_after k) (depth - 1) after r → ReadsTree (part a_stmt) depth ts stmt_tree r
 word_stmt k depth ts after (Ok x) e h p = rw p.whole (word_read k depth (seen ts) (seen after) (seen x.rest.now) p.inner e (omega (arith, h)) p.gets)
 word_stmt k depth ts after (Err f) e h p =
-    fails_by (behind_of k) (part a_stmt) (depth - 1) depth (seen after) (seen ts)
+    fails_by (grammar_after k) (part a_stmt) (depth - 1) depth (seen after) (seen ts)
     (λ deep at u. word_stuck k depth deep (seen ts) (seen after) at e (omega (arith, h)) (omega (arith, h)) u) f p
 
 -- an assignment
@@ -82,18 +82,18 @@ row_stuck depth deep ts at i (stuck_part (stuck_deep j n)) = stuck_deep j n
 row_stuck depth deep ts at i (stuck_part (stuck_node n s)) = stuck_many i (omega (arith, n)) (stuck_part (stuck_node n s))
 
 -- `;` alone
-pub null_read : (k : StatementWord) (depth : ℕ) (ts : List Symbol) → k ≡ s.Null → Within stmt_tree (headed (symbol_of k)) (behind_of k) depth ts v.Null ts
-null_read k depth ts e = subst (λ (u : StatementWord). Within stmt_tree (headed (symbol_of u)) (behind_of u) depth ts v.Null ts) (sym e) (record { inner = empty; whole = tree_Null; gets = gets_nothing })
+pub null_read : (k : StatementWord) (depth : ℕ) (ts : List Symbol) → k ≡ s.Null → Within stmt_tree (headed (symbol_of k)) (grammar_after k) depth ts v.Null ts
+null_read k depth ts e = subst (λ (u : StatementWord). Within stmt_tree (headed (symbol_of u)) (grammar_after u) depth ts v.Null ts) (sym e) (record { inner = empty; whole = tree_Null; gets = gets_nothing })
 
 -- a word that is known
-pub word_is : (k k' : StatementWord) (depth : ℕ) (ts : List Token) (r : Result (Parsed Stmt) ReadFault) → k ≡ k' → ReadsWithin stmt_tree (headed (symbol_of k')) (behind_of k') depth ts r → ReadsWithin stmt_tree (headed (symbol_of k)) (behind_of k) depth ts r
-word_is k k' depth ts r e p = subst (λ (u : StatementWord). ReadsWithin stmt_tree (headed (symbol_of u)) (behind_of u) depth ts r) (sym e) p
+pub word_is : (k k' : StatementWord) (depth : ℕ) (ts : List Token) (r : Result (Parsed Stmt) ReadFault) → k ≡ k' → ReadsWithin stmt_tree (headed (symbol_of k')) (grammar_after k') depth ts r → ReadsWithin stmt_tree (headed (symbol_of k)) (grammar_after k) depth ts r
+word_is k k' depth ts r e p = subst (λ (u : StatementWord). ReadsWithin stmt_tree (headed (symbol_of u)) (grammar_after u) depth ts r) (sym e) p
 
-pub room_of : (k k' : StatementWord) (depth : ℕ) → k ≡ k' → low (behind_of k) ≤ depth → low (behind_of k') ≤ depth
-room_of k k' depth e h = subst (λ (u : StatementWord). low (behind_of u) ≤ depth) e h
+pub room_of : (k k' : StatementWord) (depth : ℕ) → k ≡ k' → low (grammar_after k) ≤ depth → low (grammar_after k') ≤ depth
+room_of k k' depth e h = subst (λ (u : StatementWord). low (grammar_after u) ≤ depth) e h
 
 -- there is depth behind the first symbol
-pub word_room : (head : StatementHead) (k : StatementWord) (n depth : ℕ) → head ≡ h.Word k → n ≡ need (class_of_statement head) (fronts_of a_stmt) → n ≤ depth → low (behind_of k) < depth
+pub word_room : (head : StatementHead) (k : StatementWord) (n depth : ℕ) → head ≡ h.Word k → n ≡ need (class_of_statement head) (fronts_of a_stmt) → n ≤ depth → low (grammar_after k) < depth
 word_room head k n depth e i l = omega (arith, l, i, ap (λ u. need (class_of_statement u) (fronts_of a_stmt)) e, word_need k)
 
 pub begins_of : (ts after : List Symbol) (head head' : StatementHead) → head ≡ head' → BeginsStatement ts head after → BeginsStatement ts head' after

@@ -2,8 +2,8 @@
 use Rattle.std.specs.Prelude.{◌≡◌, ℕ, Bool, true, false, not, ◌&&◌, is_none, List, [], ◌∷◌, Option, Some, None, if◌then◌else◌, refl}
 use Rattle.std.proofs.Common.{sym, ◌∙◌, ap}
 use Rattle.std.specs.Str.{bytes_eq}
+use Rattle.std.proofs.lemmas.Bool.{not-true as not_true}
 use Rattle.vs_syntax.specs.Symbols.{Symbol, another, system_names, symbol_named, system_symbol}
-use Rattle.vs_syntax.proofs.Least.{not_true}
 use Rattle.vs_syntax.specs.vs_logic4.proofs.Basics.{and_left, and_right}
 use Rattle.vs_parser.specs.vs_parse_expressions.specs.declared.token.SystemName.{SystemName}
 use Rattle.vs_parser.specs.vs_parse_expressions.specs.declared.token.SystemName.TheVariants as n

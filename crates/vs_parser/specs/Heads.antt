@@ -35,22 +35,22 @@ symbol_of s.Finish = a_finish
 symbol_of (s.Dump task) = a_dump task
 
 -- what stands behind it
-abbrev pub behind_of : StatementWord → Grammar
-behind_of s.Null = nothing
-behind_of s.Block = block_head · many (part a_stmt) · word w.End
-behind_of s.If = guarded branches
-behind_of s.Case = guarded case_items
-behind_of s.Casez = guarded case_items
-behind_of s.Casex = guarded case_items
-behind_of s.For = for_parts
-behind_of s.While = guarded (part a_stmt)
-behind_of s.Repeat = guarded (part a_stmt)
-behind_of s.Forever = part a_stmt
-behind_of s.Delay = delay · part a_stmt
-behind_of s.Event = event · part a_stmt
-behind_of (s.Print task) = print_arguments · mark m.Semicolon
-behind_of s.Finish = finish_argument · mark m.Semicolon
-behind_of (s.Dump task) = dump_arguments · mark m.Semicolon
+abbrev pub grammar_after : StatementWord → Grammar
+grammar_after s.Null = nothing
+grammar_after s.Block = block_head · many (part a_stmt) · word w.End
+grammar_after s.If = guarded branches
+grammar_after s.Case = guarded case_items
+grammar_after s.Casez = guarded case_items
+grammar_after s.Casex = guarded case_items
+grammar_after s.For = for_parts
+grammar_after s.While = guarded (part a_stmt)
+grammar_after s.Repeat = guarded (part a_stmt)
+grammar_after s.Forever = part a_stmt
+grammar_after s.Delay = delay · part a_stmt
+grammar_after s.Event = event · part a_stmt
+grammar_after (s.Print task) = print_arguments · mark m.Semicolon
+grammar_after s.Finish = finish_argument · mark m.Semicolon
+grammar_after (s.Dump task) = dump_arguments · mark m.Semicolon
 
 -- the symbols begin a statement so, and these stand behind the first one
 abbrev pub BeginsStatement : List Symbol → StatementHead → List Symbol → Type 0

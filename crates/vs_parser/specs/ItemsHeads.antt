@@ -3,9 +3,9 @@ use Rattle.std.specs.Prelude.{◌≡◌, List, ◌∷◌}
 use Rattle.vs_syntax.specs.vs_lexer.specs.declared.token.Word.{Word}
 use Rattle.vs_syntax.specs.vs_lexer.specs.declared.token.Word.TheVariants as w
 use Rattle.vs_syntax.specs.Symbols.{Symbol, a_word, a_name}
-use Rattle.vs_syntax.specs.Grammar.{Grammar, ◌·◌, part, many, word, form, listed, instances, parameter_form, generate_loop, generate_branches, guarded, a_constant, a_net, a_bare_name, a_variable, an_assignment, an_item, a_stmt}
+use Rattle.vs_syntax.specs.Grammar.{Grammar, ◌·◌, part, many, word, form, comma_list, instances, parameter_form, generate_loop, generate_branches, guarded, a_constant, a_net, a_bare_name, a_variable, an_assignment, an_item, a_stmt}
 use Rattle.vs_syntax.specs.Views.{direction_word}
-use Rattle.vs_parser.specs.Ports.{behind_direction}
+use Rattle.vs_parser.specs.Ports.{after_direction}
 use Rattle.vs_parser.specs.declared.items_head.ItemHead.{ItemHead}
 use Rattle.vs_parser.specs.declared.items_head.ItemHead.TheVariants as i
 use Rattle.vs_parser.specs.declared.items_head.PlainHead.{PlainHead}
@@ -50,13 +50,13 @@ BeginsItem ts k after = ts ≡ symbol_of k ∷ after
 
 -- what stands behind the word of a declaration
 abbrev pub declaration_of : DeclarationWord → Grammar
-declaration_of (d.Port x) = behind_direction
-declaration_of d.Genvar = listed a_bare_name
-declaration_of d.Wire = form · listed a_net
-declaration_of d.Reg = form · listed a_variable
-declaration_of d.Integer = listed a_variable
-declaration_of d.Parameter = parameter_form · listed a_constant
-declaration_of d.Localparam = parameter_form · listed a_constant
+declaration_of (d.Port x) = after_direction
+declaration_of d.Genvar = comma_list a_bare_name
+declaration_of d.Wire = form · comma_list a_net
+declaration_of d.Reg = form · comma_list a_variable
+declaration_of d.Integer = comma_list a_variable
+declaration_of d.Parameter = parameter_form · comma_list a_constant
+declaration_of d.Localparam = parameter_form · comma_list a_constant
 
 -- what stands behind the word of a generate construct
 abbrev pub construct_of : GenerateWord → Grammar
@@ -68,7 +68,7 @@ construct_of g.If = guarded generate_branches
 abbrev pub plain_body : PlainHead → Grammar
 plain_body (p.Name bytes) = instances
 plain_body (p.Declaration d) = declaration_of d
-plain_body p.Assign = listed an_assignment
+plain_body p.Assign = comma_list an_assignment
 plain_body p.Initial = part a_stmt
 plain_body p.Always = part a_stmt
 

@@ -5,7 +5,7 @@ use Rattle.vs_syntax.specs.vs_lexer.specs.declared.token.Mark.TheVariants as m
 use Rattle.vs_syntax.specs.vs_lexer.specs.declared.token.Word.{Word}
 use Rattle.vs_syntax.specs.vs_lexer.specs.declared.token.Word.TheVariants as w
 use Rattle.vs_syntax.specs.Symbols.{Symbol, a_word}
-use Rattle.vs_syntax.specs.Grammar.{Nonterminal, Grammar, nothing, ◌·◌, ◌or◌, part, mark, word, form, listed, may_value, told_ports, net_ports, variable_ports, port_names, a_bare_name}
+use Rattle.vs_syntax.specs.Grammar.{Nonterminal, Grammar, nothing, ◌·◌, ◌or◌, part, mark, word, form, comma_list, may_value, directed_ports, net_ports, variable_ports, port_names, a_bare_name}
 use Rattle.vs_syntax.specs.Tables.{goes}
 use Rattle.vs_syntax.specs.Derivation.{Tree, both}
 use Rattle.vs_syntax.specs.Reading.{Gets}
@@ -37,12 +37,12 @@ IsKind ts None rest = (goes port_kind ts ≡ false) × (rest ≡ ts)
 IsKind ts (Some kind) rest = ts ≡ a_word (kind_word kind) ∷ rest
 
 -- what stands behind the word of a port declaration (clause A.2.1.2)
-abbrev pub behind_direction : Grammar
-behind_direction = port_kind · form · listed a_bare_name
+abbrev pub after_direction : Grammar
+after_direction = port_kind · form · comma_list a_bare_name
 
 -- what stands in the parentheses of a header (clause A.1.3; profile)
 abbrev pub ports_within : Grammar
-ports_within = part told_ports or part port_names or nothing
+ports_within = part directed_ports or part port_names or nothing
 
 -- what the kind of a port that has a direction says of it (clause 12.3.4)
 abbrev pub said_of : Option PortKind → Said
@@ -71,8 +71,8 @@ value_by s.Variable = may_value
 -- the port behind a comma and one of which this is said, with those behind it
 abbrev pub other_by : Said → Grammar
 other_by s.Nothing = part port_names
-other_by s.Net = part told_ports or part net_ports
-other_by s.Variable = part told_ports or part variable_ports
+other_by s.Net = part directed_ports or part net_ports
+other_by s.Variable = part directed_ports or part variable_ports
 
 -- the ports behind one of which this is said
 abbrev pub others_by : Said → Grammar
@@ -89,8 +89,8 @@ LeadsOn said g depth ts (Err e) = FailsToRead g depth (seen ts) e
 
 -- what stands before the name of a port, or why and where reading it stopped
 abbrev pub LeadsToName : ℕ → List Token → Result (Parsed PortForm) ReadFault → Type 0
-LeadsToName depth ts (Ok r) = Beyond (part (named_by (said_of r.tree.kind))) (part told_ports) (port_form_tree (Some r.tree)) depth (seen ts) (seen r.rest.now)
-LeadsToName depth ts (Err e) = FailsToRead (part told_ports) depth (seen ts) e
+LeadsToName depth ts (Ok r) = Beyond (part (named_by (said_of r.tree.kind))) (part directed_ports) (port_form_tree (Some r.tree)) depth (seen ts) (seen r.rest.now)
+LeadsToName depth ts (Err e) = FailsToRead (part directed_ports) depth (seen ts) e
 
 -- The list is the first port and those that were read behind it.
 pub record Followed (g : Grammar) (depth : ℕ) (ts rest : List Symbol) (first : Port) (all : List Port) : Type 0 where

@@ -134,12 +134,12 @@ pub(crate) fn least_statement(head: StatementHead) -> u32
     match head {
         StatementHead::Name => 2,
         StatementHead::Brace => 3,
-        StatementHead::Word(word) => least_behind(word),
+        StatementHead::Word(word) => nesting_after(word),
     }
 }
 
 /// The least nesting of a statement that begins with the word or the mark, in nodes.
-pub(crate) fn least_behind(word: StatementWord) -> u32
+pub(crate) fn nesting_after(word: StatementWord) -> u32
     ensures need { result ≡ need (class_of (symbol_of word)) (fronts_of a_stmt) }
     ensures some { 0 < result }
 {

@@ -11,7 +11,7 @@ ghost use Rattle.vs_syntax.specs.Tables.{low};
 ghost use Rattle.vs_syntax.specs.Derivation.{leaf, both};
 ghost use Rattle.vs_syntax.specs.Views.{parameter_word_tree, header_parameter_tree, header_parameters_tree};
 ghost use Rattle.vs_parse_expressions.specs.Answers.{seen, FailsToRead, ReadsTree};
-ghost use Rattle.vs_parse_expressions.specs.Lists.{behind_commas, Grown};
+ghost use Rattle.vs_parse_expressions.specs.Lists.{comma_tail, Grown};
 ghost use Rattle.vs_parse_expressions.specs.Parts.{ReadsWithin};
 
 use crate::parameter::{ParameterList, parameter_form};
@@ -38,7 +38,7 @@ impl Element for OtherParameter {
         tokens: &'t [Token<'s>],
     ) -> Result<Parsed<'t, 's, HeaderParameter>, ReadFault<'t, 's>> {
         match word_at(tokens, Word::Parameter) {
-            Some(after) => told_parameter(alloc, depth, tokens, after),
+            Some(after) => parameter_with_word(alloc, depth, tokens, after),
             None => parameter(alloc, depth, tokens, None),
         }
     }
@@ -71,7 +71,7 @@ fn parameters_within<'t, 's>(
 ) -> Result<Parsed<'t, 's, Vec<HeaderParameter>>, ReadFault<'t, 's>>
     ensures { ReadsWithin (λ (xs : Vec HeaderParameter Global). header_parameters_tree (map header_parameter_tree xs.items))
         (λ y. both (leaf (a_mark m.Hash)) (both (leaf (a_mark m.Open)) y))
-        (((word w.Parameter · parameter_form) · part a_constant) · behind_commas (part a_header_parameter) · mark m.Close)
+        (((word w.Parameter · parameter_form) · part a_constant) · comma_tail (part a_header_parameter) · mark m.Close)
         depth inside.now result }
 {
     let first = first_parameter(alloc, depth, inside)?;
@@ -89,13 +89,13 @@ fn first_parameter<'t, 's>(
         header_parameter_tree result }
 {
     match word_at(tokens, Word::Parameter) {
-        Some(after) => told_parameter(alloc, depth, tokens, after),
+        Some(after) => parameter_with_word(alloc, depth, tokens, after),
         None => Err(ReadFault::Unexpected(tokens)),
     }
 }
 
 /// Reads a parameter that begins with the word, behind which `after` stands.
-fn told_parameter<'t, 's>(
+fn parameter_with_word<'t, 's>(
     alloc: Global,
     depth: u32,
     tokens: &'t [Token<'s>],
@@ -139,7 +139,7 @@ fn with_others<'t, 's, T: Element>(
     requires { low T.grammar ≤ depth }
     ensures { MatchResult result
         (λ r. Grown T.grammar depth T.tree_of (seen first.entry.rest.now) (seen r.rest.now) (first.entry.tree ∷ []) r.tree.items)
-        (λ e. FailsToRead (behind_commas T.grammar) depth (seen first.entry.rest.now) e) }
+        (λ e. FailsToRead (comma_tail T.grammar) depth (seen first.entry.rest.now) e) }
 {
     let mut tree = Vec::new(alloc);
     tree.push(first.tree)?;

@@ -6,13 +6,13 @@ ghost use Rattle.vs_syntax.specs.Grammar.{◌·◌, ◌or◌, nothing, part, mar
 ghost use Rattle.vs_syntax.specs.Grammar as g;
 ghost use Rattle.vs_syntax.specs.Tables.{low};
 ghost use Rattle.vs_syntax.specs.Derivation.{leaf, both};
-ghost use Rattle.vs_syntax.specs.Views.{listed_tree, end_tree, connection_tree, connections_tree, overrides_tree, instance_tree};
+ghost use Rattle.vs_syntax.specs.Views.{comma_list_tree, end_tree, connection_tree, connections_tree, overrides_tree, instance_tree};
 ghost use Rattle.vs_parse_expressions.specs.Answers.{ReadsTree};
-ghost use Rattle.vs_parse_expressions.specs.Lists.{behind_commas};
+ghost use Rattle.vs_parse_expressions.specs.Lists.{comma_tail};
 
 use std::alloc::Global;
 use vs_parse_expressions::{
-    Element, Parsed, ReadFault, begins_expr, ended, expect_mark, expect_name, expr, listed,
+    Element, Parsed, ReadFault, begins_expr, comma_list, ended, expect_mark, expect_name, expr,
     mark_at, others,
 };
 use vs_syntax::vs_lexer::{Mark, Token};
@@ -133,10 +133,10 @@ pub fn instances<'t, 's>(
     tokens: &'t [Token<'s>],
 ) -> Result<Parsed<'t, 's, (Option<Connections>, Vec<Instance>)>, ReadFault<'t, 's>>
     ensures { ReadsTree g.instances depth tokens.now
-        (λ x. both (overrides_tree x.0) (listed_tree (map instance_tree x.1.items))) result }
+        (λ x. both (overrides_tree x.0) (comma_list_tree (map instance_tree x.1.items))) result }
 {
     let values = overrides(alloc, depth, tokens)?;
-    let placed = listed::<Placed>(alloc, depth, values.rest)?;
+    let placed = comma_list::<Placed>(alloc, depth, values.rest)?;
     Ok(Parsed {
         tree: (values.tree, placed.tree),
         rest: placed.rest,
@@ -186,7 +186,7 @@ fn by_name<'t, 's>(
     depth: u32,
     tokens: &'t [Token<'s>],
 ) -> Result<Parsed<'t, 's, Connections>, ReadFault<'t, 's>>
-    ensures { ReadsTree (part a_connection · behind_commas (part a_connection)) depth tokens.now
+    ensures { ReadsTree (part a_connection · comma_tail (part a_connection)) depth tokens.now
         connections_tree result }
 {
     let first = Named::read(alloc, depth, tokens)?;
@@ -203,7 +203,7 @@ fn in_order<'t, 's>(
     depth: u32,
     tokens: &'t [Token<'s>],
 ) -> Result<Parsed<'t, 's, Connections>, ReadFault<'t, 's>>
-    ensures { ReadsTree (an_end · behind_commas an_end) depth tokens.now connections_tree result }
+    ensures { ReadsTree (an_end · comma_tail an_end) depth tokens.now connections_tree result }
 {
     let first = Ordered::read(alloc, depth, tokens)?;
     let behind = others::<Ordered>(alloc, depth, first.rest, Vec::new(alloc))?;

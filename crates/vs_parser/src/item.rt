@@ -8,7 +8,7 @@ ghost use Rattle.vs_parser.specs.vs_parse_expressions.specs.Parts.{ReadsWithin, 
 ghost use Rattle.vs_parser.specs.ItemsHeads.{word_of, plain_symbol, declaration_of, plain_body};
 
 use crate::items_head::{DeclarationWord, PlainHead};
-use crate::vs_parse_expressions::{Parsed, ReadFault, declared, listed};
+use crate::vs_parse_expressions::{Parsed, ReadFault, comma_list, declared};
 use crate::{Assignment, BareName, Net, Variable, declared_ports, instances, parameters, stmt};
 use std::alloc::Global;
 use vs_syntax::vs_lexer::Token;
@@ -39,7 +39,7 @@ pub(crate) fn plain_item<'t, 's>(
             (declaration.tree, declaration.rest)
         }
         PlainHead::Assign => {
-            let assignments = listed::<Assignment>(alloc, depth, tokens)?;
+            let assignments = comma_list::<Assignment>(alloc, depth, tokens)?;
             (Item::Assign(assignments.tree), assignments.rest)
         }
         PlainHead::Initial => {
@@ -73,7 +73,7 @@ fn declared_item<'t, 's>(
             (Item::Port(ports.tree.0, ports.tree.1), ports.rest)
         }
         DeclarationWord::Genvar => {
-            let indices = listed::<BareName>(alloc, depth, tokens)?;
+            let indices = comma_list::<BareName>(alloc, depth, tokens)?;
             (Item::Genvar(indices.tree), indices.rest)
         }
         DeclarationWord::Wire => {
@@ -85,7 +85,7 @@ fn declared_item<'t, 's>(
             (Item::Reg(regs.tree.0, regs.tree.1), regs.rest)
         }
         DeclarationWord::Integer => {
-            let integers = listed::<Variable>(alloc, depth, tokens)?;
+            let integers = comma_list::<Variable>(alloc, depth, tokens)?;
             (Item::Integer(integers.tree), integers.rest)
         }
         DeclarationWord::Parameter => {

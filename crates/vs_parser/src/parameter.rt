@@ -7,7 +7,7 @@ ghost use Rattle.vs_parse_expressions.specs.Answers.{ReadsTree};
 
 use std::alloc::Global;
 use vs_parse_expressions::{
-    Element, Parsed, ReadFault, declared_form, expect_mark, expect_name, expr, listed, word_at,
+    Element, Parsed, ReadFault, comma_list, declared_form, expect_mark, expect_name, expr, word_at,
 };
 use vs_syntax::vs_lexer::{Mark, Token, Word};
 use vs_syntax::{Constant, ParameterForm};
@@ -46,11 +46,11 @@ pub fn parameters<'t, 's>(
     depth: u32,
     tokens: &'t [Token<'s>],
 ) -> Result<Parsed<'t, 's, (ParameterForm, Vec<Constant>)>, ReadFault<'t, 's>>
-    ensures { ReadsTree (g.parameter_form · g.listed a_constant) depth tokens.now
+    ensures { ReadsTree (g.parameter_form · g.comma_list a_constant) depth tokens.now
         (λ x. constants_tree x.0 x.1.items) result }
 {
     let said = parameter_form(alloc, depth, tokens)?;
-    let names = listed::<ParameterList>(alloc, depth, said.rest)?;
+    let names = comma_list::<ParameterList>(alloc, depth, said.rest)?;
     Ok(Parsed {
         tree: (said.tree, names.tree),
         rest: names.rest,

@@ -4,14 +4,14 @@ ghost use Rattle.std.specs.Option.{option_map};
 ghost use Rattle.std.specs.declared.vec.Vec.{Vec};
 ghost use Rattle.std.specs.declared.alloc.Global.{Global};
 ghost use Rattle.vs_syntax.specs.Symbols.{a_word};
-ghost use Rattle.vs_syntax.specs.Grammar.{◌or◌, nothing, part, may_value, told_ports};
+ghost use Rattle.vs_syntax.specs.Grammar.{◌or◌, nothing, part, may_value, directed_ports};
 ghost use Rattle.vs_syntax.specs.Grammar as g;
 ghost use Rattle.vs_syntax.specs.Derivation.{both};
 ghost use Rattle.vs_syntax.specs.declared.tree.Port.{Port};
-ghost use Rattle.vs_syntax.specs.Views.{form_tree, listed_tree, bare_name_tree, value_tree, direction_word, kind_tree, ports_tree, header_ports_tree};
+ghost use Rattle.vs_syntax.specs.Views.{form_tree, comma_list_tree, bare_name_tree, value_tree, direction_word, kind_tree, ports_tree, header_ports_tree};
 ghost use Rattle.vs_parse_expressions.specs.Answers.{seen, FailsToRead, ReadsTree};
 ghost use Rattle.vs_parse_expressions.specs.Parts.{Leads};
-ghost use Rattle.vs_parser.specs.Ports.{behind_direction, ports_within, said_of, said_after, named_by, value_by, others_by, other_by, named_port_tree, IsKind, LeadsOn, LeadsToName, Followed};
+ghost use Rattle.vs_parser.specs.Ports.{after_direction, ports_within, said_of, said_after, named_by, value_by, others_by, other_by, named_port_tree, IsKind, LeadsOn, LeadsToName, Followed};
 
 use crate::declaration::BareName;
 use crate::headers_head::{begins_name, direction_at, kind_at};
@@ -87,7 +87,7 @@ fn ports<'t, 's>(
     ensures { ReadsTree ports_within depth tokens.now (λ ps. ports_tree ps.items) result }
 {
     if let Some((direction, after)) = direction_at(tokens) {
-        let first = told_port(alloc, depth, tokens, direction, after)?;
+        let first = directed_port(alloc, depth, tokens, direction, after)?;
         let said = Said::Nothing.after(&first.tree);
         return others(alloc, depth, first, said);
     }
@@ -138,29 +138,29 @@ fn other_port<'t, 's>(
 {
     match said {
         Said::Nothing => port(alloc, depth, tokens, None, said),
-        Said::Net => told_or_named(alloc, depth, tokens, said),
-        Said::Variable => told_or_named(alloc, depth, tokens, said),
+        Said::Net => directed_or_named(alloc, depth, tokens, said),
+        Said::Variable => directed_or_named(alloc, depth, tokens, said),
     }
 }
 
 /// Reads a port with its direction, or by its name alone, of which this is said then.
-fn told_or_named<'t, 's>(
+fn directed_or_named<'t, 's>(
     alloc: Global,
     depth: u32,
     tokens: &'t [Token<'s>],
     said: Said,
 ) -> Result<Parsed<'t, 's, Port>, ReadFault<'t, 's>>
-    ensures reads { LeadsOn said (part told_ports or part (named_by said)) depth tokens.now result }
+    ensures reads { LeadsOn said (part directed_ports or part (named_by said)) depth tokens.now result }
     ensures shorter { IfOk result (λ r. length (seen r.rest.now) < length (seen tokens.now)) }
 {
     match direction_at(tokens) {
-        Some((direction, after)) => told_port(alloc, depth, tokens, direction, after),
+        Some((direction, after)) => directed_port(alloc, depth, tokens, direction, after),
         None => port(alloc, depth, tokens, None, said),
     }
 }
 
 /// Reads a port that begins with its direction, behind which `after` stands.
-fn told_port<'t, 's>(
+fn directed_port<'t, 's>(
     alloc: Global,
     depth: u32,
     tokens: &'t [Token<'s>],
@@ -168,7 +168,7 @@ fn told_port<'t, 's>(
     after: &'t [Token<'s>],
 ) -> Result<Parsed<'t, 's, Port>, ReadFault<'t, 's>>
     requires { seen tokens.now ≡ a_word (direction_word direction) ∷ seen after.now }
-    ensures reads { (said : Said) → LeadsOn said (part told_ports) depth tokens.now result }
+    ensures reads { (said : Said) → LeadsOn said (part directed_ports) depth tokens.now result }
     ensures shorter { IfOk result (λ r. length (seen r.rest.now) < length (seen tokens.now)) }
 {
     let form = port_form(alloc, depth, tokens, direction, after)?;
@@ -258,7 +258,7 @@ fn port_form<'t, 's>(
     ensures reads { LeadsToName depth tokens.now result }
     ensures shorter { IfOk result (λ r. length (seen r.rest.now) < length (seen tokens.now)) }
 {
-    let (kind, behind) = told_kind(after);
+    let (kind, behind) = optional_kind(after);
     let form = declared_form(alloc, depth, behind)?;
     Ok(Parsed {
         tree: PortForm {
@@ -271,7 +271,7 @@ fn port_form<'t, 's>(
 }
 
 /// The word of a port's kind, if it is next, and the tokens behind it.
-fn told_kind<'t, 's>(tokens: &'t [Token<'s>]) -> (Option<PortKind>, &'t [Token<'s>])
+fn optional_kind<'t, 's>(tokens: &'t [Token<'s>]) -> (Option<PortKind>, &'t [Token<'s>])
     ensures { IsKind (seen tokens.now) result.0 (seen result.1.now) }
 {
     match kind_at(tokens) {
@@ -287,11 +287,11 @@ pub fn declared_ports<'t, 's>(
     tokens: &'t [Token<'s>],
     direction: Direction,
 ) -> Result<Parsed<'t, 's, (PortForm, Vec<Vec<u8>>)>, ReadFault<'t, 's>>
-    ensures reads { ReadsTree behind_direction depth tokens.now
-        (λ x. both (kind_tree x.0.kind) (both (form_tree x.0.form) (listed_tree (map bare_name_tree x.1.items)))) result }
+    ensures reads { ReadsTree after_direction depth tokens.now
+        (λ x. both (kind_tree x.0.kind) (both (form_tree x.0.form) (comma_list_tree (map bare_name_tree x.1.items)))) result }
     ensures direction { IfOk result (λ x. x.tree.0.direction ≡ direction) }
 {
-    let (kind, behind) = told_kind(tokens);
+    let (kind, behind) = optional_kind(tokens);
     let names = declared::<BareName>(alloc, depth, behind)?;
     let form = PortForm {
         direction,

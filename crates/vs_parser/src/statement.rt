@@ -9,7 +9,7 @@ ghost use Rattle.vs_syntax.specs.Derivation.{leaf, both};
 ghost use Rattle.vs_syntax.specs.Views.{row_of, some_tree, case_word, expr_tree, guarded_tree, stmt_tree};
 ghost use Rattle.vs_parse_expressions.specs.Answers.{seen, ReadsTree};
 ghost use Rattle.vs_parse_expressions.specs.Blocks.{naming_tree};
-ghost use Rattle.vs_parser.specs.Heads.{BeginsStatement, symbol_of, behind_of, loop_word};
+ghost use Rattle.vs_parser.specs.Heads.{BeginsStatement, symbol_of, grammar_after, loop_word};
 ghost use Rattle.vs_parse_expressions.specs.Parts.{ReadsWithin, headed, boxed_tree, labelled_stmt_tree};
 
 use crate::assignment::{assigned_stmt, for_header, guard};
@@ -59,20 +59,20 @@ fn headed<'t, 's>(
     match head {
         StatementHead::Name => assigned_stmt(alloc, depth, tokens),
         StatementHead::Brace => assigned_stmt(alloc, depth, tokens),
-        StatementHead::Word(word) => behind(alloc, depth - 1, after, word),
+        StatementHead::Word(word) => statement_rest(alloc, depth - 1, after, word),
     }
 }
 
 /// Reads a statement behind the word, the mark or the system name that it begins with.
 #[cycle(stmt)]
-fn behind<'t, 's>(
+fn statement_rest<'t, 's>(
     alloc: Global,
     depth: u32,
     tokens: &'t [Token<'s>],
     word: StatementWord,
 ) -> Result<Parsed<'t, 's, Stmt>, ReadFault<'t, 's>>
-    requires { low (behind_of word) ≤ depth }
-    ensures { ReadsWithin stmt_tree (headed (symbol_of word)) (behind_of word) depth tokens.now result }
+    requires { low (grammar_after word) ≤ depth }
+    ensures { ReadsWithin stmt_tree (headed (symbol_of word)) (grammar_after word) depth tokens.now result }
 {
     match word {
         StatementWord::Null => Ok(Parsed {

@@ -6,7 +6,7 @@ use Rattle.vs_prep_macros.specs.declared.fault.Halt.TheVariants as h
 use Rattle.vs_prep_macros.specs.Answers.{Stops}
 use Rattle.vs_prep_macros.specs.Bodies.{Found, IsBody, PutsNext, put_first, put_joint, put_next}
 use Rattle.vs_prep_macros.specs.Folds.{Goes, Ends, Through, ends, goes}
-use Rattle.vs_prep_macros.specs.Spaces.{behind_joint, without_end}
+use Rattle.vs_prep_macros.specs.Spaces.{after_joint, without_end}
 use Rattle.vs_prep_macros.proofs.Reading.{no_bytes}
 
 -- what is found from here on is found from the beginning
@@ -28,6 +28,6 @@ so_far_stops bytes old at (h.Here fault) so s = so.found (Err (h.Here fault)) (e
 so_far_stops bytes old at (h.At fault left) so s = so.found (Err (h.At fault left)) (ends s)
 
 -- nothing comes next
-pub put_none : (body bytes : List ℕ) → behind_joint bytes ≡ None → parts_of bytes ≡ [] → put_next body bytes ≡ Ends (Ok (without_end body, bytes))
+pub put_none : (body bytes : List ℕ) → after_joint bytes ≡ None → parts_of bytes ≡ [] → put_next body bytes ≡ Ends (Ok (without_end body, bytes))
 unfolding put_next
 put_none body bytes j e = ap (put_joint body bytes) j ∙ ap (put_first body) e ∙ ap (λ (rest : List ℕ). Ends (Ok (without_end body, rest))) (sym (no_bytes bytes e))

@@ -15,7 +15,7 @@ use Rattle.vs_prep_macros.specs.Definitions.{AreFormalsIfAny}
 use Rattle.vs_prep_macros.specs.Formals.{FoundFormals, Marks, MarkSo, Numbers, Reads, ReadsFormal, AreFormals, marked, next_formal, number_of}
 use Rattle.vs_prep_macros.specs.Folds.{Turn, Ends, Through, ends, goes}
 use Rattle.vs_prep_macros.specs.Names.{name_at}
-use Rattle.vs_prep_macros.specs.Spaces.{behind_joined}
+use Rattle.vs_prep_macros.specs.Spaces.{skip_joined}
 use Rattle.vs_prep_macros.proofs.NameMaps.{at_name_inserted, number_of_pushed}
 
 -- what is found from here on is found from the first formal on; or all have been found
@@ -52,12 +52,12 @@ formals_opened bytes inside rest names e all = subst (λ (b : List ℕ). AreForm
 
 -- ---- a formal, by the name that stands at these bytes
 
-pub formal_none : (names : List (List ℕ)) (bytes at : List ℕ) → at ≡ behind_joined bytes → name_at at ≡ None → next_formal names bytes ≡ Ends (Err (h.Here d.Formals))
+pub formal_none : (names : List (List ℕ)) (bytes at : List ℕ) → at ≡ skip_joined bytes → name_at at ≡ None → next_formal names bytes ≡ Ends (Err (h.Here d.Formals))
 unfolding next_formal
 formal_none names bytes at b e = rw (← b, e) refl
 
 pub formal_known : {K : Type 0} (entries : List (K × ℕ)) (items : K → List ℕ) (names : List (List ℕ)) (bytes at name after : List ℕ) → Numbers entries items names
-    → at ≡ behind_joined bytes → name_at at ≡ Some (name, after) → true ≡ is_some (lookup (λ k. is_eq (slice_cmp nat_cmp name (items k))) entries)
+    → at ≡ skip_joined bytes → name_at at ≡ Some (name, after) → true ≡ is_some (lookup (λ k. is_eq (slice_cmp nat_cmp name (items k))) entries)
     → next_formal names bytes ≡ Ends (Err (h.At d.SameFormals (length at)))
 unfolding next_formal
 formal_known entries items names bytes at name after n b e t =
@@ -65,8 +65,8 @@ formal_known entries items names bytes at name after n b e t =
     rw (← b, e, known) refl
 
 pub formal_fresh : {K : Type 0} (entries : List (K × ℕ)) (items : K → List ℕ) (names : List (List ℕ)) (bytes at name after : List ℕ) → Numbers entries items names
-    → at ≡ behind_joined bytes → name_at at ≡ Some (name, after) → false ≡ is_some (lookup (λ k. is_eq (slice_cmp nat_cmp name (items k))) entries)
-    → next_formal names bytes ≡ marked (names ++ name ∷ []) (behind_joined after)
+    → at ≡ skip_joined bytes → name_at at ≡ Some (name, after) → false ≡ is_some (lookup (λ k. is_eq (slice_cmp nat_cmp name (items k))) entries)
+    → next_formal names bytes ≡ marked (names ++ name ∷ []) (skip_joined after)
 unfolding next_formal
 formal_fresh entries items names bytes at name after n b e t =
     let fresh : is_some (number_of names name) ≡ false = ap is_some (sym (n.at name)) ∙ sym t in

@@ -1,4 +1,4 @@
-pub mod Behind
+pub mod Suffixes
 pub mod Cuttings
 pub mod Parts
 pub mod ActualsRead

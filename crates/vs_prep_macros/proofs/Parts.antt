@@ -3,7 +3,7 @@ use Rattle.std.proofs.Common.{ℕ, zero, suc, ◌≡◌, ◌≤◌, ◌<◌, ◌
 use Rattle.vs_prep_macros.specs.Pieces.{Cut, cut_of, cut_by}
 use Rattle.vs_prep_macros.specs.Parts.{Part, part_of, parts_by, parts_of}
 use Rattle.vs_prep_macros.specs.declared.piece.Form.{Form}
-use Rattle.vs_prep_macros.proofs.Behind.{cut_behind, behind_one, behind_splits, behind_length}
+use Rattle.vs_prep_macros.proofs.Suffixes.{cut_behind, behind_one, behind_splits, behind_length}
 
 -- there are no more pieces than bytes
 parts_enough : (n m : ℕ) (bytes : List ℕ) → length bytes ≤ n → length bytes ≤ m → parts_by n bytes ≡ parts_by m bytes

@@ -4,7 +4,7 @@ use Rattle.std.specs.Prelude.{Option, Some, None, MatchOption}
 use Rattle.vs_prep_macros.specs.Parts.{Part, parts_of, bytes_from, seen}
 use Rattle.vs_prep_macros.specs.declared.piece.Piece.{Piece}
 use Rattle.vs_prep_macros.specs.Folds.{Turn, Goes, Ends, over}
-use Rattle.vs_prep_macros.specs.Spaces.{behind_those}
+use Rattle.vs_prep_macros.specs.Spaces.{skip_while}
 
 -- bytes without pieces are none
 pub no_bytes : (bytes : List ℕ) → parts_of bytes ≡ [] → bytes ≡ []
@@ -19,13 +19,13 @@ none_first (Some p) bytes n m = absurd (n p refl)
 
 -- ---- the first piece that doesn't pass
 
-pub those_none : (test : Part → Bool) (rest : List ℕ) → parts_of rest ≡ [] → rest ≡ behind_those test (parts_of rest)
-those_none test rest e = no_bytes rest e ∙ sym (ap (behind_those test) e)
+pub those_none : (test : Part → Bool) (rest : List ℕ) → parts_of rest ≡ [] → rest ≡ skip_while test (parts_of rest)
+those_none test rest e = no_bytes rest e ∙ sym (ap (skip_while test) e)
 
-pub those_here : (test : Part → Bool) (rest : List ℕ) (p : Part) (ps : List Part) → parts_of rest ≡ p ∷ ps → rest ≡ bytes_from p → test p ≡ false → rest ≡ behind_those test (parts_of rest)
-those_here test rest p ps e w t = w ∙ sym (let h : behind_those test (parts_of rest) ≡ bytes_from p = rw (e, t) refl in h)
+pub those_here : (test : Part → Bool) (rest : List ℕ) (p : Part) (ps : List Part) → parts_of rest ≡ p ∷ ps → rest ≡ bytes_from p → test p ≡ false → rest ≡ skip_while test (parts_of rest)
+those_here test rest p ps e w t = w ∙ sym (let h : skip_while test (parts_of rest) ≡ bytes_from p = rw (e, t) refl in h)
 
-pub those_next : (test : Part → Bool) (rest : List ℕ) (p : Part) (ps : List Part) → parts_of rest ≡ p ∷ ps → test p ≡ true → behind_those test (parts_of rest) ≡ behind_those test ps
+pub those_next : (test : Part → Bool) (rest : List ℕ) (p : Part) (ps : List Part) → parts_of rest ≡ p ∷ ps → test p ≡ true → skip_while test (parts_of rest) ≡ skip_while test ps
 those_next test rest p ps e t = rw (e, t) refl
 
 -- ---- going over pieces

@@ -12,7 +12,7 @@ use Rattle.vs_prep_macros.specs.declared.fault.Halt.TheVariants as h
 use Rattle.vs_prep_macros.specs.Bodies.{is_mark}
 use Rattle.vs_prep_macros.specs.Folds.{Turn, Goes, Ends, over}
 use Rattle.vs_prep_macros.specs.Names.{name_at}
-use Rattle.vs_prep_macros.specs.Spaces.{behind_space}
+use Rattle.vs_prep_macros.specs.Spaces.{skip_space}
 use Rattle.vs_prep_macros.specs.Directives.{is_directive}
 
 -- a backquote behind which no name stands
@@ -80,4 +80,4 @@ opened [] = Err (h.Here d.NoActuals)
 opened (b ∷ bs) = if b == 40 then actuals_in bs else Err (h.Here d.NoActuals)
 
 abbrev pub actuals_of : List ℕ → Found
-actuals_of bytes = opened (behind_space bytes)
+actuals_of bytes = opened (skip_space bytes)

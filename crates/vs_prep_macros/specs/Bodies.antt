@@ -13,20 +13,20 @@ use Rattle.vs_prep_macros.specs.declared.fault.Halt.TheVariants as h
 use Rattle.vs_prep_macros.specs.Answers.{Stops}
 use Rattle.vs_prep_macros.specs.Folds.{Turn, Goes, Ends, Through}
 use Rattle.vs_prep_macros.specs.Names.{split_name}
-use Rattle.vs_prep_macros.specs.Spaces.{has_line_feed, behind_joint, without_end}
+use Rattle.vs_prep_macros.specs.Spaces.{has_line_feed, after_joint, without_end}
 
 -- the byte makes a backquote before it one of a newer language: a backquote, a quote, a backslash
 abbrev pub is_mark : ℕ → Bool
 is_mark b = b == 96 || (b == 34 || b == 92)
 
 -- the bytes behind a name, or behind a mark, from those behind a backquote
-abbrev pub behind_used : List ℕ → List ℕ
-behind_used [] = []
-behind_used (b ∷ bs) = if is_mark b then bs else (split_name (b ∷ bs)).1
+abbrev pub after_use : List ℕ → List ℕ
+after_use [] = []
+after_use (b ∷ bs) = if is_mark b then bs else (split_name (b ∷ bs)).1
 
 -- those that stand before them
 abbrev pub front_used : List ℕ → List ℕ
-front_used after = take (length after - length (behind_used after)) after
+front_used after = take (length after - length (after_use after)) after
 
 -- a line comment ends in a backslash before its carriage returns, and another line follows
 abbrev pub goes_on : List ℕ → List ℕ → Bool
@@ -58,7 +58,7 @@ put_form f.LineFeed body p = Ends (Ok (without_end body, bytes_from p))
 put_form f.LineComment body p = Goes (body, p.rest)
 put_form f.BlockComment body p = Goes (spaced body (32 ∷ []), p.rest)
 put_form f.Blank body p = Goes (spaced body p.text, p.rest)
-put_form f.Backquote body p = Goes (body ++ 96 ∷ front_used p.rest, behind_used p.rest)
+put_form f.Backquote body p = Goes (body ++ 96 ∷ front_used p.rest, after_use p.rest)
 put_form _ body p = Goes (body ++ p.text, p.rest)
 
 -- the same, or the fault at the piece
@@ -80,7 +80,7 @@ put_joint body bytes (Some rest) = Goes (spaced body (10 ∷ []), rest)
 
 -- what comes next behind a text
 unfoldable pub put_next : List ℕ → List ℕ → Turn (List ℕ × List ℕ) Found
-put_next body bytes = put_joint body bytes (behind_joint bytes)
+put_next body bytes = put_joint body bytes (after_joint bytes)
 
 abbrev pub PutsNext : List ℕ → List ℕ → Turn (List ℕ × List ℕ) Found → Type 0
 PutsNext body bytes turn = put_next body bytes ≡ turn

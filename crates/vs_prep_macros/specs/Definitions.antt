@@ -43,14 +43,14 @@ abbrev pub macro_of : List ℕ → Option (List (List ℕ)) → Found → FoundM
 macro_of name formals (Ok x) = Ok (record { name = name; formals = formals; body = x.0 }, x.1)
 macro_of name formals (Err e) = Err e
 
-abbrev pub IsMacroBehind : List ℕ → FoundIfAny → FoundMacro → Type 0
-IsMacroBehind name (Ok x) found = (body : Found) × IsBody x.1 body × (found ≡ macro_of name x.0 body)
-IsMacroBehind name (Err e) found = found ≡ Err e
+abbrev pub IsMacroAfter : List ℕ → FoundIfAny → FoundMacro → Type 0
+IsMacroAfter name (Ok x) found = (body : Found) × IsBody x.1 body × (found ≡ macro_of name x.0 body)
+IsMacroAfter name (Err e) found = found ≡ Err e
 
 -- a macro of a name that is none of a directive
 abbrev pub IsNamedMacro : Bool → List ℕ → List ℕ → FoundMacro → Type 0
 IsNamedMacro true name after found = found ≡ Err (h.Here d.ReservedName)
-IsNamedMacro false name after found = (formals : FoundIfAny) × AreFormalsIfAny after formals × IsMacroBehind name formals found
+IsNamedMacro false name after found = (formals : FoundIfAny) × AreFormalsIfAny after formals × IsMacroAfter name formals found
 
 abbrev pub IsWantedMacro : Result (List ℕ × List ℕ) Halt → FoundMacro → Type 0
 IsWantedMacro (Ok x) found = IsNamedMacro (is_directive x.0) x.0 x.1 found

@@ -11,7 +11,7 @@ use Rattle.vs_prep_macros.specs.declared.fault.Halt.TheVariants as h
 use Rattle.vs_prep_macros.specs.Answers.{Stops}
 use Rattle.vs_prep_macros.specs.Folds.{Turn, Goes, Ends, Through}
 use Rattle.vs_prep_macros.specs.Names.{name_at}
-use Rattle.vs_prep_macros.specs.Spaces.{behind_joined}
+use Rattle.vs_prep_macros.specs.Spaces.{skip_joined}
 
 -- the number of a name among names, from 0
 abbrev pub number_of : List (List ℕ) → List ℕ → Option ℕ
@@ -41,11 +41,11 @@ abbrev pub formal_at : List (List ℕ) → List ℕ → Option (List ℕ × List
 formal_at names at None = Ends (Err (h.Here d.Formals))
 formal_at names at (Some x) =
     if is_some (number_of names x.0) then Ends (Err (h.At d.SameFormals (length at)))
-    else marked (names ++ x.0 ∷ []) (behind_joined x.1)
+    else marked (names ++ x.0 ∷ []) (skip_joined x.1)
 
 -- the next formal, behind white space, comments and joined line ends
 unfoldable pub next_formal : List (List ℕ) → List ℕ → Turn (List (List ℕ) × List ℕ) FoundFormals
-next_formal names bytes = formal_at names (behind_joined bytes) (name_at (behind_joined bytes))
+next_formal names bytes = formal_at names (skip_joined bytes) (name_at (skip_joined bytes))
 
 abbrev pub ReadsFormal : List (List ℕ) → List ℕ → Turn (List (List ℕ) × List ℕ) FoundFormals → Type 0
 ReadsFormal names bytes turn = next_formal names bytes ≡ turn

@@ -7,7 +7,7 @@ use Rattle.vs_prep_macros.specs.declared.fault.Fault.TheVariants as d
 use Rattle.vs_prep_macros.specs.declared.fault.Halt.{Halt}
 use Rattle.vs_prep_macros.specs.declared.fault.Halt.TheVariants as h
 use Rattle.vs_prep_macros.specs.Limits.{name_limit}
-use Rattle.vs_prep_macros.specs.Spaces.{behind_blank}
+use Rattle.vs_prep_macros.specs.Spaces.{skip_blank}
 
 -- a piece that is a name, with the bytes behind it
 abbrev pub named : Form → Part → Option (List ℕ × List ℕ)
@@ -37,4 +37,4 @@ wanted_at at (Some x) = if nat_lt name_limit (length x.0) then Err (h.At d.LongN
 
 -- the name that a directive wants on its line, with the bytes behind it (profile: of at most 1,024 bytes)
 unfoldable pub wanted_name : List ℕ → Result (List ℕ × List ℕ) Halt
-wanted_name bytes = wanted_at (behind_blank bytes) (name_at (behind_blank bytes))
+wanted_name bytes = wanted_at (skip_blank bytes) (name_at (skip_blank bytes))

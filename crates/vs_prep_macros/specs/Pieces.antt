@@ -11,18 +11,18 @@ abbrev pub Cut : Type 0
 Cut = Form × List ℕ
 
 -- the bytes behind the first place where two bytes stand side by side
-abbrev pub behind_close : ℕ → ℕ → List ℕ → Option (List ℕ)
-behind_close c d [] = None
-behind_close c d (x ∷ []) = None
-behind_close c d (x ∷ y ∷ ys) = if x == c && y == d then Some ys else behind_close c d (y ∷ ys)
+abbrev pub after_close : ℕ → ℕ → List ℕ → Option (List ℕ)
+after_close c d [] = None
+after_close c d (x ∷ []) = None
+after_close c d (x ∷ y ∷ ys) = if x == c && y == d then Some ys else after_close c d (y ∷ ys)
 
 -- the bytes behind the quote that closes a text on its line; the flag says that a backslash escapes the next byte (clause 3.6)
-abbrev pub behind_quote : Bool → List ℕ → Option (List ℕ)
-behind_quote escaped [] = None
-behind_quote escaped (b ∷ bs) =
+abbrev pub after_quote : Bool → List ℕ → Option (List ℕ)
+after_quote escaped [] = None
+after_quote escaped (b ∷ bs) =
     if b == 10 then None
     else (if not escaped && b == 34 then Some bs
-    else behind_quote (not escaped && b == 92) bs)
+    else after_quote (not escaped && b == 92) bs)
 
 -- a comment between `/*` and `*/`, which takes all that is left where it isn't closed (clause 3.3)
 abbrev pub block_cut : Option (List ℕ) → Cut
@@ -34,7 +34,7 @@ abbrev pub slash_cut : List ℕ → Cut
 slash_cut [] = (f.Other, [])
 slash_cut (b ∷ bs) =
     if b == 47 then (f.LineComment, after_run in_line bs)
-    else (if b == 42 then block_cut (behind_close 42 47 bs)
+    else (if b == 42 then block_cut (after_close 42 47 bs)
     else (f.Other, b ∷ bs))
 
 -- a text, which goes on to the line's end where that cuts it (clause 3.6)
@@ -44,12 +44,12 @@ text_cut after (Some rest) = (f.Text, rest)
 
 -- what a quote begins
 abbrev pub quote_cut : List ℕ → Cut
-quote_cut after = text_cut after (behind_quote false after)
+quote_cut after = text_cut after (after_quote false after)
 
 -- the bytes behind a letter that says that a number is signed (clause 3.5.1)
-abbrev pub behind_sign : List ℕ → List ℕ
-behind_sign [] = []
-behind_sign (b ∷ bs) = if b == 115 || b == 83 then bs else b ∷ bs
+abbrev pub skip_sign : List ℕ → List ℕ
+skip_sign [] = []
+skip_sign (b ∷ bs) = if b == 115 || b == 83 then bs else b ∷ bs
 
 -- the letters of bases (clause 3.5.1)
 abbrev pub is_base : ℕ → Bool
@@ -62,7 +62,7 @@ based_cut after (b ∷ bs) = if is_base b then (f.Digits, after_run in_based bs)
 
 -- what an apostrophe begins
 abbrev pub apostrophe_cut : List ℕ → Cut
-apostrophe_cut after = based_cut after (behind_sign after)
+apostrophe_cut after = based_cut after (skip_sign after)
 
 -- what the piece is that a byte begins, with these bytes after it, and what stands behind it
 unfoldable pub cut_by : ℕ → List ℕ → Cut

@@ -31,17 +31,17 @@ abbrev pub is_space : Part → Bool
 is_space p = space_form p.form
 
 -- the bytes from the first piece on that doesn't pass
-abbrev pub behind_those : (Part → Bool) → List Part → List ℕ
-behind_those test [] = []
-behind_those test (p ∷ ps) = if test p then behind_those test ps else bytes_from p
+abbrev pub skip_while : (Part → Bool) → List Part → List ℕ
+skip_while test [] = []
+skip_while test (p ∷ ps) = if test p then skip_while test ps else bytes_from p
 
 -- the bytes behind white space and comments that end on their line
-unfoldable pub behind_blank : List ℕ → List ℕ
-behind_blank bytes = behind_those is_blank (parts_of bytes)
+unfoldable pub skip_blank : List ℕ → List ℕ
+skip_blank bytes = skip_while is_blank (parts_of bytes)
 
 -- the bytes behind white space, line feeds and comments
-unfoldable pub behind_space : List ℕ → List ℕ
-behind_space bytes = behind_those is_space (parts_of bytes)
+unfoldable pub skip_space : List ℕ → List ℕ
+skip_space bytes = skip_while is_space (parts_of bytes)
 
 -- the bytes without the white space at their end
 abbrev pub without_end : List ℕ → List ℕ
@@ -52,26 +52,26 @@ abbrev pub trimmed : List ℕ → List ℕ
 trimmed bytes = without_end (after_run is_white bytes)
 
 -- the bytes behind a line feed
-abbrev pub behind_feed : List ℕ → Option (List ℕ)
-behind_feed [] = None
-behind_feed (b ∷ bs) = if b == 10 then Some bs else None
+abbrev pub after_feed : List ℕ → Option (List ℕ)
+after_feed [] = None
+after_feed (b ∷ bs) = if b == 10 then Some bs else None
 
 -- the bytes behind the end of a line: a line feed, or a carriage return and a line feed
-abbrev pub behind_end : List ℕ → Option (List ℕ)
-behind_end [] = None
-behind_end (b ∷ bs) = if b == 10 then Some bs else (if b == 13 then behind_feed bs else None)
+abbrev pub after_line_end : List ℕ → Option (List ℕ)
+after_line_end [] = None
+after_line_end (b ∷ bs) = if b == 10 then Some bs else (if b == 13 then after_feed bs else None)
 
 -- the bytes behind a backslash and the end of a line, which join it with the next one (clause 19.3.1)
-abbrev pub behind_joint : List ℕ → Option (List ℕ)
-behind_joint [] = None
-behind_joint (b ∷ bs) = if b == 92 then behind_end bs else None
+abbrev pub after_joint : List ℕ → Option (List ℕ)
+after_joint [] = None
+after_joint (b ∷ bs) = if b == 92 then after_line_end bs else None
 
 -- whether a line end is being joined behind a piece among white space, comments and joints; none, where it is none of these
 abbrev pub joins_by : Form → Bool → Part → Option Bool
 joins_by f.Blank joins p = Some joins
 joins_by f.BlockComment joins p = if has_line_feed p.text then None else Some joins
 joins_by f.LineFeed joins p = if joins then Some false else None
-joins_by f.Escaped joins p = if is_some (behind_joint (bytes_from p)) then Some true else None
+joins_by f.Escaped joins p = if is_some (after_joint (bytes_from p)) then Some true else None
 joins_by _ joins p = None
 
 -- the same, or the bytes from the piece on
@@ -79,5 +79,5 @@ abbrev pub joined : Bool → Part → Turn Bool (List ℕ)
 joined joins p = elim (joins_by p.form joins p) [ Some next ↦ Goes next | None ↦ Ends (bytes_from p) ]
 
 -- the bytes behind white space, comments that end on their line, and joints
-unfoldable pub behind_joined : List ℕ → List ℕ
-behind_joined bytes = over joined (λ joins. []) false (parts_of bytes)
+unfoldable pub skip_joined : List ℕ → List ℕ
+skip_joined bytes = over joined (λ joins. []) false (parts_of bytes)

@@ -7,7 +7,7 @@ ghost use Rattle.vs_prep_macros.specs.Names.{name_at};
 
 use crate::directive::Directive;
 use crate::fault::{Fault, Halt};
-use crate::scan::{behind_space, name_at};
+use crate::scan::{name_at, skip_space};
 use crate::{Form, Piece, first_and_rest, first_piece};
 use std::alloc::Global;
 
@@ -143,7 +143,7 @@ pub fn read_actuals(alloc: Global, bytes: &[u8]) -> Result<(Vec<&[u8]>, &[u8]), 
     ensures read { Answers (λ r. actuals_of bytes.now ≡ r) (λ x. (map (λ a. a.now) x.0.items, x.1.now)) result }
     ensures no_longer { IfOk result (λ x. length x.1.now ≤ length bytes.now) }
 {
-    match first_and_rest(behind_space(bytes)) {
+    match first_and_rest(skip_space(bytes)) {
         Some((b'(', inside)) => read_inside(alloc, inside),
         _ => Err(Halt::Here(Fault::NoActuals)),
     }

@@ -2,11 +2,11 @@
 ghost use Rattle.std.specs.Prelude.{◌≡◌, ◌≤◌, ◌<◌, ◌++◌, ◌∷◌, IfOk, IfSome, OnOk, length};
 ghost use Rattle.vs_prep_macros.specs.Parts.{seen, bytes_from};
 ghost use Rattle.vs_prep_macros.specs.Answers.{Answers};
-ghost use Rattle.vs_prep_macros.specs.Bodies.{behind_used, front_used, goes_on, spaced, refused_if, refused_form, put_part, put_form, put_next, PutsSo, Puts, IsBody};
+ghost use Rattle.vs_prep_macros.specs.Bodies.{after_use, front_used, goes_on, spaced, refused_if, refused_form, put_part, put_form, put_next, PutsSo, Puts, IsBody};
 ghost use Rattle.vs_prep_macros.specs.Spaces.{without_end};
 
 use crate::fault::{Fault, Halt};
-use crate::scan::{before_run, behind_joint, ends_in_backslash, has_line_feed, split_name};
+use crate::scan::{after_joint, before_run, ends_in_backslash, has_line_feed, split_name};
 use crate::{Class, Form, Piece, first_and_rest, first_piece};
 use std::alloc::{AllocError, Global};
 
@@ -28,8 +28,8 @@ fn goes_on(comment: &[u8], rest: &[u8]) -> bool
 }
 
 /// What stands behind a name, or behind a mark that makes a backquote one of a newer language, from the bytes after a backquote.
-fn behind_used(after: &[u8]) -> &[u8]
-    ensures behind { result.now ≡ behind_used after.now }
+fn after_use(after: &[u8]) -> &[u8]
+    ensures behind { result.now ≡ after_use after.now }
     ensures no_longer { length result.now ≤ length after.now }
 {
     match first_and_rest(after) {
@@ -43,11 +43,11 @@ fn behind_used(after: &[u8]) -> &[u8]
 /// Nothing is judged here.
 fn put_use<'s>(body: &mut Vec<u8>, after: &'s [u8]) -> Result<&'s [u8], AllocError>
     ensures put { OnOk result (body.new.items ≡ body.old.items ++ 96 ∷ front_used after.now) }
-    ensures behind { IfOk result (λ rest. rest.now ≡ behind_used after.now) }
+    ensures behind { IfOk result (λ rest. rest.now ≡ after_use after.now) }
     ensures no_longer { IfOk result (λ rest. length rest.now ≤ length after.now) }
 {
     body.extend_from_slice(b"`")?;
-    let rest = behind_used(after);
+    let rest = after_use(after);
     body.extend_from_slice(&after[..after.len() - rest.len()])?;
     Ok(rest)
 }
@@ -124,7 +124,7 @@ fn put_next<'s>(body: &mut Vec<u8>, bytes: &'s [u8]) -> Result<Option<&'s [u8]>,
     ensures put { Puts (put_next body.old.items bytes.now) bytes.now body.new.items result }
     ensures moves { IfOk result (λ x. IfSome x (λ rest. length rest.now < length bytes.now)) }
 {
-    match behind_joint(bytes) {
+    match after_joint(bytes) {
         Some(rest) => {
             put_space(body, b"\n")?;
             Ok(Some(rest))

@@ -2,11 +2,11 @@
 ghost use Rattle.std.specs.Prelude.{◌≡◌, ◌≤◌, ◌<◌, ℕ, List, IfOk, length};
 ghost use Rattle.vs_prep_macros.specs.Definitions.{ReadsFormals, ReadsIfAny};
 ghost use Rattle.vs_prep_macros.specs.Formals.{Numbers, Marks, Reads, marked, next_formal};
-ghost use Rattle.vs_prep_macros.specs.Spaces.{behind_joined};
+ghost use Rattle.vs_prep_macros.specs.Spaces.{skip_joined};
 
 use crate::fault::{Fault, Halt};
 use crate::first_and_rest;
-use crate::scan::{behind_joined, name_at};
+use crate::scan::{name_at, skip_joined};
 use std::alloc::Global;
 use std::collections::BTreeMap;
 
@@ -14,11 +14,11 @@ use std::collections::BTreeMap;
 pub type Formals = BTreeMap<Vec<u8>, usize>;
 
 /// Reads what stands behind a formal, and answers whether another one follows.
-fn behind_formal(after: &[u8]) -> Result<(bool, &[u8]), Halt>
-    ensures read { (names : List (List ℕ)) → Marks (marked names (behind_joined after.now)) names result }
+fn after_formal(after: &[u8]) -> Result<(bool, &[u8]), Halt>
+    ensures read { (names : List (List ℕ)) → Marks (marked names (skip_joined after.now)) names result }
     ensures no_longer { IfOk result (λ x. length x.1.now ≤ length after.now) }
 {
-    match first_and_rest(behind_joined(after)) {
+    match first_and_rest(skip_joined(after)) {
         Some((b',', rest)) => Ok((true, rest)),
         Some((b')', rest)) => Ok((false, rest)),
         Some((b'=', _)) => Err(Halt::Here(Fault::FormalDefault)),
@@ -37,7 +37,7 @@ fn read_formal<'s>(
         → Reads formals.new.entries (λ k. k.items) (next_formal names bytes.now) result }
     ensures moves { IfOk result (λ x. length x.1.now < length bytes.now) }
 {
-    let at = behind_joined(bytes);
+    let at = skip_joined(bytes);
     match name_at(at) {
         Some((name, after)) => {
             if formals.contains_key(name) {
@@ -45,7 +45,7 @@ fn read_formal<'s>(
             }
             let number = formals.len();
             formals.insert(Vec::from_slice(alloc, name)?, number)?;
-            behind_formal(after)
+            after_formal(after)
         }
         None => Err(Halt::Here(Fault::Formals)),
     }

@@ -24,8 +24,8 @@ pub use fault::{Fault, Halt, Spot};
 pub use formals::Formals;
 pub use laws::{front_and_rest, one_cutting};
 pub use piece::{Form, Piece, cut, first_and_rest, first_piece};
-pub use runs::{behind_pair, behind_run};
-pub use scan::{behind_blank, behind_space, name_at, split_name, trimmed, wanted_name};
+pub use runs::{skip_past_pair, skip_run};
+pub use scan::{name_at, skip_blank, skip_space, split_name, trimmed, wanted_name};
 pub use table::Macros;
 
 /// The most bytes of a text: 4 MiB. No expansion has more either.

@@ -1,10 +1,10 @@
 //! Cutting a text into pieces.
 ghost use Rattle.std.specs.Prelude.{◌≡◌, ◌<◌, ◌≤◌, ◌-◌, ◌∷◌, [], length, take, IfSome, MatchOption};
 ghost use Rattle.vs_prep_macros.specs.Parts.{parts_of, bytes_from, seen};
-ghost use Rattle.vs_prep_macros.specs.Pieces.{cut_of, cut_by, slash_cut, quote_cut, apostrophe_cut, behind_sign};
+ghost use Rattle.vs_prep_macros.specs.Pieces.{cut_of, cut_by, slash_cut, quote_cut, apostrophe_cut, skip_sign};
 
 use crate::classes::{Class, starts_name};
-use crate::runs::{behind_pair, behind_run, behind_text};
+use crate::runs::{after_string, skip_past_pair, skip_run};
 
 /// What a piece of a text is.
 #[derive(Clone, Copy, PartialEq, Eq, Debug)]
@@ -55,8 +55,8 @@ fn cut_slash(after: &[u8]) -> (Form, &[u8])
     ensures no_longer { length result.1.now ≤ length after.now }
 {
     match first_and_rest(after) {
-        Some((b'/', line)) => (Form::LineComment, behind_run(line, Class::Line)),
-        Some((b'*', body)) => match behind_pair(body, b'*', b'/') {
+        Some((b'/', line)) => (Form::LineComment, skip_run(line, Class::Line)),
+        Some((b'*', body)) => match skip_past_pair(body, b'*', b'/') {
             Some(rest) => (Form::BlockComment, rest),
             None => (Form::OpenComment, &[]),
         },
@@ -69,15 +69,15 @@ fn cut_quote(after: &[u8]) -> (Form, &[u8])
     ensures form { (result.0, result.1.now) ≡ quote_cut after.now }
     ensures no_longer { length result.1.now ≤ length after.now }
 {
-    match behind_text(after) {
+    match after_string(after) {
         Some(rest) => (Form::Text, rest),
-        None => (Form::CutText, behind_run(after, Class::Line)),
+        None => (Form::CutText, skip_run(after, Class::Line)),
     }
 }
 
 /// The bytes behind a letter that says that a number is signed.
-fn behind_sign(after: &[u8]) -> &[u8]
-    ensures behind { result.now ≡ behind_sign after.now }
+fn skip_sign(after: &[u8]) -> &[u8]
+    ensures behind { result.now ≡ skip_sign after.now }
     ensures no_longer { length result.now ≤ length after.now }
 {
     match first_and_rest(after) {
@@ -91,9 +91,9 @@ fn cut_apostrophe(after: &[u8]) -> (Form, &[u8])
     ensures form { (result.0, result.1.now) ≡ apostrophe_cut after.now }
     ensures no_longer { length result.1.now ≤ length after.now }
 {
-    match first_and_rest(behind_sign(after)) {
+    match first_and_rest(skip_sign(after)) {
         Some((b'b' | b'B' | b'o' | b'O' | b'd' | b'D' | b'h' | b'H', digits)) => {
-            (Form::Digits, behind_run(digits, Class::Digits))
+            (Form::Digits, skip_run(digits, Class::Digits))
         }
         _ => (Form::Other, after),
     }
@@ -115,7 +115,7 @@ fn cut_by(first: u8, after: &[u8]) -> (Form, &[u8])
         return cut_quote(after);
     }
     if first == b'\\' {
-        return (Form::Escaped, behind_run(after, Class::Escaped));
+        return (Form::Escaped, skip_run(after, Class::Escaped));
     }
     if first == b'\'' {
         return cut_apostrophe(after);
@@ -124,13 +124,13 @@ fn cut_by(first: u8, after: &[u8]) -> (Form, &[u8])
         return (Form::Backquote, after);
     }
     if first.is_ascii_digit() {
-        return (Form::Digits, behind_run(after, Class::Name));
+        return (Form::Digits, skip_run(after, Class::Name));
     }
     if starts_name(first) {
-        return (Form::Name, behind_run(after, Class::Name));
+        return (Form::Name, skip_run(after, Class::Name));
     }
     if Class::Blank.has(first) {
-        return (Form::Blank, behind_run(after, Class::Blank));
+        return (Form::Blank, skip_run(after, Class::Blank));
     }
     (Form::Other, after)
 }

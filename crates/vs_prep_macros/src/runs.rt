@@ -2,12 +2,12 @@
 ghost use Rattle.std.specs.Prelude.{◌≡◌, ◌≤◌, None, Some, MatchOption, IfSome, false, length};
 ghost use Rattle.vs_lexer.specs.Bytes.{after_run};
 ghost use Rattle.vs_prep_macros.specs.Classes.{in_class};
-ghost use Rattle.vs_prep_macros.specs.Pieces.{behind_close, behind_quote};
+ghost use Rattle.vs_prep_macros.specs.Pieces.{after_close, after_quote};
 
 use crate::classes::Class;
 
 /// The bytes behind those of the class at the front.
-pub fn behind_run(bytes: &[u8], class: Class) -> &[u8]
+pub fn skip_run(bytes: &[u8], class: Class) -> &[u8]
     ensures behind { result.now ≡ after_run (in_class class) bytes.now }
     ensures no_longer { length result.now ≤ length bytes.now }
 {
@@ -22,9 +22,9 @@ pub fn behind_run(bytes: &[u8], class: Class) -> &[u8]
 }
 
 /// The bytes behind the first place where the two bytes stand side by side.
-pub fn behind_pair(bytes: &[u8], first: u8, second: u8) -> Option<&[u8]>
-    ensures behind { MatchOption result (behind_close first second bytes.now ≡ None)
-        (λ rest. behind_close first second bytes.now ≡ Some rest.now) }
+pub fn skip_past_pair(bytes: &[u8], first: u8, second: u8) -> Option<&[u8]>
+    ensures behind { MatchOption result (after_close first second bytes.now ≡ None)
+        (λ rest. after_close first second bytes.now ≡ Some rest.now) }
     ensures no_longer { IfSome result (λ rest. length rest.now ≤ length bytes.now) }
 {
     let mut rest = bytes;
@@ -42,9 +42,9 @@ pub fn behind_pair(bytes: &[u8], first: u8, second: u8) -> Option<&[u8]>
 }
 
 /// The bytes behind the quote that closes a text on its line, from those behind the one that opens it.
-pub(crate) fn behind_text(bytes: &[u8]) -> Option<&[u8]>
-    ensures behind { MatchOption result (behind_quote false bytes.now ≡ None)
-        (λ rest. behind_quote false bytes.now ≡ Some rest.now) }
+pub(crate) fn after_string(bytes: &[u8]) -> Option<&[u8]>
+    ensures behind { MatchOption result (after_quote false bytes.now ≡ None)
+        (λ rest. after_quote false bytes.now ≡ Some rest.now) }
     ensures no_longer { IfSome result (λ rest. length rest.now ≤ length bytes.now) }
 {
     let mut rest = bytes;

@@ -4,11 +4,11 @@ ghost use Rattle.vs_lexer.specs.Bytes.{after_run, begins};
 ghost use Rattle.vs_prep_macros.specs.Classes.{in_class};
 ghost use Rattle.vs_prep_macros.specs.Parts.{seen, bytes_from};
 ghost use Rattle.vs_prep_macros.specs.Answers.{Answers};
-ghost use Rattle.vs_prep_macros.specs.Spaces.{has_line_feed, is_blank, is_space, behind_blank, behind_space, behind_feed, behind_end, behind_joint, joins_by, behind_joined, trimmed};
+ghost use Rattle.vs_prep_macros.specs.Spaces.{has_line_feed, is_blank, is_space, skip_blank, skip_space, after_feed, after_line_end, after_joint, joins_by, skip_joined, trimmed};
 ghost use Rattle.vs_prep_macros.specs.Names.{name_at, split_name, wanted_name};
 
 use crate::fault::{Fault, Halt};
-use crate::{Class, Form, NAME_LIMIT, Piece, behind_run, first_and_rest, first_piece};
+use crate::{Class, Form, NAME_LIMIT, Piece, first_and_rest, first_piece, skip_run};
 
 /// The name at the front, if there is one, and what stands behind it.
 #[tactic(auto, unfolding(crate::specs::Names::name_at))]
@@ -40,7 +40,7 @@ pub fn split_name(bytes: &[u8]) -> (&[u8], &[u8])
 pub(crate) fn has_line_feed(text: &[u8]) -> bool
     ensures { result ≡ has_line_feed text.now }
 {
-    !behind_run(text, Class::Line).is_empty()
+    !skip_run(text, Class::Line).is_empty()
 }
 
 /// Whether a piece is white space, or a comment that ends on its line.
@@ -65,9 +65,9 @@ fn is_space(piece: Piece<'_>) -> bool
 }
 
 /// What stands behind white space and comments that end on their line.
-#[tactic(auto, unfolding(crate::specs::Spaces::behind_blank))]
-pub fn behind_blank(bytes: &[u8]) -> &[u8]
-    ensures behind { result.now ≡ behind_blank bytes.now }
+#[tactic(auto, unfolding(crate::specs::Spaces::skip_blank))]
+pub fn skip_blank(bytes: &[u8]) -> &[u8]
+    ensures behind { result.now ≡ skip_blank bytes.now }
     ensures no_longer { length result.now ≤ length bytes.now }
 {
     let mut rest = bytes;
@@ -81,9 +81,9 @@ pub fn behind_blank(bytes: &[u8]) -> &[u8]
 }
 
 /// What stands behind white space, comments and line feeds.
-#[tactic(auto, unfolding(crate::specs::Spaces::behind_space))]
-pub fn behind_space(bytes: &[u8]) -> &[u8]
-    ensures behind { result.now ≡ behind_space bytes.now }
+#[tactic(auto, unfolding(crate::specs::Spaces::skip_space))]
+pub fn skip_space(bytes: &[u8]) -> &[u8]
+    ensures behind { result.now ≡ skip_space bytes.now }
     ensures no_longer { length result.now ≤ length bytes.now }
 {
     let mut rest = bytes;
@@ -97,8 +97,8 @@ pub fn behind_space(bytes: &[u8]) -> &[u8]
 }
 
 /// What stands behind a line feed, if one comes next.
-fn behind_feed(bytes: &[u8]) -> Option<&[u8]>
-    ensures behind { MatchOption result (behind_feed bytes.now ≡ None) (λ rest. behind_feed bytes.now ≡ Some rest.now) }
+fn after_feed(bytes: &[u8]) -> Option<&[u8]>
+    ensures behind { MatchOption result (after_feed bytes.now ≡ None) (λ rest. after_feed bytes.now ≡ Some rest.now) }
     ensures moves { IfSome result (λ rest. length rest.now < length bytes.now) }
 {
     match first_and_rest(bytes) {
@@ -108,31 +108,31 @@ fn behind_feed(bytes: &[u8]) -> Option<&[u8]>
 }
 
 /// What stands behind the end of a line, if it comes next.
-fn behind_end(bytes: &[u8]) -> Option<&[u8]>
-    ensures behind { MatchOption result (behind_end bytes.now ≡ None) (λ rest. behind_end bytes.now ≡ Some rest.now) }
+fn after_line_end(bytes: &[u8]) -> Option<&[u8]>
+    ensures behind { MatchOption result (after_line_end bytes.now ≡ None) (λ rest. after_line_end bytes.now ≡ Some rest.now) }
     ensures moves { IfSome result (λ rest. length rest.now < length bytes.now) }
 {
     match first_and_rest(bytes) {
         Some((b'\n', rest)) => Some(rest),
-        Some((b'\r', rest)) => behind_feed(rest),
+        Some((b'\r', rest)) => after_feed(rest),
         _ => None,
     }
 }
 
 /// What stands behind a backslash at the end of a line, if one comes next.
-pub(crate) fn behind_joint(bytes: &[u8]) -> Option<&[u8]>
-    ensures behind { MatchOption result (behind_joint bytes.now ≡ None) (λ rest. behind_joint bytes.now ≡ Some rest.now) }
+pub(crate) fn after_joint(bytes: &[u8]) -> Option<&[u8]>
+    ensures behind { MatchOption result (after_joint bytes.now ≡ None) (λ rest. after_joint bytes.now ≡ Some rest.now) }
     ensures moves { IfSome result (λ rest. length rest.now < length bytes.now) }
 {
     match first_and_rest(bytes) {
-        Some((b'\\', rest)) => behind_end(rest),
+        Some((b'\\', rest)) => after_line_end(rest),
         _ => None,
     }
 }
 
 /// Whether a line end is being joined behind a piece that stands before these bytes, among white space, comments and joined line ends;
 /// none, where it is none of these.
-fn joins_behind(piece: Piece<'_>, bytes: &[u8], joins: bool) -> Option<bool>
+fn joins_after(piece: Piece<'_>, bytes: &[u8], joins: bool) -> Option<bool>
     requires { bytes.now ≡ bytes_from (seen piece) }
     ensures { result ≡ joins_by piece.entry.form joins (seen piece.entry) }
 {
@@ -150,7 +150,7 @@ fn joins_behind(piece: Piece<'_>, bytes: &[u8], joins: bool) -> Option<bool>
             }
             None
         }
-        Form::Escaped => match behind_joint(bytes) {
+        Form::Escaped => match after_joint(bytes) {
             Some(_) => Some(true),
             None => None,
         },
@@ -159,15 +159,15 @@ fn joins_behind(piece: Piece<'_>, bytes: &[u8], joins: bool) -> Option<bool>
 }
 
 /// What stands behind white space, comments that end on their line, and joined line ends.
-#[tactic(auto, unfolding(crate::specs::Spaces::behind_joined))]
-pub(crate) fn behind_joined(bytes: &[u8]) -> &[u8]
-    ensures behind { result.now ≡ behind_joined bytes.now }
+#[tactic(auto, unfolding(crate::specs::Spaces::skip_joined))]
+pub(crate) fn skip_joined(bytes: &[u8]) -> &[u8]
+    ensures behind { result.now ≡ skip_joined bytes.now }
     ensures no_longer { length result.now ≤ length bytes.now }
 {
     let mut rest = bytes;
     let mut joins = false;
     while let Some(piece) = first_piece(rest) {
-        match joins_behind(piece, rest, joins) {
+        match joins_after(piece, rest, joins) {
             Some(next) => joins = next,
             None => return rest,
         }
@@ -182,7 +182,7 @@ pub fn wanted_name(bytes: &[u8]) -> Result<(&[u8], &[u8]), Halt>
     ensures read { Answers (λ r. wanted_name bytes.now ≡ r) (λ x. (x.0.now, x.1.now)) result }
     ensures no_longer { IfOk result (λ x. length x.1.now ≤ length bytes.now) }
 {
-    let at = behind_blank(bytes);
+    let at = skip_blank(bytes);
     match name_at(at) {
         Some((name, rest)) => {
             if name.len() > NAME_LIMIT {
@@ -225,7 +225,7 @@ pub fn trimmed(bytes: &[u8]) -> &[u8]
     ensures bytes { result.now ≡ trimmed bytes.now }
     ensures no_longer { length result.now ≤ length bytes.now }
 {
-    before_run(behind_run(bytes, Class::White), Class::White)
+    before_run(skip_run(bytes, Class::White), Class::White)
 }
 
 /// Whether the last byte is a backslash.

@@ -15,17 +15,17 @@ use Rattle.vs_preprocess.specs.declared.places.SourceFile.{SourceFile}
 use Rattle.vs_preprocess.specs.Files.{bytes_of}
 use Rattle.vs_preprocess.specs.Limits.{work_limit}
 use Rattle.vs_preprocess.specs.Places.{AreFrom, BeginsAtFirst, Copied, Expanded, IsFrom, IsInside, IsSegmentInside, Made, Source, copied_from, origin_of, reach, size_of, sources_in, sources_of}
-use Rattle.vs_preprocess.specs.passes.Segments.{AreInLine, BeginsBehind, IsJoined, IsLastAt, IsReached, origin_in}
+use Rattle.vs_preprocess.specs.passes.Segments.{AreInLine, BeginsAfter, IsJoined, IsLastAt, IsReached, origin_in}
 
 -- ---- the first segment
 
 -- where there are none
-pub no_segments : (offset : ℕ) (ss : List Segment) → length ss ≡ 0 → BeginsBehind offset ss
+pub no_segments : (offset : ℕ) (ss : List Segment) → length ss ≡ 0 → BeginsAfter offset ss
 no_segments offset [] e = tt
 no_segments offset (s ∷ ss) e = absurd (omega arith)
 
 -- where the first one was read
-pub first_behind : (offset : ℕ) (ss : List Segment) (s : Segment) → s ≡ get_or ss 0 s → offset < s.offset → 0 < length ss → BeginsBehind offset ss
+pub first_behind : (offset : ℕ) (ss : List Segment) (s : Segment) → s ≡ get_or ss 0 s → offset < s.offset → 0 < length ss → BeginsAfter offset ss
 first_behind offset [] s is less some = absurd (omega arith)
 first_behind offset (t ∷ ts) s is less some = subst (λ (x : Segment). offset < x.offset) is less
 
@@ -33,7 +33,7 @@ first_behind offset (t ∷ ts) s is less some = subst (λ (x : Segment). offset 
 pub record Between (offset : ℕ) (ss : List Segment) (low high : ℕ) : Type 0 where
   pub order : low ≤ high
   pub within : high ≤ length ss
-  pub none : high ≡ 0 → BeginsBehind offset ss
+  pub none : high ≡ 0 → BeginsAfter offset ss
   pub begun : (k : ℕ) (s : Segment) → k + 1 ≡ low → slice_get ss k ≡ Some s → s.offset ≤ offset
   pub next : (s : Segment) → slice_get ss high ≡ Some s → offset < s.offset
 
@@ -91,11 +91,11 @@ last_between offset ss low high k b met e =
       next = λ s f. b.next s (subst (λ (i : ℕ). slice_get ss i ≡ Some s) same f);
     }
 
-pub none_between : (offset : ℕ) (ss : List Segment) (low high : ℕ) → Between offset ss low high → high ≤ low → low ≡ 0 → BeginsBehind offset ss
+pub none_between : (offset : ℕ) (ss : List Segment) (low high : ℕ) → Between offset ss low high → high ≤ low → low ≡ 0 → BeginsAfter offset ss
 none_between offset ss low high b met e = b.none (omega arith)
 
 -- it isn't behind an offset where it is at the beginning
-pub none_behind : (offset : ℕ) (ss : List Segment) → BeginsAtFirst ss → BeginsBehind offset ss → ss ≡ []
+pub none_behind : (offset : ℕ) (ss : List Segment) → BeginsAtFirst ss → BeginsAfter offset ss → ss ≡ []
 none_behind offset [] first behind = refl
 none_behind offset (s ∷ ss) first behind = absurd (omega arith)
 
@@ -230,7 +230,7 @@ no_source zero source e = cc
 no_source (suc offset) source e = cc
 
 -- where there are no segments no offset is the text's
-pub no_origin : (offset : ℕ) (ss : List Segment) (source : Source) (origin : Option Origin) → BeginsAtFirst ss → BeginsBehind offset ss → slice_get (sources_of ss) offset ≡ Some source → origin ≡ Some (origin_of source)
+pub no_origin : (offset : ℕ) (ss : List Segment) (source : Source) (origin : Option Origin) → BeginsAtFirst ss → BeginsAfter offset ss → slice_get (sources_of ss) offset ≡ Some source → origin ≡ Some (origin_of source)
 no_origin offset ss source origin first behind e =
     absurd (no_source offset source (subst (λ (l : List Segment). slice_get (sources_of l) offset ≡ Some source) (none_behind offset ss first behind) e))
 

@@ -5,8 +5,8 @@ use crate::frame::Frame;
 use crate::places::LineMark;
 use crate::run::{Run, Stop};
 use vs_prep_macros::{
-    Class, Directive, Fault, Form as PieceForm, Halt, NAME_LIMIT, behind_blank, behind_run, cut,
-    read_definition, split_name, trimmed, wanted_name,
+    Class, Directive, Fault, Form as PieceForm, Halt, NAME_LIMIT, cut, read_definition, skip_blank,
+    skip_run, split_name, trimmed, wanted_name,
 };
 
 /// What comes next in a file.
@@ -229,7 +229,7 @@ impl<'c> Run<'c> {
     ) -> Result<(Vec<u8>, &'b [u8]), Stop>
         ensures { IfOk result (λ x. length x.1.now ≤ length rest.now) }
     {
-        let at = behind_blank(rest);
+        let at = skip_blank(rest);
         if !at.is_empty() {
             let piece = cut(at);
             if piece.form == PieceForm::Text {
@@ -309,7 +309,7 @@ impl<'c> Run<'c> {
     ) -> Result<&'b [u8], Stop>
         ensures { IfOk result (λ x. length x.now ≤ length rest.now) }
     {
-        let behind = behind_run(rest, Class::Line);
+        let behind = skip_run(rest, Class::Line);
         let words = trimmed(&rest[..rest.len().saturating_sub(behind.len())]);
         let (first, _) = split_name(words);
         if first == b"protect".as_slice() {
@@ -328,11 +328,11 @@ impl<'c> Run<'c> {
     ) -> Result<&'b [u8], Stop>
         ensures { IfOk result (λ x. length x.now ≤ length rest.now) }
     {
-        let Some((given, rest)) = number(behind_blank(rest)) else {
+        let Some((given, rest)) = number(skip_blank(rest)) else {
             return Err(self.stop(frame, left, Halt::Here(Fault::LineForm)));
         };
         let (name, rest) = self.text(frame, left, rest)?;
-        let [b'0' | b'1' | b'2', rest @ ..] = behind_blank(rest) else {
+        let [b'0' | b'1' | b'2', rest @ ..] = skip_blank(rest) else {
             return Err(self.stop(frame, left, Halt::Here(Fault::LineForm)));
         };
         let rest = self.end_of_line(frame, rest)?;

@@ -3,11 +3,11 @@ ghost use Rattle.std.specs.Prelude.{◌≡◌, ◌≤◌, ◌<◌, ◌+◌, All,
 ghost use Rattle.vs_preprocess.specs.Files.{bytes_of};
 ghost use Rattle.vs_preprocess.specs.Limits.{work_limit};
 ghost use Rattle.vs_preprocess.specs.Places.{BeginsAtFirst, IsInside, IsSegmentInside, Map, Source, origin_of, reach, sources_of};
-ghost use Rattle.vs_preprocess.specs.passes.Segments.{AreInLine, BeginsBehind, IsLastAt, origin_in};
+ghost use Rattle.vs_preprocess.specs.passes.Segments.{AreInLine, BeginsAfter, IsLastAt, origin_in};
 
 use std::marker::Model;
 use std::rc::RcSlice;
-use vs_prep_macros::{Class, Macros, Spot, behind_run};
+use vs_prep_macros::{Class, Macros, Spot, skip_run};
 
 /// From where on a `line` directive holds, and what it says.
 #[derive(Drop)]
@@ -170,7 +170,7 @@ impl Places {
 /// The last segment that doesn't begin behind an offset; they are in the order of their offsets.
 fn segment_at(segments: &[Segment], offset: usize) -> Option<usize>
     ensures some { IfSome result (IsLastAt offset segments.now) }
-    ensures none { IfNone result (BeginsBehind offset segments.now) }
+    ensures none { IfNone result (BeginsAfter offset segments.now) }
 {
     let mut low = 0;
     let mut high = segments.len();
@@ -187,7 +187,7 @@ fn segment_at(segments: &[Segment], offset: usize) -> Option<usize>
 
 /// The bytes up to the first line feed.
 fn first_line(bytes: &[u8]) -> &[u8] {
-    let behind = behind_run(bytes, Class::Line);
+    let behind = skip_run(bytes, Class::Line);
     &bytes[..bytes.len() - behind.len()]
 }
 
@@ -219,7 +219,7 @@ fn since_line_feed(bytes: &[u8]) -> usize
 }
 
 /// The name and the line that the last of these marks tells which isn't behind a place, on the line `real` of a file of this name.
-pub(crate) fn told_line<'p>(
+pub(crate) fn marked_line<'p>(
     marks: &'p [LineMark],
     name: &'p [u8],
     place: usize,
@@ -241,7 +241,7 @@ fn line_in<'p>(file: &'p SourceFile, marks: &'p [LineMark], place: usize) -> Lin
     let before = &bytes[..place];
     let column = since_line_feed(before);
     let real = line_feeds(before).saturating_add(1);
-    let (name, number) = told_line(marks, &file.name, place, real);
+    let (name, number) = marked_line(marks, &file.name, place, real);
     Line {
         name,
         number,

@@ -6,7 +6,7 @@ use crate::frame::Frame;
 use crate::library::{Failure, Library};
 use crate::output::Output;
 use crate::paths::{folder_of, joined};
-use crate::places::{LineMark, SourceFile, told_line};
+use crate::places::{LineMark, SourceFile, marked_line};
 use std::alloc::{AllocError, AllocFailed, Global};
 use std::rc::RcSlice;
 use vs_prep_macros::{Expander, Fault, Form as PieceForm, Halt, Macros, Piece, Site, Spot, cut};
@@ -260,7 +260,7 @@ fn site_of<'f>(
 ) -> Site<'f> {
     match (files.get(file), marks.get(file)) {
         (Some(source), Some(marks)) => {
-            let (file, line) = told_line(marks, &source.name, place, line);
+            let (file, line) = marked_line(marks, &source.name, place, line);
             Site { file, line }
         }
         _ => Site { file: &[], line },

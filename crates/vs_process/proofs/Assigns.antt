@@ -15,13 +15,13 @@ use Rattle.vs_design.specs.Writes.{Write, names}
 use Rattle.vs_eval.specs.Laws.{digit_of}
 use Rattle.vs_eval.specs.Targets.{assigned}
 use Rattle.vs_eval.specs.Values.{target_value}
-use Rattle.vs_process.specs.States.{State, AssignState, start_assign, touched, evaluated, settled, written_behind}
+use Rattle.vs_process.specs.States.{State, AssignState, start_assign, touched, evaluated, settled, written_after}
 use Rattle.vs_process.specs.Steps.{assignment}
 use Rattle.vs_process.specs.Idle.{IsIdle}
 use Rattle.vs_process.proofs.Digits.{Keeps, kept_digit, put_again, put_swapped, unnamed_keeps}
-use Rattle.vs_process.proofs.ProcessLists.{map_at, map_cases, none_at, none_from, set_cases}
+use Rattle.vs_process.proofs.ProcessLists.{map_cases, none_at, none_from, set_cases}
 use Rattle.std.proofs.lemmas.Map.Keys.{any_passes_from_place as at_any}
-use Rattle.vs_design.specs.vs_logic4.proofs.Basics.{element_of as any_at, same_lists as same_gets}
+use Rattle.vs_design.specs.vs_logic4.proofs.Basics.{element_of as any_at, same_lists as same_gets, map_at}
 use Rattle.vs_process.proofs.Ranges.{IsFixed, assigned_fixed, assigned_names, fixed_write, present, same_sizes, uncovered_keeps}
 use Rattle.vs_process.proofs.Stores.{put_other, shape, shape-put}
 use Rattle.vs_process.proofs.Values.{not_changed, target_value_unchanged, unchanged}
@@ -239,7 +239,7 @@ sound_written d store assigns w u sound = record {
         (consistent_touched store (put store w) x (left_written d store assigns w u sound j x at_j) (sound.consistent j x at_j))
 
 pub sound_behind : (d : Parts) (s : State) (o : Option Write) → ((w : Write) → o ≡ Some w → IsUndriven d w) → AssignsSound d s.store s.assigns →
-    AssignsSound d (written_behind s o).store (written_behind s o).assigns
+    AssignsSound d (written_after s o).store (written_after s o).assigns
 sound_behind d s None u sound = sound
 sound_behind d s (Some w) u sound = sound_written d s.store s.assigns w (u w refl) sound
 

@@ -10,21 +10,21 @@ use Rattle.vs_design.specs.Writes.{Write, names}
 use Rattle.vs_process.specs.vs_eval.specs.Laws.{digit_of}
 use Rattle.vs_process.specs.declared.gait.Gait.{Gait}
 use Rattle.vs_process.specs.declared.gait.Gait.TheVariants.{Woken, Inside}
-use Rattle.vs_process.specs.Landings.{todo_behind}
+use Rattle.vs_process.specs.Landings.{todo_after}
 use Rattle.vs_process.specs.Places.{Todo, Place, perform, going, sleeping, inactive, waiting, ended, active_at, flat, stepped_gait, todo_of}
 use Rattle.vs_process.specs.Steps.{Next, on, after, wait, Out, goes, step}
-use Rattle.vs_process.specs.States.{Update, Called, calls_behind, place_behind, updates_behind}
+use Rattle.vs_process.specs.States.{Update, Called, calls_after, place_after_step, updates_after}
 use Rattle.vs_process.proofs.Stores.{put_other, shape-put}
 use Rattle.vs_process.specs.ThreadLaws.{LiesIn, IsLeft, start, behind}
 use Rattle.vs_process.specs.Writes.{statement_writes}
 use Rattle.vs_process.proofs.Named.{processes}
-use Rattle.vs_process.specs.Threads.{Thread, iterate, moved, store_behind, turn, turn_at}
+use Rattle.vs_process.specs.Threads.{Thread, iterate, moved, store_after, turn, turn_at}
 use Rattle.vs_process.specs.BlockDrivers.{home, outputs, outputs_for, puts_out, sizes, woken_on, IsRun, IsBlock}
 use Rattle.vs_process.proofs.Free.{flat_free}
 use Rattle.vs_process.proofs.Texts.{Text, OnWay, within, Stands, goes_on, arrives, stands_next}
 
 -- what a process still has to do behind a step
-pub todo_next : (gait : Gait) (todo : Todo) (time : ℕ) (next : Next) → todo_of (place_behind (going gait todo) time next) ≡ todo_behind next
+pub todo_next : (gait : Gait) (todo : Todo) (time : ℕ) (next : Next) → todo_of (place_after_step (going gait todo) time next) ≡ todo_after next
 todo_next gait todo time (on rest) = active_todo (stepped_gait gait) rest
   where
     active_todo : (gait : Gait) (rest : Todo) → todo_of (active_at gait rest) ≡ rest
@@ -47,8 +47,8 @@ left_home d k t =
     let store : Store = start_store d in
     let one : IsLeft body (perform body ∷ []) = subst (IsLeft body) t.starts start in
     let two : IsLeft body (perform t.event ∷ perform body ∷ []) =
-    subst (IsLeft body) (ap (λ (out : Out). todo_behind out.next) (t.turn_is [] store 0) ∙ ap (λ l. l ++ perform body ∷ []) t.flat_event) (behind (perform body ∷ []) store 0 one) in
-    subst (IsLeft body) (ap (λ (out : Out). todo_behind out.next) (t.arrival_is (perform body ∷ []) store 0) ∙ ap todo_of (sym t.home_is)) (behind (perform t.event ∷ perform body ∷ []) store 0 two)
+    subst (IsLeft body) (ap (λ (out : Out). todo_after out.next) (t.turn_is [] store 0) ∙ ap (λ l. l ++ perform body ∷ []) t.flat_event) (behind (perform body ∷ []) store 0 one) in
+    subst (IsLeft body) (ap (λ (out : Out). todo_after out.next) (t.arrival_is (perform body ∷ []) store 0) ∙ ap todo_of (sym t.home_is)) (behind (perform t.event ∷ perform body ∷ []) store 0 two)
 
 -- ---- a run
 
@@ -75,15 +75,15 @@ on_way d k t gait todo p is (inr (arrives at)) =
     let e : going gait todo ≡ waiting t.terms _ = sym is ∙ at ∙ t.home_is in
     cc
 
-view_keeps : (view store : Store) (o : Option Write) (v : ℕ) → ((w : Write) → o ≡ Some w → names w v ≡ false) → slice_get view v ≡ slice_get store v → slice_get (store_behind view o) v ≡ slice_get store v
+view_keeps : (view store : Store) (o : Option Write) (v : ℕ) → ((w : Write) → o ≡ Some w → names w v ≡ false) → slice_get view v ≡ slice_get store v → slice_get (store_after view o) v ≡ slice_get store v
 view_keeps view store None v free h = h
 view_keeps view store (Some w) v free h = put_other view w v (free w refl) ∙ h
 
-view_bare : (view store : Store) (o : Option Write) (v n i : ℕ) → ((w : Write) → o ≡ Some w → digit_of (put view w) v n i ≡ digit_of view v n i) → digit_of view v n i ≡ digit_of store v n i → digit_of (store_behind view o) v n i ≡ digit_of store v n i
+view_bare : (view store : Store) (o : Option Write) (v n i : ℕ) → ((w : Write) → o ≡ Some w → digit_of (put view w) v n i ≡ digit_of view v n i) → digit_of view v n i ≡ digit_of store v n i → digit_of (store_after view o) v n i ≡ digit_of store v n i
 view_bare view store None v n i free h = h
 view_bare view store (Some w) v n i free h = free w refl ∙ h
 
-pub view_sized : (view : Store) (o : Option Write) → sizes (store_behind view o) ≡ sizes view
+pub view_sized : (view : Store) (o : Option Write) → sizes (store_after view o) ≡ sizes view
 view_sized view None = refl
 view_sized view (Some w) = shape-put view w
 
@@ -92,7 +92,7 @@ facts_turn d k t time store th (going gait todo) is f =
     let way = on_way d k t gait todo th.place is f.stands in
     let left : IsLeft t.process.body todo = subst (λ q. IsLeft t.process.body (todo_of q)) is f.left in
     record {
-      stands = inr (subst (λ g. Stands d k t g (place_behind (going gait todo) time (step todo th.view time).next)) way.1 (stands_next d k t gait todo th.view time way.0));
+      stands = inr (subst (λ g. Stands d k t g (place_after_step (going gait todo) time (step todo th.view time).next)) way.1 (stands_next d k t gait todo th.view time way.0));
       left = subst (IsLeft t.process.body) (sym (todo_next gait todo time (step todo th.view time).next)) (behind todo th.view time left);
       keeps = λ v other. view_keeps th.view store (step todo th.view time).write v (λ w e. (step_lies d k t todo th.view time w left e).signals v other) (f.keeps v other);
       bare = λ v n i none. view_bare th.view store (step todo th.view time).write v n i (λ w e. (step_lies d k t todo th.view time w left e).digits th.view v n i none) (f.bare v n i none);
@@ -139,14 +139,14 @@ pub record BlockStep (d : Parts) (k : ℕ) (out : Out) : Type 0 where
   pub call : out.call ≡ None
   pub finish : out.finish ≡ false
 
-no_update : (i time : ℕ) (o : Option (ℕ × Write)) (us : List Update) → us ≡ [] → updates_behind i time o us ≡ [] → o ≡ None
+no_update : (i time : ℕ) (o : Option (ℕ × Write)) (us : List Update) → us ≡ [] → updates_after i time o us ≡ [] → o ≡ None
 no_update i time None us none h = refl
 no_update i time (Some u) us none h =
     let one : Update = record { by = i; due = time + u.0; active = false; what = u.1 } in
     let e : one ∷ [] ≡ [] = ap (λ (l : List Update). l ++ one ∷ []) (sym none) ∙ h in
     cc
 
-no_call : (i : ℕ) (o : Option _) (cs : List Called) → cs ≡ [] → calls_behind i o cs ≡ [] → o ≡ None
+no_call : (i : ℕ) (o : Option _) (cs : List Called) → cs ≡ [] → calls_after i o cs ≡ [] → o ≡ None
 no_call i None cs none h = refl
 no_call i (Some c) cs none h =
     let one : Called = record { by = i; call = c } in

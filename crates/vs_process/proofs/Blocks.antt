@@ -14,10 +14,10 @@ use Rattle.vs_process.specs.declared.moves.Grain.TheVariants.{Block}
 use Rattle.vs_process.specs.declared.moves.Move.{Move}
 use Rattle.vs_process.specs.declared.moves.Move.TheVariants.{Step, Evaluate, Propagate, Make, Rouse, Activate, EndSlot}
 use Rattle.vs_process.specs.Places.{Todo, Place, going, sleeping, inactive, waiting, ended, active_at, is_going, is_inside, start_place, flat}
-use Rattle.vs_process.specs.States.{State, AssignState, Update, stepped, evaluate, propagate, propagate_value, make, roused, wakened, woken_at, place_behind, written_behind}
+use Rattle.vs_process.specs.States.{State, AssignState, Update, stepped, evaluate, propagate, propagate_value, make, roused, wakened, woken_at, place_after_step, written_after}
 use Rattle.vs_process.specs.Places.{todo_of}
 use Rattle.vs_process.specs.Steps.{step}
-use Rattle.vs_process.specs.Blocks.{BlocksExclude, InsideFollows, InsideGoesOn, NoneInsideFirst, inside_behind, inside_block, inside_from, is_inside_at, is_inside_block, is_inside_number, is_step_of_any}
+use Rattle.vs_process.specs.Blocks.{BlocksExclude, InsideFollows, InsideGoesOn, NoneInsideFirst, inside_after_move, inside_block, inside_from, is_inside_at, is_inside_block, is_inside_number, is_step_of_any}
 use Rattle.vs_process.specs.Executions.{after, allowed, apply, Legal, is_enabled, is_free, is_kept_out, is_step_of, is_combinational, if_some, ends, next_time, places_at}
 use Rattle.vs_process.specs.Permitted.{CanGo}
 use Rattle.vs_process.proofs.Permitted.{AllFree, allow}
@@ -166,7 +166,7 @@ one_step EndSlot i k h g = cc
 abbrev SameInside : (Process → Bool) → List Process → List Place → List Place → Type 0
 SameInside test ps xs ys = (k : ℕ) → inside_at test ps ys k ≡ inside_at test ps xs k
 
-same_behind : (test : Process → Bool) (ps : List Process) (s : State) (w : Option Write) → SameInside test ps s.places (written_behind s w).places
+same_behind : (test : Process → Bool) (ps : List Process) (s : State) (w : Option Write) → SameInside test ps s.places (written_after s w).places
 same_behind test ps s None k = refl
 same_behind test ps s (Some w) k = inside_at-map test (wakened s.store (put s.store w)) (inside-wakened s.store (put s.store w)) ps s.places k
 
@@ -191,7 +191,7 @@ other_stepped : (test : Process → Bool) (ps : List Process) (s : State) (i : �
 other_stepped test ps s i None k apart = refl
 other_stepped test ps s i (Some x) k apart =
     let out = step (todo_of x) s.store s.time in
-    inside_at-set_other test ps (written_behind s out.write).places i k (place_behind x s.time out.next) apart ∙ same_behind test ps s out.write k
+    inside_at-set_other test ps (written_after s out.write).places i k (place_after_step x s.time out.next) apart ∙ same_behind test ps s out.write k
 
 -- a process that is inside behind a move was so before it, or the move is its step
 was_inside : (test : Process → Bool) (ps : List Process) (m : Move) (s : State) (k : ℕ) → inside_at test ps (apply m s).places k ≡ true → (is_step_of k m ≡ true) ⊎ (inside_at test ps s.places k ≡ true)
@@ -328,7 +328,7 @@ blocks_exclude d moves legal =
     )
 
 -- where each block that is inside is that of which a move is a step, the block of that step is inside or none is
-follows_by : (ps : List Process) (xs : List Place) (m : Move) → ((k : ℕ) → inside_at is_combinational ps xs k ≡ true → is_step_of k m ≡ true) → inside_block ps xs ≡ inside_behind ps xs m
+follows_by : (ps : List Process) (xs : List Place) (m : Move) → ((k : ℕ) → inside_at is_combinational ps xs k ≡ true → is_step_of k m ≡ true) → inside_block ps xs ≡ inside_after_move ps xs m
 follows_by ps xs (Step i) only =
     elim (cases_Bool (is_inside_number ps xs i)) [
       | inl here ↦

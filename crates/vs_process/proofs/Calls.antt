@@ -7,7 +7,7 @@ use Rattle.std.proofs.lemmas.List.{append-nil}
 use Rattle.vs_design.specs.Stores.{Store}
 use Rattle.vs_design.specs.Traces.{times_in}
 use Rattle.vs_process.specs.vs_strobe.specs.Lines.{Format}
-use Rattle.vs_process.specs.States.{Called, calls_behind}
+use Rattle.vs_process.specs.States.{Called, calls_after}
 use Rattle.vs_process.specs.Executions.{strobe_line}
 use Rattle.vs_process.proofs.ThreadStores.{filter_hit, filter_miss}
 
@@ -23,14 +23,14 @@ abbrev pub SameCalls : List Called → List Called → Type 0
 SameCalls xs ys = (i : ℕ) → of i xs ≡ of i ys
 
 -- one more call, or none, of this process
-pub of_own : (i : ℕ) (o : Option Format) (cs : List Called) → of i (calls_behind i o cs) ≡ calls_behind i o (of i cs)
+pub of_own : (i : ℕ) (o : Option Format) (cs : List Called) → of i (calls_after i o cs) ≡ calls_after i o (of i cs)
 of_own i None cs = refl
 of_own i (Some f) cs =
     let c : Called = record { by = i; call = f } in
     filter-append (is_of i) cs (c ∷ []) ∙ ap (λ l. of i cs ++ l) (filter_hit (is_of i) c [] (eq-eqb i i refl))
 
 -- of another one
-pub of_other : (i k : ℕ) (o : Option Format) (cs : List Called) → (i == k) ≡ false → of k (calls_behind i o cs) ≡ of k cs
+pub of_other : (i k : ℕ) (o : Option Format) (cs : List Called) → (i == k) ≡ false → of k (calls_after i o cs) ≡ of k cs
 of_other i k None cs ne = refl
 of_other i k (Some f) cs ne =
     let c : Called = record { by = i; call = f } in

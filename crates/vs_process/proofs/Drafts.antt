@@ -1,11 +1,12 @@
 -- Lemmas on code that is being written.
-use Rattle.std.proofs.Common.{Global, ◌≡◌, ℕ, zero, suc, ◌<◌, ◌≤◌, false, Some, List, [], ◌∷◌, ◌++◌, ◌+◌, length, get_or, refl, sym, ◌∙◌, ap, subst, arith, ◌⊎◌, inl, inr, ⊎_elim, append_assoc}
+use Rattle.std.proofs.Common.{Global, ◌≡◌, ℕ, suc, ◌<◌, ◌≤◌, false, Some, List, [], ◌∷◌, ◌++◌, ◌+◌, length, get_or, refl, sym, ◌∙◌, ap, subst, arith, ⊎_elim, append_assoc}
 use Rattle.std.specs.Prelude.{slice_get, slice_set, Vec, option_map, IfOk, OnErr, Result, Ok, Err}
 use Rattle.std.specs.Result.{IsErrAnd}
 use Rattle.std.specs.declared.alloc.AllocError.{AllocError}
 use Rattle.vs_design.specs.declared.statement.Statement.TheViews.{out-Statement}
 use Rattle.std.proofs.lemmas.List.{get_or-set_same, get_or-set_other, length-append, length-map, map-append}
 use Rattle.std.proofs.lemmas.Option.{slice_get-map, slice_get_within}
+use Rattle.std.proofs.lemmas.Bool.{cases_lt}
 use Rattle.vs_design.specs.declared.statement.Statement.{Statement}
 use Rattle.vs_design.specs.declared.expression.Typed.{Typed}
 use Rattle.vs_process.specs.declared.draft.Op.{Op}
@@ -90,19 +91,13 @@ longer_then a b c h k = record {
 pub written_none : (d : Draft) → AreLinked (links_of d.ops.items) → Written d d
 written_none d h = record { more = longer_self d h; fits = λ i x le e. absurd (omega (arith, slice_get_within d.ops.items i x e)) }
 
--- a place is below another one or not
-pub below_or : (i n : ℕ) → (i < n) ⊎ (n ≤ i)
-below_or i zero = inr (omega arith)
-below_or zero (suc n) = inl (omega arith)
-below_or (suc i) (suc n) = ⊎_elim (λ h. inl (omega arith)) (λ h. inr (omega arith)) (below_or i n)
-
 pub written_then : (a b c : Draft) → Written a b → Written b c → Written a c
 written_then a b c h k = record {
   more = longer_then a b c h.more k.more;
   fits = λ i x le e. ⊎_elim
       (λ lt. always_later (λ later. Fits later x (suc i)) (drafted b) (drafted c) k.more.grows (h.fits i x le (sym (k.more.kept i lt) ∙ e)))
       (λ ge. k.fits i x ge e)
-      (below_or i (length b.ops.items));
+      (cases_lt i (length b.ops.items));
 }
 
 put_keeps : (old new : Draft) (i : ℕ) (l : Link) → ((k : ℕ) → k < length old.ops.items → slice_get new.ops.items k ≡ slice_get old.ops.items k) → slice_get (links_of old.ops.items) i ≡ Some l → slice_get (links_of new.ops.items) i ≡ Some l

@@ -30,7 +30,7 @@ use Rattle.vs_process.specs.Steps.{Next, on, after, wait, step, statement_step, 
 use Rattle.vs_process.specs.declared.moves.Move.{Move}
 use Rattle.vs_process.specs.declared.moves.Move.TheVariants.{Step, Evaluate, Propagate, Make, Rouse, Activate, EndSlot}
 use Rattle.vs_process.specs.Drafts.{flat_all}
-use Rattle.vs_process.specs.States.{State, AssignState, Update, wakened, written_behind, place_behind, paused, stepped, evaluate, propagate, propagate_value, make, roused, woken_at, triggered}
+use Rattle.vs_process.specs.States.{State, AssignState, Update, wakened, written_after, place_after_step, paused, stepped, evaluate, propagate, propagate_value, make, roused, woken_at, triggered}
 use Rattle.vs_process.specs.Executions as executions
 use Rattle.vs_process.specs.Executions.{apply, ends, next_time, places_at}
 use Rattle.std.proofs.lemmas.Map.Keys.{any_passes_from_place as at_any}
@@ -153,7 +153,7 @@ active_pass p gait (i ∷ rest) h = h
 paused_pass : (p : EventTerm → Bool) (time ticks : ℕ) (todo : Todo) → Pass p (todo_terms todo) → Pass p (place_terms (paused time ticks todo))
 paused_pass p time ticks todo h = cond_both (ticks == 0) (inactive todo) (sleeping (time + ticks) todo) (λ x. Pass p (place_terms x)) (λ e. h) (λ e. h)
 
-placed_pass : (p : EventTerm → Bool) (place : Place) (time : ℕ) (next : Next) → Pass p (next_terms next) → Pass p (place_terms (place_behind place time next))
+placed_pass : (p : EventTerm → Bool) (place : Place) (time : ℕ) (next : Next) → Pass p (next_terms next) → Pass p (place_terms (place_after_step place time next))
 placed_pass p (going gait todo) time (on rest) h = active_pass p (stepped_gait gait) rest h
 placed_pass p (sleeping due todo) time (on rest) h = refl
 placed_pass p (inactive todo) time (on rest) h = refl
@@ -229,7 +229,7 @@ place_pass p [] i x is h = cc
 place_pass p (q ∷ places) zero x is h = let e : q ≡ x = cc in ap (λ z. list_all (p 0) (place_terms z)) (sym e) ∙ h 0
 place_pass p (q ∷ places) (suc i) x is h = place_pass (λ k. p (suc k)) places i x is (λ j. h (suc j))
 
-behind_pass : (p : ℕ → EventTerm → Bool) (s : State) (o : Option Write) → AllPass p s.places → AllPass p (written_behind s o).places
+behind_pass : (p : ℕ → EventTerm → Bool) (s : State) (o : Option Write) → AllPass p s.places → AllPass p (written_after s o).places
 behind_pass p s None h = h
 behind_pass p s (Some w) h = map_pass p (wakened s.store (put s.store w)) (λ q x. wakened_pass q s.store (put s.store w) x) s.places h
 
@@ -237,7 +237,7 @@ stepped_pass : (p : ℕ → EventTerm → Bool) (s : State) (i : ℕ) (o : Optio
 stepped_pass p s i None is h = h
 stepped_pass p s i (Some place) is h =
     let out = step (todo_of place) s.store s.time in
-    set_pass p (written_behind s out.write).places i (place_behind place s.time out.next) (behind_pass p s out.write h)
+    set_pass p (written_after s out.write).places i (place_after_step place s.time out.next) (behind_pass p s out.write h)
     (placed_pass (p i) place s.time out.next (step_pass (p i) (todo_of place) s.store s.time (todo_pass (p i) place (place_pass p s.places i place is h))))
 
 evaluate_pass : (p : ℕ → EventTerm → Bool) (s : State) (j : ℕ) (o : Option AssignState) → AllPass p s.places → AllPass p (evaluate s j o).places

@@ -12,10 +12,10 @@ use Rattle.vs_process.specs.declared.gait.Gait.{Gait}
 use Rattle.vs_process.specs.declared.gait.Gait.TheVariants.{Fresh, Woken, Inside}
 use Rattle.vs_process.specs.Places.{Todo, Place, perform, going, waiting, flat, stepped_gait, todo_of, is_inside, is_going}
 use Rattle.vs_process.specs.Steps.{Out, goes, on, wait, step}
-use Rattle.vs_process.specs.States.{place_behind, wakened}
+use Rattle.vs_process.specs.States.{place_after_step, wakened}
 use Rattle.vs_process.proofs.Ranges.{covers_signal, same_content}
 use Rattle.vs_process.proofs.Values.{same_unchanged, unchanged, not_changed}
-use Rattle.vs_process.specs.Threads.{Thread, moved, store_behind, turn_at}
+use Rattle.vs_process.specs.Threads.{Thread, moved, store_after, turn_at}
 use Rattle.vs_process.specs.BlockDrivers.{home, control, outputs, puts_out, sizes, woken_on, AgreeOn, Arrives, IsBlock, IsRun, SameOutputs}
 use Rattle.vs_process.proofs.Bits.{by_bit}
 use Rattle.vs_process.proofs.Contents.{unchanged_covered}
@@ -154,7 +154,7 @@ fares_still d inputs k t late ran time store place (inside todo from th is run s
 
 pub record OwnStep (d : Parts) (inputs : List BitRange) (k : ℕ) (t : Text d k) (late ran : Bool) (time : ℕ) (store : Store) (gait : Gait) (todo : Todo) : Type 0 where
   pub made : BlockStep d k (step todo store time)
-  pub fares : Fares d inputs k t late (ran || is_awake (place_behind (going gait todo) time (step todo store time).next)) time (store_behind store (step todo store time).write) (place_behind (going gait todo) time (step todo store time).next)
+  pub fares : Fares d inputs k t late (ran || is_awake (place_after_step (going gait todo) time (step todo store time).next)) time (store_after store (step todo store time).write) (place_after_step (going gait todo) time (step todo store time).next)
 
 -- of a run
 run_goes : (d : Parts) (inputs : List BitRange) (k : ℕ) (t : Text d k) → IsBlock d inputs k → (late ran : Bool) (time : ℕ) (from : Store) (th : Thread) (gait : Gait) (todo : Todo) → ran ≡ true →
@@ -199,7 +199,7 @@ fresh_goes d inputs k t late ran time store todo none first same (inl is) =
     let to : step body store time ≡ goes (on (perform t.event ∷ body)) = t.turn_is [] store time ∙ ap (λ l. goes (on (l ++ body))) t.flat_event in
     subst (OwnStep d inputs k t late ran time store Fresh) (sym is) (record {
       made = still_step d k (on (perform t.event ∷ body)) (step body store time) to;
-      fares = subst (λ (out : Out). Fares d inputs k t late (ran || is_awake (place_behind (going Fresh body) time out.next)) time (store_behind store out.write) (place_behind (going Fresh body) time out.next)) (sym to)
+      fares = subst (λ (out : Out). Fares d inputs k t late (ran || is_awake (place_after_step (going Fresh body) time out.next)) time (store_after store out.write) (place_after_step (going Fresh body) time out.next)) (sym to)
           (fresh (perform t.event ∷ body) refl (inr refl) same (or_none ran false none refl) first);
     })
 fresh_goes d inputs k t late ran time store todo none first same (inr is) =
@@ -208,7 +208,7 @@ fresh_goes d inputs k t late ran time store todo none first same (inr is) =
     let to : step front store time ≡ goes (wait t.number t.terms end) = t.arrival_is (perform t.process.body ∷ []) store time in
     subst (OwnStep d inputs k t late ran time store Fresh) (sym is) (record {
       made = still_step d k (wait t.number t.terms end) (step front store time) to;
-      fares = subst (λ (out : Out). Fares d inputs k t late (ran || is_awake (place_behind (going Fresh front) time out.next)) time (store_behind store out.write) (place_behind (going Fresh front) time out.next)) (sym to)
+      fares = subst (λ (out : Out). Fares d inputs k t late (ran || is_awake (place_after_step (going Fresh front) time out.next)) time (store_after store out.write) (place_after_step (going Fresh front) time out.next)) (sym to)
           (unfed (sym t.home_is) same (or_none ran false none refl));
     })
 

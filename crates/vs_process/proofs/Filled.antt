@@ -17,13 +17,13 @@ use Rattle.vs_design.specs.WellFormed.{WellFormed, aim_width, counts_from, is_bo
 use Rattle.vs_design.specs.Writes.{Write}
 use Rattle.vs_process.specs.vs_eval.specs.Targets.{assigned, parts_from}
 use Rattle.vs_process.specs.vs_eval.specs.Values.{target_value}
-use Rattle.vs_process.specs.Landings.{todo_behind}
+use Rattle.vs_process.specs.Landings.{todo_after}
 use Rattle.vs_process.specs.declared.gait.Gait.{Gait}
 use Rattle.vs_process.specs.declared.gait.Gait.TheVariants.{Fresh}
 use Rattle.vs_process.specs.Places.{perform, turns, Todo, active_at, going, inactive, sleeping, stepped_gait}
 use Rattle.vs_process.specs.Steps.{Next, on, after, wait, Out, assignment, step, statement_step}
 use Rattle.vs_process.proofs.ProcessLists.{all_slice}
-use Rattle.vs_process.specs.States.{place_behind}
+use Rattle.vs_process.specs.States.{place_after_step}
 use Rattle.vs_process.proofs.WellFormed.{is_sound_place, is_sound_todo, opened, sound_flat, sound_next, sound_out, sound_place_behind}
 use Rattle.vs_process.specs.ThreadLaws.{HasPart, IsLeft, WritesHaveParts, start, behind}
 
@@ -96,7 +96,7 @@ paused_sound : (ss : List Signal) (b : Bool) (due : ℕ) (rest : Todo) → is_so
 paused_sound ss true due rest h = h
 paused_sound ss false due rest h = h
 
-behind_sound : (ss : List Signal) (todo : Todo) (time : ℕ) (n : Next) → is_sound_place ss (place_behind (going Fresh todo) time n) ≡ true → is_sound_todo ss (todo_behind n) ≡ true
+behind_sound : (ss : List Signal) (todo : Todo) (time : ℕ) (n : Next) → is_sound_place ss (place_after_step (going Fresh todo) time n) ≡ true → is_sound_todo ss (todo_after n) ≡ true
 behind_sound ss todo time (on rest) h = active_sound ss (stepped_gait Fresh) rest h
 behind_sound ss todo time (after n ticks rest) h = paused_sound ss (ticks == 0) (time + ticks) rest h
 behind_sound ss todo time (wait n terms rest) h = h

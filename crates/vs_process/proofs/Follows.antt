@@ -16,13 +16,13 @@ use Rattle.vs_process.specs.declared.draft.Op.{Op}
 use Rattle.vs_process.specs.declared.draft.Task.{Task}
 use Rattle.vs_process.specs.declared.draft.Task.TheVariants.{Perform, Turns}
 use Rattle.vs_process.specs.declared.halt.Halt.{Halt}
-use Rattle.vs_process.specs.Changes.{store_behind}
+use Rattle.vs_process.specs.Changes.{store_after}
 use Rattle.vs_process.specs.Extras.{format_in, starts_in}
 use Rattle.vs_process.specs.Places.{Todo, flat, perform}
 use Rattle.vs_process.specs.Steps.{Out, step, statement_step, branch, first_of, flat_item, repeated, item_matches, is_default, turns_for}
 use Rattle.vs_process.specs.Links.{Link, todo_at, item_of}
 use Rattle.vs_process.specs.Codes.{Layout, todo_in, IsCode, IsTurn, LeadAll, FitsStatement, FitsTask, IsFormatOf, IsFormatFor, links_of, link_of, layout_of, job_of}
-use Rattle.vs_process.specs.Landings.{Landing, landing, next_of, EndsSo, statement_lands, turned, start_where, place_or, layer_lands, lands, todo_behind}
+use Rattle.vs_process.specs.Landings.{Landing, landing, next_of, EndsSo, statement_lands, turned, start_where, place_or, layer_lands, lands, todo_after}
 use Rattle.vs_process.proofs.Links.{todo_here}
 use Rattle.vs_process.proofs.Drafts.{link_here}
 use Rattle.vs_process.proofs.Shapes.{layer_of}
@@ -76,7 +76,7 @@ default_leads links cs items starts behind h =
 
 follows_statement : (c : Layout) (x : Op) (here : ℕ) (cs : List ℕ) (s : Statement) (f : Statement-F Statement) (store : Store) (time : ℕ) → length cs ≡ c.counters → FitsStatement c x here s f →
     todo_at c.links cs here ≡ perform s ∷ todo_at c.links cs x.behind →
-    todo_behind (statement_step s f (todo_at c.links cs x.behind) store time).next ≡ todo_at c.links (layer_lands x f cs store time).counters (layer_lands x f cs store time).place
+    todo_after (statement_step s f (todo_at c.links cs x.behind) store time).next ≡ todo_at c.links (layer_lands x f cs store time).counters (layer_lands x f cs store time).place
 follows_statement c x here cs s (Statement-F.Null n) store time e h at = refl
 follows_statement c x here cs s (Statement-F.Assign n t v) store time e h at = refl
 follows_statement c x here cs s (Statement-F.Later n ticks t v) store time e h at = refl
@@ -99,31 +99,31 @@ follows_statement c x here cs s (Statement-F.Forever n body) store time e h at =
 
 follows_task : (c : Layout) (x : Op) (here : ℕ) (cs : List ℕ) (task : Task) (store : Store) (time : ℕ) → length cs ≡ c.counters → FitsTask c x here task →
     todo_at c.links cs here ≡ item_of cs (job_of x.counter task) ∷ todo_at c.links cs x.behind →
-    todo_behind (step (item_of cs (job_of x.counter task) ∷ todo_at c.links cs x.behind) store time).next ≡ todo_at c.links (lands x task cs store time).counters (lands x task cs store time).place
+    todo_after (step (item_of cs (job_of x.counter task) ∷ todo_at c.links cs x.behind) store time).next ≡ todo_at c.links (lands x task cs store time).counters (lands x task cs store time).place
 follows_task c x here cs (Perform s) store time e h at = follows_statement c x here cs s.now (out-Statement s.now) store time e h at
 follows_task c x here cs (Turns s) store time e h at = turned_leads c x s.now cs (Rattle.std.proofs.Common.get_or cs x.counter 0) e h
 
 -- an instruction leads to what the process has to do behind its step
 pub follows : (ops : List Op) (cs : List ℕ) (i : ℕ) (x : Op) (store : Store) (time : ℕ) → IsCode ops (length cs) → slice_get ops i ≡ Some x →
     (todo_at (links_of ops) cs (suc i) ≡ item_of cs (job_of x.counter x.task) ∷ todo_at (links_of ops) cs x.behind)
-    × (todo_behind (step (todo_at (links_of ops) cs (suc i)) store time).next ≡ todo_at (links_of ops) (lands x x.task cs store time).counters (lands x x.task cs store time).place)
+    × (todo_after (step (todo_at (links_of ops) cs (suc i)) store time).next ≡ todo_at (links_of ops) (lands x x.task cs store time).counters (lands x x.task cs store time).place)
 follows ops cs i x store time h e =
     let at : todo_at (links_of ops) cs (suc i) ≡ item_of cs (job_of x.counter x.task) ∷ todo_at (links_of ops) cs x.behind =
     todo_here (links_of ops) cs i (link_of x) h.linked (link_here ops i x e) in
-    (at, ap (λ (t : Todo). todo_behind (step t store time).next) at ∙ follows_task (layout_of ops (length cs)) x (suc i) cs x.task store time refl (h.fits i x e) at)
+    (at, ap (λ (t : Todo). todo_after (step t store time).next) at ∙ follows_task (layout_of ops (length cs)) x (suc i) cs x.task store time refl (h.fits i x e) at)
 
 -- a step of the code ends as the step of the process does, and leads where it leads
 stepped : (ops : List Op) (cs : List ℕ) (place i : ℕ) (x : Op) (store behind : Store) (time : ℕ) (halt : Halt) (next : ℕ) (counters : List ℕ) → IsCode ops (length cs) → place ≡ suc i → slice_get ops i ≡ Some x →
     landing next counters ≡ lands x x.task cs store time → EndsSo (item_of cs (job_of x.counter x.task)) store time halt behind →
-    let out : Out = step (todo_in ops cs place) store time in (out.next ≡ next_of halt (todo_in ops counters next)) × (behind ≡ store_behind store out.write)
+    let out : Out = step (todo_in ops cs place) store time in (out.next ≡ next_of halt (todo_in ops counters next)) × (behind ≡ store_after store out.write)
 stepped ops cs place i x store behind time halt next counters code at e l ends =
     let f = follows ops cs i x store time code e in
     let here : todo_in ops cs place ≡ item_of cs (job_of x.counter x.task) ∷ todo_in ops cs x.behind = ap (todo_in ops cs) at ∙ f.0 in
-    let so : ((step (todo_in ops cs place) store time).next ≡ next_of halt (todo_behind (step (todo_in ops cs place) store time).next)) × (behind ≡ store_behind store (step (todo_in ops cs place) store time).write) =
-    subst (λ (t : Todo). ((step t store time).next ≡ next_of halt (todo_behind (step t store time).next)) × (behind ≡ store_behind store (step t store time).write)) (sym here) (ends (todo_in ops cs x.behind))
+    let so : ((step (todo_in ops cs place) store time).next ≡ next_of halt (todo_after (step (todo_in ops cs place) store time).next)) × (behind ≡ store_after store (step (todo_in ops cs place) store time).write) =
+    subst (λ (t : Todo). ((step t store time).next ≡ next_of halt (todo_after (step t store time).next)) × (behind ≡ store_after store (step t store time).write)) (sym here) (ends (todo_in ops cs x.behind))
     in
-    let there : todo_behind (step (todo_in ops cs place) store time).next ≡ todo_in ops counters next =
-    ap (λ (p : ℕ). todo_behind (step (todo_in ops cs p) store time).next) at ∙ f.1 ∙ ap (λ (k : Landing). todo_in ops k.counters k.place) (sym l)
+    let there : todo_after (step (todo_in ops cs place) store time).next ≡ todo_in ops counters next =
+    ap (λ (p : ℕ). todo_after (step (todo_in ops cs p) store time).next) at ∙ f.1 ∙ ap (λ (k : Landing). todo_in ops k.counters k.place) (sym l)
     in
     (so.0 ∙ ap (next_of halt) there, so.1)
 
@@ -159,14 +159,14 @@ still_code ops x cs counters place store time h is =
 pub ok_step : (ops : List Op) (cs counters : List ℕ) (place i : ℕ) (x : Op) (store behind : Store) (time : ℕ) (r : Result (Halt × ℕ) AllocError) →
     IsCode ops (length cs) → place ≡ suc i → slice_get ops i ≡ Some x → IfOk r (λ v. landing v.1 counters ≡ lands x x.task cs store time) →
     IfOk r (λ v. EndsSo (item_of cs (job_of x.counter x.task)) store time v.0 behind) →
-    IfOk r (λ v. (step (todo_in ops cs place) store time).next ≡ next_of v.0 (todo_in ops counters v.1)) × OnOk r (behind ≡ store_behind store (step (todo_in ops cs place) store time).write)
+    IfOk r (λ v. (step (todo_in ops cs place) store time).next ≡ next_of v.0 (todo_in ops counters v.1)) × OnOk r (behind ≡ store_after store (step (todo_in ops cs place) store time).write)
 ok_step ops cs counters place i x store behind time (Ok v) code at e l ends = stepped ops cs place i x store behind time v.0 v.1 counters code at e l ends
 ok_step ops cs counters place i x store behind time (Err y) code at e l ends = (tt, tt)
 
-pub code_behind : (ops : List Op) (x : Op) (cs counters : List ℕ) (store : Store) (time : ℕ) (r : Result (Halt × ℕ) AllocError) → IsCode ops (length cs) →
+pub code_next : (ops : List Op) (x : Op) (cs counters : List ℕ) (store : Store) (time : ℕ) (r : Result (Halt × ℕ) AllocError) → IsCode ops (length cs) →
     IfOk r (λ v. landing v.1 counters ≡ lands x x.task cs store time) → OnErr r (counters ≡ cs) → IsCode ops (length counters)
-code_behind ops x cs counters store time (Ok v) code l kept = still_code ops x cs counters v.1 store time code l
-code_behind ops x cs counters store time (Err y) code l kept = subst (λ (k : List ℕ). IsCode ops (length k)) (sym kept) code
+code_next ops x cs counters store time (Ok v) code l kept = still_code ops x cs counters v.1 store time code l
+code_next ops x cs counters store time (Err y) code l kept = subst (λ (k : List ℕ). IsCode ops (length k)) (sym kept) code
 
 format_of_statement : (c : Layout) (x : Op) (here : ℕ) (s : Statement) (f : Statement-F Statement) → FitsStatement c x here s f → IsFormatOf (format_in x) f
 format_of_statement c x here s (Statement-F.Null n) h = tt
@@ -199,13 +199,13 @@ pub record IsPerformed (x : Op) (s : Statement) (cs counters : List ℕ) (store 
 -- the same by the statement's outermost layer
 pub performed : (x : Op) (s t : Statement) (f : Statement-F Statement) (cs counters : List ℕ) (store behind : Store) (time : ℕ) (halt : Halt) (place : ℕ) →
     s ≡ t → roll-Statement f ≡ t → landing place counters ≡ layer_lands x f cs store time →
-    ((rest : Todo) → let out : Out = statement_step s f rest store time in (out.next ≡ next_of halt (todo_behind out.next)) × (behind ≡ store_behind store out.write)) →
+    ((rest : Todo) → let out : Out = statement_step s f rest store time in (out.next ≡ next_of halt (todo_after out.next)) × (behind ≡ store_after store out.write)) →
     IsPerformed x s cs counters store behind time halt place
 performed x s t f cs counters store behind time halt place is built lands ends =
     let layer : f ≡ out-Statement s = sym (layer_of s t f is built) in
     record {
       lands = lands ∙ ap (λ (g : Statement-F Statement). layer_lands x g cs store time) layer;
       ends =
-          subst (λ (g : Statement-F Statement). (rest : Todo) → let out : Out = statement_step s g rest store time in (out.next ≡ next_of halt (todo_behind out.next)) × (behind ≡ store_behind store out.write))
+          subst (λ (g : Statement-F Statement). (rest : Todo) → let out : Out = statement_step s g rest store time in (out.next ≡ next_of halt (todo_after out.next)) × (behind ≡ store_after store out.write))
           layer ends;
     }

@@ -33,7 +33,7 @@ todo_control todo = list_any item_control todo
 pub both_free : (xs ys : Todo) → todo_control xs ≡ false → todo_control ys ≡ false → todo_control (xs ++ ys) ≡ false
 both_free xs ys x y = list_any-append item_control xs ys ∙ or_from (todo_control xs) (todo_control ys) x y
 
-one_free : (i : Item) → item_control i ≡ false → todo_control (i ∷ []) ≡ false
+pub one_free : (i : Item) → item_control i ≡ false → todo_control (i ∷ []) ≡ false
 one_free i h = or_from (item_control i) false h refl
 
 -- what is to be done for a statement without timing control has none
@@ -52,7 +52,7 @@ pub record GoesOn (rest : Todo) (next : Next) : Type 0 where
   pub free : todo_control front ≡ false
   pub is : next ≡ on (front ++ rest)
 
-goes_to : (rest front whole : Todo) → todo_control front ≡ false → whole ≡ front ++ rest → GoesOn rest (on whole)
+pub goes_to : (rest front whole : Todo) → todo_control front ≡ false → whole ≡ front ++ rest → GoesOn rest (on whole)
 goes_to rest front whole free is = record { front = front; free = free; is = ap (λ t. on t) is }
 
 repeated_on : (n : ℕ) (s : Statement) (rest : Todo) → has_control s ≡ false → GoesOn rest (on (repeated n s rest))

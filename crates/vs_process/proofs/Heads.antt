@@ -5,6 +5,7 @@ use Rattle.std.specs.declared.boxed.Box.{Box}
 use Rattle.std.proofs.lemmas.List.{length-map}
 use Rattle.std.proofs.lemmas.Option.{same_Some}
 use denote.Ref.{Bor}
+use Rattle.std.proofs.lemmas.Bool.{cases_lt as below_or}
 use Rattle.vs_design.specs.WellFormed.{numbers}
 use Rattle.vs_design.specs.declared.expression.Typed.{Typed}
 use Rattle.vs_design.specs.declared.statement.EventTerm.{EventTerm}
@@ -23,7 +24,7 @@ use Rattle.vs_process.specs.Links.{Link, Job, performs, tests, AreLinked, Leads}
 use Rattle.vs_process.specs.Codes.{Layout, links_of, link_of, job_of, Fits, FitsStatement, FitsTask}
 use Rattle.vs_process.specs.Drafts.{is_block, numbers_inside, IsNext, Grows, Always, AlwaysLeads, AlwaysFree, AlwaysTurn, drafted, IsLonger, Written, IsReady, IsEmitted, IsHead, IsLoop}
 use Rattle.vs_process.proofs.Shapes.{flat-single, layer_of}
-use Rattle.vs_process.proofs.Drafts.{always_later, link_here, leads_here, free_then, free_test, turn_here, longer_then, ready_more, below_or}
+use Rattle.vs_process.proofs.Drafts.{always_later, link_here, leads_here, free_then, free_test, turn_here, longer_then, ready_more}
 
 -- the place of a head
 head_link : (old new : Draft) (task : Task) (next depth p : ℕ) (h : IsHead old new task next depth p) → slice_get (links_of new.ops.items) (length old.ops.items) ≡ Some (record { job = job_of depth task; behind = next })

@@ -14,7 +14,7 @@ use Rattle.vs_process.specs.declared.moves.Grain.{Grain}
 use Rattle.vs_process.specs.declared.moves.Move.{Move}
 use Rattle.vs_process.specs.Places.{Place}
 use Rattle.vs_process.specs.Steps.{Out, step, assignment}
-use Rattle.vs_process.specs.States.{State, AssignState, Update, place_behind, performed, stepped, written_behind, evaluate, propagate_value, propagate, make, roused}
+use Rattle.vs_process.specs.States.{State, AssignState, Update, place_after_step, performed, stepped, written_after, evaluate, propagate_value, propagate, make, roused}
 use Rattle.vs_process.specs.Places.{todo_of}
 use Rattle.vs_process.specs.Executions.{after, apply, Legal, ends, next_time}
 use Rattle.vs_process.specs.declared.moves.Move.TheVariants.{Step, Evaluate, Propagate, Make, Rouse, Activate, EndSlot}
@@ -31,7 +31,7 @@ pub record IsSound (d : Parts) (s : State) : Type 0 where
   pub places : list_all (is_sound_place d.signals) s.places ≡ true
   pub updates : (v : ℕ) → list_any (λ (u : Update). names u.what v) s.updates ≡ true → IsVariable d.signals v
 
-behind_sound : (d : Parts) (s : State) (o : Option Write) → list_all (is_sound_place d.signals) s.places ≡ true → list_all (is_sound_place d.signals) (written_behind s o).places ≡ true
+behind_sound : (d : Parts) (s : State) (o : Option Write) → list_all (is_sound_place d.signals) s.places ≡ true → list_all (is_sound_place d.signals) (written_after s o).places ≡ true
 behind_sound d s None h = h
 behind_sound d s (Some w) h = sound_all_wakened d.signals s.store (put s.store w) s.places h
 
@@ -39,7 +39,7 @@ performed_sound : (d : Parts) → WellFormed d → (s : State) (i : ℕ) (place 
     IsSound d (performed s i place out)
 performed_sound d formed s i place out named next h = record {
   assigns = sound_behind d s out.write (λ w is v n. variable_undriven d formed v (named.write w is v n)) h.assigns;
-  places = all_set (is_sound_place d.signals) (written_behind s out.write).places i (place_behind place s.time out.next) (sound_place_behind d.signals place s.time out.next next) (behind_sound d s out.write h.places);
+  places = all_set (is_sound_place d.signals) (written_after s out.write).places i (place_after_step place s.time out.next) (sound_place_behind d.signals place s.time out.next next) (behind_sound d s out.write h.places);
   updates = sound_made d.signals i s.time s.updates out.update named.update h.updates;
 }
 

@@ -14,11 +14,6 @@ of_pushed [] y z (suc i) e = absurd (cc)
 of_pushed (x ∷ xs) y z zero e = inl (omega arith)
 of_pushed (x ∷ xs) y z (suc i) e = ⊎_elim (λ h. inl (omega arith)) (λ h. inr (omega (arith, h.0), h.1)) (of_pushed xs y z i e)
 
-pub set_here : {A : Type 0} (xs : List A) (i : ℕ) (y : A) → i < length xs → slice_get (slice_set xs i y) i ≡ Some y
-set_here [] i y h = absurd (omega arith)
-set_here (x ∷ xs) zero y h = refl
-set_here (x ∷ xs) (suc i) y h = set_here xs i y (omega arith)
-
 pub set_other : {A : Type 0} (xs : List A) (i j : ℕ) (y : A) → j ≢ i → slice_get (slice_set xs i y) j ≡ slice_get xs j
 set_other [] i j y h = refl
 set_other (x ∷ xs) zero zero y h = absurd (h refl)

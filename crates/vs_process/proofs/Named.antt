@@ -15,7 +15,7 @@ use Rattle.vs_design.specs.Writes.{Write}
 use Rattle.vs_process.specs.vs_eval.specs.Values.{target_value}
 use Rattle.vs_process.specs.vs_eval.proofs.WritesHold.{parts_keep}
 use Rattle.vs_process.specs.Places.{Item, perform, turns, Todo}
-use Rattle.vs_process.specs.Landings.{todo_behind}
+use Rattle.vs_process.specs.Landings.{todo_after}
 use Rattle.vs_process.specs.Steps.{Out, assignment, step, statement_step}
 use Rattle.vs_process.proofs.Ranges.{assigned_names}
 use Rattle.vs_process.specs.ThreadLaws.{AllAreThere, IsLeft, start, behind, LiesIn, LiesInOne, NoneIsAdded, ProcessesWriteWhatIsNamed, UpdatesAreNamed, WritesAreNamed}
@@ -69,7 +69,7 @@ updated (perform s ∷ rest) store time u h = lies_in_next s rest u.1 ((statemen
 updated (turns n s ∷ rest) store time u h = cc
 
 pub left : NoneIsAdded
-left todo store time k d h = step_among todo store time _ (All-contains_itself (todo_writes (todo_behind (step todo store time).next)) k d h)
+left todo store time k d h = step_among todo store time _ (All-contains_itself (todo_writes (todo_after (step todo store time).next)) k d h)
 
 pub begun : AllAreThere
 begun = all_there

@@ -3,7 +3,7 @@ use Rattle.std.proofs.Common.{Global, ◌≡◌, ◌≢◌, ℕ, zero, suc, ◌+
 use Rattle.std.specs.Prelude.{slice_get, Vec, IfOk, Result, Ok, Err}
 use Rattle.std.specs.declared.boxed.Box.{Box}
 use Rattle.std.specs.declared.alloc.AllocError.{AllocError}
-use Rattle.std.proofs.lemmas.Bool.{eqb-true, eq-eqb}
+use Rattle.std.proofs.lemmas.Bool.{eqb-true, eq-eqb, cases_lt as below_or}
 use Rattle.std.proofs.lemmas.Bool.Decides.{eqb_tells}
 use Rattle.std.proofs.lemmas.List.{map-append, drop_more}
 use Rattle.std.proofs.lemmas.Option.{none-some, same_Some}
@@ -24,14 +24,13 @@ use Rattle.vs_process.specs.Places.{Todo}
 use Rattle.vs_process.specs.Links.{Link, Job, performs, tests, item_of, todo_from, todo_within}
 use Rattle.vs_process.specs.Codes.{links_of, link_of, IsCodeOf}
 use Rattle.vs_process.specs.Ways.{point_at}
-use Rattle.vs_process.specs.Numbers.{number_of, number_next, number_at, once_where, times_here, times_in, times_stands, AllStand}
+use Rattle.vs_process.specs.Numbers.{number_of, number_next, number_at, once_where, times_here, times_in, times_done, AllPlaced}
 use Rattle.vs_process.specs.Drafts.{numbers_all, numbers_in, numbers_inside, AddsOne, Adds}
-use Rattle.vs_process.proofs.Drafts.{below_or}
 use Rattle.vs_design.specs.vs_logic4.proofs.Basics.{and_left as both_left, and_right as both_right}
 
 -- ---- the numbers of a statement by its outermost layer
 
-joined_all : (xs : List Statement) → joined (map numbers xs) ≡ numbers_all xs
+pub joined_all : (xs : List Statement) → joined (map numbers xs) ≡ numbers_all xs
 joined_all [] = refl
 joined_all (s ∷ xs) = ap (λ (ns : List ℕ). numbers s ++ ns) (joined_all xs)
 
@@ -40,7 +39,7 @@ joined_in : (xs : List (Vec Typed Global × Statement)) →
 joined_in [] = refl
 joined_in (i ∷ xs) = ap (λ (ns : List ℕ). numbers i.1 ++ ns) (joined_in xs)
 
-times_rolled : (n : ℕ) (x : Statement-F Statement) → times_in n (numbers (roll-Statement x)) ≡ times_here n (number_of x) + times_in n (numbers_inside x)
+pub times_rolled : (n : ℕ) (x : Statement-F Statement) → times_in n (numbers (roll-Statement x)) ≡ times_here n (number_of x) + times_in n (numbers_inside x)
 times_rolled n (Statement-F.Null k) = ap (times_in n) (fold-roll-Statement (List ℕ) numbers_step (Statement-F.Null k))
 times_rolled n (Statement-F.Assign k t e) = ap (times_in n) (fold-roll-Statement (List ℕ) numbers_step (Statement-F.Assign k t e))
 times_rolled n (Statement-F.Later k ticks t e) = ap (times_in n) (fold-roll-Statement (List ℕ) numbers_step (Statement-F.Later k ticks t e))
@@ -56,7 +55,7 @@ times_rolled n (Statement-F.While k e body) = ap (times_in n) (fold-roll-Stateme
 times_rolled n (Statement-F.Repeat k signed e body) = ap (times_in n) (fold-roll-Statement (List ℕ) numbers_step (Statement-F.Repeat k signed e body))
 times_rolled n (Statement-F.Forever k body) = ap (times_in n) (fold-roll-Statement (List ℕ) numbers_step (Statement-F.Forever k body))
 
-times_whole : (n : ℕ) (s : Statement) → times_in n (numbers s) ≡ times_here n (number_of (out-Statement s)) + times_in n (numbers_inside (out-Statement s))
+pub times_whole : (n : ℕ) (s : Statement) → times_in n (numbers s) ≡ times_here n (number_of (out-Statement s)) + times_in n (numbers_inside (out-Statement s))
 times_whole n s = ap (λ (t : Statement). times_in n (numbers t)) (sym (roll-out-Statement s)) ∙ times_rolled n (out-Statement s)
 
 pub numbers-Block : (all : Vec Statement Global) → numbers (d.Block all) ≡ numbers_all all.items
@@ -79,11 +78,11 @@ inside-Repeat n signed e body = search (rules, the_lemmas)
 
 -- ---- code that is being written
 
-times-append : (n : ℕ) (xs ys : List ℕ) → times_in n (xs ++ ys) ≡ times_in n xs + times_in n ys
+pub times-append : (n : ℕ) (xs ys : List ℕ) → times_in n (xs ++ ys) ≡ times_in n xs + times_in n ys
 times-append n [] ys = omega arith
 times-append n (x ∷ xs) ys = omega (arith, times-append n xs ys)
 
-stands-append : (n : ℕ) (ks ls : List Link) → times_stands n (ks ++ ls) ≡ times_stands n ks + times_stands n ls
+stands-append : (n : ℕ) (ks ls : List Link) → times_done n (ks ++ ls) ≡ times_done n ks + times_done n ls
 stands-append n [] ls = omega arith
 stands-append n (k ∷ ks) ls = omega (arith, stands-append n ks ls)
 
@@ -91,7 +90,7 @@ stands-append n (k ∷ ks) ls = omega (arith, stands-append n ks ls)
 pub adds_put : (old new : Draft) (x : Op) → new.ops.items ≡ old.ops.items ++ x ∷ [] → AddsOne old new (number_at (link_of x).job)
 adds_put old new x e = λ n.
     let links : links_of new.ops.items ≡ links_of old.ops.items ++ link_of x ∷ [] = ap links_of e ∙ map-append link_of old.ops.items (x ∷ []) in
-    omega (arith, ap (times_stands n) links, stands-append n (links_of old.ops.items) (link_of x ∷ []))
+    omega (arith, ap (times_done n) links, stands-append n (links_of old.ops.items) (link_of x ∷ []))
 
 pub adds_none : (d : Draft) → Adds d d []
 adds_none d = λ n. omega arith
@@ -102,7 +101,7 @@ adds_then a b c ms ns h k = λ n. omega (arith, h n, k n, times-append n ms ns)
 
 -- a draft that differs in where its instructions start alone
 pub adds_same : (a b c : Draft) (ns : List ℕ) → links_of c.ops.items ≡ links_of b.ops.items → Adds a b ns → Adds a c ns
-adds_same a b c ns e h = λ n. ap (times_stands n) e ∙ h n
+adds_same a b c ns e h = λ n. ap (times_done n) e ∙ h n
 
 -- a statement whose parts are there already
 pub adds_whole : (a b c : Draft) (s : Statement) → Adds a b (numbers_inside (out-Statement s)) → AddsOne b c (number_of (out-Statement s)) → Adds a c (numbers s)
@@ -132,15 +131,15 @@ pub adds_item : (a b c : Draft) (items : List (Vec Typed Global × Statement)) (
 adds_item a b c items i h k = λ n. omega (arith, h n, k n, times_in-snoc n items i)
 
 -- the whole code of a process
-pub all_stand : (a d : Draft) (s : Statement) → a.ops.items ≡ [] → Adds a d (numbers s) → AllStand s (links_of d.ops.items)
-all_stand a d s e h = λ n. let none : times_stands n (links_of a.ops.items) ≡ 0 = ap (λ (ops : List Op). times_stands n (links_of ops)) e in omega (arith, h n, none)
+pub all_stand : (a d : Draft) (s : Statement) → a.ops.items ≡ [] → Adds a d (numbers s) → AllPlaced s (links_of d.ops.items)
+all_stand a d s e h = λ n. let none : times_done n (links_of a.ops.items) ≡ 0 = ap (λ (ops : List Op). times_done n (links_of ops)) e in omega (arith, h n, none)
 
 -- ---- how often a number is there
 
-here_once : (n : ℕ) (o : Option ℕ) → o ≡ Some n → times_here n o ≡ 1
+pub here_once : (n : ℕ) (o : Option ℕ) → o ≡ Some n → times_here n o ≡ 1
 here_once n o e = ap (times_here n) e ∙ ap once_where (eq-eqb n n refl)
 
-one_stands : (n : ℕ) (links : List Link) (i : ℕ) (l : Link) → slice_get links i ≡ Some l → number_at l.job ≡ Some n → 1 ≤ times_stands n links
+one_stands : (n : ℕ) (links : List Link) (i : ℕ) (l : Link) → slice_get links i ≡ Some l → number_at l.job ≡ Some n → 1 ≤ times_done n links
 one_stands n [] i l e h = absurd (none-some l e)
 one_stands n (k ∷ links) zero l e h =
     let is : number_at k.job ≡ Some n = ap (λ (m : Link). number_at m.job) (same_Some k l e) ∙ h in
@@ -148,7 +147,7 @@ one_stands n (k ∷ links) zero l e h =
 one_stands n (k ∷ links) (suc i) l e h = omega (arith, one_stands n links i l e h)
 
 two_stand : (n : ℕ) (links : List Link) (i j : ℕ) (k l : Link) → i < j → slice_get links i ≡ Some k → number_at k.job ≡ Some n →
-    slice_get links j ≡ Some l → number_at l.job ≡ Some n → 2 ≤ times_stands n links
+    slice_get links j ≡ Some l → number_at l.job ≡ Some n → 2 ≤ times_done n links
 two_stand n [] i j k l lt e h f g = absurd (none-some k e)
 two_stand n (m ∷ links) i zero k l lt e h f g = absurd (omega (arith, lt))
 two_stand n (m ∷ links) zero (suc j) k l lt e h f g =
@@ -157,7 +156,7 @@ two_stand n (m ∷ links) zero (suc j) k l lt e h f g =
 two_stand n (m ∷ links) (suc i) (suc j) k l lt e h f g = omega (arith, two_stand n links i j k l (omega (arith, lt)) e h f g)
 
 -- numbers that count up from one on are there at most once, and none below it
-counted_once : (n a : ℕ) (xs : List ℕ) → counts_from a xs ≡ true → (times_in n xs ≤ 1) × (n < a → times_in n xs ≡ 0)
+pub counted_once : (n a : ℕ) (xs : List ℕ) → counts_from a xs ≡ true → (times_in n xs ≤ 1) × (n < a → times_in n xs ≡ 0)
 counted_once n a [] h = (omega arith, λ lt. refl)
 counted_once n a (m ∷ ms) h =
     let at : m ≡ a = eqb-true m a (both_left (m == a) (counts_from (suc a) ms) h) in
@@ -194,7 +193,7 @@ spot : (links : List Link) (n p : ℕ) → number_next (point_at links p) ≡ So
 spot links n zero h = absurd (none-some n h)
 spot links n (suc i) h = spot_of links n i (λ p. todo_within i links [] p) (slice_get links i) refl h
 
-same_spot : (links : List Link) (n p q : ℕ) → times_stands n links ≤ 1 → Spot links n p → Spot links n q → p ≡ q
+same_spot : (links : List Link) (n p q : ℕ) → times_done n links ≤ 1 → Spot links n p → Spot links n q → p ≡ q
 same_spot links n p q le a b = ⊎_elim
     (λ (lt : a.index < b.index). absurd (omega (arith, le, two_stand n links a.index b.index a.link b.link lt a.is a.number b.is b.number)))
     (λ (ge : b.index ≤ a.index). ⊎_elim
@@ -207,7 +206,7 @@ same_spot links n p q le a b = ⊎_elim
 pub numbers_apart : (s : Statement) (ops : List Op) (counters start : ℕ) → IsCodeOf s ops counters start → counts_from 0 (numbers s) ≡ true →
     (i j n : ℕ) (k l : Link) → slice_get (links_of ops) i ≡ Some k → slice_get (links_of ops) j ≡ Some l → number_at k.job ≡ Some n → number_at l.job ≡ Some n → i ≡ j
 numbers_apart s ops counters start code rise i j n k l at there is same =
-    let once : times_stands n (links_of ops) ≤ 1 = omega (arith, code.stand n, (counted_once n 0 (numbers s) rise).0) in
+    let once : times_done n (links_of ops) ≤ 1 = omega (arith, code.stand n, (counted_once n 0 (numbers s) rise).0) in
     let one : suc i ≡ suc j =
     same_spot (links_of ops) n (suc i) (suc j) once (record { index = i; link = k; at = refl; is = at; number = is })
     (record { index = j; link = l; at = refl; is = there; number = same }) in

@@ -1,5 +1,5 @@
 -- A process of a well formed design writes variables, so that no continuous assignment drives what a block writes.
-use Rattle.std.proofs.Common.{◌≡◌, ℕ, ◌&&◌, ◌++◌, Bool, true, false, Option, Some, None, List, [], ◌∷◌, map, slice_get, refl, sym, ◌∙◌, ap, subst, inl, inr, eqb-true, is_some}
+use Rattle.std.proofs.Common.{◌≡◌, ℕ, ◌&&◌, ◌++◌, Bool, true, false, Option, Some, None, List, [], ◌∷◌, map, slice_get, refl, sym, ◌∙◌, ap, subst, inl, inr}
 use Rattle.std.specs.List.{list_any, list_all}
 use Rattle.std.specs.declared.vec.Vec.{Vec}
 use Rattle.std.specs.declared.alloc.Global.{Global}
@@ -9,8 +9,6 @@ use Rattle.vs_design.specs.declared.design.Process.{Process}
 use Rattle.vs_design.specs.declared.expression.Typed.{Typed}
 use Rattle.vs_design.specs.declared.range.BitRange.{BitRange}
 use Rattle.vs_design.specs.declared.signal.Signal.{Signal}
-use Rattle.vs_design.specs.declared.statement.Aim.{Aim}
-use Rattle.vs_design.specs.declared.statement.Aim.TheVariants.{Fixed, Chosen}
 use Rattle.vs_design.specs.declared.statement.Statement.{Statement}
 use Rattle.vs_design.specs.declared.statement.Statement.TheViews.{roll-Statement}
 use Rattle.vs_design.specs.declared.statement.Statement.TheOpen.{Statement-F}
@@ -18,27 +16,16 @@ use Rattle.vs_design.specs.declared.statement.Statement.TheFolds.{fold-roll-Stat
 use Rattle.vs_design.specs.declared.statement.Target.{Target}
 use Rattle.vs_design.specs.Parts.{Parts}
 use Rattle.vs_design.specs.Uses.{aim_range, is_of, joined, writes}
-use Rattle.vs_design.specs.WellFormed.{WellFormed, aim_width, are_sound_labels, are_sound_terms, counts_from, is_body_of, is_sound_assignment, is_sound_operand, is_sound_process, is_sound_statement, is_sound_target, is_source, is_variable_aim, numbers, sound_step, size_of, is_of_variable, is_within}
+use Rattle.vs_design.specs.WellFormed.{WellFormed, aim_width, are_sound_labels, are_sound_terms, counts_from, is_body_of, is_sound_assignment, is_sound_operand, is_sound_process, is_sound_statement, is_sound_target, is_source, is_variable_aim, numbers, sound_step}
 use Rattle.std.specs.Prelude.{◌==◌, sum}
 use Rattle.vs_process.proofs.ProcessLists.{all_slice, map_cases}
 use Rattle.vs_design.specs.vs_logic4.proofs.Basics.{all_at, element_of as any_at}
-use Rattle.vs_process.proofs.WellFormed.{IsVariable, variable_undriven, variable_at}
+use Rattle.vs_process.proofs.WellFormed.{IsVariable, variable_undriven, variable_place}
 use Rattle.vs_process.specs.Writes.{statement_writes, statement_writes_step}
 use Rattle.vs_process.specs.BlockDrivers.{outputs_for, puts_out}
 use Rattle.vs_design.specs.Stores.{is_driven}
 use Rattle.vs_process.proofs.ThreadsNamed.{named}
 use Rattle.vs_design.specs.Kinds.{is_variable}
-
-variable_place : (ss : List Signal) (x : Aim) (v : ℕ) → is_variable_aim ss x ≡ true → is_of v (aim_range x) ≡ true → IsVariable ss v
-variable_place ss (Fixed s) v h at_v =
-    let found = variable_at (slice_get ss s.signal) h in
-    (found.0, ap (slice_get ss) (sym (eqb-true s.signal v at_v)) ∙ found.1, found.2)
-variable_place ss (Chosen s word low) v h at_v =
-    let four = (and_parts (is_of_variable (slice_get ss s.signal) && is_within ss word && is_within ss low && is_some (size_of word)) (is_some (size_of low)) h).0 in
-    let three = (and_parts (is_of_variable (slice_get ss s.signal) && is_within ss word && is_within ss low) (is_some (size_of word)) four).0 in
-    let two = (and_parts (is_of_variable (slice_get ss s.signal) && is_within ss word) (is_within ss low) three).0 in
-    let found = variable_at (slice_get ss s.signal) (and_parts (is_of_variable (slice_get ss s.signal)) (is_within ss word) two).0 in
-    (found.0, ap (slice_get ss) (sym (eqb-true s.signal v at_v)) ∙ found.1, found.2)
 
 -- what an assignment names is a variable
 target_variable : (ss : List Signal) (t : Target) (e : Typed) (v : ℕ) → is_sound_assignment ss t e ≡ true → list_any (is_of v) (writes t) ≡ true → IsVariable ss v

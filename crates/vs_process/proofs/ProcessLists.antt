@@ -37,11 +37,6 @@ map_cases f [] j y h = cc
 map_cases f (x ∷ xs) zero y h = (x, refl, cc)
 map_cases f (x ∷ xs) (suc j) y h = map_cases f xs j y h
 
-pub map_at : {A B : Type 0} (f : A → B) (xs : List A) (j : ℕ) (x : A) → slice_get xs j ≡ Some x → slice_get (map f xs) j ≡ Some (f x)
-map_at f [] j x h = cc
-map_at f (z ∷ xs) zero x h = let e : z ≡ x = cc in ap (λ t. Some (f t)) e
-map_at f (z ∷ xs) (suc j) x h = map_at f xs j x h
-
 pub list_all_like : {A : Type 0} (p q : A → Bool) (xs : List A) → ((x : A) → p x ≡ true → q x ≡ true) → list_all p xs ≡ true → list_all q xs ≡ true
 list_all_like p q [] f h = refl
 list_all_like p q (x ∷ xs) f h =

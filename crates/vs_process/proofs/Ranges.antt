@@ -107,7 +107,7 @@ index_past [] n h d = refl
 index_past (x ∷ ds) zero h d = absurd (omega (arith, h))
 index_past (x ∷ ds) (suc n) h d = index_past ds n (omega (arith, h)) d
 
-in_part : (low : ℤ) (width k : ℕ) (ds : List Digit) → length ds ≡ width → has_bit (Some (bits_from low width)) k ≡ true → (d e : Digit) → digit_at (neg_ℤ low +ℤ pos k) ds d ≡ digit_at (neg_ℤ low +ℤ pos k) ds e
+pub in_part : (low : ℤ) (width k : ℕ) (ds : List Digit) → length ds ≡ width → has_bit (Some (bits_from low width)) k ≡ true → (d e : Digit) → digit_at (neg_ℤ low +ℤ pos k) ds d ≡ digit_at (neg_ℤ low +ℤ pos k) ds e
 in_part (pos l) width k ds long h d e =
     let parts = and_parts (nat_le l k) (nat_lt k (l + width)) h in
     let low : l ≤ k = leb-true l k parts.0 in

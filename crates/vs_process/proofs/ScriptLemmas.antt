@@ -36,7 +36,7 @@ use Rattle.vs_process.specs.Choices.{index_of, case_index, repeat_lands, turns_l
 use Rattle.vs_process.specs.Codes.{IsCode, IsFormatOf, IsFormatFor, links_of, link_of, job_of}
 use Rattle.vs_process.specs.Extras.{format_in, starts_in}
 use Rattle.vs_process.specs.Instructions.{IsActionOf, IsAssign, IsBranch, IsCall, IsCase, IsDelay, IsInstructionOf, IsOfTask, IsRepeat, IsTurns, IsUpdate, IsWait, next_place, IsCaseIn}
-use Rattle.vs_process.specs.Landings.{Landing, landing, layer_lands, lands, start_taken, todo_behind, turned}
+use Rattle.vs_process.specs.Landings.{Landing, landing, layer_lands, lands, start_taken, todo_after, turned}
 use Rattle.vs_process.specs.Links.{Link, item_of, todo_at, todo_within}
 use Rattle.vs_process.specs.Links.{todo_from}
 use Rattle.vs_eval.specs.Meant.{Meaning}
@@ -74,12 +74,12 @@ led (wait n ts r) t = wait n ts t
 abbrev led_out : Out → Todo → Out
 led_out o t = record o { next = led o.next t }
 
-led_same : (n : Next) → led n (todo_behind n) ≡ n
+led_same : (n : Next) → led n (todo_after n) ≡ n
 led_same (on r) = refl
 led_same (after n k r) = refl
 led_same (wait n ts r) = refl
 
-led_out_same : (o : Out) → led_out o (todo_behind o.next) ≡ o
+led_out_same : (o : Out) → led_out o (todo_after o.next) ≡ o
 led_out_same o = ap (λ (n : Next). record o { next = n }) (led_same o.next)
 
 step_as : (todo : Todo) (store : Store) (time : ℕ) (o p : Out) → IsStep todo store time o → o ≡ p → IsStep todo store time p

@@ -14,7 +14,7 @@ use Rattle.vs_process.specs.Places.{Place, todo_of}
 use Rattle.vs_process.specs.Steps.{step}
 use Rattle.vs_process.specs.declared.moves.Move.{Move}
 use Rattle.vs_process.specs.declared.moves.Move.TheVariants.{Step, Evaluate, Propagate, Make, Rouse, Activate, EndSlot}
-use Rattle.vs_process.specs.States.{State, AssignState, Update, stepped, written_behind, evaluate, propagate_value, propagate, make}
+use Rattle.vs_process.specs.States.{State, AssignState, Update, stepped, written_after, evaluate, propagate_value, propagate, make}
 use Rattle.vs_process.specs.Executions.{after, apply, ended_slot, slots}
 use Rattle.vs_process.specs.Laws.{IsStoreOf, StoresAreSized}
 use Rattle.vs_design.proofs.Drivers.{length-start_digits}
@@ -22,7 +22,7 @@ use Rattle.vs_process.proofs.Stores.{shape, shape-put}
 
 -- ---- moves keep the shape
 
-behind_shape : (s : State) (o : Option Write) → shape (written_behind s o).store ≡ shape s.store
+behind_shape : (s : State) (o : Option Write) → shape (written_after s o).store ≡ shape s.store
 behind_shape s None = refl
 behind_shape s (Some w) = shape-put s.store w
 

@@ -3,13 +3,13 @@ use Rattle.std.proofs.Common.{◌≡◌, ℕ, zero, suc, ◌+◌, ◌-◌, ◌*�
 use borrow.Author.Tests.{ltb-true}
 use Rattle.std.specs.Prelude.{slice_get, IfSome}
 use Rattle.std.proofs.Math.Nat.{pow-le-pow_right}
-use Rattle.std.proofs.lemmas.List.{length-map, length-replicate}
 use Rattle.std.proofs.lemmas.Nat.{pow_pos}
 use Rattle.std.proofs.lemmas.Option.{none-some, same_Some, slice_get-get_or}
 use Rattle.vs_design.specs.vs_logic4.specs.declared.digit.Digit.{Digit}
 use Rattle.vs_design.specs.vs_logic4.specs.Extensions.{length-resized}
 use Rattle.vs_design.specs.vs_logic4.specs.Parts.{selected}
 use Rattle.vs_design.specs.vs_logic4.specs.Vectors.{resized}
+use Rattle.vs_design.specs.vs_logic4.proofs.Basics.{same_first, tail_is}
 use Rattle.vs_design.specs.declared.expression.Slice.{Slice}
 use Rattle.vs_design.specs.declared.signal.Signal.{Signal}
 use Rattle.vs_design.specs.declared.statement.Aim.{Aim}
@@ -19,18 +19,12 @@ use Rattle.vs_design.specs.InOrder.{IsStoreOf, numbered_word, sizes_of_signals, 
 use Rattle.vs_design.specs.Stores.{Store, changed_at, overlaid}
 use Rattle.vs_design.specs.Writes.{Write}
 use Rattle.vs_strobe.specs.vs_eval.specs.Targets.{parts_from}
-use Rattle.vs_design.proofs.InOrderLemmas.{word_numbered}
+use Rattle.vs_design.proofs.InOrderLemmas.{word_numbered, head_long}
 use Rattle.vs_process.specs.declared.spot.Spot.{Spot}
 use Rattle.vs_process.specs.Spots.{IsSpotIn, IsSpotOf, SpotHolds}
 use Rattle.vs_process.proofs.Quick.{selected_whole}
 
 -- ---- one word of all
-
-same_head : {A : Type 0} (x y : A) (xs ys : List A) → (x ∷ xs) ≡ (y ∷ ys) → x ≡ y
-same_head x y xs ys h = cc
-
-same_tail : {A : Type 0} (x y : A) (xs ys : List A) → (x ∷ xs) ≡ (y ∷ ys) → xs ≡ ys
-same_tail x y xs ys h = cc
 
 changed_front : {A : Type 0} (f : A → A) (xs ys : List A) (i : ℕ) → i < length xs → changed_at f i (xs ++ ys) ≡ changed_at f i xs ++ ys
 changed_front f [] ys i h = absurd (omega arith)
@@ -42,9 +36,6 @@ changed_after f [] ys i j h = let same : j ≡ i = omega arith in ap (λ k. chan
 changed_after f (x ∷ xs) ys i zero h = absurd (omega arith)
 changed_after f (x ∷ xs) ys i (suc j) h = ap (λ l. x ∷ l) (changed_after f xs ys i j (omega arith))
 
-as_long : (words : List (List Digit)) (s : Signal) → map length words ≡ replicate s.count s.width → length words ≡ s.count
-as_long words s h = sym (length-map words length) ∙ ap length h ∙ length-replicate s.count s.width
-
 -- a change of one word of a signal is the change of the word of its number
 in_order : (f : List Digit → List Digit) (signals : List Signal) (store : Store) (signal word : ℕ) (s : Signal) → IsStoreOf signals store → slice_get signals signal ≡ Some s → word < s.count →
     words_in_order (changed_at (changed_at f word) signal store) ≡ changed_at f (words_before signals signal + word) (words_in_order store)
@@ -52,13 +43,13 @@ in_order f [] store signal word s is at below = absurd (none-some s at)
 in_order f (x ∷ xs) [] signal word s is at below = cc
 in_order f (x ∷ xs) (ws ∷ rest) zero word s is at below =
     let same = same_Some x s at in
-    let here = subst (λ (y : Signal). map length ws ≡ replicate y.count y.width) same (same_head (map length ws) (replicate x.count x.width) (word_sizes rest) (sizes_of_signals xs) is) in
-    let long : word < length ws = omega (arith, as_long ws s here) in
+    let here = subst (λ (y : Signal). map length ws ≡ replicate y.count y.width) same (same_first (map length ws) (replicate x.count x.width) (word_sizes rest) (sizes_of_signals xs) is) in
+    let long : word < length ws = omega (arith, head_long ws s here) in
     let place : word ≡ 0 + word = omega arith in
     sym (changed_front f ws (words_in_order rest) word long) ∙ ap (λ k. changed_at f k (ws ++ words_in_order rest)) place
 in_order f (x ∷ xs) (ws ∷ rest) (suc i) word s is at below =
-    let long = as_long ws x (same_head (map length ws) (replicate x.count x.width) (word_sizes rest) (sizes_of_signals xs) is) in
-    let inner = in_order f xs rest i word s (same_tail (map length ws) (replicate x.count x.width) (word_sizes rest) (sizes_of_signals xs) is) at below in
+    let long = head_long ws x (same_first (map length ws) (replicate x.count x.width) (word_sizes rest) (sizes_of_signals xs) is) in
+    let inner = in_order f xs rest i word s (tail_is (map length ws) (replicate x.count x.width) (word_sizes rest) (sizes_of_signals xs) is) at below in
     let place : (x.count + words_before xs i) + word ≡ length ws + (words_before xs i + word) = omega (arith, long) in
     ap (λ l. ws ++ l) inner ∙ sym (changed_after f ws (words_in_order rest) (words_before xs i + word) ((x.count + words_before xs i) + word) place)
 
@@ -97,11 +88,6 @@ mask_grows low width h =
 -- an element that a slice has
 pub found_there : {A : Type 0} (xs : List A) (i : ℕ) (x : A) → true ≡ ltb i (length xs) → x ≡ get_or xs i x → slice_get xs i ≡ Some x
 found_there xs i x within is = slice_get-get_or xs i x (ltb-true i (length xs) (sym within)) ∙ ap Some (sym is)
-
-pub only_one : {A : Type 0} (xs : List A) (x : A) → length xs ≡ 1 → x ≡ get_or xs 0 x → xs ≡ x ∷ []
-only_one [] x h is = absurd (omega arith)
-only_one (y ∷ []) x h is = ap (λ z. z ∷ []) (sym is)
-only_one (y ∷ z ∷ zs) x h is = absurd (omega arith)
 
 abbrev part_of : ℕ → ℕ → ℤ → List Digit → Write
 part_of signal word low digits = record { signal = signal; word = word; low = low; digits = digits } ∷ []

@@ -22,7 +22,7 @@ use Rattle.vs_process.proofs.Drafts.{link_here}
 use Rattle.vs_process.proofs.Ways.{has_ways, link_none}
 use Rattle.vs_process.proofs.Numbers.{one_place}
 use Rattle.vs_process.specs.Maps.{statement_pause, todo_pause, IsMap}
-use Rattle.vs_process.specs.Stops.{inside, code_tos, behind_of, code_behind, Stop, stop_of, stop_at, stop_behind, stop_tos, stop_statement, stops_behind, stops_tos, next_statement, task_statement, IsText, code_stops, tos_in}
+use Rattle.vs_process.specs.Stops.{inside, code_tos, op_next, code_next, Stop, stop_of, stop_at, stop_next, stop_tos, stop_statement, stops_next, stops_tos, next_statement, task_statement, IsText, code_stops, tos_in}
 
 -- ---- places past the end
 
@@ -106,16 +106,16 @@ tail_of [] = []
 tail_of (i ∷ rest) = rest
 
 rest_of : (s : Statement) (ops : List Op) (n start i : ℕ) (o : Option Op) → IsCodeOf s ops n start → slice_get ops i ≡ o →
-    point_at (links_of ops) (behind_of o) ≡ tail_of (point_at (links_of ops) (suc i))
+    point_at (links_of ops) (op_next o) ≡ tail_of (point_at (links_of ops) (suc i))
 rest_of s ops n start i None h e = sym (ap tail_of (past_end ops i e))
 rest_of s ops n start i (Some x) h e = sym (ap tail_of (here s ops n start i x h e))
 
-code_rest : (s : Statement) (ops : List Op) (n start p : ℕ) → IsCodeOf s ops n start → point_at (links_of ops) (code_behind ops p) ≡ tail_of (point_at (links_of ops) p)
+code_rest : (s : Statement) (ops : List Op) (n start p : ℕ) → IsCodeOf s ops n start → point_at (links_of ops) (code_next ops p) ≡ tail_of (point_at (links_of ops) p)
 code_rest s ops n start zero h = refl
 code_rest s ops n start (suc i) h = rest_of s ops n start i (slice_get ops i) h refl
 
 pub code_map : (s : Statement) (ops : List Op) (n start : ℕ) → IsCodeOf s ops n start → counts_from 0 (numbers s) ≡ true →
-    IsMap (flat s) (point_at (links_of ops)) (inside (length ops) start) (code_behind ops) (code_tos ops)
+    IsMap (flat s) (point_at (links_of ops)) (inside (length ops) start) (code_next ops) (code_tos ops)
 code_map s ops n start h counts = record {
   start_is = inside_same ops start ∙ (has_ways s ops n start h).starts;
   ways = λ p. (has_ways s ops n start h).ways p ∙ code_alike s ops n start p h (links_of ops) ∙ to_inside ops (todo_pause (point_at (links_of ops) p)) (ways ops p);
@@ -143,7 +143,7 @@ none_inside n = go (nat_le 0 n) where
 
 -- a stop is that of its instruction
 record AtStop (ops : List Op) (stops : List Stop) (p : ℕ) : Type 0 where
-  behind : stops_behind stops p ≡ code_behind ops p
+  behind : stops_next stops p ≡ code_next ops p
   tos : stops_tos stops p ≡ code_tos ops p
   says : next_statement (point_at (links_of ops) p) ≡ stop_statement (stop_at stops p)
 
@@ -155,12 +155,12 @@ at_stop : (s : Statement) (ops : List Op) (n start : ℕ) (stops : List Stop) �
 at_stop s ops n start stops h a zero = record { behind = refl; tos = ap (λ (t : ℕ). t ∷ []) (sym (none_inside (length ops))); says = refl }
 at_stop s ops n start stops h a (suc i) = elim (slice_get_cases ops i).1 [
   | inl y ↦ record {
-    behind = ap stop_behind (each_as ops stops a i y.0 y.2) ∙ sym (ap behind_of y.2);
+    behind = ap stop_next (each_as ops stops a i y.0 y.2) ∙ sym (ap op_next y.2);
     tos = ap stop_tos (each_as ops stops a i y.0 y.2) ∙ sym (ap (λ (o : Option Op). tos_in (length ops) (op_ways o)) y.2);
     says = ap next_statement (here s ops n start i y.0 h y.2) ∙ said y.0 y.0.task (point_at (links_of ops) y.0.behind) ∙ sym (ap stop_statement (each_as ops stops a i y.0 y.2));
   }
   | inr z ↦ record {
-    behind = ap stop_behind (stops_none ops stops i a z.0) ∙ sym (ap behind_of z.1);
+    behind = ap stop_next (stops_none ops stops i a z.0) ∙ sym (ap op_next z.1);
     tos = ap stop_tos (stops_none ops stops i a z.0) ∙ ap (λ (t : ℕ). t ∷ []) (sym (none_inside (length ops))) ∙ sym (ap (λ (o : Option Op). map (λ (w : Way). inside (length ops) w.to) (op_ways o)) z.1);
     says = ap next_statement (past_end ops i z.1) ∙ sym (ap stop_statement (stops_none ops stops i a z.0));
   }
@@ -171,11 +171,11 @@ map_in n [] q h = absurd (omega (arith, h.1))
 map_in n (w ∷ ws) q (zero, l, e) = subst (λ (x : ℕ). x < suc n) e (inside_in n w.to)
 map_in n (w ∷ ws) q (suc k, l, e) = map_in n ws q (k, omega (arith, l), e)
 
-behind_within : (s : Statement) (ops : List Op) (n start : ℕ) (h : IsCodeOf s ops n start) (p : ℕ) → code_behind ops p < suc (length ops)
-behind_within s ops n start h zero = omega arith
-behind_within s ops n start h (suc i) = elim (slice_get_cases ops i).1 [
-  | inl y ↦ let b = h.code.linked i (link_of y.0) (link_here ops i y.0 y.2) in subst (λ (o : Option Op). behind_of o < suc (length ops)) (sym y.2) (omega (arith, b, y.1))
-  | inr z ↦ subst (λ (o : Option Op). behind_of o < suc (length ops)) (sym z.1) (omega arith)
+put_headed_within : (s : Statement) (ops : List Op) (n start : ℕ) (h : IsCodeOf s ops n start) (p : ℕ) → code_next ops p < suc (length ops)
+put_headed_within s ops n start h zero = omega arith
+put_headed_within s ops n start h (suc i) = elim (slice_get_cases ops i).1 [
+  | inl y ↦ let b = h.code.linked i (link_of y.0) (link_here ops i y.0 y.2) in subst (λ (o : Option Op). op_next o < suc (length ops)) (sym y.2) (omega (arith, b, y.1))
+  | inr z ↦ subst (λ (o : Option Op). op_next o < suc (length ops)) (sym z.1) (omega arith)
 ]
 
 pub code_text : (s : Statement) (ops : List Op) (n start : ℕ) (stops : List Stop) → IsCodeOf s ops n start → counts_from 0 (numbers s) ≡ true → stops ≡ code_stops ops →
@@ -195,6 +195,6 @@ code_text s ops n start stops h counts a =
       starts_in = subst (λ (n : ℕ). inside (length ops) start < suc n) (sym (long_as ops stops a)) (inside_in (length ops) start);
       leads_in = record {
         ways = λ p q c. subst (λ (n : ℕ). q < suc n) (sym (long_as ops stops a)) (map_in (length ops) (ways ops p) q (subst (λ (l : List ℕ). Contains l q) (at_stop s ops n start stops h a p).tos c));
-        behind = λ p. subst (λ (n : ℕ). n < suc (length stops)) (sym (at_stop s ops n start stops h a p).behind) (subst (λ (n : ℕ). code_behind ops p < suc n) (sym (long_as ops stops a)) (behind_within s ops n start h p));
+        behind = λ p. subst (λ (n : ℕ). n < suc (length stops)) (sym (at_stop s ops n start stops h a p).behind) (subst (λ (n : ℕ). code_next ops p < suc n) (sym (long_as ops stops a)) (put_headed_within s ops n start h p));
       };
     }

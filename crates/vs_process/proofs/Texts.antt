@@ -20,7 +20,7 @@ use Rattle.vs_process.specs.declared.gait.Gait.{Gait}
 use Rattle.vs_process.specs.declared.gait.Gait.TheVariants.{Woken}
 use Rattle.vs_process.specs.Places.{Todo, Place, perform, going, waiting, active_at, flat, stepped_gait, todo_of}
 use Rattle.vs_process.specs.Steps.{on, wait, goes, step, statement_step}
-use Rattle.vs_process.specs.States.{place_behind, terms_of, wakened}
+use Rattle.vs_process.specs.States.{place_after_step, terms_of, wakened}
 use Rattle.vs_process.specs.Executions.{is_any, is_level, waits_for_levels, is_block_body, is_always, is_combinational}
 use Rattle.vs_process.specs.BlockDrivers.{home, control, place_for, text_place, control_place}
 use Rattle.vs_process.proofs.Free.{todo_control, both_free, item_on}
@@ -108,23 +108,23 @@ active_tail gait (i ∷ front) s = refl
 
 -- behind a step of it
 pub stands_next : (d : Parts) (k : ℕ) (t : Text d k) (gait : Gait) (todo : Todo) (store : Store) (time : ℕ) → OnWay d k t todo →
-    Stands d k t (stepped_gait gait) (place_behind (going gait todo) time (step todo store time).next)
+    Stands d k t (stepped_gait gait) (place_after_step (going gait todo) time (step todo store time).next)
 stands_next d k t gait todo store time (within [] free is) =
     goes_on (perform t.event ∷ perform t.process.body ∷ []) (before refl)
-    (ap (λ l. place_behind (going gait l) time (step l store time).next) is
-    ∙ ap (λ out. place_behind (going gait (perform t.process.body ∷ [])) time out.next) (t.turn_is [] store time)
+    (ap (λ l. place_after_step (going gait l) time (step l store time).next) is
+    ∙ ap (λ out. place_after_step (going gait (perform t.process.body ∷ [])) time out.next) (t.turn_is [] store time)
     ∙ ap (λ l. active_at (stepped_gait gait) (l ++ perform t.process.body ∷ [])) t.flat_event)
 stands_next d k t gait todo store time (within (i ∷ front) free is) =
     let parts = or_parts _ (todo_control front) free in
     let g = item_on i (front ++ perform t.process.body ∷ []) store time parts.0 in
     goes_on ((g.front ++ front) ++ perform t.process.body ∷ []) (within (g.front ++ front) (both_free g.front front g.free parts.1) refl)
-    (ap (λ l. place_behind (going gait l) time (step l store time).next) is
-    ∙ ap (λ n. place_behind (going gait ((i ∷ front) ++ perform t.process.body ∷ [])) time n) g.is
+    (ap (λ l. place_after_step (going gait l) time (step l store time).next) is
+    ∙ ap (λ n. place_after_step (going gait ((i ∷ front) ++ perform t.process.body ∷ [])) time n) g.is
     ∙ ap (active_at (stepped_gait gait)) (sym (append_assoc g.front front (perform t.process.body ∷ [])))
     ∙ active_tail (stepped_gait gait) (g.front ++ front) t.process.body)
 stands_next d k t gait todo store time (before is) =
-    arrives (ap (λ l. place_behind (going gait l) time (step l store time).next) is
-    ∙ ap (λ out. place_behind (going gait (perform t.event ∷ perform t.process.body ∷ [])) time out.next) (t.arrival_is (perform t.process.body ∷ []) store time)
+    arrives (ap (λ l. place_after_step (going gait l) time (step l store time).next) is
+    ∙ ap (λ out. place_after_step (going gait (perform t.event ∷ perform t.process.body ∷ [])) time out.next) (t.arrival_is (perform t.process.body ∷ []) store time)
     ∙ sym t.home_is)
 
 -- ---- what wakes it

@@ -4,8 +4,8 @@ use Rattle.vs_design.specs.Parts.{Parts}
 use Rattle.vs_design.specs.Stores.{Store, put}
 use Rattle.vs_design.specs.Writes.{Write}
 use Rattle.vs_process.specs.Places.{Place}
-use Rattle.vs_process.specs.States.{State, AssignState, touched, wakened, written_behind}
-use Rattle.vs_process.specs.Threads.{store_behind}
+use Rattle.vs_process.specs.States.{State, AssignState, touched, wakened, written_after}
+use Rattle.vs_process.specs.Threads.{store_after}
 use Rattle.vs_process.proofs.Assigns.{DrivesApart}
 
 -- continuous assignments: they drive constant places, no bit twice
@@ -24,6 +24,6 @@ assigns_behind store (Some w) assigns = map (touched store (put store w)) assign
 
 -- a state behind a step that may write, written out
 pub behind_is : (s : State) (o : Option Write) →
-    written_behind s o ≡ record s { store = store_behind s.store o; places = places_behind s.store o s.places; assigns = assigns_behind s.store o s.assigns }
+    written_after s o ≡ record s { store = store_after s.store o; places = places_behind s.store o s.places; assigns = assigns_behind s.store o s.assigns }
 behind_is s None = refl
 behind_is s (Some w) = refl

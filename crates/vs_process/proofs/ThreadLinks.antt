@@ -3,7 +3,7 @@ use Rattle.std.proofs.Common.{◌≡◌, ◌<◌, ◌+◌, ℕ, zero, suc, Bool,
 use Rattle.std.specs.List.{list_any}
 use Rattle.std.proofs.lemmas.Bool.{cases_Bool, true≢false}
 use Rattle.std.proofs.lemmas.List.{get_or-replicate, length-replicate}
-use Rattle.std.proofs.lemmas.Option.{slice_get-get_or}
+use Rattle.std.proofs.lemmas.Option.{slice_get-get_or, same_Some}
 use Rattle.vs_design.specs.vs_logic4.specs.declared.digit.Digit.{Digit}
 use Rattle.vs_design.specs.vs_logic4.specs.declared.digit.Digit.TheVariants.{Zero, X}
 use Rattle.vs_design.specs.vs_logic4.specs.Tables.{not_digit}
@@ -96,14 +96,11 @@ pub undriven_root : (d : Parts) (root v : ℕ) → Copies d root v → is_driven
 undriven_root d root v (itself bit undriven) free = refl
 undriven_root d root v (through m n before link bit) free = absurd (true≢false (sym (link_driven d m n link) ∙ free))
 
-pub same_some : {A : Type 0} (x y : A) → Some x ≡ Some y → x ≡ y
-same_some x y e = cc
-
 -- two links to one net are one assignment
 one_assign : (d : Parts) (m k n p : ℕ) (l : IsLink d m n) (q : IsLink d k p) → n ≡ p → q.assign ≡ l.assign
 one_assign d m k n p l q same =
     let number : q.number ≡ l.number = l.alone q.number q.assign q.is (ap (writes_signal q.assign.target) same ∙ q.writes) in
-    same_some q.assign l.assign (sym q.is ∙ ap (slice_get d.assigns) number ∙ l.is)
+    same_Some q.assign l.assign (sym q.is ∙ ap (slice_get d.assigns) number ∙ l.is)
 
 -- they come from one signal
 one_source : (d : Parts) (m k n p : ℕ) → IsLink d m n → IsLink d k p → n ≡ p → m ≡ k
@@ -207,7 +204,7 @@ pub link_state : (d : Parts) (store : Store) (assigns : List AssignState) → As
     (l.assign.target ≡ x.target) × (l.assign.source ≡ x.source)
 link_state d store assigns sound m n l x is =
     let a = link_of d.assigns assigns l.number x sound.linked is in
-    let same : l.assign ≡ a.0 = same_some l.assign a.0 (sym l.is ∙ a.1) in
+    let same : l.assign ≡ a.0 = same_Some l.assign a.0 (sym l.is ∙ a.1) in
     (ap (λ (a : Assign). a.target) same ∙ a.2, ap (λ (a : Assign). a.source) same ∙ a.3)
 
 -- what else an assignment of a state writes: no net of a link that it isn't
@@ -266,7 +263,7 @@ link_pending d well store assigns sound m n l source net x is still digits waits
     fed value =
         let same = link_state d store assigns sound m n l x is in
         let fixed = assign_fixed d well.places store assigns sound l.number x is in
-        let e : digits ≡ wanted store x = same_some digits (wanted store x) (sym waits ∙ value) in
+        let e : digits ≡ wanted store x = same_Some digits (wanted store x) (sym waits ∙ value) in
         ap (λ ds. slice_get (put store (assigned x.target ds store time)) n) e
         ∙ ap (λ w. slice_get (put store w) n) (assigned_fixed x.target (wanted store x) store time fixed ∙ sym (assigned_fixed x.target (wanted store x) store 0 fixed))
         ∙ link_writes d store 0 sound.shaped m n l source net x.target x.source same.0 same.1

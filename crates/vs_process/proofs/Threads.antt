@@ -9,7 +9,7 @@ use Rattle.vs_process.specs.Places.{Place, going, sleeping, inactive, waiting, e
 use Rattle.vs_process.specs.Steps.{step}
 use Rattle.vs_process.specs.States.{State, roused}
 use Rattle.vs_process.proofs.Stores.{put_other}
-use Rattle.vs_process.specs.Threads.{store_behind, Thread, log_behind, turn_at, turn, iterate, Fired, opening, found, is_timed, IsTimed, MayOpen, IsThread, writes}
+use Rattle.vs_process.specs.Threads.{store_after, Thread, log_after, turn_at, turn, iterate, Fired, opening, found, is_timed, IsTimed, MayOpen, IsThread, writes}
 
 abbrev pub is_stopped : Place → Bool
 is_stopped (going gait todo) = false
@@ -93,8 +93,8 @@ thread_rouses d blocks b i th h =
 -- ---- what threads write
 
 -- a write, and what the log says of it
-written_view : (view : Store) (log : List Write) (o : Option Write) (v : ℕ) → list_any (λ w. names w v) (log_behind log o) ≡ false →
-    (list_any (λ w. names w v) log ≡ false) × (slice_get (store_behind view o) v ≡ slice_get view v)
+written_view : (view : Store) (log : List Write) (o : Option Write) (v : ℕ) → list_any (λ w. names w v) (log_after log o) ≡ false →
+    (list_any (λ w. names w v) log ≡ false) × (slice_get (store_after view o) v ≡ slice_get view v)
 written_view view log None v h = (h, refl)
 written_view view log (Some w) v h = let parts = or_parts (names w v) (list_any (λ w. names w v) log) h in (parts.1, put_other view w v parts.0)
 
@@ -122,7 +122,7 @@ unwritten d blocks b i v th h n =
 writes_turn : (time i : ℕ) (p : Place) (th : Thread) (v : ℕ) → writes th v ≡ true → writes (turn_at time i p th) v ≡ true
 writes_turn time i (going gait todo) th v h = log_grows (step todo th.view time).write
   where
-    log_grows : (o : Option Write) → list_any (λ w. names w v) (log_behind th.log o) ≡ true
+    log_grows : (o : Option Write) → list_any (λ w. names w v) (log_after th.log o) ≡ true
     log_grows None = h
     log_grows (Some w) = or_right (names w v) (list_any (λ w. names w v) th.log) h
 writes_turn time i (inactive todo) th v h = h

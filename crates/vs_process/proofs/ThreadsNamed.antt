@@ -29,7 +29,7 @@ use Rattle.vs_process.specs.vs_strobe.specs.declared.piece.FormatPiece.TheVarian
 use Rattle.vs_process.specs.vs_strobe.specs.Lines.{Format, arg_value, format_of_call, full_line, is_signed, pieces_text}
 use Rattle.vs_process.specs.vs_strobe.specs.Values.{shown_text}
 use Rattle.vs_process.specs.Drafts.{flat_all}
-use Rattle.vs_process.specs.Landings.{todo_behind}
+use Rattle.vs_process.specs.Landings.{todo_after}
 use Rattle.vs_process.specs.Places.{Item, perform, turns, Todo, flat}
 use Rattle.vs_process.specs.Steps.{Out, display_line, flat_item, repeated, statement_step, step, strobe_call, turns_for}
 use Rattle.vs_process.proofs.Values.{value_unchanged}
@@ -126,7 +126,7 @@ own_named s r c = subst (λ l. Contains l r) (sym (reads_out s)) (own_among (out
 
 statement_among : (all : List BitRange) (s : Statement) (f : Statement-F Statement) (rest : Todo) (store : Store) (time : ℕ) →
     Among (statement_reads s) all → Among (layer_reads f) all → Among (all_named_reads rest) all →
-    Among (all_named_reads (todo_behind (statement_step s f rest store time).next)) all
+    Among (all_named_reads (todo_after (statement_step s f rest store time).next)) all
 statement_among all s (Statement-F.Null n) rest store time own h r = r
 statement_among all s (Statement-F.Assign n t e) rest store time own h r = r
 statement_among all s (Statement-F.Later n ticks t e) rest store time own h r = r
@@ -152,7 +152,7 @@ statement_among all s (Statement-F.Repeat n signed e body) rest store time own h
 statement_among all s (Statement-F.Forever n body) rest store time own h r =
     flat_among all body.value (perform s ∷ rest) h (both_among (statement_reads s) (all_named_reads rest) all own r)
 
-step_among : (todo : Todo) (store : Store) (time : ℕ) → Among (all_named_reads (todo_behind (step todo store time).next)) (all_named_reads todo)
+step_among : (todo : Todo) (store : Store) (time : ℕ) → Among (all_named_reads (todo_after (step todo store time).next)) (all_named_reads todo)
 step_among [] store time = λ r h. h
 step_among (perform s ∷ rest) store time =
     let all = statement_reads s ++ all_named_reads rest in
@@ -162,7 +162,7 @@ step_among (turns n s ∷ rest) store time =
     repeated_among (statement_reads s ++ all_named_reads rest) n s rest (left_of (statement_reads s) (all_named_reads rest)) (right_of (statement_reads s) (all_named_reads rest))
 
 pub left : NoReadIsAdded
-left todo store time = all_among (all_named_reads (todo_behind (step todo store time).next)) (all_named_reads todo) (step_among todo store time)
+left todo store time = all_among (all_named_reads (todo_after (step todo store time).next)) (all_named_reads todo) (step_among todo store time)
 
 -- ---- what a step reads
 

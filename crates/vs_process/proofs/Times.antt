@@ -19,9 +19,9 @@ use Rattle.vs_process.specs.declared.gait.Gait.TheVariants.{Fresh, Woken}
 use Rattle.vs_process.specs.declared.moves.Grain.{Grain}
 use Rattle.vs_process.specs.declared.moves.Move.{Move}
 use Rattle.vs_process.specs.declared.moves.Move.TheVariants.{Step, Evaluate, Propagate, Make, Rouse, Activate, EndSlot}
-use Rattle.vs_process.specs.Executions.{after, apply, Legal, allowed, is_enabled, is_free, is_busy, has_inactive, has_due, earlier, next_wake, next_update, next_time, ends, places_at, time_at, slot_behind, slots, ended_slot, is_by, trace}
+use Rattle.vs_process.specs.Executions.{after, apply, Legal, allowed, is_enabled, is_free, is_busy, has_inactive, has_due, earlier, next_wake, next_update, next_time, ends, places_at, time_at, after_slot, slots, ended_slot, is_by, trace}
 use Rattle.vs_process.specs.Places.{Todo, Place, going, sleeping, inactive, waiting, ended, active_at, is_going, start_place, flat}
-use Rattle.vs_process.specs.States.{State, AssignState, Update, stepped, performed, evaluate, propagate, propagate_value, make, without, roused, woken_at, is_due, activated, paused, place_behind, updates_behind, wakened, written_behind}
+use Rattle.vs_process.specs.States.{State, AssignState, Update, stepped, performed, evaluate, propagate, propagate_value, make, without, roused, woken_at, is_due, activated, paused, place_after_step, updates_after, wakened, written_after}
 use Rattle.vs_process.specs.Places.{todo_of}
 use Rattle.vs_process.specs.Steps.{Next, on, Out, step}
 use Rattle.vs_process.specs.Steps as steps
@@ -87,7 +87,7 @@ later_paused time ticks todo =
     (λ other. let above : ticks ≡ 0 → ⊥ = other.1 in let late : time < time + ticks = omega (arith, above) in subst (λ (b : Bool). Later time (if b then inactive todo else sleeping (time + ticks) todo)) (sym other.0) late)
     (eqb_tells ticks 0)
 
-later_behind : (place : Place) (time : ℕ) (next : Next) → Later time (place_behind place time next)
+later_behind : (place : Place) (time : ℕ) (next : Next) → Later time (place_after_step place time next)
 later_behind (going gait todo) time (on rest) = later_active time _ rest
 later_behind (sleeping due todo) time (on rest) = tt
 later_behind (inactive todo) time (on rest) = tt
@@ -125,26 +125,26 @@ later_wakened time old new ended h = tt
 later_all_wakened : (time : ℕ) (old new : Store) (xs : List Place) → Each (Later time) xs → Each (Later time) (map (wakened old new) xs)
 later_all_wakened time old new xs h = each-map (Later time) (Later time) (wakened old new) (later_wakened time old new) xs h
 
-due_behind : (by time : ℕ) (u : Option (ℕ × Write)) (us : List Update) → Each (NotBefore time) us → Each (NotBefore time) (updates_behind by time u us)
-due_behind by time None us h = h
-due_behind by time (Some u) us h = each-append (NotBefore time) us _ h (omega arith, tt)
+due_after : (by time : ℕ) (u : Option (ℕ × Write)) (us : List Update) → Each (NotBefore time) us → Each (NotBefore time) (updates_after by time u us)
+due_after by time None us h = h
+due_after by time (Some u) us h = each-append (NotBefore time) us _ h (omega arith, tt)
 
-pub behind_time : (s : State) (w : Option Write) → (written_behind s w).time ≡ s.time
+pub behind_time : (s : State) (w : Option Write) → (written_after s w).time ≡ s.time
 behind_time s None = refl
 behind_time s (Some w) = refl
 
-behind_later : (s : State) (w : Option Write) → Each (Later s.time) s.places → Each (Later s.time) (written_behind s w).places
+behind_later : (s : State) (w : Option Write) → Each (Later s.time) s.places → Each (Later s.time) (written_after s w).places
 behind_later s None h = h
 behind_later s (Some w) h = later_all_wakened s.time s.store (put s.store w) s.places h
 
 timed_performed : (s : State) (i : ℕ) (x : Place) (out : Out) → Timed s → Timed (performed s i x out)
 timed_performed s i x out h =
-    let us = updates_behind i s.time out.update s.updates in
-    let y = place_behind x s.time out.next in
-    subst (λ (t : ℕ). TimedAt t (slice_set (written_behind s out.write).places i y) us) (sym (behind_time s out.write))
+    let us = updates_after i s.time out.update s.updates in
+    let y = place_after_step x s.time out.next in
+    subst (λ (t : ℕ). TimedAt t (slice_set (written_after s out.write).places i y) us) (sym (behind_time s out.write))
     (record {
-      places = each-set (Later s.time) (written_behind s out.write).places i y (behind_later s out.write h.places) (later_behind x s.time out.next);
-      updates = due_behind i s.time out.update s.updates h.updates;
+      places = each-set (Later s.time) (written_after s out.write).places i y (behind_later s out.write h.places) (later_behind x s.time out.next);
+      updates = due_after i s.time out.update s.updates h.updates;
     })
 
 timed_stepped : (s : State) (i : ℕ) (o : Option Place) → Timed s → Timed (stepped s i o)
@@ -335,11 +335,11 @@ pub stepped_over : (s : State) (i : ℕ) (o : Option Place) → (stepped s i o).
 stepped_over s i None = refl
 stepped_over s i (Some x) = over_behind s (step (todo_of x) s.store s.time).write
   where
-    over_behind : (s : State) (w : Option Write) → (written_behind s w).over ≡ s.over
+    over_behind : (s : State) (w : Option Write) → (written_after s w).over ≡ s.over
     over_behind s None = refl
     over_behind s (Some w) = refl
 
-stepped_time : (s : State) (i : ℕ) (o : Option Place) → (stepped s i o).time ≡ s.time
+pub stepped_time : (s : State) (i : ℕ) (o : Option Place) → (stepped s i o).time ≡ s.time
 stepped_time s i None = refl
 stepped_time s i (Some x) = behind_time s (step (todo_of x) s.store s.time).write
 
@@ -384,7 +384,7 @@ rise_applied until xs (Make i) s short live e h r = let c = clock_make s i (slic
 rise_applied until xs Rouse s short live e h r = same_rise xs s (apply Rouse s) refl refl r
 rise_applied until xs Activate s short live e h r = same_rise xs s (apply Activate s) refl refl r
 rise_applied until xs EndSlot s short live e h r =
-    end_rise xs s (slot_behind s) _ until (leb s.time until) refl refl short live (λ goes. rises s.finishing (ends s) (next_time s) s.time refl goes (next_above s e h)) r
+    end_rise xs s (after_slot s) _ until (leb s.time until) refl refl short live (λ goes. rises s.finishing (ends s) (next_time s) s.time refl goes (next_above s e h)) r
 
 rise : (grain : Grain) (d : Parts) (moves : List Move) (until : ℕ) → Legal grain d moves → until < 2 ^ 62 → Rises (filter (is_by until) (slots d moves)) (after d moves)
 rise grain d [] until h short = record { rising = tt; below = λ live. tt }

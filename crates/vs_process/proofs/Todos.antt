@@ -17,7 +17,7 @@ use Rattle.vs_design.specs.Stores.{Store}
 use Rattle.vs_design.specs.Uses.{joined}
 use Rattle.vs_process.specs.vs_eval.specs.Values.{value_of}
 use Rattle.vs_process.specs.Drafts.{flat_all, is_block}
-use Rattle.vs_process.specs.Landings.{todo_behind}
+use Rattle.vs_process.specs.Landings.{todo_after}
 use Rattle.vs_process.specs.Places.{perform, turns, Todo, flat}
 use Rattle.vs_process.specs.Steps.{step, statement_step, first_of, flat_item, is_default, item_matches, repeated, turns_for}
 use Rattle.vs_process.proofs.Shapes.{flat-Block, flat-rolled}
@@ -100,7 +100,7 @@ pub writes_out : (s : Statement) → statement_writes s ≡ layer_writes (out-St
 writes_out s = fold_out-Statement (List BitRange) statement_writes_step s
 
 statement_among : (all : List BitRange) (s : Statement) (f : Statement-F Statement) (rest : Todo) (store : Store) (time : ℕ) →
-    Among (statement_writes s) all → Among (layer_writes f) all → Among (todo_writes rest) all → Among (todo_writes (todo_behind (statement_step s f rest store time).next)) all
+    Among (statement_writes s) all → Among (layer_writes f) all → Among (todo_writes rest) all → Among (todo_writes (todo_after (statement_step s f rest store time).next)) all
 statement_among all s (Statement-F.Null n) rest store time own h r = r
 statement_among all s (Statement-F.Assign n t e) rest store time own h r = r
 statement_among all s (Statement-F.Later n ticks t e) rest store time own h r = r
@@ -125,7 +125,7 @@ statement_among all s (Statement-F.Forever n body) rest store time own h r =
     flat_among all body.value (perform s ∷ rest) h (both_among (statement_writes s) (todo_writes rest) all own r)
 
 -- the ranges of what is to be done behind a step are among those of what was to be done before it
-pub step_among : (todo : Todo) (store : Store) (time : ℕ) → Among (todo_writes (todo_behind (step todo store time).next)) (todo_writes todo)
+pub step_among : (todo : Todo) (store : Store) (time : ℕ) → Among (todo_writes (todo_after (step todo store time).next)) (todo_writes todo)
 step_among [] store time = λ r h. h
 step_among (perform s ∷ rest) store time =
     let all = statement_writes s ++ todo_writes rest in

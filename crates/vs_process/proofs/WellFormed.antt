@@ -34,7 +34,7 @@ use Rattle.vs_process.specs.Places.{Item, perform, turns, Todo, Place, going, sl
 use Rattle.vs_process.specs.Drafts.{flat_all}
 use Rattle.vs_eval.specs.Waking.{wake_any}
 use Rattle.vs_process.specs.Steps.{Next, on, after, wait, Out, step, statement_step, assignment, branch, item_matches, is_default, first_of, flat_item, taken, turns_for, repeated}
-use Rattle.vs_process.specs.States.{Update, activated, roused, place_behind, paused, updates_behind, wakened, woken_at}
+use Rattle.vs_process.specs.States.{Update, activated, roused, place_after_step, paused, updates_after, wakened, woken_at}
 use Rattle.vs_process.specs.Places.{todo_of}
 use Rattle.vs_process.specs.Executions.{places_at}
 use Rattle.vs_eval.specs.Values.{target_value, value_of}
@@ -97,7 +97,7 @@ variable_at (Some s) h = (s, refl, h)
 abbrev pub IsVariable : List Signal → ℕ → Type 0
 IsVariable ss v = (s : Signal) × (slice_get ss v ≡ Some s) × (is_variable s.kind ≡ true)
 
-variable_place : (ss : List Signal) (x : Aim) (v : ℕ) → is_variable_aim ss x ≡ true → is_of v (aim_range x) ≡ true → IsVariable ss v
+pub variable_place : (ss : List Signal) (x : Aim) (v : ℕ) → is_variable_aim ss x ≡ true → is_of v (aim_range x) ≡ true → IsVariable ss v
 variable_place ss (Fixed s) v h at_v =
     let found = variable_at (slice_get ss s.signal) h in
     (found.0, ap (slice_get ss) (sym (eqb-true s.signal v at_v)) ∙ found.1, found.2)
@@ -327,7 +327,7 @@ sound_paused : (ss : List Signal) (time ticks : ℕ) (todo : Todo) → is_sound_
 sound_paused ss time ticks todo h = cond_both (ticks == 0) (inactive todo) (sleeping (time + ticks) todo) (λ p. is_sound_place ss p ≡ true) (λ e. h) (λ e. h)
 
 -- the place behind a step
-pub sound_place_behind : (ss : List Signal) (place : Place) (time : ℕ) (next : Next) → is_sound_todo ss (next_todo next) ≡ true → is_sound_place ss (place_behind place time next) ≡ true
+pub sound_place_behind : (ss : List Signal) (place : Place) (time : ℕ) (next : Next) → is_sound_todo ss (next_todo next) ≡ true → is_sound_place ss (place_after_step place time next) ≡ true
 unfolding next_todo
 sound_place_behind ss (going gait todo) time (on rest) h = sound_active ss (stepped_gait gait) rest h
 sound_place_behind ss (sleeping due todo) time (on rest) h = refl
@@ -347,7 +347,7 @@ sound_place_behind ss ended time (wait n terms rest) h = h
 
 -- the updates behind a step name variables alone
 pub sound_made : (ss : List Signal) (i time : ℕ) (us : List Update) (o : Option (ℕ × Write)) → ((u : ℕ × Write) → o ≡ Some u → (v : ℕ) → names u.1 v ≡ true → IsVariable ss v) →
-    ((v : ℕ) → list_any (λ (x : Update). names x.what v) us ≡ true → IsVariable ss v) → (v : ℕ) → list_any (λ (x : Update). names x.what v) (updates_behind i time o us) ≡ true → IsVariable ss v
+    ((v : ℕ) → list_any (λ (x : Update). names x.what v) us ≡ true → IsVariable ss v) → (v : ℕ) → list_any (λ (x : Update). names x.what v) (updates_after i time o us) ≡ true → IsVariable ss v
 sound_made ss i time us None new old v h = old v h
 sound_made ss i time us (Some u) new old v h =
     let more : List Update = record { by = i; due = time + u.0; active = false; what = u.1 } ∷ [] in

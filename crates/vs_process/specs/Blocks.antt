@@ -46,14 +46,14 @@ BlocksExclude =
     ((m : Move) → is_free Block d (after d moves) m ≡ is_step_of_any (inside_block d.processes (after d moves).places) m)
 
 -- the block that has taken a step since its control, behind a move: that of the step's process alone
-abbrev pub inside_behind : List Process → List Place → Move → Option ℕ
-inside_behind ps places (Step i) = if is_inside_number ps places i then Some i else None
-inside_behind ps places _ = None
+abbrev pub inside_after_move : List Process → List Place → Move → Option ℕ
+inside_after_move ps places (Step i) = if is_inside_number ps places i then Some i else None
+inside_after_move ps places _ = None
 
 -- behind a move that is allowed at grain block it is that
 abbrev pub InsideFollows : Type 0
 InsideFollows =
-    (d : Parts) (s : State) (m : Move) → allowed Block d s m ≡ true → inside_block d.processes (apply m s).places ≡ inside_behind d.processes (apply m s).places m
+    (d : Parts) (s : State) (m : Move) → allowed Block d s m ≡ true → inside_block d.processes (apply m s).places ≡ inside_after_move d.processes (apply m s).places m
 
 -- where an execution begins, no block has taken a step since its control
 abbrev pub NoneInsideFirst : Type 0

@@ -23,9 +23,9 @@ changed_words old new [] = []
 changed_words old new (p ∷ ps) = changed_part old new p ++ changed_words old new ps
 
 -- a store behind a write, where there is one
-abbrev pub store_behind : Store → Option Write → Store
-store_behind store None = store
-store_behind store (Some w) = put store w
+abbrev pub store_after : Store → Option Write → Store
+store_after store None = store
+store_after store (Some w) = put store w
 
 -- the words that a write changes, where there is one
 abbrev pub changes_of : Store → Option Write → List Change

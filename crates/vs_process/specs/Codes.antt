@@ -13,7 +13,7 @@ use Rattle.vs_process.specs.declared.draft.Task.TheVariants as t
 use Rattle.vs_process.specs.Extras.{format_in, starts_in}
 use Rattle.vs_process.specs.Places.{Todo, turns, flat}
 use Rattle.vs_process.specs.Links.{Job, performs, tests, Link, todo_at, AreLinked, Leads}
-use Rattle.vs_process.specs.Numbers.{AllStand}
+use Rattle.vs_process.specs.Numbers.{AllPlaced}
 
 -- what an instruction does, where its `repeat` has this counter
 abbrev pub job_of : ℕ → Task → Job
@@ -87,11 +87,11 @@ pub record IsCode (ops : List Op) (counters : ℕ) : Type 0 where
 pub record IsCodeOf (s : Statement) (ops : List Op) (counters start : ℕ) : Type 0 where
   pub code : IsCode ops counters
   pub starts : Leads (links_of ops) (flat s) start 0
-  pub stand : AllStand s (links_of ops)
+  pub stand : AllPlaced s (links_of ops)
 
 -- an instruction stands at a place
-abbrev pub StandsAt : List Op → ℕ → Op → Type 0
-StandsAt ops place x = (i : ℕ) × (place ≡ suc i) × (slice_get ops i ≡ Some x)
+abbrev pub IsOpAt : List Op → ℕ → Op → Type 0
+IsOpAt ops place x = (i : ℕ) × (place ≡ suc i) × (slice_get ops i ≡ Some x)
 
 -- at a place nothing is left to do
 abbrev pub IsEnd : List Op → ℕ → Type 0

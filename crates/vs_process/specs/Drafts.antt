@@ -15,7 +15,7 @@ use Rattle.vs_process.specs.declared.draft.Task.TheVariants.{Perform}
 use Rattle.vs_process.specs.declared.draft.Draft.{Draft}
 use Rattle.vs_process.specs.Places.{Todo, flat}
 use Rattle.vs_process.specs.Links.{Link, todo_at, AreLinked, Leads}
-use Rattle.vs_process.specs.Numbers.{times_here, times_in, times_stands}
+use Rattle.vs_process.specs.Numbers.{times_here, times_in, times_done}
 use Rattle.vs_process.specs.Codes.{Layout, links_of, layout_of, Fits, FitsStatement, LeadAll, IsTurn}
 
 -- the statements of a row, blocks opened
@@ -142,8 +142,8 @@ pub record IsHead (old new : Draft) (task : Task) (next depth place : ℕ) : Typ
 
 -- a draft has a place more for the statement of this number, where there is one, and no other
 abbrev pub AddsOne : Draft → Draft → Option ℕ → Type 0
-AddsOne old new number = (n : ℕ) → times_stands n (links_of new.ops.items) ≡ times_here n number + times_stands n (links_of old.ops.items)
+AddsOne old new number = (n : ℕ) → times_done n (links_of new.ops.items) ≡ times_here n number + times_done n (links_of old.ops.items)
 
 -- a draft has a place more for each statement of these numbers, and no other
 abbrev pub Adds : Draft → Draft → List ℕ → Type 0
-Adds old new ns = (n : ℕ) → times_stands n (links_of new.ops.items) ≡ times_in n ns + times_stands n (links_of old.ops.items)
+Adds old new ns = (n : ℕ) → times_done n (links_of new.ops.items) ≡ times_in n ns + times_done n (links_of old.ops.items)

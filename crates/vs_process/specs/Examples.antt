@@ -97,8 +97,8 @@ toggler g = record {
 
 -- `always @* begin t = a & b; y = t | c; end` is a combinational block; of `reg clk = 0; reg a = 0, b = 1; always #5 clk = ~clk;
 -- always @(posedge clk) a <= b; always @(posedge clk) b <= a;`, where a, b, clk are the signals 0 to 2, none is
-abbrev pub BlocksAreTold : Type 0
-BlocksAreTold = (g : Global) → (is_combinational (mixer g) ≡ true)
+abbrev pub BlocksAreRecognized : Type 0
+BlocksAreRecognized = (g : Global) → (is_combinational (mixer g) ≡ true)
     × (is_combinational (toggler g) ≡ false)
     × (is_combinational (register g 0 1) ≡ false)
     × (is_combinational (register g 1 0) ≡ false)

@@ -134,8 +134,8 @@ time_at false None time = time
 time_at false (Some t) time = t
 
 -- a state after the end of its slot: it is over, or time goes to the least due time and the processes that are due then are active
-abbrev pub slot_behind : State → State
-slot_behind s = record s {
+abbrev pub after_slot : State → State
+after_slot s = record s {
   places = places_at (ends s) (next_time s) s.places;
   calls = [];
   time = time_at (ends s) (next_time s) s.time;
@@ -150,7 +150,7 @@ apply (Propagate j) s = propagate s j (slice_get s.assigns j)
 apply (Make i) s = make s i (slice_get s.updates i)
 apply Rouse s = record s { places = map roused s.places }
 apply Activate s = record s { updates = map (activated s.time) s.updates }
-apply EndSlot s = slot_behind s
+apply EndSlot s = after_slot s
 
 -- the state after a list of moves, the newest first
 abbrev pub after : Parts → List Move → State

@@ -16,7 +16,7 @@ use Rattle.vs_process.specs.declared.draft.Task.{Task}
 use Rattle.vs_process.specs.declared.draft.Task.TheVariants as t
 use Rattle.vs_process.specs.declared.halt.Halt.{Halt}
 use Rattle.vs_process.specs.declared.halt.Halt.TheVariants as h
-use Rattle.vs_process.specs.Changes.{store_behind}
+use Rattle.vs_process.specs.Changes.{store_after}
 use Rattle.vs_process.specs.Extras.{starts_in}
 use Rattle.vs_process.specs.Places.{Todo, Item}
 use Rattle.vs_process.specs.Steps.{Next, on, after, wait, step, branch, first_of, item_matches, is_default, turns_for}
@@ -77,10 +77,10 @@ lands x (t.Perform s) counters store time = statement_lands x s.now counters sto
 lands x (t.Turns s) counters store time = turned (get_or counters x.counter 0) x counters
 
 -- what a process still has to do behind a step
-abbrev pub todo_behind : Next → Todo
-todo_behind (on todo) = todo
-todo_behind (after n ticks todo) = todo
-todo_behind (wait n terms todo) = todo
+abbrev pub todo_after : Next → Todo
+todo_after (on todo) = todo
+todo_after (after n ticks todo) = todo
+todo_after (wait n terms todo) = todo
 
 -- where a step leads that ends so, behind which a process still has this to do
 abbrev pub next_of : Halt → Todo → Next
@@ -91,4 +91,4 @@ next_of (h.Wait n terms) todo = wait n terms.now todo
 -- the step of a process with this to do first ends so, and leaves the store so
 abbrev pub EndsSo : Item → Store → ℕ → Halt → Store → Type 0
 EndsSo i store time halt behind =
-    (rest : Todo) → let out = step (i ∷ rest) store time in (out.next ≡ next_of halt (todo_behind out.next)) × (behind ≡ store_behind store out.write)
+    (rest : Todo) → let out = step (i ∷ rest) store time in (out.next ≡ next_of halt (todo_after out.next)) × (behind ≡ store_after store out.write)

@@ -49,10 +49,10 @@ times_in n [] = 0
 times_in n (m ∷ ms) = times_here n (Some m) + times_in n ms
 
 -- at how many places the statement of a number is done
-abbrev pub times_stands : ℕ → List Link → ℕ
-times_stands n [] = 0
-times_stands n (l ∷ links) = times_here n (number_at l.job) + times_stands n links
+abbrev pub times_done : ℕ → List Link → ℕ
+times_done n [] = 0
+times_done n (l ∷ links) = times_here n (number_at l.job) + times_done n links
 
 -- statements of each number are done at as many places as the text has of them
-abbrev pub AllStand : Statement → List Link → Type 0
-AllStand s links = (n : ℕ) → times_stands n links ≡ times_in n (numbers s)
+abbrev pub AllPlaced : Statement → List Link → Type 0
+AllPlaced s links = (n : ℕ) → times_done n links ≡ times_in n (numbers s)

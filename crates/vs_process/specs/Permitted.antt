@@ -9,7 +9,7 @@ use Rattle.vs_process.specs.Places.{Place, is_going}
 use Rattle.vs_process.specs.Steps.{step}
 use Rattle.vs_process.specs.States.{State, AssignState, Update, performed, evaluate, propagate_value, make, roused, activated}
 use Rattle.vs_process.specs.Places.{todo_of}
-use Rattle.vs_process.specs.Executions.{is_first, is_busy, has_inactive, has_due, is_free, slot_behind, allowed, apply, after, Legal}
+use Rattle.vs_process.specs.Executions.{is_first, is_busy, has_inactive, has_due, is_free, after_slot, allowed, apply, after, Legal}
 
 -- nothing is enabled but a change of region: no active event is left (clause 11.3)
 abbrev pub IsQuiet : State → Type 0
@@ -37,7 +37,7 @@ pub data Permitted (grain : Grain) (d : Parts) (s : State) : State → Type 0 wh
       Permitted grain d s (record s { updates = map (activated s.time) s.updates })
   -- if there are none, the slot ends
   ends_slot : s.over ≡ false → IsQuiet s → has_inactive s ≡ false → has_due s ≡ false → is_free grain d s EndSlot ≡ true →
-      Permitted grain d s (slot_behind s)
+      Permitted grain d s (after_slot s)
 
 -- some move is allowed
 abbrev pub CanGo : Grain → Parts → State → Type 0

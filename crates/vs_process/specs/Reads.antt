@@ -7,7 +7,7 @@ use Rattle.vs_design.specs.Statements.{statement_reads}
 use Rattle.vs_design.specs.Stores.{Store, is_changed}
 use Rattle.vs_design.specs.Uses.{joined}
 use Rattle.vs_process.specs.vs_strobe.specs.Lines.{Format, full_line}
-use Rattle.vs_process.specs.Landings.{todo_behind}
+use Rattle.vs_process.specs.Landings.{todo_after}
 use Rattle.vs_process.specs.Places.{Item, perform, turns, Todo, flat}
 use Rattle.vs_process.specs.Steps.{Out, step}
 use Rattle.vs_process.specs.ThreadLaws.{IsLeft}
@@ -56,7 +56,7 @@ StrobesReadWhatIsNamed =
 -- each range that is named behind a step was named before it
 abbrev pub NoReadIsAdded : Type 0
 NoReadIsAdded =
-    (todo : Todo) (store : Store) (time : ℕ) → All (Contains (all_named_reads todo)) (all_named_reads (todo_behind (step todo store time).next))
+    (todo : Todo) (store : Store) (time : ℕ) → All (Contains (all_named_reads todo)) (all_named_reads (todo_after (step todo store time).next))
 
 -- what is to be done for a statement names the ranges that the statement reads, in their order
 abbrev pub AllReadsAreThere : Type 0

@@ -101,38 +101,38 @@ abbrev pub written : State → Write → State
 written s w = refreshed (put s.store w) s
 
 -- a state behind a step that may write
-abbrev pub written_behind : State → Option Write → State
-written_behind s None = s
-written_behind s (Some w) = written s w
+abbrev pub written_after : State → Option Write → State
+written_after s None = s
+written_after s (Some w) = written s w
 
 -- the updates behind a step of a process
-abbrev pub updates_behind : ℕ → ℕ → Option (ℕ × Write) → List Update → List Update
-updates_behind by time None updates = updates
-updates_behind by time (Some u) updates = updates ++ record { by = by; due = time + u.0; active = false; what = u.1 } ∷ []
+abbrev pub updates_after : ℕ → ℕ → Option (ℕ × Write) → List Update → List Update
+updates_after by time None updates = updates
+updates_after by time (Some u) updates = updates ++ record { by = by; due = time + u.0; active = false; what = u.1 } ∷ []
 
 -- the calls of `$strobe` behind a step of a process
-abbrev pub calls_behind : ℕ → Option Format → List Called → List Called
-calls_behind by None calls = calls
-calls_behind by (Some c) calls = calls ++ record { by = by; call = c } ∷ []
+abbrev pub calls_after : ℕ → Option Format → List Called → List Called
+calls_after by None calls = calls
+calls_after by (Some c) calls = calls ++ record { by = by; call = c } ∷ []
 
 -- a delay begins: of zero ticks it makes the process inactive (clauses 9.7.1 and 11.3)
 abbrev pub paused : ℕ → ℕ → Todo → Place
 paused time ticks todo = if ticks == 0 then inactive todo else sleeping (time + ticks) todo
 
-abbrev pub place_behind : Place → ℕ → Next → Place
-place_behind (going gait todo) time (on rest) = active_at (stepped_gait gait) rest
-place_behind _ time (on rest) = ended
-place_behind _ time (after number ticks rest) = paused time ticks rest
-place_behind _ time (wait number terms rest) = waiting terms rest
+abbrev pub place_after_step : Place → ℕ → Next → Place
+place_after_step (going gait todo) time (on rest) = active_at (stepped_gait gait) rest
+place_after_step _ time (on rest) = ended
+place_after_step _ time (after number ticks rest) = paused time ticks rest
+place_after_step _ time (wait number terms rest) = waiting terms rest
 
 -- a state after a step of a process, of which this came
 abbrev pub performed : State → ℕ → Place → Out → State
 performed s i place out =
-    let t = written_behind s out.write in
+    let t = written_after s out.write in
     record t {
-      places = slice_set t.places i (place_behind place s.time out.next);
-      updates = updates_behind i s.time out.update s.updates;
-      calls = calls_behind i out.call s.calls;
+      places = slice_set t.places i (place_after_step place s.time out.next);
+      updates = updates_after i s.time out.update s.updates;
+      calls = calls_after i out.call s.calls;
       finishing = s.finishing || out.finish;
     }
 

@@ -21,13 +21,13 @@ tos_in n ws = map (λ (w : Way). inside n w.to) ws
 abbrev pub code_tos : List Op → ℕ → List ℕ
 code_tos ops place = tos_in (length ops) (ways ops place)
 
-abbrev pub behind_of : Option Op → ℕ
-behind_of None = 0
-behind_of (Some x) = x.behind
+abbrev pub op_next : Option Op → ℕ
+op_next None = 0
+op_next (Some x) = x.behind
 
-abbrev pub code_behind : List Op → ℕ → ℕ
-code_behind ops zero = 0
-code_behind ops (suc i) = behind_of (slice_get ops i)
+abbrev pub code_next : List Op → ℕ → ℕ
+code_next ops zero = 0
+code_next ops (suc i) = op_next (slice_get ops i)
 
 -- ---- the map as data
 
@@ -38,9 +38,9 @@ pub record Stop : Type 0 where
   pub behind : ℕ
   pub tos : List ℕ
 
-abbrev pub stop_behind : Option Stop → ℕ
-stop_behind None = 0
-stop_behind (Some s) = s.behind
+abbrev pub stop_next : Option Stop → ℕ
+stop_next None = 0
+stop_next (Some s) = s.behind
 
 abbrev pub stop_tos : Option Stop → List ℕ
 stop_tos None = 0 ∷ []
@@ -55,8 +55,8 @@ abbrev pub stop_at : List Stop → ℕ → Option Stop
 stop_at stops zero = None
 stop_at stops (suc i) = slice_get stops i
 
-abbrev pub stops_behind : List Stop → ℕ → ℕ
-stops_behind stops place = stop_behind (stop_at stops place)
+abbrev pub stops_next : List Stop → ℕ → ℕ
+stops_next stops place = stop_next (stop_at stops place)
 
 abbrev pub stops_tos : List Stop → ℕ → List ℕ
 stops_tos stops place = stop_tos (stop_at stops place)
@@ -69,12 +69,12 @@ next_statement _ = None
 -- places lead to places below a number alone
 pub record LeadsIn (n : ℕ) (stops : List Stop) : Type 0 where
   pub ways : (p q : ℕ) → Contains (stops_tos stops p) q → q < n
-  pub behind : (p : ℕ) → stops_behind stops p < n
+  pub behind : (p : ℕ) → stops_next stops p < n
 
 -- a map of the text of a process as data
 pub record IsText (body : Statement) (stops : List Stop) (start : ℕ) : Type 0 where
   pub at : ℕ → Todo
-  pub is_map : IsMap (flat body) at start (stops_behind stops) (stops_tos stops)
+  pub is_map : IsMap (flat body) at start (stops_next stops) (stops_tos stops)
   pub says : (p : ℕ) → next_statement (at p) ≡ stop_statement (stop_at stops p)
   pub starts_in : start < suc (length stops)
   pub leads_in : LeadsIn (suc (length stops)) stops

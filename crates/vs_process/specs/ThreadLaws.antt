@@ -13,7 +13,7 @@ use Rattle.vs_design.specs.WellFormed.{WellFormed}
 use Rattle.vs_design.specs.Writes.{Write, names}
 use Rattle.vs_process.specs.vs_eval.specs.Laws.{digit_of}
 use Rattle.vs_process.specs.vs_eval.specs.Targets.{assigned}
-use Rattle.vs_process.specs.Landings.{todo_behind}
+use Rattle.vs_process.specs.Landings.{todo_after}
 use Rattle.vs_process.specs.Places.{Item, Todo, flat}
 use Rattle.vs_process.specs.Steps.{step}
 use Rattle.vs_process.specs.Writes.{item_writes, statement_writes, todo_writes}
@@ -42,7 +42,7 @@ UpdatesAreNamed = (todo : Todo) (store : Store) (time : ℕ) (u : ℕ × Write) 
 
 -- each range of what is to be done behind a step is one of what was to be done before it
 abbrev pub NoneIsAdded : Type 0
-NoneIsAdded = (todo : Todo) (store : Store) (time : ℕ) → All (Contains (todo_writes todo)) (todo_writes (todo_behind (step todo store time).next))
+NoneIsAdded = (todo : Todo) (store : Store) (time : ℕ) → All (Contains (todo_writes todo)) (todo_writes (todo_after (step todo store time).next))
 
 -- what is to be done for a statement has the statement's ranges, in their order
 abbrev pub AllAreThere : Type 0
@@ -51,7 +51,7 @@ AllAreThere = (s : Statement) → todo_writes (flat s) ≡ statement_writes s
 -- what a process of this body has to do, when it starts or behind some steps, whatever the stores and the times at which it takes them
 pub data IsLeft (body : Statement) : Todo → Type 0 where
   start : IsLeft body (flat body)
-  behind : (todo : Todo) (store : Store) (time : ℕ) → IsLeft body todo → IsLeft body (todo_behind (step todo store time).next)
+  behind : (todo : Todo) (store : Store) (time : ℕ) → IsLeft body todo → IsLeft body (todo_after (step todo store time).next)
 
 -- no step of a process writes outside the ranges of its body, neither at once nor by an update
 pub record ProcessesWriteWhatIsNamed : Type 0 where

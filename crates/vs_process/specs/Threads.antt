@@ -21,7 +21,7 @@ use Rattle.vs_design.specs.Writes.{Write, names}
 use Rattle.vs_process.specs.Places.{perform, turns, Todo, Place, going, sleeping, inactive, waiting, ended}
 use Rattle.vs_process.specs.Steps.{Out, step}
 use Rattle.vs_process.specs.vs_eval.specs.Waking.{wakes}
-use Rattle.vs_process.specs.States.{State, Update, Called, place_behind, updates_behind, calls_behind, roused, triggered}
+use Rattle.vs_process.specs.States.{State, Update, Called, place_after_step, updates_after, calls_after, roused, triggered}
 use Rattle.vs_process.specs.Edges.{Copies, inverses, shown}
 
 -- a process on a store of its own: where it is, its store, what it has written by blocking assignments, the updates and the calls of `$strobe`
@@ -35,22 +35,22 @@ pub record Thread : Type 0 where
   pub fin : Bool
 
 -- a store behind a step that may write
-abbrev pub store_behind : Store → Option Write → Store
-store_behind store None = store
-store_behind store (Some w) = put store w
+abbrev pub store_after : Store → Option Write → Store
+store_after store None = store
+store_after store (Some w) = put store w
 
-abbrev pub log_behind : List Write → Option Write → List Write
-log_behind log None = log
-log_behind log (Some w) = w ∷ log
+abbrev pub log_after : List Write → Option Write → List Write
+log_after log None = log
+log_after log (Some w) = w ∷ log
 
 -- a thread after a step of its process, of which this came
 abbrev pub moved : ℕ → ℕ → Place → Out → Thread → Thread
 moved time i place out th = record {
-  place = place_behind place time out.next;
-  view = store_behind th.view out.write;
-  log = log_behind th.log out.write;
-  made = updates_behind i time out.update th.made;
-  asked = calls_behind i out.call th.asked;
+  place = place_after_step place time out.next;
+  view = store_after th.view out.write;
+  log = log_after th.log out.write;
+  made = updates_after i time out.update th.made;
+  asked = calls_after i out.call th.asked;
   fin = th.fin || out.finish;
 }
 

@@ -85,7 +85,7 @@ fn foresee(store: &Store, write: &Write, changes: &mut Vec<Change>) -> Result<()
     changes.reserve(parts.len())?;
     for part in parts {
         let before = store.word(part.signal, part.word);
-        let behind = store.word_behind(write, part.signal, part.word);
+        let behind = store.word_after_write(write, part.signal, part.word);
         note_word(part.signal, part.word, before, behind, changes);
     }
     Ok(())

@@ -1,8 +1,8 @@
 //! Where a process that is run alone stands in its flat code.
 ghost use Rattle.std.specs.Prelude.{◌≡◌, ℕ, List, length, IfOk, OnOk, OnErr, MatchOption};
 ghost use Rattle.vs_design.specs.Stores.{put};
-ghost use Rattle.vs_process.specs.Changes.{store_behind};
-ghost use Rattle.vs_process.specs.Codes.{job_of, todo_in, IsCode, StandsAt, IsEnd};
+ghost use Rattle.vs_process.specs.Changes.{store_after};
+ghost use Rattle.vs_process.specs.Codes.{job_of, todo_in, IsCode, IsOpAt, IsEnd};
 ghost use Rattle.vs_process.specs.Landings.{landing, lands, next_of, statement_lands, EndsSo};
 ghost use Rattle.vs_process.specs.Links.{item_of};
 ghost use Rattle.vs_process.specs.Places.{perform, flat};
@@ -44,7 +44,7 @@ impl<'a> Model for Cursor<'a> {
 
 // The instruction at a place, where it isn't the end.
 fn op_at<'a>(ops: &'a [Op<'a>], place: usize) -> Option<&'a Op<'a>>
-    ensures { MatchOption result (IsEnd ops.entry.now place) (λ x. StandsAt ops.entry.now place x.now) }
+    ensures { MatchOption result (IsEnd ops.entry.now place) (λ x. IsOpAt ops.entry.now place x.now) }
 {
     if place == 0 {
         return None;
@@ -170,7 +170,7 @@ fn step<'a>(
     ensures next { IfOk result (λ r. (step (todo_in ops.entry.now counters.old.items place) store.old time).next
         ≡ next_of r.0 (todo_in ops.entry.now counters.new.items r.1)) }
     ensures store { OnOk result (store.new
-        ≡ store_behind store.old (step (todo_in ops.entry.now counters.old.items place) store.old time).write) }
+        ≡ store_after store.old (step (todo_in ops.entry.now counters.old.items place) store.old time).write) }
     ensures counters_kept { OnErr result (counters.new.items ≡ counters.old.items) }
     ensures store_kept { OnErr result (store.new ≡ store.old) }
 {
@@ -211,7 +211,7 @@ impl<'a> Cursor<'a> {
         time: u64,
     ) -> Result<Halt<'a>, AllocError>
         ensures next { IfOk result (λ halt. (step self.old store.old time).next ≡ next_of halt self.new) }
-        ensures store { OnOk result (store.new ≡ store_behind store.old (step self.old store.old time).write) }
+        ensures store { OnOk result (store.new ≡ store_after store.old (step self.old store.old time).write) }
         ensures place_kept { OnErr result (self.new ≡ self.old) }
         ensures store_kept { OnErr result (store.new ≡ store.old) }
     {

@@ -33,8 +33,9 @@ pub use halt::Halt;
 pub use laws::{controls_are_apart, one_place, ways_are};
 pub use moves::{Grain, Move};
 pub use process_laws::{
-    blocks_are_told, blocks_exclude, idle_assigns_have_values, inside_follows, inside_goes_on,
-    moves_are_permitted, never_stuck, none_inside_first, stores_are_sized, times_rise,
+    blocks_are_recognized, blocks_exclude, idle_assigns_have_values, inside_follows,
+    inside_goes_on, moves_are_permitted, never_stuck, none_inside_first, stores_are_sized,
+    times_rise,
 };
 pub use reading_laws::{processes_read_what_is_named, steps_read_what_is_named};
 pub use script::{Action, Instruction, Script, case_of};

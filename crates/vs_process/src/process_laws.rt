@@ -1,6 +1,6 @@
 //! Laws of executions.
 ghost use Rattle.vs_process.specs.Blocks.{BlocksExclude, InsideFollows, InsideGoesOn, NoneInsideFirst};
-ghost use Rattle.vs_process.specs.Examples.{BlocksAreTold};
+ghost use Rattle.vs_process.specs.Examples.{BlocksAreRecognized};
 ghost use Rattle.vs_process.specs.Idle.{IdleHaveValues};
 ghost use Rattle.vs_process.specs.Laws.{StoresAreSized, TimesRise};
 ghost use Rattle.vs_process.specs.Permitted.{NeverStuck, MovesArePermitted};
@@ -54,6 +54,6 @@ pub fn inside_goes_on()
 
 /// The process of `always @* begin t = a & b; y = t | c; end` is a combinational block. None of `reg clk = 0; reg a = 0, b = 1;
 /// always #5 clk = ~clk; always @(posedge clk) a <= b; always @(posedge clk) b <= a;` is: an edge, a delay and an `initial` make none.
-pub fn blocks_are_told()
-    ensures { BlocksAreTold }
+pub fn blocks_are_recognized()
+    ensures { BlocksAreRecognized }
 {}

@@ -5,15 +5,15 @@ use Rattle.std.specs.Prelude.{◌≤◌, Option, None, Some}
 use Rattle.std.specs.Io.KnownBytes.{Keeps, append_known}
 use Rattle.std.proofs.KnownBytes.{Appends-kept, Keeps-refl}
 use Rattle.vs_design.specs.Parts.{Parts}
-use Rattle.vs_certified.specs.vs_process.specs.declared.moves.Move.{Move}
-use Rattle.vs_race.specs.vs_propose.specs.vs_rules.specs.Claims.{Claims}
-use Rattle.vs_race.specs.vs_propose.specs.declared.proposal.Proposal.{Proposal}
-use Rattle.vs_race.specs.vs_propose.specs.declared.proposal.Proposal.TheVariants.{Made, NotMade}
-use Rattle.vs_certified.specs.vs_kernel.specs.Runs.{HasBegun, RanTo}
-use Rattle.vs_certified.specs.vs_kernel.specs.declared.outcome.Outcome.{Outcome}
-use Rattle.vs_certified.specs.Certified.{HasBegunCertifiedRunBy, IsCertifiedRunBy, StandsFor, is_before_run}
-use Rattle.vs_certified.specs.declared.fault.CertifiedFault.{CertifiedFault}
-use Rattle.vs_certified.specs.vs_simulate.specs.Honesty.{IsRun, HasBegunRun}
+use Rattle.vs_sign_off.specs.vs_process.specs.declared.moves.Move.{Move}
+use Rattle.vs_sign_off.specs.vs_propose.specs.vs_rules.specs.Claims.{Claims}
+use Rattle.vs_sign_off.specs.vs_propose.specs.declared.proposal.Proposal.{Proposal}
+use Rattle.vs_sign_off.specs.vs_propose.specs.declared.proposal.Proposal.TheVariants.{Made, NotMade}
+use Rattle.vs_sign_off.specs.vs_kernel.specs.Runs.{HasBegun, RanTo}
+use Rattle.vs_sign_off.specs.vs_kernel.specs.declared.outcome.Outcome.{Outcome}
+use Rattle.vs_sign_off.specs.Certified.{HasBegunCertifiedRunBy, IsCertifiedRunBy, RepresentsRun, is_before_run}
+use Rattle.vs_sign_off.specs.declared.fault.CertifiedFault.{CertifiedFault}
+use Rattle.vs_sign_off.specs.vs_simulate.specs.Honesty.{IsRun, HasBegunRun}
 use Rattle.vs_program.specs.declared.doing.Texts.{Texts}
 use Rattle.vs_program.specs.declared.doing.Texts.TheVariants.{Both, One}
 use Rattle.vs_program_words.specs.declared.words.Outputs.{Outputs}
@@ -75,8 +75,8 @@ module _ (old mid new lines_old lines_mid lines_new : Option (List ℕ)) (kept :
       → HasBegunRun bytes top until steps old new lines_old lines_new
   begun_run_kept bytes top until steps h = record { design = h.design; defined = h.defined; begun = left_kept h.begun }
 
-  stands_kept : (d : Parts) (c : Claims) (until : ℕ) (moves xs : List Move) → StandsFor d c until moves old mid lines_old lines_mid xs
-      → StandsFor d c until moves old new lines_old lines_new xs
+  stands_kept : (d : Parts) (c : Claims) (until : ℕ) (moves xs : List Move) → RepresentsRun d c until moves old mid lines_old lines_mid xs
+      → RepresentsRun d c until moves old new lines_old lines_new xs
   stands_kept d c until moves xs h = record {
     same = h.same;
     dump = Appends-kept old mid new _ h.dump kept;

@@ -1,15 +1,15 @@
 -- Lemmas on proposals.
 use Rattle.std.proofs.Common.{◌≡◌, ◌∙◌, ℕ, List, [], ◌++◌, Option, Some, None, ap, append-nil, append_assoc, drop, subst, sym, take, take-append-drop}
 use Rattle.std.specs.Io.KnownBytes.{Appends, append_known}
-use Rattle.vs_certified.specs.vs_vcd_writing.specs.Sinks.{AppendsPart}
+use Rattle.vs_sign_off.specs.vs_vcd_writing.specs.Sinks.{AppendsPart}
 use Rattle.vs_program_words.specs.vs_certificate.specs.declared.members.Certificate.{Certificate}
 use Rattle.vs_program_words.specs.vs_certificate.specs.Reading as certificates
 use Rattle.vs_program_words.specs.vs_certificate.specs.declared.members.ClaimedGrain.{ClaimedGrain}
 use Rattle.vs_program_words.specs.vs_certificate.specs.declared.members.Rules.{Rules}
 use Rattle.vs_design.specs.Parts.{Parts}
-use Rattle.vs_race.specs.vs_propose.specs.Proposals.{IsProposalBy}
-use Rattle.vs_race.specs.vs_propose.specs.declared.proposal.Proposal.{Proposal}
-use Rattle.vs_race.specs.vs_propose.specs.declared.proposal.Proposal.TheVariants.{Made, NotMade}
+use Rattle.vs_sign_off.specs.vs_propose.specs.Proposals.{IsProposalBy}
+use Rattle.vs_sign_off.specs.vs_propose.specs.declared.proposal.Proposal.{Proposal}
+use Rattle.vs_sign_off.specs.vs_propose.specs.declared.proposal.Proposal.TheVariants.{Made, NotMade}
 use Rattle.vs_program.specs.Texts.{ReadsBack}
 use Rattle.vs_program.specs.passes.Proposing.{IsShort}
 

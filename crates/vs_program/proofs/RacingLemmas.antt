@@ -2,11 +2,11 @@
 use Rattle.std.proofs.Common.{◌≡◌, ◌∙◌, Bool, true, false, List, ℕ, sym}
 use Rattle.std.proofs.lemmas.Bool.{false≢true}
 use Rattle.vs_design.specs.Parts.{Parts}
-use Rattle.vs_certified.specs.vs_simulate.specs.Honesty.{Defines}
+use Rattle.vs_sign_off.specs.vs_simulate.specs.Honesty.{Defines}
 use Rattle.vs_program_words.specs.vs_certificate.specs.declared.members.Rules.{Rules}
-use Rattle.vs_race.specs.Races.{IsAnswerBy}
-use Rattle.vs_race.specs.declared.answer.Race.{Race}
-use Rattle.vs_race.specs.declared.answer.Race.TheVariants.{Certified, Found, FoundLine, NotFound}
+use Rattle.vs_sign_off.specs.Races.{IsAnswerBy}
+use Rattle.vs_sign_off.specs.declared.answer.Race.{Race}
+use Rattle.vs_sign_off.specs.declared.answer.Race.TheVariants.{Certified, Found, FoundLine, NotFound}
 
 -- what is answered is of a source that defines a design
 pub defined_of : (rules : Rules) (source top : List ℕ) (r : Race) → IsAnswerBy rules source top r → (d : Parts) × Defines source top d

@@ -7,20 +7,20 @@ use Rattle.vs_program_words.specs.vs_certificate.specs.declared.members.ClaimedG
 use Rattle.vs_program_words.specs.vs_certificate.specs.declared.members.Rules.{Rules}
 use Rattle.vs_program_words.specs.vs_certificate.specs.declared.fault.CertFault.TheVariants.{NotJson}
 use Rattle.vs_design.specs.Parts.{Parts}
-use Rattle.vs_certified.specs.vs_vcd_writing.specs.Sinks.{AppendsPart}
-use Rattle.vs_certified.specs.vs_kernel.specs.declared.outcome.Outcome.{Outcome}
-use Rattle.vs_certified.specs.vs_cert_check.specs.declared.verdict.Verdict.{Verdict}
-use Rattle.vs_race.specs.vs_propose.specs.declared.proposal.Proposal.{Proposal}
-use Rattle.vs_race.specs.vs_propose.specs.declared.proposal.Proposal.TheVariants.{NotMade}
-use Rattle.vs_race.specs.vs_propose.specs.Proposals.{IsProposalBy}
-use Rattle.vs_certified.specs.vs_simulate.specs.Honesty.{Defines, IsRun, HasBegunRun, SimulationFails}
-use Rattle.vs_certified.specs.vs_simulate.specs.Listing.{IsListed, HasBegunListing}
-use Rattle.vs_certified.specs.Certified.{IsCertifiedRunBy, HasBegunCertifiedRunBy, CertifyingFailsBy, is_before_run}
-use Rattle.vs_certified.specs.Judged.{IsJudgedBy}
-use Rattle.vs_certified.specs.declared.fault.CertifiedFault.{CertifiedFault}
-use Rattle.vs_certified.specs.declared.fault.CertifiedFault.TheVariants.{Simulation, Certificate, Rejected}
-use Rattle.vs_certified.specs.vs_simulate.specs.declared.fault.SimFault.TheVariants as sim
-use Rattle.vs_certified.specs.vs_kernel.specs.declared.outcome.RunFault.TheVariants as run
+use Rattle.vs_sign_off.specs.vs_vcd_writing.specs.Sinks.{AppendsPart}
+use Rattle.vs_sign_off.specs.vs_kernel.specs.declared.outcome.Outcome.{Outcome}
+use Rattle.vs_sign_off.specs.vs_cert_check.specs.declared.verdict.Verdict.{Verdict}
+use Rattle.vs_sign_off.specs.vs_propose.specs.declared.proposal.Proposal.{Proposal}
+use Rattle.vs_sign_off.specs.vs_propose.specs.declared.proposal.Proposal.TheVariants.{NotMade}
+use Rattle.vs_sign_off.specs.vs_propose.specs.Proposals.{IsProposalBy}
+use Rattle.vs_sign_off.specs.vs_simulate.specs.Honesty.{Defines, IsRun, HasBegunRun, SimulationFails}
+use Rattle.vs_sign_off.specs.vs_simulate.specs.Listing.{IsListing, HasBegunListing}
+use Rattle.vs_sign_off.specs.Certified.{IsCertifiedRunBy, HasBegunCertifiedRunBy, CertifyingFailsBy, is_before_run}
+use Rattle.vs_sign_off.specs.Judged.{IsJudgedBy}
+use Rattle.vs_sign_off.specs.declared.fault.CertifiedFault.{CertifiedFault}
+use Rattle.vs_sign_off.specs.declared.fault.CertifiedFault.TheVariants.{Simulation, Certificate, Rejected}
+use Rattle.vs_sign_off.specs.vs_simulate.specs.declared.fault.SimFault.TheVariants as sim
+use Rattle.vs_sign_off.specs.vs_kernel.specs.declared.outcome.RunFault.TheVariants as run
 use Rattle.vs_preprocess.specs.Limits.{text_limit}
 use Rattle.vs_program_words.specs.declared.words.Call as asked
 use Rattle.vs_program_words.specs.declared.words.Request.{Request}
@@ -97,7 +97,7 @@ HasWritten bytes certificate o (Check top rules) (Judged v) old new dump_old dum
 HasWritten bytes certificate o (Certify top grain rules) (Proposed p) old new dump_old dump_new =
     WroteProposal rules bytes top.now grain p old new
 HasWritten bytes certificate o (Race q) (Raced race) old new dump_old dump_new = WroteRace q.rules bytes q.top.now race old new
-HasWritten bytes certificate o (Elab top) Listed old new dump_old dump_new = IsListed bytes top.now old new
+HasWritten bytes certificate o (Elab top) Listed old new dump_old dump_new = IsListing bytes top.now old new
 HasWritten bytes certificate o Preprocess Preprocessed old new dump_old dump_new = Appends old new bytes
 HasWritten bytes certificate o call _ old new dump_old dump_new = ⊥
 

@@ -5,14 +5,14 @@ use Rattle.std.specs.Io.KnownBytes.{Appends}
 use Rattle.vs_design.specs.vs_logic4.specs.declared.digit.Digit.{Digit}
 use Rattle.vs_design.specs.vs_logic4.specs.Tables.{letter}
 use Rattle.vs_elaborate.specs.vs_scopes.specs.Texts.{shown_byte}
-use Rattle.vs_certified.specs.vs_vcd_writing.specs.Sinks.{AppendsPart}
-use Rattle.vs_race.specs.Dumps.{AreDumps}
+use Rattle.vs_sign_off.specs.vs_vcd_writing.specs.Sinks.{AppendsPart}
+use Rattle.vs_sign_off.specs.Dumps.{AreDumps}
 use Rattle.vs_program_words.specs.vs_certificate.specs.declared.members.Rules.{Rules}
-use Rattle.vs_race.specs.Races.{IsAnswerBy}
-use Rattle.vs_race.specs.declared.answer.Race.{Race}
-use Rattle.vs_race.specs.declared.answer.Race.TheVariants.{Certified, Found, FoundLine, NotFound}
-use Rattle.vs_race.specs.declared.witness.LineWitness.{LineWitness}
-use Rattle.vs_race.specs.declared.witness.Witness.{Witness}
+use Rattle.vs_sign_off.specs.Races.{IsAnswerBy}
+use Rattle.vs_sign_off.specs.declared.answer.Race.{Race}
+use Rattle.vs_sign_off.specs.declared.answer.Race.TheVariants.{Certified, Found, FoundLine, NotFound}
+use Rattle.vs_sign_off.specs.declared.witness.LineWitness.{LineWitness}
+use Rattle.vs_sign_off.specs.declared.witness.Witness.{Witness}
 
 -- the text of a value: its digits, the highest first
 abbrev pub value_text : List Digit → List ℕ
@@ -37,14 +37,14 @@ race_line (FoundLine w refused) = row_line w
 race_line (NotFound missed refused) = codes "none found" ++ 10 ∷ []
 
 -- a text begins with the first line of what is told
-abbrev pub IsTold : Race → List ℕ → Type 0
-IsTold race text = (more : List ℕ) × (text ≡ race_line race ++ more)
+abbrev pub IsRaceText : Race → List ℕ → Type 0
+IsRaceText race text = (more : List ℕ) × (text ≡ race_line race ++ more)
 
 -- what is told of a search, with certificates by these rules, was written
 pub record WroteRace (rules : Rules) (bytes top : List ℕ) (race : Race) (old new : Option (List ℕ)) : Type 0 where
   pub answered : IsAnswerBy rules bytes top race
   pub text : List ℕ
-  pub told : IsTold race text
+  pub told : IsRaceText race text
   pub written : Appends old new text
 
 -- the dumps of the two runs of a race that was found were written to its moment; else nothing was
@@ -59,7 +59,7 @@ pub record HasBegunRace (rules : Rules) (bytes top : List ℕ) (old new : Option
   pub race : Race
   pub answered : IsAnswerBy rules bytes top race
   pub text : List ℕ
-  pub told : IsTold race text
+  pub told : IsRaceText race text
   pub begun : AppendsPart old new text
 
 -- the status: 0 where a certificate was made, 1 where a race is shown, 2 where none was found

@@ -10,20 +10,20 @@ use Rattle.vs_parser.specs.declared.fault.ParseFault.{ParseFault}
 use Rattle.vs_parser.specs.declared.fault.ParseFault.TheVariants as parse
 use Rattle.vs_elaborate.specs.vs_scopes.specs.declared.faults.ElabFault.{ElabFault}
 use Rattle.vs_elaborate.specs.vs_scopes.specs.declared.faults.ElabFault.TheVariants as elab
-use Rattle.vs_certified.specs.vs_kernel.specs.declared.outcome.Outcome.{Outcome}
-use Rattle.vs_certified.specs.vs_kernel.specs.declared.outcome.Outcome.TheVariants as o
-use Rattle.vs_certified.specs.vs_simulate.specs.declared.fault.SimFault.{SimFault}
-use Rattle.vs_certified.specs.vs_simulate.specs.declared.fault.SimFault.TheVariants.{Lex, Parse, Elab, Run, Memory}
+use Rattle.vs_sign_off.specs.vs_kernel.specs.declared.outcome.Outcome.{Outcome}
+use Rattle.vs_sign_off.specs.vs_kernel.specs.declared.outcome.Outcome.TheVariants as o
+use Rattle.vs_sign_off.specs.vs_simulate.specs.declared.fault.SimFault.{SimFault}
+use Rattle.vs_sign_off.specs.vs_simulate.specs.declared.fault.SimFault.TheVariants.{Lex, Parse, Elab, Run, Memory}
 use Rattle.vs_program_words.specs.vs_certificate.specs.declared.fault.CertFault.{CertFault}
 use Rattle.vs_program_words.specs.vs_certificate.specs.declared.fault.CertFault.TheVariants as certificate
-use Rattle.vs_certified.specs.declared.fault.CertifiedFault.{CertifiedFault}
-use Rattle.vs_certified.specs.declared.fault.CertifiedFault.TheVariants.{Simulation, Certificate, Rejected}
-use Rattle.vs_certified.specs.vs_cert_check.specs.declared.verdict.Verdict.{Verdict}
-use Rattle.vs_certified.specs.vs_cert_check.specs.declared.verdict.Verdict.TheVariants.{Yes, No}
+use Rattle.vs_sign_off.specs.declared.fault.CertifiedFault.{CertifiedFault}
+use Rattle.vs_sign_off.specs.declared.fault.CertifiedFault.TheVariants.{Simulation, Certificate, Rejected}
+use Rattle.vs_sign_off.specs.vs_cert_check.specs.declared.verdict.Verdict.{Verdict}
+use Rattle.vs_sign_off.specs.vs_cert_check.specs.declared.verdict.Verdict.TheVariants.{Yes, No}
 use Rattle.vs_program_words.specs.declared.target.TargetFault.{TargetFault}
 use Rattle.vs_program_words.specs.declared.target.TargetFault.TheVariants as target
-use Rattle.vs_race.specs.vs_propose.specs.declared.proposal.Proposal.{Proposal}
-use Rattle.vs_race.specs.vs_propose.specs.declared.proposal.Proposal.TheVariants.{Made, NotMade}
+use Rattle.vs_sign_off.specs.vs_propose.specs.declared.proposal.Proposal.{Proposal}
+use Rattle.vs_sign_off.specs.vs_propose.specs.declared.proposal.Proposal.TheVariants.{Made, NotMade}
 
 -- whether a number is a status: 0 done, 1 refused, 2 step limit, 3 memory or a device's fault, 64 command line
 abbrev pub is_status : ℕ → Bool

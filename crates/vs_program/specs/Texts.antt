@@ -6,18 +6,18 @@ use Rattle.vs_program_words.specs.vs_certificate.specs.JsonValue.{value_of}
 use Rattle.vs_program_words.specs.vs_certificate.specs.Reading as certificates
 use Rattle.vs_program_words.specs.vs_certificate.specs.declared.members.Rules.{Rules}
 use Rattle.vs_elaborate.specs.vs_scopes.specs.Texts.{shown_byte}
-use Rattle.vs_certified.specs.declared.fault.CertifiedFault.{CertifiedFault}
-use Rattle.vs_certified.specs.declared.fault.CertifiedFault.TheVariants.{Simulation, Certificate, Rejected}
-use Rattle.vs_certified.specs.vs_cert_check.specs.declared.verdict.Verdict.{Verdict}
-use Rattle.vs_certified.specs.vs_cert_check.specs.declared.verdict.Verdict.TheVariants.{Yes, No}
-use Rattle.vs_race.specs.vs_propose.specs.declared.proposal.Proposal.{Proposal}
-use Rattle.vs_race.specs.vs_propose.specs.declared.proposal.Proposal.TheVariants.{Made, NotMade}
+use Rattle.vs_sign_off.specs.declared.fault.CertifiedFault.{CertifiedFault}
+use Rattle.vs_sign_off.specs.declared.fault.CertifiedFault.TheVariants.{Simulation, Certificate, Rejected}
+use Rattle.vs_sign_off.specs.vs_cert_check.specs.declared.verdict.Verdict.{Verdict}
+use Rattle.vs_sign_off.specs.vs_cert_check.specs.declared.verdict.Verdict.TheVariants.{Yes, No}
+use Rattle.vs_sign_off.specs.vs_propose.specs.declared.proposal.Proposal.{Proposal}
+use Rattle.vs_sign_off.specs.vs_propose.specs.declared.proposal.Proposal.TheVariants.{Made, NotMade}
 use Rattle.vs_syntax.specs.vs_lexer.specs.Faults as lexer
 use Rattle.vs_parser.specs.Faults as parser
 use Rattle.vs_elaborate.specs.vs_scopes.specs.Texts as elaborate
-use Rattle.vs_certified.specs.vs_kernel.specs.declared.outcome.RunFault.TheVariants as run
-use Rattle.vs_certified.specs.vs_simulate.specs.declared.fault.SimFault.{SimFault}
-use Rattle.vs_certified.specs.vs_simulate.specs.declared.fault.SimFault.TheVariants.{Lex, Parse, Elab, Run, Memory}
+use Rattle.vs_sign_off.specs.vs_kernel.specs.declared.outcome.RunFault.TheVariants as run
+use Rattle.vs_sign_off.specs.vs_simulate.specs.declared.fault.SimFault.{SimFault}
+use Rattle.vs_sign_off.specs.vs_simulate.specs.declared.fault.SimFault.TheVariants.{Lex, Parse, Elab, Run, Memory}
 
 -- the text of a fault: its number and its place, or what failed
 abbrev pub fault_text : SimFault → List ℕ

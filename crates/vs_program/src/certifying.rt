@@ -1,6 +1,6 @@
 //! Certificates that a call makes.
 ghost use Rattle.std.specs.Prelude.{◌≡◌, ◌⊎◌, ℕ, List, [], IfOk, IfErr, true};
-ghost use Rattle.vs_certified.specs.Certified.{is_before_run};
+ghost use Rattle.vs_sign_off.specs.Certified.{is_before_run};
 ghost use Rattle.vs_program.specs.Ends.{MakingFails, done_status, held_of};
 ghost use Rattle.vs_program.specs.passes.Proposing.{HasProposed, WroteLine};
 
@@ -12,12 +12,12 @@ use crate::texts::{FAILED, is_too_long, proposal_line};
 use crate::writing::{Place, tell_write};
 use std::alloc::Global;
 use std::io::Write;
-use vs_certified::CertifiedFault;
-use vs_certified::vs_simulate::design_of;
 use vs_outputs::{Late, OutputFile};
 use vs_program_words::Call;
 use vs_program_words::vs_certificate::{CertFault, ClaimedGrain, Rules, written_reads_back};
-use vs_race::vs_propose::{Proposal, propose_by};
+use vs_sign_off::CertifiedFault;
+use vs_sign_off::vs_propose::{Proposal, propose_by};
+use vs_sign_off::vs_simulate::design_of;
 
 /// What is proposed, and its line.
 #[derive(Drop)]

@@ -2,10 +2,10 @@
 
 use std::alloc::{AllocError, Global};
 use vs_program_words::Choice;
-use vs_race::{Span, choices_of};
+use vs_sign_off::{Span, choices_of};
 
 /// The items that choices take, one by one up to the last of them; all others take the first item. They are at most so many.
-pub(crate) fn listed_choices(
+pub(crate) fn choice_items(
     alloc: Global,
     choices: &[Choice],
     most: u64,

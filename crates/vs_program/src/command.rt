@@ -1,7 +1,7 @@
 //! The program: words, a reader and writers in, an exit status out.
 ghost use Rattle.std.specs.Prelude.{◌≡◌, ◌⊎◌, ℕ, List, [], Option, Some, map, true, IfOk, MatchResult};
 ghost use Rattle.std.specs.Io.KnownBytes.{Keeps, append_known};
-ghost use Rattle.vs_certified.specs.Certified.{is_before_run};
+ghost use Rattle.vs_sign_off.specs.Certified.{is_before_run};
 ghost use Rattle.vs_outputs.specs.Buffers.{all_bytes, writer_of};
 ghost use Rattle.vs_program.specs.Ends.{Ends, EndsAsked, EndsCall, EndsFiles, IsFinished, IsKeptBeside, done_status, held_of};
 ghost use Rattle.vs_program.specs.passes.Kept.{EndsHere, EndsKept, EndsMaking, EndsMeant};
@@ -19,14 +19,13 @@ use crate::texts::{FAILED, REFUSED};
 use crate::writing::{Buffers, Dumps, Place, dump_names, tell_input, tell_write};
 use std::alloc::Global;
 use std::io::{Read, Write};
-use vs_certified::CertifiedFault;
-use vs_certified::vs_kernel::RunFault;
-use vs_certified::vs_simulate::SimFault;
 use vs_outputs::{Late, OutputFile, ROOM, Sheet};
 use vs_preprocess::{Library, Shelf};
 use vs_program_words::vs_certificate::{ClaimedGrain, Rules};
 use vs_program_words::{Call, Subcommand, read_words, target_of, with_target};
-use vs_race::{Unwatched, Watch};
+use vs_sign_off::vs_kernel::RunFault;
+use vs_sign_off::vs_simulate::SimFault;
+use vs_sign_off::{CertifiedFault, Unwatched, Watch};
 
 /// What a call writes to, but for standard error.
 #[derive(Drop)]

@@ -1,7 +1,7 @@
 //! The count of orders that have been tried, on a terminal.
 
 use std::io::Write;
-use vs_race::Watch;
+use vs_sign_off::Watch;
 
 /// Shows how many orders of a long search have been tried, where its writer is a terminal. The line is taken away at the end.
 #[derive(Drop)]

@@ -3,8 +3,8 @@ ghost use Rattle.std.specs.Prelude.{◌≡◌, true};
 ghost use Rattle.vs_program.specs.Statuses.{refusal_status};
 
 use crate::input::SOURCE_LIMIT;
-use vs_certified::CertifiedFault;
-use vs_certified::vs_simulate::SimFault;
+use vs_sign_off::CertifiedFault;
+use vs_sign_off::vs_simulate::SimFault;
 use vs_syntax::vs_lexer::{LexFault, Refusal};
 
 // Whether the piece at a place goes on to the end of what is kept: a comment or an attribute does, a string up to the end of its line.

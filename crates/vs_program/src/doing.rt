@@ -1,34 +1,33 @@
 //! What a call does with the bytes of its input.
 ghost use Rattle.std.specs.Prelude.{◌≡◌, IfOk, IfErr, OnOk, true, false};
 ghost use Rattle.std.specs.Io.KnownBytes.{Appends};
-ghost use Rattle.vs_certified.specs.Certified.{CertifyingFailsBy, is_before_run};
-ghost use Rattle.vs_certified.specs.vs_simulate.specs.Honesty.{SimulationFails, is_refusal};
-ghost use Rattle.vs_certified.specs.vs_simulate.specs.declared.fault.SimFault.TheVariants.{Run};
-ghost use Rattle.vs_certified.specs.vs_kernel.specs.declared.outcome.RunFault.TheVariants.{Write};
-ghost use Rattle.vs_certified.specs.vs_vcd_writing.specs.Sinks.{AppendsPart};
+ghost use Rattle.vs_sign_off.specs.Certified.{CertifyingFailsBy, is_before_run};
+ghost use Rattle.vs_sign_off.specs.vs_simulate.specs.Honesty.{SimulationFails, is_refusal};
+ghost use Rattle.vs_sign_off.specs.vs_simulate.specs.declared.fault.SimFault.TheVariants.{Run};
+ghost use Rattle.vs_sign_off.specs.vs_kernel.specs.declared.outcome.RunFault.TheVariants.{Write};
+ghost use Rattle.vs_sign_off.specs.vs_vcd_writing.specs.Sinks.{AppendsPart};
 ghost use Rattle.vs_program.specs.Ends.{CallFails, CheckingFails, MakingFails, texts_of};
 ghost use Rattle.vs_program.specs.Ends.{HasWritten, Wrote, WroteCertified, WroteProposal, WroteVerdict};
 ghost use Rattle.vs_program.specs.Ends.{HasBegunCertifiedText, HasBegunProposal, HasBegunText, HasBegunVerdict, HasBegunWriting};
 ghost use Rattle.vs_program.specs.Races.{HasBegunRace, WroteRace};
 
 use crate::certifying::proposed;
-use crate::choosing::listed_choices;
+use crate::choosing::choice_items;
 use crate::input::Kept;
 use crate::racing::{tell_race, tell_race_pair};
 use crate::texts::verdict_line;
 use crate::writing::Dumps;
 use std::alloc::Global;
-use vs_certified::vs_cert_check::Verdict;
-use vs_certified::vs_kernel::{Outcome, RunFault};
-use vs_certified::vs_simulate::{Policy, SimFault, list_design, simulate};
-use vs_certified::vs_vcd_writing::{Sink, WriteFault, write_all};
-use vs_certified::{CertifiedFault, certified_by, judge_by};
 use vs_preprocess::Places;
 use vs_program_words::vs_certificate::{ClaimedGrain, Rules};
 use vs_program_words::{Call, Choice, Hunt, Order, OutputText, Outputs, Request, Subcommand};
-use vs_race::vs_propose::Proposal;
-use vs_race::{Race, Watch};
 use vs_run_steps::Dropped;
+use vs_sign_off::vs_cert_check::Verdict;
+use vs_sign_off::vs_kernel::{Outcome, RunFault};
+use vs_sign_off::vs_propose::Proposal;
+use vs_sign_off::vs_simulate::{Policy, SimFault, list_design, simulate};
+use vs_sign_off::vs_vcd_writing::{Sink, WriteFault, write_all};
+use vs_sign_off::{CertifiedFault, Race, Watch, certified_by, judge_by};
 
 /// What a call did.
 #[derive(Drop)]
@@ -95,7 +94,7 @@ fn run_source<'s, S: Sink, V: Sink>(
     let mut dropped = Dropped;
     let top = request.top.as_bytes();
     let (until, steps) = (request.until.count, request.steps.count);
-    let choices = listed_choices(alloc, choices, steps)?;
+    let choices = choice_items(alloc, choices, steps)?;
     let policy = policy_of(request.order, &choices);
     match texts {
         Texts::Both => simulate(alloc, source, top, until, steps, &policy, dump, shown),

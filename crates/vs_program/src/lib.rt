@@ -21,7 +21,6 @@ pub use counting::Counting;
 pub use doing::Done;
 pub use telling::refuse_start;
 pub use texts::{fault_text, words_status};
-pub use vs_certified::vs_simulate::{Policy, SimFault, list_design, simulate};
 pub use vs_elaborate;
 pub use vs_outputs;
 pub use vs_parser;
@@ -30,5 +29,6 @@ pub use vs_program_words::{
     Call, Choice, Hunt, Order, OutputText, Outputs, Request, Sources, Subcommand, WordsFault,
     read_words,
 };
-pub use vs_race;
 pub use vs_run_steps::Dropped;
+pub use vs_sign_off;
+pub use vs_sign_off::vs_simulate::{Policy, SimFault, list_design, simulate};

@@ -1,14 +1,12 @@
 //! The search for a race, and what is told of it.
 ghost use Rattle.std.specs.Prelude.{◌≡◌, ◌++◌, ◌<◌, ◌^◌, IfOk, IfErr, OnOk, false, true};
 ghost use Rattle.vs_design.specs.vs_logic4.specs.Tables.{letter};
-ghost use Rattle.vs_certified.specs.vs_simulate.specs.Honesty.{SimulationFails, is_refusal};
-ghost use Rattle.vs_program.specs.Races.{HasBegunRace, IsTold, WroteDumps, WroteRace, race_line, race_status, row_line, value_text, witness_line};
+ghost use Rattle.vs_sign_off.specs.vs_simulate.specs.Honesty.{SimulationFails, is_refusal};
+ghost use Rattle.vs_program.specs.Races.{HasBegunRace, IsRaceText, WroteDumps, WroteRace, race_line, race_status, row_line, value_text, witness_line};
 
 use crate::doing::show;
 use crate::texts::{DONE, LIMITED, REFUSED, proposal_line};
 use std::alloc::{AllocError, Global};
-use vs_certified::vs_simulate::SimFault;
-use vs_certified::vs_vcd_writing::Sink;
 use vs_design::vs_logic4::{Digit, Vec4};
 use vs_elaborate::vs_scopes::push_bytes;
 use vs_outputs::vs_explain::{Asked, explain_pair};
@@ -16,8 +14,10 @@ use vs_outputs::{explained, push_sources};
 use vs_preprocess::Places;
 use vs_program_words::vs_certificate::Rules;
 use vs_program_words::{Call, Hunt, Sources};
-use vs_race::vs_propose::Proposal;
-use vs_race::{LineWitness, Missed, Race, Search, Span, Watch, Witness, race_by, write_dumps};
+use vs_sign_off::vs_propose::Proposal;
+use vs_sign_off::vs_simulate::SimFault;
+use vs_sign_off::vs_vcd_writing::Sink;
+use vs_sign_off::{LineWitness, Missed, Race, Search, Span, Watch, Witness, race_by, write_dumps};
 
 /// How many orders are tried where a race is sought for a design without a certificate.
 const TRIES: u64 = 100;
@@ -292,7 +292,7 @@ fn race_text(
     top: &str,
     search: &Search,
 ) -> Result<Vec<u8>, AllocError>
-    ensures { IfOk result (λ text. IsTold race.now text.items) }
+    ensures { IfOk result (λ text. IsRaceText race.now text.items) }
 {
     let mut text = race_line(alloc, race)?;
     let more = more_text(alloc, source, call, places, race, top, search)?;

@@ -4,8 +4,8 @@ use crate::doing::Done;
 use crate::input::Kept;
 use std::alloc::Global;
 use std::io::Write;
-use vs_certified::vs_kernel::Outcome;
-use vs_program_words::{Call, Subcommand, told_tick};
+use vs_program_words::{Call, Subcommand, text_tick};
+use vs_sign_off::vs_kernel::Outcome;
 
 // The moment up to which a call runs a design.
 fn until_of(call: &Call) -> u64 {
@@ -27,7 +27,7 @@ pub(crate) fn tell_stopped<E: Write>(
     if kept.places.is_none() || !matches!(done, Done::Ran(Outcome::Reached)) {
         return;
     }
-    if let Ok(tick) = told_tick(alloc, &kept.source) {
+    if let Ok(tick) = text_tick(alloc, &kept.source) {
         let (until, zeros, unit) = (until_of(call), tick.zeros, tick.unit);
         let zeros = if until == 0 { "" } else { zeros };
         let _ = writeln!(

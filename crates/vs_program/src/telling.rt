@@ -16,10 +16,6 @@ use crate::texts::{
 use clap::Error;
 use std::alloc::{AllocError, Global};
 use std::io::{self, ErrorKind, Write};
-use vs_certified::CertifiedFault;
-use vs_certified::vs_cert_check::Verdict;
-use vs_certified::vs_kernel::Outcome;
-use vs_certified::vs_vcd_writing::{Counted, WriteFault, write_all};
 use vs_outputs::vs_explain::{Further, Offender};
 use vs_outputs::{
     Extent, Given, push_sources, tell_broken, tell_certificate, tell_files, tell_limit, tell_line,
@@ -28,8 +24,11 @@ use vs_outputs::{
 use vs_preprocess::{Places, Refusal, STANDARD_INPUT};
 use vs_program_words::vs_certificate::{Rules, to_json};
 use vs_program_words::{Call, Order, Request, Sources, Subcommand, WordsFault, top_of};
-use vs_race::vs_propose::{Proposal, Refusal as Unproved};
-use vs_race::{Race, Unwatched};
+use vs_sign_off::vs_cert_check::Verdict;
+use vs_sign_off::vs_kernel::Outcome;
+use vs_sign_off::vs_propose::{Proposal, Refusal as Unproved};
+use vs_sign_off::vs_vcd_writing::{Counted, WriteFault, write_all};
+use vs_sign_off::{CertifiedFault, Race, Unwatched};
 
 /// One line on standard error, and the exit status that goes with it.
 pub(crate) fn tell<E: Write>(err: &mut E, text: &[u8], status: u8) -> u8

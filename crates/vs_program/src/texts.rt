@@ -8,15 +8,15 @@ ghost use Rattle.vs_program.specs.passes.Proposing.{IsShort};
 use clap::Error;
 use clap::error::ErrorKind;
 use std::alloc::{AllocError, Global};
-use vs_certified::CertifiedFault;
-use vs_certified::vs_cert_check::Verdict;
-use vs_certified::vs_kernel::RunFault;
-use vs_certified::vs_simulate::SimFault;
 use vs_elaborate::ElabFault;
 use vs_elaborate::vs_scopes::push_bytes;
 use vs_parser::ParseFault;
 use vs_program_words::vs_certificate::{CertFault, to_json};
-use vs_race::vs_propose::Proposal;
+use vs_sign_off::CertifiedFault;
+use vs_sign_off::vs_cert_check::Verdict;
+use vs_sign_off::vs_kernel::RunFault;
+use vs_sign_off::vs_propose::Proposal;
+use vs_sign_off::vs_simulate::SimFault;
 use vs_syntax::vs_lexer::LexFault;
 
 /// Done, a yes, or help.

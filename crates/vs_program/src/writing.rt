@@ -1,7 +1,7 @@
 //! Where a call writes: a text and two dumps, each behind a buffer.
 ghost use Rattle.std.specs.Prelude.{◌≡◌, ◌⊎◌, ◌++◌, ◌∷◌, ℕ, List, [], OnOk, codes, true};
 ghost use Rattle.std.specs.Io.KnownBytes.{Keeps, append_known};
-ghost use Rattle.vs_certified.specs.Certified.{is_before_run};
+ghost use Rattle.vs_sign_off.specs.Certified.{is_before_run};
 ghost use Rattle.vs_outputs.specs.Buffers.{all_bytes, writer_of};
 ghost use Rattle.vs_program.specs.Ends.{IsOpen};
 ghost use Rattle.vs_program.specs.passes.Kept.{IsEndless};
@@ -11,12 +11,12 @@ use crate::telling::tell;
 use crate::texts::FAILED;
 use std::alloc::Global;
 use std::io::Write;
-use vs_certified::CertifiedFault;
-use vs_certified::vs_kernel::RunFault;
-use vs_certified::vs_simulate::SimFault;
-use vs_certified::vs_vcd_writing::Sink;
 use vs_outputs::Buffered;
 use vs_program_words::{Call, GREATEST, OutputText, Outputs, Subcommand};
+use vs_sign_off::CertifiedFault;
+use vs_sign_off::vs_kernel::RunFault;
+use vs_sign_off::vs_simulate::SimFault;
+use vs_sign_off::vs_vcd_writing::Sink;
 
 /// The two dumps that a call may write.
 #[derive(Drop)]

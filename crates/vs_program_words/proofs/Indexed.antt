@@ -5,32 +5,22 @@ use Rattle.std.specs.List.{list_any}
 use Rattle.std.specs.Str.{bytes_eq}
 use Rattle.std.proofs.lemmas.List.{take_all, take_more, map-append}
 use Rattle.std.proofs.lemmas.List.Folds.{list_any-append}
-use Rattle.std.proofs.lemmas.Slice.Eq.{bytes_eq-Decides}
 use Rattle.vs_widths.specs.Names.{Binds, meaning_of}
 use Rattle.vs_scopes.specs.Reads.{read_names}
+use Rattle.vs_scopes.proofs.ConnectionLemmas.{bytes_eq-sym}
 use Rattle.vs_program_words.specs.targets_passes.Names.{AreIndexed}
-
--- whether two names are one is the same from both sides
-both_ways : (x y : List ℕ) → bytes_eq x y ≡ bytes_eq y x
-both_ways x y = go (bytes_eq x y) (bytes_eq y x) refl refl
-  where
-    go : (a b : Bool) → bytes_eq x y ≡ a → bytes_eq y x ≡ b → a ≡ b
-    go true true e f = refl
-    go false false e f = refl
-    go true false e f = sym ((bytes_eq-Decides y x).1 (sym ((bytes_eq-Decides x y).0 e))) ∙ f
-    go false true e f = sym e ∙ (bytes_eq-Decides x y).1 (sym ((bytes_eq-Decides y x).0 f))
 
 -- a name more
 pub more : (names : List (List ℕ)) (old new : List (List ℕ × Bool)) (n : List ℕ) → AreIndexed names old → Binds old new n true → AreIndexed (names ++ n ∷ []) new
 more names old new n all binds k = ap is_some (binds k) ∙ go (bytes_eq n k) refl
   where
     go : (b : Bool) → bytes_eq n k ≡ b → is_some (cond b (Some true) (meaning_of old k)) ≡ list_any (bytes_eq k) (names ++ n ∷ [])
-    go true e = sym (list_any-append (bytes_eq k) names (n ∷ []) ∙ ap (λ b. list_any (bytes_eq k) names || (b || false)) (both_ways k n ∙ e) ∙ last (list_any (bytes_eq k) names))
+    go true e = sym (list_any-append (bytes_eq k) names (n ∷ []) ∙ ap (λ b. list_any (bytes_eq k) names || (b || false)) (bytes_eq-sym k n ∙ e) ∙ last (list_any (bytes_eq k) names))
       where
         last : (a : Bool) → (a || true) ≡ true
         last true = refl
         last false = refl
-    go false e = all k ∙ sym (list_any-append (bytes_eq k) names (n ∷ []) ∙ ap (λ b. list_any (bytes_eq k) names || (b || false)) (both_ways k n ∙ e) ∙ last (list_any (bytes_eq k) names))
+    go false e = all k ∙ sym (list_any-append (bytes_eq k) names (n ∷ []) ∙ ap (λ b. list_any (bytes_eq k) names || (b || false)) (bytes_eq-sym k n ∙ e) ∙ last (list_any (bytes_eq k) names))
       where
         last : (a : Bool) → (a || false) ≡ a
         last true = refl

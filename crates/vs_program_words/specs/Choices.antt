@@ -8,19 +8,19 @@ abbrev pub is_digit : ℕ → Bool
 is_digit byte = leb 48 byte && leb byte 57
 
 -- what has been read behind a byte that follows digits of a choice's number, or is one of them
-abbrev pub behind_choice : ℕ → Read → Read → Read
-behind_choice byte digits comma =
+abbrev pub after_choice : ℕ → Read → Read → Read
+after_choice byte digits comma =
     if is_digit byte then digits
     else (if byte == 46 then read.Dot else (if byte == 61 then read.Equals else (if byte == 44 then comma else read.Wrong)))
 
 -- what has been read behind one more byte
 abbrev pub read_byte : Read → ℕ → Read
 read_byte read.Nothing byte = if is_digit byte then read.First else read.Wrong
-read_byte read.First byte = behind_choice byte read.First read.Comma
+read_byte read.First byte = after_choice byte read.First read.Comma
 read_byte read.Comma byte = if is_digit byte then read.Own else read.Wrong
 read_byte read.Own byte = if is_digit byte then read.Own else (if byte == 44 then read.Comma else read.Wrong)
 read_byte read.Behind byte = if is_digit byte then read.Choice else read.Wrong
-read_byte read.Choice byte = behind_choice byte read.Choice read.Wrong
+read_byte read.Choice byte = after_choice byte read.Choice read.Wrong
 read_byte read.Dot byte = if byte == 46 then read.Dots else read.Wrong
 read_byte read.Dots byte = if is_digit byte then read.Last else read.Wrong
 read_byte read.Last byte = if is_digit byte then read.Last else (if byte == 61 then read.Equals else read.Wrong)

@@ -3,8 +3,8 @@ use Rattle.std.specs.Prelude.{ℕ, zero, suc, ◌==◌, ◌||◌, not, Bool, tru
 use Rattle.std.specs.Str.{bytes_eq}
 
 -- how many words behind a word are values of it, as an option
-abbrev pub values_behind : List ℕ → ℕ
-values_behind word = if bytes_eq word (codes "--vcd-pair") then 2
+abbrev pub option_values : List ℕ → ℕ
+option_values word = if bytes_eq word (codes "--vcd-pair") then 2
     else (if bytes_eq word (codes "-o") then 1 else (if bytes_eq word (codes "-D") then 1
     else (if bytes_eq word (codes "-I") then 1 else (if bytes_eq word (codes "--top") then 1
     else (if bytes_eq word (codes "--until") then 1 else (if bytes_eq word (codes "--steps") then 1
@@ -25,11 +25,11 @@ is_named zero word = is_file word
 is_named (suc due) word = false
 
 -- how many words behind it name none
-abbrev pub due_behind : ℕ → List ℕ → ℕ
-due_behind zero word = values_behind word
-due_behind (suc due) word = due
+abbrev pub due_after : ℕ → List ℕ → ℕ
+due_after zero word = option_values word
+due_after (suc due) word = due
 
 -- whether words name a file, of which so many name none: a word that is neither an option nor an option's value
 abbrev pub names_file : ℕ → List (List ℕ) → Bool
 names_file due [] = false
-names_file due (word ∷ rest) = is_named due word || names_file (due_behind due word) rest
+names_file due (word ∷ rest) = is_named due word || names_file (due_after due word) rest

@@ -16,16 +16,16 @@ abbrev pub item_uses : Item → List (List ℕ)
 item_uses (i.Instances n o xs) = n.items ∷ []
 item_uses _ = []
 
-abbrev pub step_behind : Option (Box (List (List ℕ)) Global) → List (List ℕ)
-step_behind None = []
-step_behind (Some ns) = ns.value
+abbrev pub step_after : Option (Box (List (List ℕ)) Global) → List (List ℕ)
+step_after None = []
+step_after (Some ns) = ns.value
 
 -- one layer of a module item: the names of the modules that it instantiates, with those of each inner one in its place (clause 12.4)
 abbrev pub uses_step : ModuleItem-F (List (List ℕ)) → List (List ℕ)
 uses_step (y.Plain x) = item_uses x
 uses_step (y.Region xs) = flat_map (λ ns. ns) xs.items
 uses_step (y.For h x) = x.value
-uses_step (y.If e x o) = x.value ++ step_behind o
+uses_step (y.If e x o) = x.value ++ step_after o
 uses_step y.Null = []
 uses_step (y.Block n xs) = flat_map (λ ns. ns) xs.items
 

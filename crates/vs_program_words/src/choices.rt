@@ -1,6 +1,6 @@
 //! Choices of items, as the words of a run have them.
 ghost use Rattle.std.specs.Prelude.{◌≡◌, ◌==◌, IfOk, OnOk, if◌then◌else◌, is_some};
-ghost use Rattle.vs_program_words.specs.Choices.{behind_choice, is_choices, is_digit, may_end, read_byte, read_bytes};
+ghost use Rattle.vs_program_words.specs.Choices.{after_choice, is_choices, is_digit, may_end, read_byte, read_bytes};
 ghost use Rattle.vs_program_words.specs.declared.choices.Read.TheVariants.{Nothing, Wrong};
 
 use std::alloc::{AllocError, Global};
@@ -53,7 +53,7 @@ fn is_digit(byte: u8) -> bool
 }
 
 // What has been read behind a byte that goes on with digits, or is this one behind them.
-fn behind_digits(byte: u8, digits: Read, end: u8, next: Read) -> Read
+fn after_digits(byte: u8, digits: Read, end: u8, next: Read) -> Read
     ensures { result ≡ (if is_digit byte then digits else (if byte == end then next else Wrong)) }
 {
     if is_digit(byte) {
@@ -73,8 +73,8 @@ fn first_digit(byte: u8, digits: Read) -> Read
 }
 
 // What has been read behind a byte that follows digits of a choice's number, or is one of them.
-fn behind_choice(byte: u8, digits: Read, comma: Read) -> Read
-    ensures { result ≡ behind_choice byte digits comma }
+fn after_choice(byte: u8, digits: Read, comma: Read) -> Read
+    ensures { result ≡ after_choice byte digits comma }
 {
     if is_digit(byte) {
         digits
@@ -95,16 +95,16 @@ fn read_byte(so_far: Read, byte: u8) -> Read
 {
     match so_far {
         Read::Nothing => first_digit(byte, Read::First),
-        Read::First => behind_choice(byte, Read::First, Read::Comma),
+        Read::First => after_choice(byte, Read::First, Read::Comma),
         Read::Comma => first_digit(byte, Read::Own),
-        Read::Own => behind_digits(byte, Read::Own, 44, Read::Comma),
+        Read::Own => after_digits(byte, Read::Own, 44, Read::Comma),
         Read::Behind => first_digit(byte, Read::Choice),
-        Read::Choice => behind_choice(byte, Read::Choice, Read::Wrong),
+        Read::Choice => after_choice(byte, Read::Choice, Read::Wrong),
         Read::Dot => { if byte == 46 { Read::Dots } else { Read::Wrong } }
         Read::Dots => first_digit(byte, Read::Last),
-        Read::Last => behind_digits(byte, Read::Last, 61, Read::Equals),
+        Read::Last => after_digits(byte, Read::Last, 61, Read::Equals),
         Read::Equals => first_digit(byte, Read::Item),
-        Read::Item => behind_digits(byte, Read::Item, 44, Read::Behind),
+        Read::Item => after_digits(byte, Read::Item, 44, Read::Behind),
         Read::Wrong => Read::Wrong,
     }
 }

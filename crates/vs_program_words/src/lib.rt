@@ -14,7 +14,7 @@ mod words;
 pub use choices::Choice;
 pub use moments::GREATEST;
 pub use target::{Target, TargetFault, target_of, top_of, with_target};
-pub use ticks::{Tick, told_tick};
+pub use ticks::{Tick, text_tick};
 pub use tops::top_modules;
 pub use vs_certificate;
 pub use vs_widths;

@@ -104,7 +104,7 @@ pub(crate) fn source_tick(source: &Source) -> Tick {
 }
 
 /// What a tick of a text stands for.
-pub fn told_tick(alloc: Global, text: &[u8]) -> Result<Tick, AllocError> {
+pub fn text_tick(alloc: Global, text: &[u8]) -> Result<Tick, AllocError> {
     match read_source(alloc, text)? {
         Some(source) => Ok(source_tick(&source)),
         None => Ok(NO_TICK),

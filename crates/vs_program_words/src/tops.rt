@@ -29,7 +29,7 @@ fn add_uses<'s>(names: &mut Vec<&'s [u8]>, item: &'s ModuleItem) -> Result<(), A
         ModuleItem::For(_, x) => add_uses(names, x),
         ModuleItem::If(_, x, other) => {
             add_uses(names, x)?;
-            add_uses_behind(names, other)
+            add_else_uses(names, other)
         }
         ModuleItem::Null => Ok(()),
         ModuleItem::Block(_, items) => add_uses_among(names, items),
@@ -39,7 +39,7 @@ fn add_uses<'s>(names: &mut Vec<&'s [u8]>, item: &'s ModuleItem) -> Result<(), A
 // Adds those of what stands behind `else`.
 #[cycle(uses)]
 #[inline(never)]
-fn add_uses_behind<'s>(
+fn add_else_uses<'s>(
     names: &mut Vec<&'s [u8]>,
     other: &'s Option<Box<ModuleItem>>,
 ) -> Result<(), AllocError>

@@ -4,7 +4,7 @@ ghost use Rattle.clap.specs.Words.{first_value, found_of, matched_of, one_text, 
 ghost use Rattle.vs_program_words.specs.Asks.{AskInVain, Asks, AsksAs, AsksFor, AsksRace, NamesFiles, NamesOutputs, WordsAsk, WordsFail, is_dump};
 ghost use Rattle.vs_program_words.specs.Asks.{CallFails, IsInVain, IsPolicy, IsPolicyIn, LooseFails, flag_named, grain_named, has_certificate, rules_named};
 ghost use Rattle.vs_program_words.specs.Asks.{has_moment, has_ticks, has_top, lacks_top, name_of, run};
-ghost use Rattle.vs_program_words.specs.FileWords.{due_behind, is_file, is_named, names_file, values_behind};
+ghost use Rattle.vs_program_words.specs.FileWords.{due_after, is_file, is_named, names_file, option_values};
 ghost use Rattle.vs_program_words.specs.Choices.{is_choices};
 ghost use Rattle.vs_program_words.specs.passes.Policies.{PolicyFails, UntilFails};
 ghost use Rattle.vs_program_words.specs.Moments.{IsNumber, IsUntil};
@@ -528,8 +528,8 @@ fn call_of<'a>(
 }
 
 // How many words behind a word are values of it, as an option.
-fn values_behind(word: &str) -> usize
-    ensures { result ≡ values_behind word.now }
+fn option_values(word: &str) -> usize
+    ensures { result ≡ option_values word.now }
 {
     match word {
         "--vcd-pair" => 2,
@@ -570,13 +570,13 @@ fn is_named(due: usize, word: &str) -> bool
 }
 
 // How many words behind a word name no file, where so many name none with it.
-fn due_behind(due: usize, word: &str) -> usize
-    ensures { result ≡ due_behind due word.now }
+fn due_after(due: usize, word: &str) -> usize
+    ensures { result ≡ due_after due word.now }
 {
     if due > 0 {
         due - 1
     } else {
-        values_behind(word)
+        option_values(word)
     }
 }
 
@@ -589,7 +589,7 @@ fn names_file(words: &[&str]) -> bool
         if is_named(due, word) {
             return true;
         }
-        due = due_behind(due, word);
+        due = due_after(due, word);
     }
     false
 }

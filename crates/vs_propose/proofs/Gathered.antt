@@ -1,5 +1,5 @@
 -- The continuous assignments from which each one reads, as they are gathered.
-use Rattle.std.proofs.Common.{◌≡◌, ℕ, zero, suc, ◌+◌, ◌-◌, ◌<◌, ◌≤◌, ◌⊎◌, ◌↔◌, inl, inr, Bool, true, false, ◌&&◌, nat_lt, Some, List, [], ◌∷◌, ◌++◌, length, get_or, slice_get, slice_index_or, IsTrue, Vec, Global, if◌then◌else◌, refl, sym, ◌∙◌, ap, subst, arith}
+use Rattle.std.proofs.Common.{◌≡◌, ℕ, ◌+◌, ◌-◌, ◌<◌, ◌≤◌, ◌⊎◌, ◌↔◌, inl, inr, Bool, true, false, ◌&&◌, nat_lt, Some, List, [], ◌∷◌, ◌++◌, length, get_or, slice_get, slice_index_or, IsTrue, Vec, Global, if◌then◌else◌, refl, sym, ◌∙◌, ap, subst, arith}
 use Rattle.std.specs.List.{Contains}
 use Rattle.std.proofs.lemmas.Bool.{lt-ltb, eqb-true, and_parts, true≢false}
 use Rattle.std.proofs.lemmas.List.{length-append}
@@ -13,16 +13,15 @@ use Rattle.vs_drivers.specs.vs_rules.specs.Claims.{Claims}
 use Rattle.vs_drivers.specs.vs_rules.specs.Drivers.{Driver, IsDriver, DriverReads, DriverWrites, DriverNeeds}
 use Rattle.vs_drivers.specs.vs_rules.specs.Drivers as drivers
 use Rattle.vs_graph.specs.Order.{Needs}
+use Rattle.vs_graph.proofs.Sorts.{push_cases}
 use Rattle.vs_drivers.specs.declared.writers.Written.{Written}
 use Rattle.vs_drivers.specs.Names.{AreMaps}
 use Rattle.vs_drivers.specs.Wires.{Wiring, wiring, driver_at, IsWiringOf}
 use Rattle.vs_drivers.specs.Ranges.{Share}
+use Rattle.vs_design.specs.vs_logic4.proofs.Basics.{below_or, there as get_at}
 use Rattle.vs_propose.specs.Needs.{ReadsFrom, AreNeeds, ArePut}
-use Rattle.vs_propose.proofs.Places.{contains_at, at_contains, get_at}
+use Rattle.vs_propose.proofs.Places.{contains_at, at_contains}
 use Rattle.vs_propose.proofs.Rules.{no_block}
-
-below_or : (i n : ℕ) → i < n + 1 → (i < n) ⊎ (i ≡ n)
-below_or i n h = grind (arith, h)
 
 -- ---- of one range
 
@@ -191,12 +190,6 @@ none_needed d table e = record {
   long = ap length e;
   exact = λ k row at. absurd (none-some row (subst (λ t. slice_get t k ≡ Some row) e at));
 }
-
-push_cases : {A : Type 0} (xs : List A) (x : A) (i : ℕ) (y : A) → slice_get (xs ++ x ∷ []) i ≡ Some y → (slice_get xs i ≡ Some y) ⊎ ((i ≡ length xs) × (x ≡ y))
-push_cases [] x zero y h = inr (refl, same_Some x y h)
-push_cases [] x (suc i) y h = absurd (cc)
-push_cases (z ∷ xs) x zero y h = inl h
-push_cases (z ∷ xs) x (suc i) y h = elim (push_cases xs x i y h) [ inl a ↦ inl a | inr e ↦ inr (ap suc e.0, e.1) ]
 
 pub one_needed : (d : Parts) (i : ℕ) (table more : List (Vec ℕ Global)) (row : Vec ℕ Global) → ((y : ℕ) → (Contains row.items y ↔ ReadsFrom d i y)) → more ≡ table ++ row ∷ [] →
     NeedsBelow d i table → NeedsBelow d (i + 1) more

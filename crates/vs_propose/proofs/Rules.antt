@@ -2,7 +2,7 @@
 use Rattle.std.proofs.Common.{◌≡◌, ℕ, zero, suc, ◌<◌, ◌≤◌, ◌⊎◌, inl, inr, Bool, true, false, if◌then◌else◌, ◌||◌, Option, Some, None, List, [], ◌∷◌, ◌++◌, length, map, slice_get, refl, sym, ◌∙◌, ap, subst, arith}
 use Rattle.std.specs.List.{Contains, IsDistinct, flat_map, list_any}
 use Rattle.std.specs.Str.{bytes_eq}
-use Rattle.std.proofs.lemmas.Bool.{false≢true, true≢false}
+use Rattle.std.proofs.lemmas.Bool.{false≢true, true≢false, or_from}
 use Rattle.std.proofs.lemmas.List.{length-map}
 use Rattle.std.proofs.lemmas.List.Elements.{Contains-append_cases}
 use Rattle.std.proofs.lemmas.Map.Keys.{IsDistinct-tail}
@@ -26,16 +26,17 @@ use Rattle.vs_drivers.specs.vs_rules.specs.Claims.{IsRoot}
 use Rattle.vs_drivers.specs.vs_rules.specs.Claims as k
 use Rattle.vs_drivers.specs.vs_rules.specs.Limits.{IsCertificate}
 use Rattle.vs_drivers.specs.vs_rules.specs.Paths.{Bit, IsBit, Has, Writes, HasTerm}
-use Rattle.vs_drivers.specs.vs_rules.specs.Drivers.{Driver, IsDriver, DriverReads, WritesBit, IsSource, StandsBefore}
+use Rattle.vs_drivers.specs.vs_rules.specs.Drivers.{Driver, IsDriver, DriverReads, WritesBit, IsSource, ComesBefore}
 use Rattle.vs_drivers.specs.vs_rules.specs.Drivers as x
 use Rattle.vs_drivers.specs.vs_rules.specs.Rules.{K1_Signal, K1_Assign, K1_Process, K1_Name, K2, K3, IsAsModeSays, K4, IsSelf, IsCovered, IsDriven, K6, K7, K8, K9, BlockNeeds, K10_Signal, K10_Process}
 use Rattle.vs_drivers.specs.vs_rules.specs.Blocks.{K5, K11}
 use Rattle.vs_drivers.specs.vs_rules.proofs.Past.{past_points, end_next}
 use Rattle.vs_drivers.specs.vs_rules.specs.Verdict.{k1, k2, k3, k4, k5, k6, k7, k8, k9, k10, k11, Subject, signal, assign, process, listed, OfSignal, OfProcess, numbers, subjects, Disciplined, IsAccepted}
+use Rattle.vs_design.specs.vs_logic4.proofs.Basics.{map_at as mapped, there as get_at}
 use Rattle.vs_propose.specs.Claimed.{name_at, name_or_empty, mode_at, entry_of, IsPlain}
 use Rattle.vs_propose.specs.Needs.{ReadsFrom, IsOrder}
 use Rattle.vs_propose.specs.Settling.{Settles}
-use Rattle.vs_propose.proofs.Places.{contains_at, at_contains, get_at, mapped, mapped_back, IsOnly, times_none, times_one, place_at, there, distinct, differ, no_more}
+use Rattle.vs_propose.proofs.Places.{contains_at, at_contains, mapped_back, IsOnly, times_none, times_one, place_at, there, distinct, differ, no_more}
 use Rattle.vs_propose.proofs.Settled.{named_signal, named_assign, assign_once, no_both, ordered}
 
 -- ---- a design without processes has none of a number
@@ -215,9 +216,9 @@ known_alike d c e still r (inr (inr covered)) = inr (inr (λ b is has. driven b 
     alike (x.block i) is = absurd (no_block d e still i is)
 
 -- what is read from stands before
-stands_before : (d : Parts) (c e : Claims) (order : List ℕ) → WellFormed d → IsPlain d c order → IsOrder d order → Settles d e → (j y : ℕ) → j < length d.assigns → ReadsFrom d j y →
-    StandsBefore d c (x.assign y) (x.assign j)
-stands_before d c e order formed plain o s j y within reads =
+comes_before : (d : Parts) (c e : Claims) (order : List ℕ) → WellFormed d → IsPlain d c order → IsOrder d order → Settles d e → (j y : ℕ) → j < length d.assigns → ReadsFrom d j y →
+    ComesBefore d c (x.assign y) (x.assign j)
+comes_before d c e order formed plain o s j y within reads =
     let a = get_at d.assigns j within in
     let b = reads.writes.0 in
     let named : IsAssignNamed d j a.0.name.items = ap assign_name a.1 in
@@ -237,9 +238,9 @@ keeps_order d c e order formed still plain o s (x.assign j) = record {
   known = λ r is reads. known_alike d c e still r ((s.order j).known r tt reads);
   earlier = λ r b y is reads bit has driver writes. by r b y reads bit has driver writes;
 } where
-  by : (r : BitRange) (b : Bit) (y : Driver) → DriverReads d (x.assign j) r → IsBit d b → Has r b → IsDriver d c y → WritesBit d y b → IsSelf (x.assign j) y ⊎ StandsBefore d c y (x.assign j)
+  by : (r : BitRange) (b : Bit) (y : Driver) → DriverReads d (x.assign j) r → IsBit d b → Has r b → IsDriver d c y → WritesBit d y b → IsSelf (x.assign j) y ⊎ ComesBefore d c y (x.assign j)
   by r b (x.block i) reads bit has driver writes = absurd (no_block d c still i driver)
-  by r b (x.assign y) reads bit has driver writes = inr (stands_before d c e order formed plain o s j y (slice_get_within d.assigns j reads.0 reads.1) (record {
+  by r b (x.assign y) reads bit has driver writes = inr (comes_before d c e order formed plain o s j y (slice_get_within d.assigns j reads.0 reads.1) (record {
     read = r;
     reads = reads;
     written = writes.range;
@@ -408,12 +409,9 @@ plain_mode : (b : Bool) → is_both (mode_at b) ≡ false
 plain_mode true = refl
 plain_mode false = refl
 
-neither : (a b : Bool) → a ≡ false → b ≡ false → (a || b) ≡ false
-neither a b p q = rw (p, q) refl
-
 plain_modes : (ss : List Signal) → list_any (λ (s : SignalClaim). is_both s.mode) (map entry_of ss) ≡ false
 plain_modes [] = refl
-plain_modes (s ∷ ss) = neither (is_both (mode_at (is_variable s.kind))) (list_any (λ (x : SignalClaim). is_both x.mode) (map entry_of ss)) (plain_mode (is_variable s.kind)) (plain_modes ss)
+plain_modes (s ∷ ss) = or_from (is_both (mode_at (is_variable s.kind))) (list_any (λ (x : SignalClaim). is_both x.mode) (map entry_of ss)) (plain_mode (is_variable s.kind)) (plain_modes ss)
 
 certificate : (d : Parts) (c e : Claims) (order : List ℕ) → WellFormed d → IsPlain d c order → IsOrder d order → Settles d e → IsCertificate e → IsCertificate c
 certificate d c e order formed plain o s f = record {

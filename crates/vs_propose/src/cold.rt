@@ -1,9 +1,9 @@
 //! Trial runs of combinational blocks on the store in which executions begin.
 
 use std::alloc::{AllocError, Global};
-use vs_design::{Assign, BitRange, Design, Part, Store};
-use vs_process::vs_eval::{cut_value, write_of};
-use vs_process::{Code, Cursor, Halt, compile};
+use vs_cert_check::vs_rules_of_starts::{comes_back, make_all};
+use vs_design::{BitRange, Design, Part, Store};
+use vs_process::compile;
 
 /// How many steps a run of a block may take.
 const MAX_STEPS: u64 = 10_000;
@@ -14,58 +14,6 @@ pub struct Trial<'a> {
     design: &'a Design,
     start: Store<'a>,
     settled: Store<'a>,
-}
-
-// Makes a continuous assignment.
-fn make(alloc: Global, assign: &Assign, store: &mut Store) -> Result<(), AllocError> {
-    let digits = cut_value(&assign.target, &assign.source, store, 0);
-    let write = write_of(alloc, &assign.target, digits, store, 0)?;
-    store.put(&write);
-    Ok(())
-}
-
-// Makes continuous assignments, by their numbers, one after another; a number past the end is none.
-fn make_all(
-    alloc: Global,
-    assigns: &[Assign],
-    order: &[usize],
-    store: &mut Store,
-) -> Result<(), AllocError> {
-    for j in order {
-        if let Some(assign) = assigns.get(*j) {
-            make(alloc, assign, store)?;
-        }
-    }
-    Ok(())
-}
-
-// Steps of a process alone, at most so many, to its next event control: whether it arrives there.
-fn arrives<'a>(
-    alloc: Global,
-    cursor: &mut Cursor<'a>,
-    store: &mut Store,
-    most: u64,
-) -> Result<bool, AllocError> {
-    for _ in 0..most {
-        if cursor.is_empty() {
-            return Ok(false);
-        }
-        match cursor.step(alloc, store, 0)? {
-            Halt::Nothing => {}
-            Halt::Delay(_, _) => return Ok(false),
-            Halt::Wait(_, _) => return Ok(true),
-        }
-    }
-    Ok(false)
-}
-
-// Whether a process comes to its event control, and from there back to it.
-fn comes_back(alloc: Global, code: &Code, store: &mut Store) -> Result<bool, AllocError> {
-    let mut cursor = Cursor::start(alloc, code)?;
-    if !arrives(alloc, &mut cursor, store, 2)? {
-        return Ok(false);
-    }
-    arrives(alloc, &mut cursor, store, MAX_STEPS)
 }
 
 impl<'a> Trial<'a> {
@@ -121,7 +69,7 @@ impl<'a> Trial<'a> {
             return Ok(false);
         };
         let code = compile(alloc, &process.body)?;
-        let mut stays = comes_back(alloc, &code, &mut self.settled)?;
+        let mut stays = comes_back(alloc, &code, &mut self.settled, MAX_STEPS)?;
         for range in written {
             if !self.put_back(range.signal) {
                 stays = false;

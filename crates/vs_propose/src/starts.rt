@@ -4,11 +4,12 @@ use crate::copied::all_shown;
 use crate::drivers::{Needs, driver_order, drivers_needed};
 use crate::plans::{KindPlan, SignalPlan};
 use crate::vs_certificate::{Rules, SignalMode, Start};
+use crate::vs_graph::is_marked;
 use crate::{TextFacts, TextKind, Trial};
 use std::alloc::{AllocError, Global};
 use vs_design::{BitRange, Design, EventTerm, Statement, event_terms};
+use vs_drivers::vs_maps::has_signal;
 use vs_process::statement_writes;
-use vs_propose_texts::is_written;
 
 // Whether a signal is a variable that no combinational block writes.
 fn is_source(signals: &[SignalPlan], v: usize) -> bool {
@@ -21,7 +22,7 @@ fn is_source(signals: &[SignalPlan], v: usize) -> bool {
 // Whether terms name variables that no combinational block writes, and what the block itself writes, alone.
 fn waits_for_sources(signals: &[SignalPlan], written: &[BitRange], terms: &[EventTerm]) -> bool {
     terms.iter().all(|term| {
-        is_source(signals, term.range.signal) || is_written(written, term.range.signal)
+        is_source(signals, term.range.signal) || has_signal(written, term.range.signal)
     })
 }
 
@@ -95,14 +96,6 @@ fn starters_of(
         marks.push(may_start(texts, signals, shown.root, rules))?;
     }
     Ok(marks)
-}
-
-// Whether the mark of a number is set.
-fn is_marked(marks: &[bool], k: usize) -> bool {
-    match marks.get(k) {
-        None => false,
-        Some(mark) => *mark,
-    }
 }
 
 // Blocks whose starts are found one after another, each after the drivers that it needs.

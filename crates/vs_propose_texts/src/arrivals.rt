@@ -72,7 +72,7 @@ pub(crate) fn delayed(arrival: Arrival, ticks: u64, modulus: u64) -> Arrival {
 }
 
 // How a text that comes to a statement goes on from there.
-fn behind(statement: Option<&Statement>, arrival: Arrival, modulus: u64) -> Arrival {
+fn arrival_after(statement: Option<&Statement>, arrival: Arrival, modulus: u64) -> Arrival {
     match statement {
         None => arrival,
         Some(s) => match s {
@@ -220,7 +220,7 @@ impl Walk {
         let Some(stop) = stop_at(&map.stops, place) else {
             return Ok(());
         };
-        let next = behind(stop.statement, arrival, modulus);
+        let next = arrival_after(stop.statement, arrival, modulus);
         for to in tos_by_turn(self.is_by_turn(place), &stop.tos) {
             self.come(*to, next)?;
         }

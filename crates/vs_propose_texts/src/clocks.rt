@@ -4,7 +4,7 @@ use crate::vs_certificate::Rules;
 use std::alloc::{AllocError, Global};
 use vs_design::vs_logic4::{Digit, Edge};
 use vs_design::{Design, ProcessKind, Statement};
-use vs_drivers::vs_slots_constants::{Clock, sets, turns};
+use vs_drivers::vs_slots_constants::{Clock, set_by, sets_and_turns, turns_forever};
 
 // After how many ticks an edge of a clock comes first.
 fn first_edge(clock: Clock, edge: Edge) -> u128 {
@@ -26,61 +26,9 @@ pub(crate) fn is_in_phase(clock: Clock, edge: Edge, modulus: u64, residue: u64) 
     residue as u128 % period == first_edge(clock, edge) % period
 }
 
-// What a statement is without `begin` and `end` round one statement.
-fn core_of<'a>(s: &'a Statement) -> &'a Statement {
-    match s {
-        Statement::Block(all) => { if all.len() == 1 { core_of(&all[0]) } else { s } }
-        _ => s,
-    }
-}
-
-// The ticks `h` of a statement that is `forever #h u = ~u`; by wide rules `!u` turns it too.
-fn turns_forever(design: &Design, rules: Rules, v: usize, s: &Statement) -> Option<u64> {
-    match core_of(s) {
-        Statement::Forever(_, inner) => turns(design, matches!(rules, Rules::Wide), v, inner),
-        _ => None,
-    }
-}
-
-// The ticks of a statement that is `u = c`, which are none, or of `#o u = c`, with the digit.
-fn begins(
-    alloc: Global,
-    design: &Design,
-    v: usize,
-    s: &Statement,
-) -> Result<Option<(u64, Digit)>, AllocError> {
-    let (ticks, digit) = match core_of(s) {
-        Statement::Delay(_, ticks, inner) => (ticks.count, sets(alloc, design, v, inner)?),
-        _ => (0, sets(alloc, design, v, s)?),
-    };
-    match digit {
-        None => Ok(None),
-        Some(digit) => Ok(Some((ticks, digit))),
-    }
-}
-
-// The clock of two statements that are `[#o] u = c; forever #h u = ~u;`.
-fn of_pair(
-    alloc: Global,
-    design: &Design,
-    rules: Rules,
-    v: usize,
-    all: &[Statement],
-) -> Result<Option<Clock>, AllocError> {
-    if all.len() != 2 {
-        return Ok(None);
-    }
-    let Some((offset, digit)) = begins(alloc, design, v, &all[0])? else {
-        return Ok(None);
-    };
-    match turns_forever(design, rules, v, &all[1]) {
-        None => Ok(None),
-        Some(half) => Ok(Some(Clock {
-            digit,
-            offset,
-            half,
-        })),
-    }
+// Whether clocks are wide.
+fn is_wide(rules: Rules) -> bool {
+    matches!(rules, Rules::Wide)
 }
 
 /// The second of a signal.
@@ -92,24 +40,8 @@ pub struct Second {
     pub digit: Option<Digit>,
 }
 
-// The 0 or 1 to which an `initial` sets a signal.
-fn set_alone(
-    alloc: Global,
-    design: &Design,
-    v: usize,
-    process: usize,
-) -> Result<Option<Digit>, AllocError> {
-    match design.processes().get(process) {
-        None => Ok(None),
-        Some(process) => match process.kind {
-            ProcessKind::Initial => sets(alloc, design, v, &process.body),
-            ProcessKind::Always => Ok(None),
-        },
-    }
-}
-
 // The 0 or 1 to which the second of a signal sets it; but by wide rules it does nothing else.
-fn set_by(
+fn set_by_second(
     alloc: Global,
     design: &Design,
     rules: Rules,
@@ -117,7 +49,7 @@ fn set_by(
     second: Second,
 ) -> Result<Option<Digit>, AllocError> {
     match rules {
-        Rules::Narrow => set_alone(alloc, design, v, second.process),
+        Rules::Narrow => set_by(alloc, design, v, second.process),
         Rules::Wide => Ok(second.digit),
     }
 }
@@ -131,13 +63,13 @@ fn of_turned(
     body: &Statement,
     second: Option<Second>,
 ) -> Result<Option<Clock>, AllocError> {
-    let Some(half) = turns_forever(design, rules, v, body) else {
+    let Some(half) = turns_forever(design, is_wide(rules), v, body) else {
         return Ok(None);
     };
     let Some(second) = second else {
         return Ok(None);
     };
-    match set_by(alloc, design, rules, v, second)? {
+    match set_by_second(alloc, design, rules, v, second)? {
         None => Ok(None),
         Some(digit) => Ok(Some(Clock {
             digit,
@@ -156,9 +88,9 @@ fn of_initial(
     body: &Statement,
     second: Option<Second>,
 ) -> Result<Option<Clock>, AllocError> {
-    match core_of(body) {
-        Statement::Block(all) => of_pair(alloc, design, rules, v, all),
-        _ => match rules {
+    match sets_and_turns(alloc, design, is_wide(rules), v, body)? {
+        Some(clock) => Ok(Some(clock)),
+        None => match rules {
             Rules::Narrow => Ok(None),
             Rules::Wide => of_turned(alloc, design, rules, v, body, second),
         },

@@ -4,7 +4,8 @@ use crate::arrivals::{Arrival, Arrivals, stop_at};
 use crate::clocks::is_in_phase;
 use std::alloc::{AllocError, Global};
 use vs_design::vs_logic4::{Digit, Edge};
-use vs_design::{BitRange, EventTerm, Statement, writes};
+use vs_design::{EventTerm, Statement, writes};
+use vs_drivers::vs_maps::has_signal;
 use vs_drivers::vs_slots_constants::{Bit, Clock, given_by};
 use vs_process::TextMap;
 
@@ -113,17 +114,12 @@ fn may_fire(clock: Option<Clock>, edge: Edge, modulus: u64, residue: u64) -> boo
     }
 }
 
-/// Whether one of some ranges is of a signal.
-pub fn is_written(written: &[BitRange], signal: usize) -> bool {
-    written.iter().any(|range| range.signal == signal)
-}
-
 // Whether a statement writes a signal.
 fn is_write(alloc: Global, statement: &Statement, signal: usize) -> Result<bool, AllocError> {
     match statement {
         Statement::Assign(_, target, _) | Statement::Later(_, _, target, _) => {
             let ranges = writes(alloc, target)?;
-            Ok(is_written(&ranges, signal))
+            Ok(has_signal(&ranges, signal))
         }
         _ => Ok(false),
     }

@@ -13,7 +13,7 @@ mod writing;
 
 pub use clocks::{Second, clock_by};
 pub use facts::{TextFacts, text_facts, text_firing, text_lists};
-pub use firing::{Firing, Firings, Root, Shown, is_written};
+pub use firing::{Firing, Firings, Root, Shown};
 pub use kinds::TextKind;
 pub use periods::{Timing, common_divisor};
 pub use vs_certificate;

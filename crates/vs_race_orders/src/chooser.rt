@@ -7,7 +7,7 @@ use std::alloc::Global;
 use vs_run_regions::Pick;
 
 /// The most spans that are told.
-const TOLD: usize = 65536;
+const REPORT_LIMIT: usize = 65536;
 
 /// In a list of more than twice so many items a kept place is so near to an end, since the place of an item is sought from there.
 const NEAR: usize = 64;
@@ -135,7 +135,7 @@ impl<'p> Chooser<'p> {
     }
 
     /// Its choices of another item than the first, as far as it told them.
-    pub(crate) fn into_told(mut self) -> Vec<Span> {
+    pub(crate) fn into_spans(mut self) -> Vec<Span> {
         self.close();
         let Chooser {
             way: _,
@@ -189,7 +189,7 @@ impl<'p> Chooser<'p> {
     // Puts the last choices to those that were told; what finds no memory or room isn't told, nor what follows.
     fn close(&mut self) {
         if let Some(span) = self.open
-            && (self.told.len() >= TOLD || self.told.push(span).is_err())
+            && (self.told.len() >= REPORT_LIMIT || self.told.push(span).is_err())
         {
             self.tells = false;
         }

@@ -279,7 +279,7 @@ fn choices_made(stage: &Stage, number: u64, seed: u64) -> Result<Vec<Span>, Writ
     let mut chooser = Chooser::of_try(stage.alloc, number, seed);
     chooser.tell();
     let _ = try_under(stage, &mut chooser)?;
-    Ok(chooser.into_told())
+    Ok(chooser.into_spans())
 }
 
 // One span in a list.

@@ -1,7 +1,7 @@
 //! Runs of a design under an order, whose dump is compared with that of the first order.
 ghost use Rattle.std.specs.Prelude.{◌<◌, IfOk, OnOk};
 ghost use Rattle.vs_kernel.specs.Scripts.{AreScripts};
-ghost use Rattle.vs_kernel.specs.Standing.{IsStanding};
+ghost use Rattle.vs_kernel.specs.Snapshot.{IsSnapshot};
 
 use crate::chooser::Chooser;
 use crate::comparing::Comparing;
@@ -85,9 +85,9 @@ fn take_slot<'a, Q: EventQueue<Due>, P: Pick, V: Sink>(
     vcd: &mut V,
     lines: &mut LineSum,
 ) -> Result<u64, WriterFault>
-    requires run { IsStanding run.old }
+    requires run { IsSnapshot run.old }
     requires left { 0 < left }
-    ensures run { OnOk result (IsStanding run.new) }
+    ensures run { OnOk result (IsSnapshot run.new) }
     ensures less { IfOk result (λ rest. rest < left) }
 {
     if run.is_over() || run.time() >= END_OF_TIME {

@@ -222,7 +222,7 @@ fn log_mapped<'x>(
 }
 
 // The same, of codes that are lent for a shorter time than what they are made of.
-fn log_lent(
+fn log_borrowed(
     alloc: Global,
     design: &Design,
     codes: &[Code],
@@ -243,7 +243,7 @@ pub(crate) fn log_of(
 ) -> Result<Log, AllocError> {
     let codes = codes_of(alloc, design.processes())?;
     // No write to a sink that keeps nothing fails.
-    let Ok(log) = log_lent(alloc, design, &codes, choices, stage) else {
+    let Ok(log) = log_borrowed(alloc, design, &codes, choices, stage) else {
         return Err(AllocError);
     };
     Ok(log)

@@ -163,7 +163,7 @@ fn ask_bit(logs: &Logs, bit: Bit, one: usize, two: usize, read: Option<usize>) -
 }
 
 // What stands behind two events, where it is of one deed.
-fn ask_behind(logs: &Logs, one: Option<usize>, two: Option<usize>) -> Answer {
+fn ask_next(logs: &Logs, one: Option<usize>, two: Option<usize>) -> Answer {
     let (Some(one), Some(two)) = (one, two) else {
         return Answer::Nothing;
     };
@@ -181,11 +181,11 @@ fn ask_same(logs: &Logs, one: usize, two: usize) -> Answer {
         return Answer::Nothing;
     };
     match first.deed {
-        Deed::Propagate(_) | Deed::Update(_, _) => ask_behind(logs, first.cause, other.cause),
+        Deed::Propagate(_) | Deed::Update(_, _) => ask_next(logs, first.cause, other.cause),
         Deed::Late => Answer::Nothing,
         Deed::Step(_, _) | Deed::Evaluate(_) => match logs.differing_read(first, other) {
             Some((bit, number)) => Answer::Ask(Question::Bit(bit, one, two, Some(number))),
-            None => ask_behind(logs, first.before, other.before),
+            None => ask_next(logs, first.before, other.before),
         },
     }
 }

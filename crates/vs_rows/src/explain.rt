@@ -4,8 +4,8 @@ use std::alloc::{AllocError, Global};
 use vs_certificate::{Rules, from_json_by};
 use vs_explain::vs_simulate::list_design;
 use vs_explain::{
-    Further, Offender, Stands, explain, explain_after, explain_certificate, explain_limit,
-    explain_rule,
+    CertificatePlace, Further, Offender, explain, explain_after, explain_certificate,
+    explain_limit, explain_rule,
 };
 use vs_row_files::{Answers, Text, first_and_rest};
 use vs_vcd_writing::Counted;
@@ -82,7 +82,13 @@ fn malformed(alloc: Global, rules: Rules, question: &str) -> Result<Vec<u8>, All
         Ok(_) => Ok(Vec::new(alloc)),
         Err(fault) => {
             let certificate = question.as_bytes();
-            let explained = explain_certificate(alloc, certificate, rules, Stands::First, fault)?;
+            let explained = explain_certificate(
+                alloc,
+                certificate,
+                rules,
+                CertificatePlace::First,
+                fault,
+            )?;
             explained.plain(alloc, &[], certificate)
         }
     }

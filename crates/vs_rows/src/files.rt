@@ -2,7 +2,7 @@
 use std::alloc::{AllocError, Global};
 use vs_program::vs_outputs::Sheet;
 use vs_program::vs_preprocess::Shelf;
-use vs_program::vs_race::Unwatched;
+use vs_program::vs_sign_off::Unwatched;
 use vs_program::{Writers, program_on};
 use vs_row_files::{Answers, Text, files_of};
 
@@ -92,7 +92,7 @@ fn named_of(
 }
 
 /// The files of a question as a library has them.
-fn listed_of<'f>(
+fn library_files<'f>(
     alloc: Global,
     files: &'f [(Vec<u8>, Vec<u8>)],
 ) -> Result<Vec<(&'f [u8], &'f [u8])>, AllocError> {
@@ -107,7 +107,7 @@ fn listed_of<'f>(
 fn put_answer(words: &str, question: &str, text: &mut Text) -> Result<(), AllocError> {
     let alloc = text.alloc();
     let files = named_of(alloc, files_of(alloc, question)?)?;
-    let listed = listed_of(alloc, &files)?;
+    let listed = library_files(alloc, &files)?;
     put_call(alloc, words, &listed, text)
 }
 

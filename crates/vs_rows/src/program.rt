@@ -55,7 +55,7 @@ fn refused(source: &[u8], text: &mut Text) {
 }
 
 /// Whether a source runs, or is refused with a text.
-fn is_told(alloc: Global, source: &[u8]) -> bool {
+fn runs_or_refuses(alloc: Global, source: &[u8]) -> bool {
     let words = ["vsim", "run", "--top", "t", "--until", "10"];
     let answer = run(alloc, &words, source);
     let has_text = answer.err.as_slice().starts_with(b"vsim: ");
@@ -66,7 +66,7 @@ fn is_told(alloc: Global, source: &[u8]) -> bool {
 fn cut(source: &[u8], text: &mut Text) {
     let mut told = 0usize;
     for length in 0..source.len() {
-        if is_told(text.alloc(), &source[..length]) {
+        if runs_or_refuses(text.alloc(), &source[..length]) {
             told = told.saturating_add(1);
         }
     }

@@ -1,10 +1,10 @@
 //! Rows of races: designs, and whether two orders of events are found under which they have different values.
 use std::alloc::{AllocError, Global};
 use vs_explain::{Asked, explain_pair};
-use vs_race::vs_simulate::{Policy, simulate};
-use vs_race::{LineWitness, Race, Search, Span, Unwatched, Witness, choices_of, race};
 use vs_row_files::{Answers, Text, first_and_rest};
 use vs_run_steps::Dropped;
+use vs_sign_off::vs_simulate::{Policy, simulate};
+use vs_sign_off::{LineWitness, Race, Search, Span, Unwatched, Witness, choices_of, race};
 use vs_vcd_writing::Counted;
 
 /// How many steps a run may take.

@@ -30,7 +30,7 @@ fn one_of(answers: &str, source: &str, text: &mut Text) {
 }
 
 /// What is told of a source that is made of repeated pieces.
-fn told_of_pieces(top: &str, pieces: &str, text: &mut Text) {
+fn answer_of_pieces(top: &str, pieces: &str, text: &mut Text) {
     let mut source = Text::new(text.alloc());
     put_pieces(pieces, &mut source);
     match source.whole() {
@@ -54,7 +54,7 @@ impl Answers for Sources {
     fn answer(&self, words: &str, question: &str, text: &mut Text) {
         let (word, rest) = words.split_once(" of ").unwrap_or((words, "t"));
         match word {
-            "pieces" => told_of_pieces(rest, question, text),
+            "pieces" => answer_of_pieces(rest, question, text),
             "one" => one_of(rest, question, text),
             _ => answer_of(asked_with(word), rest, question.as_bytes(), text),
         }

@@ -2,13 +2,14 @@
 use Rattle.std.proofs.Common.{◌≡◌, ℕ, zero, suc, ◌<◌, List, [], ◌∷◌, refl, arith}
 use Rattle.std.specs.Prelude.{true, codes, nat_eq, nat_lt, slice_index_or}
 use Rattle.std.specs.Str.{bytes_eq}
-use Rattle.std.specs.List.{IsDistinct, All, Contains}
+use Rattle.std.specs.List.{IsDistinct, All}
 use Rattle.vs_design.specs.declared.signal.Signal.{Signal}
 use Rattle.vs_design.specs.declared.design.Assign.{Assign}
 use Rattle.vs_design.specs.declared.design.Process.{Process}
 use Rattle.vs_design.specs.declared.design.Entry.{Entry}
 use Rattle.vs_design.specs.declared.timescale.Timescale.{Timescale}
 use Rattle.vs_design.specs.WellFormed.{WellFormed, share_a_bit}
+use Rattle.vs_logic4.proofs.Basics.{declared_3}
 use Rattle.vs_rows_units.specs.ThreeSignals.{AreSignals, IsOutline}
 
 none_of : {X : Type 0} (P : X → Type 0) → All P []
@@ -31,12 +32,6 @@ no_texts : IsDistinct bytes_eq []
 unfolding IsDistinct
 no_texts = tt
 
-three_have : (n : ℕ) → n < 3 → Contains (0 ∷ 1 ∷ 2 ∷ []) n
-three_have zero h = (0, omega arith, refl)
-three_have (suc zero) h = (1, omega arith, refl)
-three_have (suc (suc zero)) h = (2, omega arith, refl)
-three_have (suc (suc (suc n))) h = absurd (omega (arith, h))
-
 three_within : (k d : ℕ) → k < 3 → nat_lt (slice_index_or (0 ∷ 1 ∷ 2 ∷ []) k d) 3 ≡ true
 three_within zero d h = refl
 three_within (suc zero) d h = refl
@@ -53,7 +48,7 @@ three_well_formed t signals assigns processes outline s a p o =
       drivers = no_ranges (s.m ∷ s.a ∷ s.b ∷ []);
       declared = three_within;
       declared_once = three_numbers;
-      all_declared = three_have;
+      all_declared = declared_3;
       paths = rw (s.path_m, s.path_a, s.path_b) three_paths;
       names = no_texts;
       assign_names = no_texts;

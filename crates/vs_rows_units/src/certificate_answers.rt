@@ -18,7 +18,7 @@ fn written(
 
 // Whether bytes are written back as they were, or the number of their fault. A refused growth is the test's own error, so that no other answer can
 // hide it.
-pub fn told(alloc: Global, bytes: &[u8]) -> Result<&'static str, AllocError> {
+pub fn certificate_answer(alloc: Global, bytes: &[u8]) -> Result<&'static str, AllocError> {
     match from_json(alloc, bytes) {
         Ok(certificate) => written(alloc, bytes, &certificate),
         Err(CertFault::Memory) => Err(AllocError),

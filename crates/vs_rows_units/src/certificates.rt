@@ -1,6 +1,6 @@
 //! Texts, each with the number of its fault, or whether it is written back as it was.
 
-use crate::certificate_answers::told;
+use crate::certificate_answers::certificate_answer;
 use crate::certificate_members::is_of_the_swap;
 use crate::tables::{Asked, LongRow, all_long_same, all_same, same};
 use std::test::Fail;
@@ -146,14 +146,14 @@ fn versions(rt: HostRuntime) -> Result<(), Fail> {
     certificate.version = Version::One;
     assert!(rt; !certificate.is_sound());
     let written = to_json(rt.alloc(), &certificate)?;
-    assert!(rt; told(rt.alloc(), written.as_slice())? == "C2");
+    assert!(rt; certificate_answer(rt.alloc(), written.as_slice())? == "C2");
     Ok(())
 }
 
 // Each growth in turn is refused by `rt try --test --fail-alloc 1..`: no other fault is told.
 #[test]
-fn memory_alone_is_told(rt: HostRuntime) {
-    if let Ok(told) = told(rt.alloc(), SWAP.as_bytes()) {
+fn memory_is_the_only_fault(rt: HostRuntime) {
+    if let Ok(told) = certificate_answer(rt.alloc(), SWAP.as_bytes()) {
         assert!(rt; told == "as it was");
     }
 }

@@ -1,5 +1,5 @@
 //! Texts with the lines that they give, or with the number of their fault.
-use crate::lines::{Asked, told};
+use crate::lines::{Asked, answer_to};
 use std::alloc::Global;
 use std::process::Abort;
 
@@ -73,7 +73,7 @@ const CALLS: &str = "
 
 // Ends the test where something else is told.
 fn same(rt: &impl Abort, alloc: Global, asked: Asked, question: &str, wanted: &[u8]) {
-    let told = told(rt, alloc, asked, question);
+    let told = answer_to(rt, alloc, asked, question);
     assert!(rt; told.as_slice() == wanted, "of {question}");
 }
 

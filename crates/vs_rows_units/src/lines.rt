@@ -65,7 +65,7 @@ fn line_of_call(rt: &impl Abort, alloc: Global, question: &str, store: &Store) -
 }
 
 /// What is asked of a text, in a store of a design.
-fn told_in(
+fn answer_in(
     rt: &impl Abort,
     alloc: Global,
     asked: Asked,
@@ -82,8 +82,8 @@ fn told_in(
 }
 
 /// What is asked of a text.
-pub fn told(rt: &impl Abort, alloc: Global, asked: Asked, question: &str) -> Vec<u8> {
+pub fn answer_to(rt: &impl Abort, alloc: Global, asked: Asked, question: &str) -> Vec<u8> {
     let design = three_signals(alloc, false).expect(rt, "memory");
     let mut store = Store::start(alloc, &design).expect(rt, "memory");
-    told_in(rt, alloc, asked, question, &design, &mut store)
+    answer_in(rt, alloc, asked, question, &design, &mut store)
 }

@@ -1,6 +1,6 @@
 //! Tables of rows: sources and texts of certificates, each with what is told of it.
 
-use crate::certificate_answers::told;
+use crate::certificate_answers::certificate_answer;
 use crate::token_texts::{TokenAspect, shown};
 use std::alloc::{AllocError, Global};
 use std::process::Abort;
@@ -19,7 +19,7 @@ pub enum Asked {
 fn answer(alloc: Global, asked: Asked, bytes: &[u8]) -> Result<String, AllocError> {
     match asked {
         Asked::Tokens(view) => shown(alloc, view, bytes),
-        Asked::Certificate => told(alloc, bytes)?.to_string(alloc),
+        Asked::Certificate => certificate_answer(alloc, bytes)?.to_string(alloc),
     }
 }
 

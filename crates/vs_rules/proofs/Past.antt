@@ -3,7 +3,7 @@ use Rattle.std.proofs.Common.{◌≡◌, ℕ, ◌≤◌, Bool, [], ◌∷◌, le
 use Rattle.std.proofs.lemmas.List.{get_or_past, length-map}
 use Rattle.vs_design.specs.declared.design.Process.{Process}
 use Rattle.vs_design.specs.Parts.{Parts}
-use Rattle.vs_process.specs.Landings.{todo_behind}
+use Rattle.vs_process.specs.Landings.{todo_after}
 use Rattle.vs_process.specs.Places.{Todo, ended, start_place, todo_of}
 use Rattle.vs_process.specs.Steps.{Next, on, after, wait}
 use Rattle.vs_rules.specs.Points.{Among, Goes, Point, first_todo, nexts_by}
@@ -34,7 +34,7 @@ end_points first e _ (r.skips i rest before) = let s = end_points first e (i ∷
 end_paths : (ok : Next → Bool) (first : Todo) → first ≡ [] → (k : Todo) → Path ok first k → k ≡ []
 end_paths ok first e _ x.begins = e
 end_paths ok first e _ (x.goes k l next before goes passes is) =
-    sym is ∙ ap todo_behind (end_next k next (end_paths ok first e k before) goes)
+    sym is ∙ ap todo_after (end_next k next (end_paths ok first e k before) goes)
 
 -- a point of a process past the end is the end
 pub past_points : (d : Parts) (i : ℕ) (k : Todo) → length d.processes ≤ i → IsPoint d i k → k ≡ []

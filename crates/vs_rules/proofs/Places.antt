@@ -3,7 +3,7 @@ use Rattle.std.proofs.Common.{true, ◌≡◌, ℕ, zero, suc, Bool, Option, Som
 use Rattle.vs_design.specs.declared.statement.Statement.{Statement}
 use Rattle.vs_process.specs.declared.draft.Op.{Op}
 use Rattle.vs_process.specs.Codes.{links_of}
-use Rattle.vs_process.specs.Landings.{todo_behind}
+use Rattle.vs_process.specs.Landings.{todo_after}
 use Rattle.vs_process.specs.Links.{todo_from, todo_within, Link, item_of, AreLinked}
 use Rattle.vs_process.specs.Places.{Todo, Item, flat}
 use Rattle.vs_process.specs.Steps.{Next, on, after, wait}
@@ -31,7 +31,7 @@ among_of f y (x ∷ xs) (r.further _ _ h) = let there = among_of f y xs h in (th
 -- ---- ways
 
 -- where a way leads
-behind_way : (pause : Pause) (k : Todo) → todo_behind (next_by pause k) ≡ k
+behind_way : (pause : Pause) (k : Todo) → todo_after (next_by pause k) ≡ k
 behind_way none k = refl
 behind_way (delay number ticks) k = refl
 behind_way (event number terms) k = refl
@@ -45,7 +45,7 @@ to_code s ops start h ok from _ t.begins = (from, c.Reach.begins, refl)
 to_code s ops start h ok from _ (t.goes k l next path g may is) =
     let there = to_code s ops start h ok from k path in
     let way = way_of s ops start h there.0 next (subst (λ (k : Todo). Goes k next) (sym there.2) g) in
-    (way.0.to, c.Reach.goes there.0 way.0 there.1 way.1 (ap ok way.2 ∙ may), sym (behind_way way.0.pause (point_at (links_of ops) way.0.to)) ∙ ap todo_behind way.2 ∙ is)
+    (way.0.to, c.Reach.goes there.0 way.0 there.1 way.1 (ap ok way.2 ∙ may), sym (behind_way way.0.pause (point_at (links_of ops) way.0.to)) ∙ ap todo_after way.2 ∙ is)
 
 to_text : (s : Statement) (ops : List Op) (start : ℕ) → HasWays s ops start → (ok : Next → Bool) (from p : ℕ) → Reach ok ops from p → Path ok (point_at (links_of ops) from) (point_at (links_of ops) p)
 to_text s ops start h ok from _ c.Reach.begins = t.begins
@@ -79,10 +79,10 @@ behind_place ops start linked (suc p) i rest of e = by_link (slice_get (links_of
 abbrev Found : List Op → ℕ → Todo → Type 0
 Found ops start k = (p : ℕ) × PlaceOf ops start p × (point_at (links_of ops) p ≡ k)
 
-at_way : (s : Statement) (ops : List Op) (start : ℕ) → HasWays s ops start → (k l : Todo) (next : Next) → Goes k next → todo_behind next ≡ l → Found ops start k → Found ops start l
+at_way : (s : Statement) (ops : List Op) (start : ℕ) → HasWays s ops start → (k l : Todo) (next : Next) → Goes k next → todo_after next ≡ l → Found ops start k → Found ops start l
 at_way s ops start h k l next g is there =
     let way = way_of s ops start h there.0 next (subst (λ (k : Todo). Goes k next) (sym there.2) g) in
-    (way.0.to, c.PlaceOf.goes there.0 way.0 there.1 way.1, sym (behind_way way.0.pause (point_at (links_of ops) way.0.to)) ∙ ap todo_behind way.2 ∙ is)
+    (way.0.to, c.PlaceOf.goes there.0 way.0 there.1 way.1, sym (behind_way way.0.pause (point_at (links_of ops) way.0.to)) ∙ ap todo_after way.2 ∙ is)
 
 at_point : (s : Statement) (ops : List Op) (start : ℕ) → HasWays s ops start → AreLinked (links_of ops) → (k : Todo) → Point (flat s) k → Found ops start k
 at_point s ops start h linked _ r.begins = (start, c.PlaceOf.begins, h.starts)
@@ -116,7 +116,7 @@ points_are s ops counters start code = record {
 -- ---- closed sets
 
 -- what holds at the first point, behind each way and of each tail, holds at all points: of a design that is given, by a list of todos
-pub closed_points : (P : Todo → Type 0) (first : Todo) → P first → ((k : Todo) (next : Next) → P k → Goes k next → P (todo_behind next)) →
+pub closed_points : (P : Todo → Type 0) (first : Todo) → P first → ((k : Todo) (next : Next) → P k → Goes k next → P (todo_after next)) →
     ((i : Item) (rest : Todo) → P (i ∷ rest) → P rest) → (k : Todo) → Point first k → P k
 closed_points P first h ways tails _ r.begins = h
 closed_points P first h ways tails _ (r.goes_on k l point g) = ways k (on l) (closed_points P first h ways tails k point) g
@@ -125,7 +125,7 @@ closed_points P first h ways tails _ (r.listens k l number terms point g) = ways
 closed_points P first h ways tails _ (r.skips i rest point) = tails i rest (closed_points P first h ways tails (i ∷ rest) point)
 
 -- alike of the ways that a test passes
-pub closed_paths : (P : Todo → Type 0) (ok : Next → Bool) (from : Todo) → P from → ((k : Todo) (next : Next) → P k → Goes k next → ok next ≡ true → P (todo_behind next)) →
+pub closed_paths : (P : Todo → Type 0) (ok : Next → Bool) (from : Todo) → P from → ((k : Todo) (next : Next) → P k → Goes k next → ok next ≡ true → P (todo_after next)) →
     (k : Todo) → Path ok from k → P k
 closed_paths P ok from h ways _ t.begins = h
 closed_paths P ok from h ways _ (t.goes k l next path g may is) = subst P is (ways k next (closed_paths P ok from h ways k path) g may)

@@ -1,7 +1,7 @@
 -- What the readers of certificates test of a JSON value, and what is asked of claims.
 use Rattle.std.proofs.Common.{◌≡◌, ◌⊎◌, ℕ, suc, ◌+◌, ◌^◌, ◌≤◌, Bool, true, false, ◌&&◌, ◌||◌, nat_le, nat_lt, le-leb, List, [], ◌∷◌, length, map, All, Vec, Global, codes, true≢false, refl, ap, sym, subst, ◌∙◌, arith, inl, inr}
 use Rattle.std.specs.List.{Contains, list_all, list_any}
-use Rattle.std.proofs.lemmas.Bool.{and_parts, leb-true}
+use Rattle.std.proofs.lemmas.Bool.{and_parts, leb-true, and_from, or_from}
 use Rattle.std.proofs.lemmas.List.{length-map}
 use Rattle.std.proofs.lemmas.List.Elements.{All-nil, All-cons, All-head, All-tail, All-contains, All-contains_itself, All-weaker}
 use Rattle.serde_json.specs.Data.{Data}
@@ -39,9 +39,6 @@ few value f most xs h = rw (length-map xs f) (leb-true (length xs) most (sym (is
 within : {A B : Type 0} (value : A → Data) (f : A → B) (most : ℕ) (xs : List A) → length (map f xs) ≤ most → is_within most (list_value value xs) ≡ true
 within value f most xs h = let short : length xs ≤ most = rw (length-map xs f) at h in is_within-images value xs most ∙ le-leb (length xs) most short
 
-both : (a b : Bool) → a ≡ true → b ≡ true → (a && b) ≡ true
-both a b p q = rw (p, q) refl
-
 -- ---- residues
 
 rising : (first bound : ℕ) (rs : List ℕ) → read.rise first bound (items_of (map whole_value rs)) ≡ asked.rise first bound rs
@@ -62,7 +59,7 @@ residues_asked most m residues h =
 
 residues_read : (most m : ℕ) (residues : Vec ℕ Global) → AreResidues most m (residues_from residues) → are_residues most m (residues_value residues) ≡ true
 residues_read most m residues h =
-    both _ _ (is_within-images whole_value residues.items most ∙ le-leb (length residues.items) most h.few) (rising 0 m residues.items ∙ h.rising)
+    and_from _ _ (is_within-images whole_value residues.items most ∙ le-leb (length residues.items) most h.few) (rising 0 m residues.items ∙ h.rising)
 
 slots_asked : (most m : ℕ) (slots : List (Vec ℕ Global)) → all_items (are_residues most m) (items_of (map residues_value slots)) ≡ true → All (AreResidues most m) (map residues_from slots)
 slots_asked most m [] h = All-nil (AreResidues most m)
@@ -74,7 +71,7 @@ slots_read : (most m : ℕ) (slots : List (Vec ℕ Global)) → All (AreResidues
 slots_read most m [] h = refl
 slots_read most m (s ∷ slots) h =
     let rest = map residues_from slots in
-    both _ _ (residues_read most m s (All-head (AreResidues most m) (residues_from s) rest h)) (slots_read most m slots (All-tail (AreResidues most m) (residues_from s) rest h))
+    and_from _ _ (residues_read most m s (All-head (AreResidues most m) (residues_from s) rest h)) (slots_read most m slots (All-tail (AreResidues most m) (residues_from s) rest h))
 
 lists_asked : (most m : ℕ) (slots : List (Vec ℕ Global)) → are_slots most m (list_value residues_value slots) ≡ true → AreLists most m (map residues_from slots)
 lists_asked most m slots h =
@@ -87,7 +84,7 @@ lists_asked most m slots h =
 lists_read : (most m : ℕ) (slots : List (Vec ℕ Global)) → AreLists most m (map residues_from slots) → are_slots most m (list_value residues_value slots) ≡ true
 lists_read most m slots l =
     let lists = map residues_from slots in
-    both _ _ (within residues_value residues_from 65536 slots l.few) (slots_read most m slots (All-weaker (Contains lists) (AreResidues most m) l.each lists (All-contains_itself lists)))
+    and_from _ _ (within residues_value residues_from 65536 slots l.few) (slots_read most m slots (All-weaker (Contains lists) (AreResidues most m) l.each lists (All-contains_itself lists)))
 
 -- ---- processes
 
@@ -127,7 +124,7 @@ processes_read : (most m : ℕ) (ps : List ProcessEntry) → All (KeepsLists mos
 processes_read most m [] h = refl
 processes_read most m (p ∷ ps) h =
     let rest = map process_claim ps in
-    both _ _ (kind_read most m p.kind (All-head (KeepsLists most m) (process_claim p) rest h)) (processes_read most m ps (All-tail (KeepsLists most m) (process_claim p) rest h))
+    and_from _ _ (kind_read most m p.kind (All-head (KeepsLists most m) (process_claim p) rest h)) (processes_read most m ps (All-tail (KeepsLists most m) (process_claim p) rest h))
 
 -- ---- words of the versions
 
@@ -158,10 +155,6 @@ starts_asked : (ps : List ProcessEntry) → have_kinds versions.One ps ≡ true 
 starts_asked [] h = All-nil IsNoStarter
 starts_asked (p ∷ ps) h = let a = and_parts (has_kind versions.One p.kind) (have_kinds versions.One ps) h in All-cons IsNoStarter (process_claim p) (map process_claim ps) (start_asked p.kind a.0) (starts_asked ps a.1)
 
--- neither of two words is there
-neither : (a b : Bool) → a ≡ false → b ≡ false → (a || b) ≡ false
-neither a b p q = rw (p, q) refl
-
 neither_parts : (a b : Bool) → (a || b) ≡ false → (a ≡ false) × (b ≡ false)
 neither_parts true b h = absurd (true≢false h)
 neither_parts false b h = (refl, h)
@@ -179,7 +172,7 @@ mode_narrow (versions.Three displays) modes.Both n h = absurd (true≢false (sym
 
 modes_narrow : (v : Version) (ss : List SignalEntry) → is_narrow v ≡ true → have_modes v ss ≡ true → any_both (map signal_claim ss) ≡ false
 modes_narrow v [] n h = refl
-modes_narrow v (s ∷ ss) n h = let a = and_parts (has_mode v s.mode) (have_modes v ss) h in neither (is_both (mode_from s.mode)) (any_both (map signal_claim ss)) (mode_narrow v s.mode n a.0) (modes_narrow v ss n a.1)
+modes_narrow v (s ∷ ss) n h = let a = and_parts (has_mode v s.mode) (have_modes v ss) h in or_from (is_both (mode_from s.mode)) (any_both (map signal_claim ss)) (mode_narrow v s.mode n a.0) (modes_narrow v ss n a.1)
 
 kind_narrow : (v : Version) (kind : ClaimedKind) → is_narrow v ≡ true → has_kind v kind ≡ true → is_mixed (kind_from kind) ≡ false
 kind_narrow v (kinds.Combinational start) n h = refl
@@ -193,7 +186,7 @@ kinds_narrow : (v : Version) (ps : List ProcessEntry) → is_narrow v ≡ true �
 kinds_narrow v [] n h = refl
 kinds_narrow v (p ∷ ps) n h =
     let a = and_parts (has_kind v p.kind) (have_kinds v ps) h in
-    neither (is_mixed (kind_from p.kind)) (any_mixed (map process_claim ps)) (kind_narrow v p.kind n a.0) (kinds_narrow v ps n a.1)
+    or_from (is_mixed (kind_from p.kind)) (any_mixed (map process_claim ps)) (kind_narrow v p.kind n a.0) (kinds_narrow v ps n a.1)
 
 -- and the other way round
 kind_of_one : (kind : ClaimedKind) → (kind_from kind ≡ block starter → ⊥) → is_mixed (kind_from kind) ≡ false → has_kind versions.One kind ≡ true
@@ -209,7 +202,7 @@ kinds_of_one [] h n = refl
 kinds_of_one (p ∷ ps) h n =
     let rest = map process_claim ps in
     let a = neither_parts (is_mixed (kind_from p.kind)) (any_mixed rest) n in
-    both _ _ (kind_of_one p.kind (All-head IsNoStarter (process_claim p) rest h) a.0) (kinds_of_one ps (All-tail IsNoStarter (process_claim p) rest h) a.1)
+    and_from _ _ (kind_of_one p.kind (All-head IsNoStarter (process_claim p) rest h) a.0) (kinds_of_one ps (All-tail IsNoStarter (process_claim p) rest h) a.1)
 
 kind_of_two : (displays : Bool) (kind : ClaimedKind) → is_mixed (kind_from kind) ≡ false → has_kind (versions.Two displays) kind ≡ true
 kind_of_two displays (kinds.Combinational start) n = refl
@@ -221,7 +214,7 @@ kinds_of_two : (displays : Bool) (ps : List ProcessEntry) → any_mixed (map pro
 kinds_of_two displays [] n = refl
 kinds_of_two displays (p ∷ ps) n =
     let a = neither_parts (is_mixed (kind_from p.kind)) (any_mixed (map process_claim ps)) n in
-    both _ _ (kind_of_two displays p.kind a.0) (kinds_of_two displays ps a.1)
+    and_from _ _ (kind_of_two displays p.kind a.0) (kinds_of_two displays ps a.1)
 
 kinds_of_three : (displays : Bool) (ps : List ProcessEntry) → have_kinds (versions.Three displays) ps ≡ true
 kinds_of_three displays [] = refl
@@ -248,7 +241,7 @@ modes_of : (v : Version) (ss : List SignalEntry) → any_both (map signal_claim 
 modes_of v [] n = refl
 modes_of v (s ∷ ss) n =
     let a = neither_parts (is_both (mode_from s.mode)) (any_both (map signal_claim ss)) n in
-    both _ _ (mode_of v s.mode a.0) (modes_of v ss a.1)
+    and_from _ _ (mode_of v s.mode a.0) (modes_of v ss a.1)
 
 modes_of_three : (displays : Bool) (ss : List SignalEntry) → have_modes (versions.Three displays) ss ≡ true
 modes_of_three displays [] = refl
@@ -297,11 +290,11 @@ words_read versions.One ps ss h (inl three) unmixed = absurd (omega (arith, thre
 words_read versions.One ps ss h (inr none) (inl three) = absurd (omega (arith, three))
 words_read versions.One ps ss h (inr none) (inr unmixed) =
     let all = map process_claim ps in
-    both _ _ (kinds_of_one ps (All-weaker (Contains all) IsNoStarter (λ p c. h p refl c) all (All-contains_itself all)) unmixed) (modes_of versions.One ss none)
+    and_from _ _ (kinds_of_one ps (All-weaker (Contains all) IsNoStarter (λ p c. h p refl c) all (All-contains_itself all)) unmixed) (modes_of versions.One ss none)
 words_read (versions.Two displays) ps ss h (inl three) unmixed = absurd (omega (arith, three))
 words_read (versions.Two displays) ps ss h (inr none) (inl three) = absurd (omega (arith, three))
-words_read (versions.Two displays) ps ss h (inr none) (inr unmixed) = both _ _ (kinds_of_two displays ps unmixed) (modes_of (versions.Two displays) ss none)
-words_read (versions.Three displays) ps ss h any unmixed = both _ _ (kinds_of_three displays ps) (modes_of_three displays ss)
+words_read (versions.Two displays) ps ss h (inr none) (inr unmixed) = and_from _ _ (kinds_of_two displays ps unmixed) (modes_of (versions.Two displays) ss none)
+words_read (versions.Three displays) ps ss h any unmixed = and_from _ _ (kinds_of_three displays ps) (modes_of_three displays ss)
 
 -- ---- limits
 
@@ -332,9 +325,9 @@ within_by (versions.Three displays) c h =
     record { modulus = l.fits; edges = l.edges; order = l.order; processes = l.processes; signals = l.signals }
 
 limits_by : (v : Version) (c : Certificate) → AreWithin (most_residues v) c → is_within_limits (value_by v c) ≡ true
-limits_by versions.One c w = both _ _ (both _ _ (both _ _ (both _ _ w.modulus w.edges) w.order) w.processes) w.signals
-limits_by (versions.Two displays) c w = both _ _ (both _ _ (both _ _ (both _ _ w.modulus w.edges) w.order) w.processes) w.signals
-limits_by (versions.Three displays) c w = both _ _ (both _ _ (both _ _ (both _ _ w.modulus w.edges) w.order) w.processes) w.signals
+limits_by versions.One c w = and_from _ _ (and_from _ _ (and_from _ _ (and_from _ _ w.modulus w.edges) w.order) w.processes) w.signals
+limits_by (versions.Two displays) c w = and_from _ _ (and_from _ _ (and_from _ _ (and_from _ _ w.modulus w.edges) w.order) w.processes) w.signals
+limits_by (versions.Three displays) c w = and_from _ _ (and_from _ _ (and_from _ _ (and_from _ _ w.modulus w.edges) w.order) w.processes) w.signals
 
 -- ---- the whole
 
@@ -370,10 +363,10 @@ read_from_asked IsKnown c is =
     let all = map process_claim c.processes.items in
     let lists = All-weaker (Contains all) (KeepsLists most c.modulus) (λ p among lists e. is.lists p lists among e) all (All-contains_itself all) in
     let w : AreWithin most c = record {
-      modulus = both _ _ (le-leb 1 c.modulus above) (le-leb c.modulus (2 ^ 32) is.below);
+      modulus = and_from _ _ (le-leb 1 c.modulus above) (le-leb c.modulus (2 ^ 32) is.below);
       edges = within edge_value edge_claim 65536 c.edges.items is.few_edges;
       order = within text_value name_from 65536 c.order.items is.few_ordered;
-      processes = both _ _ (within process_value process_claim 65536 c.processes.items is.few_processes) (processes_read most c.modulus c.processes.items lists);
+      processes = and_from _ _ (within process_value process_claim 65536 c.processes.items is.few_processes) (processes_read most c.modulus c.processes.items lists);
       signals = within signal_value signal_claim 65536 c.signals.items is.few_signals;
     } in
     (words_read c.version c.processes.items c.signals.items is.starts is.narrow is.unmixed, limits_by c.version c (subst (λ (n : ℕ). AreWithin n c) (most_same c.version) w))

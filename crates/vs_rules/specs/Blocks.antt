@@ -22,7 +22,7 @@ use Rattle.vs_process.specs.Executions.{is_combinational}
 use Rattle.vs_process.specs.Places.{perform, Todo}
 use Rattle.vs_process.specs.Steps.{Next, on, after, wait, step}
 use Rattle.vs_process.specs.BlockDrivers.{IsSettledStart}
-use Rattle.vs_process.specs.Threads.{store_behind}
+use Rattle.vs_process.specs.Threads.{store_after}
 use Rattle.vs_rules.specs.Claims.{nonblocking, both, IsSequential, IsWide}
 use Rattle.vs_rules.specs.Points.{Goes, first_todo}
 use Rattle.vs_rules.specs.Claims.{Claims, Start, cold, sources, starter, HasStart, IsBlock, IsDelay, IsWriter, HasMode}
@@ -96,7 +96,7 @@ arrived (wait number terms l) rest store = Some store
 
 abbrev pub run_alone : ℕ → Todo → Store → Option Store
 run_alone zero k store = None
-run_alone (suc most) k store = arrived (step k store 0).next (λ l new. run_alone most l new) (store_behind store (step k store 0).write)
+run_alone (suc most) k store = arrived (step k store 0).next (λ l new. run_alone most l new) (store_after store (step k store 0).write)
 
 -- run from right after its control, on the store in which variables are x and the continuous assignments settled, it arrives there again within 10,000 steps,
 -- its outputs as they were

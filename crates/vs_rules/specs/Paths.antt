@@ -15,7 +15,7 @@ use Rattle.vs_design.specs.declared.statement.Statement.TheViews.{out-Statement}
 use Rattle.vs_design.specs.Parts.{Parts}
 use Rattle.vs_design.specs.Statements.{all_reads, assignment_reads}
 use Rattle.vs_design.specs.Uses.{covers, joined, reads, writes}
-use Rattle.vs_process.specs.Landings.{todo_behind}
+use Rattle.vs_process.specs.Landings.{todo_after}
 use Rattle.vs_process.specs.Places.{perform, Todo}
 use Rattle.vs_process.specs.Steps.{Next, on, after, wait}
 use Rattle.vs_process.specs.Bits.{HasBit, meet_in}
@@ -102,7 +102,7 @@ ShowsNow d k r = Lists d (todo_shows k) r
 -- a path leads from one point to another, where from each point these are the ways, by such ways alone
 pub data PathBy (ways : Todo → List Next) (ok : Next → Bool) (from : Todo) : Todo → Type 0 where
   begins : PathBy ways ok from from
-  goes : (k l : Todo) (next : Next) → PathBy ways ok from k → Among next (ways k) → ok next ≡ true → todo_behind next ≡ l → PathBy ways ok from l
+  goes : (k l : Todo) (next : Next) → PathBy ways ok from k → Among next (ways k) → ok next ≡ true → todo_after next ≡ l → PathBy ways ok from l
 
 -- a path of the text
 abbrev pub Path : (Next → Bool) → Todo → Todo → Type 0
@@ -143,7 +143,7 @@ pub record PathFromBy (ways : Todo → List Next) (d : Parts) (i : ℕ) (sort : 
   pub point : IsPoint d i at
   pub goes : Goes at next
   pub starts : sort at next
-  pub path : PathBy ways ok (todo_behind next) k
+  pub path : PathBy ways ok (todo_after next) k
 
 abbrev pub PathFrom : Parts → ℕ → (Todo → Next → Type 0) → (Next → Bool) → Todo → Type 0
 PathFrom d i sort ok k = PathFromBy nexts d i sort ok k
@@ -157,8 +157,8 @@ abbrev pub IsHot : Parts → Bool → ℕ → ℕ → Todo → Type 0
 IsHot d wide i v k = PathFromBy (nexts_by wide) d i (λ at next. WritesNow d at v) is_zero_time k
 
 -- without a further control from a control that can end at a residue; in version 3 past such a `repeat` by a turn alone
-abbrev pub RunsBehind : Parts → Bool → ℕ → (Next → ℕ → Type 0) → Todo → ℕ → Type 0
-RunsBehind d wide i can_end k r = PathFromBy (nexts_by wide) d i (λ at next. can_end next r) is_plain k
+abbrev pub RunsFrom : Parts → Bool → ℕ → (Next → ℕ → Type 0) → Todo → ℕ → Type 0
+RunsFrom d wide i can_end k r = PathFromBy (nexts_by wide) d i (λ at next. can_end next r) is_plain k
 
 -- ---- whole texts
 

@@ -20,7 +20,7 @@ use Rattle.vs_rules.specs.Points.{Goes, nexts_by}
 use Rattle.vs_rules.specs.Claims.{Claims, IsSignalNamed, IsProcessNamed, IsAssignNamed, claim_of, IsWriter, IsSecond, HasMode, HasKind, IsBlock, IsEdge, HasLists, IsDelay, HasMixedLists, IsMixed, WaitsForEdges, WaitsForTimes, IsSequential, IsLater, IsWide, is_wide}
 use Rattle.vs_rules.specs.Claims.{signal_names, process_names, edge_names, edge_signals, IsRootOf, IsRoot}
 use Rattle.vs_rules.specs.Paths.{Bit, IsBit, Has, ListsSignal, WritesNow, WritesLater, WritesAny, ReadsNow, ShowsNow, IsPoint, IsSlot0, IsPrologue, IsLate, IsHot, PathBy, is_zero_time, Writes, reads_of, HasTerm, IsHeardAtStart}
-use Rattle.vs_rules.specs.Drivers.{Driver, block, IsDriver, DriverReads, DriverNeeds, StandsBefore, WritesBit, IsSource, IsBlocking, InCone}
+use Rattle.vs_rules.specs.Drivers.{Driver, block, IsDriver, DriverReads, DriverNeeds, ComesBefore, WritesBit, IsSource, IsBlocking, InCone}
 use Rattle.vs_rules.specs.Constants.{bit_of, Gives, IsKnown}
 use Rattle.vs_rules.specs.Copies.{CopiesRoot, SeenAs}
 use Rattle.vs_rules.specs.Slots.{DelayEnds, EdgeEnds, RunsByDelays, RunsByEdges, HasSlot, HasWriteSlot, FiresOf}
@@ -127,7 +127,7 @@ pub record K4 (d : Parts) (c : Claims) (x : Driver) : Type 0 where
   pub known : (r : BitRange) → IsDriver d c x → DriverReads d x r → HasKind false d r.signal ⊎ (IsSource d c r.signal ⊎ IsCovered d c r)
   -- of each bit of the design that is driven the driver is earlier, where it isn't the block itself
   pub earlier : (r : BitRange) (b : Bit) (y : Driver) → IsDriver d c x → DriverReads d x r → IsBit d b → Has r b →
-      IsDriver d c y → WritesBit d y b → IsSelf x y ⊎ StandsBefore d c y x
+      IsDriver d c y → WritesBit d y b → IsSelf x y ⊎ ComesBefore d c y x
 
 -- ---- K6: the signals of edge terms, each of one bit, copy a root, which changes at most once in a slot
 

@@ -11,7 +11,7 @@ use Rattle.vs_process.specs.Places.{Todo}
 use Rattle.vs_process.specs.Steps.{Next, on, after, wait}
 use Rattle.vs_rules.specs.Controls.{controls_of, list_of}
 use Rattle.vs_rules.specs.Claims.{Claims, Kind, block, edges, delays, mixed, kind_of, HasLists, IsWriter, IsRootOf, is_wide}
-use Rattle.vs_rules.specs.Paths.{IsPoint, WritesNow, WritesAny, HasTerm, RunsBehind}
+use Rattle.vs_rules.specs.Paths.{IsPoint, WritesNow, WritesAny, HasTerm, RunsFrom}
 use Rattle.vs_rules.specs.Constants.{bit_of, Gives, IsClock}
 use Rattle.vs_rules.specs.Copies.{SeenAs}
 
@@ -25,7 +25,7 @@ DelayEnds d i lists (wait number terms l) r = ⊥
 
 -- a point has the run slot, of lists of the delay controls
 abbrev pub RunsByDelays : Parts → Bool → ℕ → List (List ℕ) → Todo → ℕ → Type 0
-RunsByDelays d wide i lists k r = RunsBehind d wide i (DelayEnds d i lists) k r
+RunsByDelays d wide i lists k r = RunsFrom d wide i (DelayEnds d i lists) k r
 
 -- ---- firing slots
 
@@ -75,7 +75,7 @@ EdgeEnds d c (wait number terms l) r = (t : EventTerm) × Contains terms t × Fi
 
 -- a point has the run slot, of event controls
 abbrev pub RunsByEdges : Parts → Claims → ℕ → Todo → ℕ → Type 0
-RunsByEdges d c i k r = RunsBehind d (is_wide c) i (EdgeEnds d c) k r
+RunsByEdges d c i k r = RunsFrom d (is_wide c) i (EdgeEnds d c) k r
 
 -- a control of a process of this kind can end at a residue
 abbrev pub Ends : Parts → Claims → ℕ → Option Kind → Next → ℕ → Type 0
@@ -88,7 +88,7 @@ Ends d c i None next r = ⊥
 -- a point of a process has the run slot: of the delay controls, or in one of kind edge of the event controls, in a mixed one of both, from which a
 -- path without further control leads there
 abbrev pub HasSlot : Parts → Claims → ℕ → Todo → ℕ → Type 0
-HasSlot d c i k r = RunsBehind d (is_wide c) i (Ends d c i (kind_of d c i)) k r
+HasSlot d c i k r = RunsFrom d (is_wide c) i (Ends d c i (kind_of d c i)) k r
 
 -- a variable has the write slot: its writer writes it by `=` at a point with that run slot
 pub record HasWriteSlot (d : Parts) (c : Claims) (u r : ℕ) : Type 0 where

@@ -1,6 +1,7 @@
 -- Where a mixed process comes from delays to event controls, by what is kept of its places.
 use Rattle.std.proofs.Common.{◌≡◌, ℕ, ◌<◌, ◌≤◌, ◌↔◌, inl, inr, Bool, true, IsTrue, Some, List, slice_get, refl, sym, ap, subst, arith}
 use Rattle.std.specs.List.{Contains}
+use Rattle.std.proofs.lemmas.Bool.{cases_lt as below_cases}
 use Rattle.vs_design.specs.declared.design.Process.{Process}
 use Rattle.vs_design.specs.declared.statement.EventTerm.{EventTerm}
 use Rattle.vs_design.specs.Parts.{Parts}
@@ -14,7 +15,7 @@ use Rattle.vs_rules_of_processes.specs.vs_slots.specs.Runs.{DelayEndsBy, TermsEn
 use Rattle.vs_rules_of_processes.specs.vs_slots.specs.Terms.{TermsFire}
 use Rattle.vs_rules_of_processes.specs.vs_slots.proofs.RunLemmas.{one_lists}
 use Rattle.vs_rules_of_processes.specs.EdgePlaces.{AreArrivalsApart, ArrivesApart}
-use Rattle.vs_rules_of_processes.proofs.Here.{below_cases, past_none}
+use Rattle.vs_rules_of_processes.proofs.Here.{past_none}
 
 -- what goes on otherwise than through an event control ends at no terms
 no_terms : (d : Parts) (c : Claims) (pause : Pause) (r : ℕ) → pause ≡ none → TermsEnd d c pause r → ⊥

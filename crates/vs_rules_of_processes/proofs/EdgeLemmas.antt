@@ -1,12 +1,12 @@
 -- The rule on processes that wait for edges, of points and of places.
-use Rattle.std.proofs.Common.{◌≡◌, ℕ, ◌<◌, ◌≤◌, ◌⊎◌, ◌↔◌, inl, inr, Bool, true, IsTrue, Option, Some, None, List, length, get_or, slice_get, refl, sym, ◌∙◌, ap, subst, arith, ltb-true, lt-ltb}
-use Rattle.std.proofs.lemmas.Bool.{false≢true}
+use Rattle.std.proofs.Common.{◌≡◌, ℕ, ◌<◌, ◌≤◌, ◌↔◌, inl, inr, Bool, true, IsTrue, Option, Some, None, List, length, get_or, slice_get, refl, sym, ◌∙◌, ap, subst, arith, ltb-true, lt-ltb}
+use Rattle.std.proofs.lemmas.Bool.{false≢true, cases_lt}
 use Rattle.std.proofs.lemmas.Option.{none-some, same_Some, slice_get_past, slice_get_within, slice_get-get_or}
 use Rattle.std.specs.List.{Contains}
 use Rattle.vs_design.specs.declared.design.Process.{Process}
 use Rattle.vs_design.specs.declared.statement.EventTerm.{EventTerm}
 use Rattle.vs_design.specs.Parts.{Parts}
-use Rattle.vs_process.specs.Landings.{todo_behind}
+use Rattle.vs_process.specs.Landings.{todo_after}
 use Rattle.vs_process.specs.Places.{Todo}
 use Rattle.vs_process.specs.Steps.{Next, on, after, wait}
 use Rattle.vs_process.specs.Stops.{stop_at, stop_statement, stops_tos}
@@ -23,11 +23,12 @@ use Rattle.vs_claims.specs.vs_maps.specs.Walks.{takes_time}
 use Rattle.vs_claims.specs.vs_maps.proofs.EachWalk.{terms_exact}
 use Rattle.vs_claims.specs.vs_maps.proofs.Texts.{place_of, place_back, walk_on, walk_back, step_on, step_back, behind_step, control_on}
 use Rattle.vs_claims.specs.vs_maps.specs.Ranges.{HasTermAt}
+use Rattle.vs_design.specs.vs_logic4.proofs.Basics.{there as there_is}
 use Rattle.vs_rules_of_processes.specs.EdgePlaces.{MayWait, FiresIn, AreArrivalsApart, K7_Places, EdgesAreByPlaces, AreKnown, IsKnown, IsPair}
 use Rattle.vs_rules_of_processes.specs.declared.edges.Term.{Term}
 use Rattle.vs_claims.specs.Facts.{Case, AreCharts}
 use Rattle.vs_rules_of_processes.specs.vs_slots.specs.Runs.{DelayEndsBy, TermsEnd}
-use Rattle.vs_rules_of_processes.specs.vs_slots.proofs.KeptLemmas.{process_of, text_of, there_is}
+use Rattle.vs_rules_of_processes.specs.vs_slots.proofs.KeptLemmas.{process_of, text_of}
 
 abbrev pause_in : Next → Pause
 pause_in (on l) = none
@@ -119,7 +120,7 @@ edges_are_by_places d c i q stops start is t = record { edges = λ kind. (there 
       let s = step_on q.body stops start t p.0 one (subst (λ (z : Todo). Goes z one) (sym p.2) a.goes) in
       let here = pause_of (stop_statement (stop_at stops p.0)) in
       let paused_here : here ≡ pause_in one = pause_as here (t.at s.0) one s.2 in
-      let behind : a.behind ≡ t.at s.0 = sym (ap todo_behind a.delay_is) ∙ behind_step here (t.at s.0) one s.2 in
+      let behind : a.behind ≡ t.at s.0 = sym (ap todo_after a.delay_is) ∙ behind_step here (t.at s.0) one s.2 in
       let w = walk_on q.body stops start t (ZeroTime true) s.0 a.to (subst (λ (z : Todo). PathBy (nexts_by true) is_zero_time z a.to) behind a.path) in
       let v = step_on q.body stops start t w.0 other (subst (λ (z : Todo). Goes z other) (sym w.2) a.waits) in
       let there = pause_of (stop_statement (stop_at stops w.0)) in
@@ -185,11 +186,8 @@ no_kind : (c : Claims) (p : Option Process) (k : Kind) → p ≡ None → kind_f
 no_kind c None k e h = none-some k h
 no_kind c (Some q) k e h = none-some q (sym e)
 
-below_or_past : (i n : ℕ) → (i < n) ⊎ (n ≤ i)
-below_or_past i n = grind arith
-
 pub has_chart : (f : Case) (i : ℕ) (k : Kind) → AreCharts f.design f.charts → slice_get f.charts i ≡ None → kind_of f.design f.claims i ≡ Some k → ⊥
-has_chart f i k maps e h = elim (below_or_past i (length f.charts)) [
+has_chart f i k maps e h = elim (cases_lt i (length f.charts)) [
   | inl l ↦ let y = there_is f.charts i l in none-some y.0 (sym e ∙ y.1)
   | inr p ↦ no_kind f.claims (slice_get f.design.processes i) k (slice_get_past f.design.processes i (subst (λ (n : ℕ). n ≤ i) maps.as_many p)) h
 ]

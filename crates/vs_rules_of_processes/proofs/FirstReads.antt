@@ -1,9 +1,10 @@
 -- Variables that a process may read in the first slot.
-use Rattle.std.proofs.Common.{◌≡◌, ℕ, ◌<◌, ◌≤◌, ◌==◌, ◌⊎◌, ◌↔◌, inl, inr, Bool, true, false, IsTrue, Some, List, [], length, get_or, slice_get, refl, sym, ◌∙◌, ap, subst, arith}
+use Rattle.std.proofs.Common.{◌≡◌, ℕ, ◌<◌, ◌≤◌, ◌==◌, ◌⊎◌, ◌↔◌, inl, inr, Bool, true, false, not, IsTrue, Some, List, [], length, get_or, slice_get, refl, sym, ◌∙◌, ap, subst, arith}
 use Rattle.std.specs.List.{Contains}
-use Rattle.std.proofs.lemmas.Bool.{cases_Bool, eqb-false, eqb-true, false≢true}
+use Rattle.std.proofs.lemmas.Bool.{cases_Bool, eqb-false, eqb-true, false≢true, not-true}
 use Rattle.std.proofs.lemmas.List.Elements.{Contains-get_or}
 use Rattle.std.proofs.lemmas.Option.{same_Some, slice_get_cases, slice_get_within}
+use Rattle.std.proofs.lemmas.List.{get_or_default as get_or_same}
 use Rattle.vs_design.specs.declared.design.Process.{Process}
 use Rattle.vs_design.specs.declared.signal.Signal.{Signal}
 use Rattle.vs_design.specs.Kinds.{is_variable}
@@ -15,14 +16,13 @@ use Rattle.vs_maps.specs.vs_rules.specs.Paths.{IsSlot0, Writes, WritesNow, is_ze
 use Rattle.vs_maps.specs.vs_rules.proofs.Past.{past_paths}
 use Rattle.vs_drivers.specs.vs_maps.specs.declared.along.Along.TheVariants.{ZeroTime}
 use Rattle.vs_drivers.specs.vs_maps.specs.Ranges.{HasSignal, now_at}
-use Rattle.vs_drivers.specs.vs_maps.specs.Reaches.{Chart, InSlot0, places}
+use Rattle.vs_drivers.specs.vs_maps.specs.Reaches.{Chart, InSlot0}
 use Rattle.vs_drivers.specs.vs_maps.proofs.EachWalk.{writes_now_at}
 use Rattle.vs_drivers.specs.vs_maps.proofs.Texts.{from_on, from_back}
-use Rattle.vs_drivers.specs.vs_maps.proofs.WalkLemmas.{place_below, start_walked}
+use Rattle.vs_drivers.specs.vs_maps.proofs.WalkLemmas.{start_walked}
 use Rattle.vs_maps.specs.Texts.{AllNow, Texts, texts_of}
 use Rattle.vs_claims.specs.Facts.{Case, AreCharts}
 use Rattle.vs_rules_of_processes.specs.FirstSlot.{IsOwn, IsFirst, IsPast}
-use Rattle.vs_rules_of_processes.proofs.PlaceLemmas.{get_or_same}
 
 -- ---- versions
 
@@ -53,7 +53,7 @@ past_is d charts maps i v = (there, back) where
       let here = (writes_now_at d q t.stops t.start text v y.0).1 (subst (λ (k : Todo). WritesNow d k v) (sym y.2) now) in
       elim (all j y.0 t at place here) [
         | inl same ↦ same
-        | inr past ↦ absurd (past t at (place_below (places t) t text.starts_in text.leads_in y.0 place) y.1)
+        | inr past ↦ absurd (past t at y.1)
       ]
 
   there : AllNow (texts_of d charts) v (IsPast charts i) → (j : ℕ) (l : Todo) → IsSlot0 d true j l → WritesNow d l v → j ≡ i
@@ -68,7 +68,7 @@ past_is d charts maps i v = (there, back) where
   back : ((j : ℕ) (l : Todo) → IsSlot0 d true j l → WritesNow d l v → j ≡ i) → AllNow (texts_of d charts) v (IsPast charts i)
   back h j p t at place here = elim (cases_Bool (j == i)) [
     | inl same ↦ inl (eqb-true j i same)
-    | inr other ↦ inr (λ s is less slot. absurd (eqb-false j i other (of_process s is slot)))
+    | inr other ↦ inr (λ s is slot. absurd (eqb-false j i other (of_process s is slot)))
   ]
     where
       of_process : (s : Chart) → slice_get charts j ≡ Some s → InSlot0 true s p → j ≡ i
@@ -80,6 +80,17 @@ past_is d charts maps i v = (there, back) where
             ((writes_now_at d q.0 s.stops s.start text v p).0 (subst (λ (x : Chart). HasSignal (now_at x p) v) same here))
         | inr none ↦ absurd (let within = slice_get_within charts j s is in omega (arith, within, none.0, maps.as_many))
       ]
+
+-- what is tested of a place of another process
+pub past_told : (charts : List Chart) (i j p : ℕ) (b : Bool) → (j ≡ i → ⊥) → (IsTrue b ↔ ((t : Chart) × (slice_get charts j ≡ Some t) × InSlot0 true t p)) →
+    (IsTrue (not b) ↔ IsPast charts i j p)
+past_told charts i j p b other told = (
+  λ h. inr (λ t is slot. false≢true (sym (not-true b h) ∙ told.1 (t, is, slot))),
+  λ past. elim past [
+    | inl same ↦ absurd (other same)
+    | inr none ↦ elim (cases_Bool b) [ inl holds ↦ absurd (let y = told.0 holds in none y.0 y.1 y.2) | inr fails ↦ ap not fails ]
+  ],
+)
 
 -- ---- blocks
 

@@ -1,19 +1,16 @@
 -- Where signals lead forward through drivers, and what is in the cones of their ranges.
-use Rattle.std.proofs.Common.{◌≡◌, ℕ, zero, suc, ◌+◌, ◌-◌, ◌<◌, ◌≤◌, ◌⊎◌, ◌==◌, ◌&&◌, inl, inr, Bool, true, false, Option, Some, None, List, [], ◌∷◌, length, nat_lt, slice_get, if◌then◌else◌, refl, sym, ◌∙◌, ap, subst, arith}
+use Rattle.std.proofs.Common.{◌≡◌, ℕ, zero, suc, ◌+◌, ◌-◌, ◌<◌, ◌≤◌, ◌⊎◌, inl, inr, Bool, true, false, List, [], ◌∷◌, length, nat_lt, if◌then◌else◌, refl, sym, ◌∙◌, ap, subst, arith}
 use Rattle.std.specs.List.{Contains}
-use Rattle.std.proofs.lemmas.Bool.{and_parts, eqb-true, false≢true}
 use Rattle.std.proofs.lemmas.Option.{slice_get_within}
 use Rattle.vs_design.specs.declared.range.BitRange.{BitRange}
-use Rattle.vs_design.specs.declared.signal.Signal.{Signal}
 use Rattle.vs_design.specs.Parts.{Parts}
-use Rattle.vs_design.specs.WellFormed.{width_at}
-use Rattle.vs_rules.specs.vs_process.specs.Bits.{meet_in, common_word, common_place}
 use Rattle.vs_graph.specs.Reached.{Reached, begins, goes_on}
 use Rattle.vs_rules.specs.Claims.{Claims}
 use Rattle.vs_rules.specs.Drivers.{Driver, IsDriver, DriverWrites, DriverNeeds, InCone}
 use Rattle.vs_rules.specs.Drivers as r
 use Rattle.vs_drivers.specs.Wires.{driver_at, drivers}
 use Rattle.vs_drivers.proofs.Numbers.{block_within, driver_cases, number_of}
+use Rattle.vs_drivers.proofs.WalkLemmas.{meet_signal}
 use Rattle.vs_graph.specs.Rows.{empty_rows, row}
 use Rattle.vs_graph.proofs.RowLemmas.{AreSoFar, none_yet}
 use Rattle.vs_rules_of_processes.specs.Forward.{AreForward, LeadsWithin, forward}
@@ -67,19 +64,6 @@ leads_within d c users outs are a b h = elim (node_cases users outs a) [
 
 -- ---- cones
 
-word_there : (o : Option Signal) (a b : Option ℕ) → common_word o a b ≡ true → (s : Signal) × (o ≡ Some s)
-word_there None a b h = absurd (false≢true h)
-word_there (Some s) a b h = (s, refl)
-
--- ranges that meet are of one signal of the design
-of_one : (d : Parts) (p q : BitRange) → meet_in d p q ≡ true → (p.signal ≡ q.signal) × (p.signal < length d.signals)
-of_one d p q h =
-    let s = slice_get d.signals p.signal in
-    let all = and_parts ((p.signal == q.signal) && common_word s p.word q.word) (common_place (width_at s) p.bits q.bits) h in
-    let two = and_parts (p.signal == q.signal) (common_word s p.word q.word) all.0 in
-    let t = word_there s p.word q.word two.1 in
-    (eqb-true p.signal q.signal two.0, slice_get_within d.signals p.signal t.0 t.1)
-
 -- the number of a driver that writes something
 below : (d : Parts) (n : ℕ) (w : BitRange) → DriverWrites d (driver_at d n) w → n < drivers d
 below d n w h = elim (driver_cases d n) [
@@ -97,7 +81,7 @@ leads_on d c users outs are seeds u _ h (r.InCone.here p source e t) = (
 leads_on d c users outs are seeds u _ h (r.InCone.through p w q k is writes meets needs cone) =
     let before = leads_on d c users outs are seeds u q h cone in
     let n = number_of d k w writes in
-    let same = of_one d w p meets in
+    let same = meet_signal d w p meets in
     let put = subst (λ (y : Driver). DriverWrites d y w) (sym n.1) writes in
     let within = below d n.0 w put in
     let node = length d.signals + n.0 in

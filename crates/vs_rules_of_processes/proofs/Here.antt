@@ -1,8 +1,8 @@
 -- What is asked of the places of a process that waits for times.
-use Rattle.std.proofs.Common.{◌≡◌, ℕ, zero, suc, ◌<◌, ◌≤◌, ◌⊎◌, ◌↔◌, inl, inr, Bool, true, false, IsTrue, not, List, length, map, refl, sym, ap, subst, arith}
+use Rattle.std.proofs.Common.{◌≡◌, ℕ, zero, suc, ◌<◌, ◌≤◌, ◌↔◌, inl, inr, Bool, true, false, IsTrue, not, List, length, map, refl, sym, ap, subst, arith}
 use Rattle.std.specs.declared.vec.Vec.{Vec}
 use Rattle.std.specs.declared.alloc.Global.{Global}
-use Rattle.std.proofs.lemmas.Bool.{false≢true}
+use Rattle.std.proofs.lemmas.Bool.{false≢true, cases_lt}
 use Rattle.std.proofs.lemmas.Option.{slice_get_past}
 use Rattle.vs_design.specs.declared.statement.Statement.{Statement}
 use Rattle.vs_design.specs.Parts.{Parts}
@@ -22,9 +22,6 @@ past_none t (suc n) h = ap (λ s. pause_of (stop_statement s)) (slice_get_past t
 pub past_closed : (d : Parts) (c : Claims) (i : ℕ) (t : Chart) (list : ℕ → List ℕ) (p : ℕ) → places t ≤ p → PlaceIsClosed d c i t list p
 past_closed d c i t list p h = subst (λ (x : Pause). PauseIsClosed d c i t list p x) (sym (past_none t p h)) tt
 
-pub below_cases : (i n : ℕ) → (i < n) ⊎ (n ≤ i)
-below_cases i n = grind arith
-
 -- something doesn't hold, or something else doesn't
 pub listens : (b : Bool) (A B : Type 0) → A → (IsTrue b ↔ B) → (IsTrue (not b) ↔ (A → B → ⊥))
 listens true A B here f = (λ t x y. absurd (false≢true t), λ h. absurd (h here (f.0 refl)))
@@ -37,6 +34,6 @@ pub closed_is : (d : Parts) (c : Claims) (i : ℕ) (t : Chart) (body : Statement
 closed_is d c i t body lists controls list n e long same count b f =
     subst (λ (l : List ℕ). (IsTrue b ↔ ((length lists ≡ length l) × AreClosed d c i t (list_of l (map residues_from lists))))) e
     (subst (λ (l : ℕ → List ℕ). (IsTrue b ↔ ((length lists ≡ length controls) × AreClosed d c i t l))) same (
-      λ h. (long, λ p. elim (below_cases p n) [ inl l ↦ f.0 h p l | inr past ↦ past_closed d c i t list p (subst (λ (k : ℕ). k ≤ p) count past) ]),
+      λ h. (long, λ p. elim (cases_lt p n) [ inl l ↦ f.0 h p l | inr past ↦ past_closed d c i t list p (subst (λ (k : ℕ). k ≤ p) count past) ]),
       λ h. f.1 (λ p l. h.1 p),
     ))

@@ -18,6 +18,7 @@ use Rattle.vs_drivers.specs.vs_maps.proofs.EachPoint.{shows_here}
 use Rattle.vs_drivers.specs.vs_maps.proofs.Texts.{place_of, place_back}
 use Rattle.vs_drivers.proofs.ConeLemmas.{claimed_within}
 use Rattle.vs_claims.specs.Facts.{Case, AreCharts}
+use Rattle.vs_design.specs.vs_logic4.proofs.Basics.{below_or}
 use Rattle.vs_rules_of_processes.specs.FirstSlot.{Shows, ShowsIn, NeedsIn, Hangs, AreHung}
 use Rattle.vs_rules_of_processes.specs.FirstSlot as f
 
@@ -29,9 +30,6 @@ put_no_shown t p old not r = (inl, λ h. elim h [ inl l ↦ l | inr y ↦ absurd
 -- at the places below a number
 abbrev pub ShowsBelow : Chart → ℕ → BitRange → Type 0
 ShowsBelow t n r = (p : ℕ) × (p < n) × (IsPlace t p × Contains (shows_at t p) r)
-
-below_or : (i n : ℕ) → i < n + 1 → (i < n) ⊎ (i ≡ n)
-below_or i n h = grind (arith, h)
 
 pub shows_none : (t : Chart) (old : List BitRange) (r : BitRange) → (Contains old r ↔ (Contains old r ⊎ ShowsBelow t 0 r))
 shows_none t old r = (inl, λ h. elim h [ inl l ↦ l | inr y ↦ absurd (omega (arith, y.1)) ])

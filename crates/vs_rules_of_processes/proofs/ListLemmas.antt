@@ -1,10 +1,12 @@
 -- Lists that are put at an end, and what all elements of one do.
-use Rattle.std.proofs.Common.{◌≡◌, ℕ, zero, suc, ◌+◌, ◌<◌, ◌≤◌, ◌⊎◌, ◌↔◌, inl, inr, true, false, IsTrue, Some, List, [], ◌∷◌, ◌++◌, length, map, get_or, slice_get, refl, sym, ◌∙◌, ap, subst, arith}
+use Rattle.std.proofs.Common.{◌≡◌, ℕ, ◌+◌, ◌<◌, ◌≤◌, ◌⊎◌, ◌↔◌, inl, inr, true, false, IsTrue, Some, List, [], ◌∷◌, ◌++◌, length, map, get_or, slice_get, refl, sym, ◌∙◌, ap, subst, arith}
 use Rattle.std.specs.List.{Contains}
 use Rattle.std.proofs.lemmas.Bool.{false≢true}
 use Rattle.std.proofs.lemmas.List.Elements.{Contains-append_left, Contains-append_right, Contains-append_cases}
-use Rattle.std.proofs.lemmas.Option.{none-some, same_Some, slice_get-get_or}
-use Rattle.vs_drivers.specs.vs_maps.proofs.RangeLemmas.{first_in, later_in, in_either}
+use Rattle.std.proofs.lemmas.Option.{same_Some, slice_get-get_or}
+use Rattle.vs_drivers.specs.vs_maps.proofs.RangeLemmas.{later_in, in_either}
+use Rattle.vs_design.specs.vs_logic4.proofs.Basics.{below_or}
+use Rattle.vs_graph.proofs.RowLemmas.{head_in as first_in}
 
 -- what is put at a list's end, one image for each element
 in_map : {A : Type 0} (f : A → ℕ) (ys : List A) (v : ℕ) → Contains (map f ys) v → (y : A) × Contains ys y × (f y ≡ v)
@@ -52,13 +54,6 @@ list_put old new more e v = (λ h. Contains-append_cases old more v (subst (λ (
   back (inl a) = subst (λ (l : List ℕ). Contains l v) (sym e) (Contains-append_left old more v a)
   back (inr b) = subst (λ (l : List ℕ). Contains l v) (sym e) (Contains-append_right old more v b)
 
--- nothing is put
-pub nothing_put : (old : List ℕ) (H : ℕ → Type 0) → ((v : ℕ) → H v → ⊥) → (v : ℕ) → (Contains old v ↔ (Contains old v ⊎ H v))
-nothing_put old H none v = (inl, back) where
-  back : Contains old v ⊎ H v → Contains old v
-  back (inl a) = a
-  back (inr h) = absurd (none v h)
-
 -- one number is put
 pub one_put : (old new : List ℕ) (i : ℕ) (P : Type 0) → new ≡ old ++ i ∷ [] → P → (v : ℕ) → (Contains new v ↔ (Contains old v ⊎ (P × (i ≡ v))))
 one_put old new i P e p = put_images (λ (n : ℕ). n) old new (i ∷ []) (λ (v : ℕ). P × (i ≡ v)) e
@@ -66,9 +61,6 @@ one_put old new i P e p = put_images (λ (n : ℕ). n) old new (i ∷ []) (λ (v
     (λ v h. (i, first_in i [], h.1))
 
 -- ---- loops
-
-below_or : (i n : ℕ) → i < n + 1 → (i < n) ⊎ (i ≡ n)
-below_or i n h = grind (arith, h)
 
 -- what holds of the first elements of a list
 abbrev pub Before : {A : Type 0} → (A → Type 0) → List A → ℕ → Type 0
@@ -89,11 +81,3 @@ found_one P xs i d within h = (λ t. (get_or xs i d, (i, within, same_Some (get_
 
 pub none_found : {A : Type 0} (P : A → Type 0) (xs : List A) (i : ℕ) → length xs ≤ i → Before (λ x. P x → ⊥) xs i → (IsTrue false ↔ ((x : A) × Contains xs x × P x))
 none_found P xs i past before = (λ t. absurd (false≢true t), λ y. absurd (all_in (λ x. P x → ⊥) xs i past before y.0 y.1 y.2))
-
--- a table with one more
-pub each_more : {A : Type 0} (P : ℕ → A → Type 0) (xs : List A) (x : A) → ((k : ℕ) (y : A) → slice_get xs k ≡ Some y → P k y) → P (length xs) x →
-    (k : ℕ) (y : A) → slice_get (xs ++ x ∷ []) k ≡ Some y → P k y
-each_more P [] x before here zero y is = subst (P 0) (same_Some x y is) here
-each_more P [] x before here (suc k) y is = absurd (none-some y is)
-each_more P (z ∷ xs) x before here zero y is = before 0 y is
-each_more P (z ∷ xs) x before here (suc k) y is = each_more (λ n w. P (suc n) w) xs x (λ n w e. before (suc n) w e) here k y is

@@ -1,12 +1,10 @@
 -- Pairs of terms, and lists element by element.
-use Rattle.std.proofs.Common.{◌≡◌, ℕ, zero, suc, ◌+◌, ◌<◌, ◌≤◌, ◌⊎◌, ◌↔◌, inl, inr, Bool, true, false, IsTrue, Some, List, [], ◌∷◌, ◌++◌, length, get_or, slice_get, refl, sym, ◌∙◌, ap, subst, arith}
+use Rattle.std.proofs.Common.{◌≡◌, ℕ, ◌+◌, ◌<◌, ◌≤◌, ◌↔◌, inl, inr, Bool, true, false, IsTrue, Some, List, [], ◌∷◌, length, get_or, slice_get, refl, sym, ◌∙◌, ap, subst, arith}
 use Rattle.std.specs.List.{Contains}
 use Rattle.std.proofs.lemmas.Bool.{false≢true}
 use Rattle.std.proofs.lemmas.List.Elements.{Contains-get_or}
-use Rattle.std.proofs.lemmas.Option.{none-some, same_Some, slice_get_within, slice_get-get_or}
-
-below_or : (i n : ℕ) → i < n + 1 → (i < n) ⊎ (i ≡ n)
-below_or i n h = grind (arith, h)
+use Rattle.std.proofs.lemmas.Option.{same_Some, slice_get_within, slice_get-get_or}
+use Rattle.vs_design.specs.vs_logic4.proofs.Basics.{below_or}
 
 -- what holds of the first elements of a list
 abbrev pub Before : {A : Type 0} → (A → Type 0) → List A → ℕ → Type 0
@@ -44,13 +42,6 @@ by_places P xs = (
 pub decided : (b : Bool) (P Q : Type 0) → (IsTrue b ↔ P) → (P ↔ Q) → (IsTrue b ↔ Q)
 decided b P Q e f = (λ h. f.0 (e.0 h), λ q. e.1 (f.1 q))
 
-pub each_more : {A : Type 0} (P : ℕ → A → Type 0) (xs : List A) (x : A) → ((k : ℕ) (y : A) → slice_get xs k ≡ Some y → P k y) → P (length xs) x →
-    (k : ℕ) (y : A) → slice_get (xs ++ x ∷ []) k ≡ Some y → P k y
-each_more P [] x before here zero y is = subst (P 0) (same_Some x y is) here
-each_more P [] x before here (suc k) y is = absurd (none-some y is)
-each_more P (z ∷ xs) x before here zero y is = before 0 y is
-each_more P (z ∷ xs) x before here (suc k) y is = each_more (λ n w. P (suc n) w) xs x (λ n w e. before (suc n) w e) here k y is
-
 -- an element at a place, as it is read
 pub at_place : {A : Type 0} (P : A → Type 0) (xs : List A) (i : ℕ) (d x : A) → i < length xs → slice_get xs i ≡ Some x → P (get_or xs i d) → P x
 at_place P xs i d x within e p = subst P (same_Some (get_or xs i d) x (sym (slice_get-get_or xs i d within) ∙ e)) p
@@ -61,10 +52,6 @@ all_in P xs i past before = let e = all_keep_it P xs i past before in let f = by
 
 pub one_out : {A : Type 0} (P : A → Type 0) (xs : List A) (i : ℕ) (d : A) → i < length xs → (P (get_or xs i d) → IsTrue false) → (IsTrue false ↔ ((x : A) → Contains xs x → P x))
 one_out P xs i d within breaks = let e = one_breaks P xs i d within breaks in let f = by_places P xs in (λ t. f.0 (e.0 t), λ q. e.1 (f.1 q))
-
-pub only_in : {A : Type 0} (x t : A) → Contains (x ∷ []) t → x ≡ t
-only_in x t (zero, l, e) = e
-only_in x t (suc n, l, e) = absurd (omega (arith, l))
 
 pub in_only : {A : Type 0} (x : A) → Contains (x ∷ []) x
 in_only x = (0, omega arith, refl)
@@ -81,6 +68,3 @@ none_found P xs i past before = (
   λ t. absurd (false≢true t),
   λ y. let c = y.1 in absurd (before c.0 y.0 (omega (arith, past, c.1)) (slice_get-get_or xs c.0 y.0 c.1 ∙ ap Some c.2) y.2),
 )
-
-pub next_below : (P : ℕ → Type 0) (i : ℕ) → ((k : ℕ) → k < i → P k) → P i → (k : ℕ) → k < i + 1 → P k
-next_below P i below here k h = elim (below_or k i h) [ inl l ↦ below k l | inr e ↦ subst P (sym e) here ]

@@ -1,9 +1,10 @@
 -- Ranges of variables of a process's own, and places past the end of a map.
-use Rattle.std.proofs.Common.{◌≡◌, ℕ, zero, suc, ◌+◌, ◌<◌, ◌≤◌, ◌⊎◌, ◌↔◌, inl, inr, true, false, IsTrue, Some, None, List, [], ◌∷◌, length, get_or, slice_get, refl, sym, ◌∙◌, ap, subst, arith}
+use Rattle.std.proofs.Common.{◌≡◌, ℕ, zero, suc, ◌+◌, ◌<◌, ◌≤◌, ◌↔◌, inl, inr, Bool, true, false, IsTrue, Some, None, List, [], length, get_or, slice_get, refl, sym, ◌∙◌, ap, subst, arith}
 use Rattle.std.specs.List.{Contains}
 use Rattle.std.proofs.lemmas.Bool.{false≢true}
 use Rattle.std.proofs.lemmas.List.Elements.{Contains-get_or}
 use Rattle.std.proofs.lemmas.Option.{none-some, same_Some, slice_get_past}
+use Rattle.std.proofs.lemmas.List.{get_or_default}
 use Rattle.vs_design.specs.declared.range.BitRange.{BitRange}
 use Rattle.vs_design.specs.declared.signal.Signal.{Signal}
 use Rattle.vs_design.specs.Kinds.{is_variable}
@@ -14,35 +15,19 @@ use Rattle.vs_maps.specs.vs_rules.specs.Claims.{Claims}
 use Rattle.vs_maps.specs.vs_rules.specs.Paths.{statement_now}
 use Rattle.vs_drivers.specs.vs_maps.specs.Ranges.{ranges_of, now_at, reads_at, shows_at}
 use Rattle.vs_drivers.specs.vs_maps.specs.Reaches.{Chart, places}
+use Rattle.vs_design.specs.vs_logic4.proofs.Basics.{below_or}
 use Rattle.vs_rules_of_processes.specs.FirstSlot.{IsOwn, AreOwn, Hangs, NoneHangs, ReadsOwn}
-
-pub get_or_same : {A : Type 0} (xs : List A) (k : ℕ) (d e : A) → k < length xs → get_or xs k d ≡ get_or xs k e
-get_or_same [] k d e h = absurd (omega (arith, h))
-get_or_same (x ∷ xs) zero d e h = refl
-get_or_same (x ∷ xs) (suc k) d e h = get_or_same xs k d e (omega (arith, h))
-
-below_or : (i n : ℕ) → i < n + 1 → (i < n) ⊎ (i ≡ n)
-below_or i n h = grind (arith, h)
 
 -- ---- rows
 
--- the first numbers of a row are all this one
-abbrev pub AreSame : List ℕ → ℕ → ℕ → Type 0
-AreSame row i n = (k : ℕ) → k < n → get_or row k 0 ≡ i
-
-pub one_more_same : (row : List ℕ) (i n : ℕ) → AreSame row i n → get_or row n 0 ≡ i → AreSame row i (n + 1)
-one_more_same row i n h is k less = elim (below_or k n less) [ inl l ↦ h k l | inr e ↦ ap (λ (j : ℕ). get_or row j 0) e ∙ is ]
-
-pub one_other : (row : List ℕ) (i n : ℕ) → n < length row → (get_or row n 0 ≡ i → ⊥) → (IsTrue false ↔ (Contains row i × ((j : ℕ) → Contains row j → j ≡ i)))
-one_other row i n within not = (λ h. absurd (false≢true h), λ y. absurd (not (y.1 (get_or row n 0) (Contains-get_or row n 0 within))))
-
-pub all_same : (row : List ℕ) (i n : ℕ) → 0 < length row → length row ≤ n → AreSame row i n → (IsTrue true ↔ (Contains row i × ((j : ℕ) → Contains row j → j ≡ i)))
-all_same row i n some past h = (
-  λ t. (
-    subst (Contains row) (h 0 (omega (arith, some, past))) (Contains-get_or row 0 0 some),
-    λ j c. sym (get_or_same row c.0 0 j c.1 ∙ c.2) ∙ h c.0 (omega (arith, c.1, past)),
-  ),
-  λ y. refl,
+-- a row that isn't empty has one number, where all of it are that
+pub sole : (row : List ℕ) (i : ℕ) → 0 < length row → (b : Bool) → (IsTrue b ↔ ((j : ℕ) → Contains row j → j ≡ i)) → (IsTrue b ↔ (Contains row i × ((j : ℕ) → Contains row j → j ≡ i)))
+sole row i some b e = (
+  λ t.
+      let all = e.0 t in
+      let first = Contains-get_or row 0 0 some in
+      (subst (Contains row) (all (get_or row 0 0) first) first, all),
+  λ y. e.1 y.1,
 )
 
 pub none_same : (row : List ℕ) (i : ℕ) → row ≡ [] → (IsTrue false ↔ (Contains row i × ((j : ℕ) → Contains row j → j ≡ i)))
@@ -66,7 +51,7 @@ OwnSoFar d c i rs n = (k : ℕ) (e : BitRange) → k < n → k < length rs → I
 pub own_more : (d : Parts) (c : Claims) (i : ℕ) (rs : List BitRange) (n : ℕ) (e : BitRange) → IsOwn d c i (get_or rs n e).signal → OwnSoFar d c i rs n → OwnSoFar d c i rs (n + 1)
 own_more d c i rs n e here h k f less within = elim (below_or k n less) [
   | inl l ↦ h k f l within
-  | inr s ↦ subst (λ (r : BitRange). IsOwn d c i r.signal) (get_or_same rs k e f within) (subst (λ (j : ℕ). IsOwn d c i (get_or rs j e).signal) (sym s) here)
+  | inr s ↦ subst (λ (r : BitRange). IsOwn d c i r.signal) (get_or_default rs k e f within) (subst (λ (j : ℕ). IsOwn d c i (get_or rs j e).signal) (sym s) here)
 ]
 
 pub own_not : (d : Parts) (c : Claims) (i : ℕ) (rs : List BitRange) (n : ℕ) (e : BitRange) → n < length rs → (IsOwn d c i (get_or rs n e).signal → ⊥) → (IsTrue false ↔ AreOwn d c i rs)
@@ -86,7 +71,7 @@ FreeSoFar d c rs n = (k : ℕ) (e : BitRange) → k < n → k < length rs → Ha
 pub free_more : (d : Parts) (c : Claims) (rs : List BitRange) (n : ℕ) (e : BitRange) → (Hangs d c (get_or rs n e).signal → ⊥) → FreeSoFar d c rs n → FreeSoFar d c rs (n + 1)
 free_more d c rs n e here h k f less within = elim (below_or k n less) [
   | inl l ↦ h k f l within
-  | inr s ↦ subst (λ (r : BitRange). (Hangs d c r.signal → ⊥)) (get_or_same rs k e f within) (subst (λ (j : ℕ). (Hangs d c (get_or rs j e).signal → ⊥)) (sym s) here)
+  | inr s ↦ subst (λ (r : BitRange). (Hangs d c r.signal → ⊥)) (get_or_default rs k e f within) (subst (λ (j : ℕ). (Hangs d c (get_or rs j e).signal → ⊥)) (sym s) here)
 ]
 
 pub free_not : (d : Parts) (c : Claims) (rs : List BitRange) (n : ℕ) (e : BitRange) → n < length rs → Hangs d c (get_or rs n e).signal → (IsTrue false ↔ NoneHangs d c rs)

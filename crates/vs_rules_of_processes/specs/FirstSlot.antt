@@ -1,5 +1,5 @@
 -- The rule K10 of processes, by the places of maps.
-use Rattle.std.specs.Prelude.{ℕ, ◌≡◌, ◌<◌, ◌⊎◌, ◌↔◌, Bool, true, false, Some, List, slice_get, slice_index_or, IsTrue}
+use Rattle.std.specs.Prelude.{ℕ, ◌≡◌, ◌⊎◌, ◌↔◌, Bool, true, false, Some, List, slice_get, slice_index_or, IsTrue}
 use Rattle.std.specs.List.{Contains}
 use Rattle.vs_design.specs.declared.range.BitRange.{BitRange}
 use Rattle.vs_design.specs.Parts.{Parts}
@@ -8,9 +8,9 @@ use Rattle.vs_maps.specs.vs_rules.specs.Drivers.{block, DriverNeeds, InCone}
 use Rattle.vs_maps.specs.vs_rules.specs.Paths.{IsSlot0, Writes, WritesNow}
 use Rattle.vs_maps.specs.vs_rules.specs.Rules.{BlockNeeds}
 use Rattle.vs_drivers.specs.vs_maps.specs.Ranges.{HasSignal, now_at, reads_at, shows_at}
-use Rattle.vs_drivers.specs.vs_maps.specs.Reaches.{Chart, IsPlace, InSlot0, InPrologue, places}
+use Rattle.vs_drivers.specs.vs_maps.specs.Reaches.{Chart, IsPlace, InSlot0, InPrologue}
 use Rattle.vs_process.specs.Places.{Todo}
-use Rattle.vs_maps.specs.Texts.{AllNow, Texts, texts_of}
+use Rattle.vs_maps.specs.Texts.{AllNow, texts_of}
 use Rattle.vs_claims.specs.Facts.{Case}
 
 -- ---- what blocks hang on
@@ -40,16 +40,15 @@ pub record Hangs (d : Parts) (c : Claims) (u : ℕ) : Type 0 where
 abbrev pub AreHung : Parts → Claims → List Bool → Type 0
 AreHung d c marks = (u : ℕ) → (IsTrue (slice_index_or marks u false) ↔ Hangs d c u)
 
--- what is known of facts: the uses of the same design, and which signals blocks hang on
-pub record AreFirst (k : Case) (uses : Texts) (hung : List Bool) : Type 0 where
-  pub same : uses.design ≡ k.design
+-- what is known of facts: which signals blocks hang on
+pub record AreFirst (k : Case) (hung : List Bool) : Type 0 where
   pub hung_are : AreHung k.design k.claims hung
 
 -- ---- places
 
 -- a place is of this process, or isn't done in the first slot, by the paths of version 3
 abbrev pub IsPast : List Chart → ℕ → ℕ → ℕ → Type 0
-IsPast charts i j p = (j ≡ i) ⊎ ((t : Chart) → slice_get charts j ≡ Some t → p < places t → InSlot0 true t p → ⊥)
+IsPast charts i j p = (j ≡ i) ⊎ ((t : Chart) → slice_get charts j ≡ Some t → InSlot0 true t p → ⊥)
 
 -- a variable that the process writes, and no other one; in version 3 one that no other process writes by `=` in the first slot, nor a block
 pub record IsOwn (d : Parts) (c : Claims) (i v : ℕ) : Type 0 where

@@ -1,5 +1,5 @@
 //! Classes of residues, and the signals that hang on variables which are written at them.
-ghost use Rattle.std.specs.Prelude.{ℕ, ◌≡◌, ◌↔◌, false, slice_index_or, IfOk, IsTrue};
+ghost use Rattle.std.specs.Prelude.{ℕ, ◌≡◌, ◌↔◌, false, IfOk, IsTrue};
 ghost use Rattle.std.specs.List.{Contains};
 ghost use Rattle.vs_drivers.specs.Wires.{IsWiringOf};
 ghost use Rattle.vs_rules_of_processes.specs.Classes.{class_of, AreClasses, AreReachedFrom, IsClear, IsWrittenIn};
@@ -9,7 +9,7 @@ use crate::forward::{outs_of, reached, users_of};
 use std::alloc::{AllocError, Global};
 use std::marker::Model;
 use vs_drivers::Cones;
-use vs_graph::{Family, Rows, gather};
+use vs_graph::{Family, Rows, gather, is_marked};
 use vs_slots::Slots;
 
 /// How many classes of residues there are.
@@ -110,13 +110,6 @@ impl<'a> Model for WriteClasses<'a> {
     ghost invariant = { λ w. AreClasses w.slots.now.design w.slots.now.claims w.marks.items };
 }
 
-// Whether the mark of a number is set.
-fn is_set(marks: &[bool], v: usize) -> bool
-    ensures { result ≡ slice_index_or marks.now v false }
-{
-    if v < marks.len() { marks[v] } else { false }
-}
-
 impl<'a> WriteClasses<'a> {
     /// The classes of the write slots of a design and a certificate. For each class it takes as long as there are signals and drivers, and as what
     /// the variables that are written in it lead through.
@@ -141,7 +134,7 @@ impl<'a> WriteClasses<'a> {
     {
         match self.marks.get(class_of(residue)) {
             None => false,
-            Some(marks) => !is_set(marks, v),
+            Some(marks) => !is_marked(marks, v),
         }
     }
 

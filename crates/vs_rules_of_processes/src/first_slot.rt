@@ -1,7 +1,6 @@
 //! What processes do in the first slot.
-ghost use Rattle.std.specs.Prelude.{ℕ, ◌≡◌, ◌<◌, ◌↔◌, ◌⊎◌, false, length, slice_index_or, IfOk, IsTrue};
+ghost use Rattle.std.specs.Prelude.{ℕ, ◌≡◌, ◌<◌, ◌↔◌, ◌⊎◌, false, length, IfOk, IsTrue};
 ghost use Rattle.std.specs.List.{Contains};
-ghost use Rattle.vs_design.specs.Kinds.{is_variable};
 ghost use Rattle.vs_maps.specs.vs_rules.specs.Claims.{IsBlock, IsSequential, is_wide};
 ghost use Rattle.vs_maps.specs.vs_rules.specs.Rules.{K10_Process};
 ghost use Rattle.vs_drivers.specs.Wires.{IsWiringOf};
@@ -13,17 +12,16 @@ use crate::hung::hung;
 use std::alloc::{AllocError, Global};
 use std::marker::Model;
 use vs_claims::Facts;
-use vs_design::{BitRange, SignalKind};
-use vs_drivers::Cones;
+use vs_design::BitRange;
 use vs_drivers::vs_maps::Tables;
-use vs_graph::{Rule, all_keep};
-use vs_maps::{SiteRule, Uses};
+use vs_drivers::{Cones, is_variable};
+use vs_graph::{Rule, all_are, all_keep, is_marked};
+use vs_maps::SiteRule;
 
 /// What the rule K10 asks of processes. A contract sees the facts.
 #[derive(Drop)]
 pub struct FirstSlot<'a> {
     facts: &'a Facts<'a>,
-    uses: &'a Uses<'a>,
     // For each signal whether blocks hang on it.
     hung: Vec<bool>,
 }
@@ -41,17 +39,7 @@ impl<'a> Model for FirstSlot<'a> {
 
     ghost view = { λ s. s.facts.now };
 
-    ghost invariant = { λ s. AreFirst s.facts.now s.uses.now s.hung.items };
-}
-
-// Whether a signal is declared as a variable.
-fn is_variable(kind: SignalKind) -> bool
-    ensures { result ≡ is_variable kind }
-{
-    match kind {
-        SignalKind::Wire => false,
-        SignalKind::Reg | SignalKind::Integer => true,
-    }
+    ghost invariant = { λ s. AreFirst s.facts.now s.hung.items };
 }
 
 // Whether a row has a number, and no other one.
@@ -61,12 +49,7 @@ fn is_sole(row: &[usize], i: usize) -> bool
     if row.is_empty() {
         return false;
     }
-    for j in row {
-        if *j != i {
-            return false;
-        }
-    }
-    true
+    all_are(row, i)
 }
 
 // Whether none of some processes but this one is a block.
@@ -96,39 +79,22 @@ impl<'a> SiteRule for IsPast<'a> {
         if process == self.reader {
             return true;
         }
-        match self.facts.tables(process) {
-            None => true,
-            Some(tables) => {
-                if place >= tables.places() {
-                    return true;
-                }
-                !tables.is_slot0(true, place)
-            }
-        }
+        !self.facts.is_slot0(true, process, place)
     }
 }
 
-// Whether the mark of a number is set.
-fn is_set(marks: &[bool], u: usize) -> bool
-    ensures { result ≡ slice_index_or marks.now u false }
-{
-    if u < marks.len() { marks[u] } else { false }
-}
-
 impl<'a> FirstSlot<'a> {
-    /// What the rule asks, by the facts, the uses of the same design's signals, and the cones of its ranges.
+    /// What the rule asks, by the facts, and the cones of the ranges of the same design.
     pub fn new(
         alloc: Global,
         facts: &'a Facts<'a>,
-        uses: &'a Uses<'a>,
         cones: &Cones,
     ) -> Result<FirstSlot<'a>, AllocError>
-        requires same { uses.now.design ≡ facts.now.design }
         requires wiring { IsWiringOf facts.now.design facts.now.claims cones.now }
         ensures { IfOk result (λ s. s ≡ facts.entry.now) }
     {
         let hung = hung(alloc, facts, cones)?;
-        Ok(FirstSlot { facts, uses, hung })
+        Ok(FirstSlot { facts, hung })
     }
 
     // Whether the certificate is of version 3.
@@ -167,7 +133,7 @@ impl<'a> FirstSlot<'a> {
                 if self.is_wide() {
                     return self.is_first(i, v);
                 }
-                is_sole(self.uses.writers(v), i)
+                is_sole(self.facts.uses().writers(v), i)
             }
         }
     }
@@ -189,7 +155,7 @@ impl<'a> FirstSlot<'a> {
         ensures { IsTrue result ↔ NoneHangs self.now.design self.now.claims ranges.now }
     {
         for range in ranges {
-            if is_set(&self.hung, range.signal) {
+            if is_marked(&self.hung, range.signal) {
                 return false;
             }
         }

@@ -17,8 +17,8 @@ mod residues;
 
 pub use classes::WriteClasses;
 pub use delays::keeps_delays;
-pub use delays_laws::{closed_are_kept, residues_by_places};
-pub use edges::{Term, keeps_edges};
+pub use delays_laws::closed_are_kept;
+pub use edges::keeps_edges;
 pub use first_slot::FirstSlot;
 pub use laws::{edges_are_by_places, readings_are_by_places};
 pub use readings::keeps_readings;

@@ -15,14 +15,13 @@ ghost use Rattle.vs_rules_of_processes.specs.ReadingPlaces.{ApartAt, IsEdgeOf, I
 ghost use Rattle.vs_rules_of_processes.specs.ReadingPlaces.{OwnEdgeAt, OwnReadAt, RootsApart};
 
 use crate::WriteClasses;
-use crate::lists::all_are;
 use crate::vs_drivers::Cones;
 use crate::vs_slots::{Slots, are_apart};
 use std::alloc::{AllocError, Global};
 use vs_claims::vs_maps::{Tables, hot, terms};
 use vs_design::vs_logic4::Edge;
 use vs_design::{BitRange, EventTerm};
-use vs_graph::{Rule, all_keep};
+use vs_graph::{Rule, all_are, all_keep};
 
 // Whether a root isn't written at a residue at which a term of another root can fire.
 fn is_term_apart<'a>(

@@ -1,32 +1,29 @@
 -- The rule K4, by what drivers write of a signal.
-use Rattle.std.proofs.Common.{◌≡◌, ℕ, ◌+◌, ◌-◌, ◌<◌, ◌≤◌, ◌⊎◌, inl, inr, ◌↔◌, not, nat_lt, Bool, true, false, IsTrue, Some, List, [], ◌∷◌, length, get_or, slice_get, if◌then◌else◌, refl, sym, ◌∙◌, ap, subst, arith}
+use Rattle.std.proofs.Common.{◌≡◌, ℕ, ◌+◌, ◌-◌, ◌<◌, ◌≤◌, ◌⊎◌, inl, inr, ◌↔◌, nat_lt, Bool, true, false, IsTrue, Some, List, [], ◌∷◌, length, get_or, slice_get, if◌then◌else◌, refl, sym, ◌∙◌, ap, subst, arith}
 use Rattle.std.specs.List.{Contains}
-use Rattle.std.proofs.lemmas.Bool.{false≢true, lt-ltb, ltb-true}
+use Rattle.std.proofs.lemmas.Bool.{false≢true, lt-ltb, ltb-true, not-true as not_so}
 use Rattle.std.proofs.lemmas.List.{get_or_default}
 use Rattle.std.proofs.lemmas.Option.{same_Some, slice_get_read, slice_get_within}
 use Rattle.vs_design.specs.declared.design.Assign.{Assign}
 use Rattle.vs_design.specs.declared.range.BitRange.{BitRange}
-use Rattle.vs_design.specs.declared.signal.Signal.{Signal}
-use Rattle.vs_design.specs.Kinds.{is_variable}
 use Rattle.vs_design.specs.Parts.{Parts}
 use Rattle.vs_design.specs.Uses.{reads}
 use Rattle.vs_design.specs.declared.design.Process.{Process}
 use Rattle.std.proofs.lemmas.List.Elements.{Contains-get_or}
 use Rattle.vs_drivers.specs.vs_rules.specs.Claims.{Claims, HasKind, IsBlock}
-use Rattle.vs_drivers.specs.vs_rules.specs.Drivers.{Driver, assign, block, IsDriver, DriverReads, DriverWrites, IsSource, StandsBefore, WritesBit}
+use Rattle.vs_drivers.specs.vs_rules.specs.Drivers.{Driver, assign, block, IsDriver, DriverReads, DriverWrites, IsSource, ComesBefore, WritesBit}
 use Rattle.vs_drivers.specs.vs_rules.specs.Paths.{Bit, IsBit, Has, reads_for, text_reads}
 use Rattle.vs_drivers.specs.vs_rules.specs.Rules.{K4, IsSelf, IsCovered}
-use Rattle.vs_drivers.specs.vs_maps.proofs.RangeLemmas.{first_in, later_in, in_either}
+use Rattle.vs_drivers.specs.vs_maps.proofs.RangeLemmas.{later_in, in_either}
 use Rattle.vs_drivers.specs.Ranges.{Cover, Share}
 use Rattle.vs_drivers.proofs.Words.{parted}
 use Rattle.vs_drivers.specs.declared.writers.Written.{Written}
 use Rattle.vs_drivers.specs.Wires.{driver_at}
+use Rattle.vs_design.specs.vs_logic4.proofs.Basics.{below_or}
+use Rattle.vs_graph.proofs.RowLemmas.{head_in as first_in}
 use Rattle.vs_rules_of_signals.specs.Order.{AreWriters, ranges_of, MayRead, IsKnown, IsEarlier, KeepsRead, KeepsReads}
 
 -- ---- loops over lists
-
-below_or : (k i : ℕ) → k < i + 1 → (k < i) ⊎ (k ≡ i)
-below_or k i h = grind (arith, h)
 
 pub one_more : {A : Type 0} (xs : List A) (P : A → Type 0) (i : ℕ) (z : A) → i < length xs → ((k : ℕ) (x : A) → k < i → get_or xs k x ≡ x → P x) →
     P (get_or xs i z) → (k : ℕ) (x : A) → k < i + 1 → get_or xs k x ≡ x → P x
@@ -50,16 +47,6 @@ map_back (x ∷ row) w h = elim (in_either x row w h) [
 ]
 
 -- ---- signals
-
-not_so : (x : Bool) → not x ≡ true → x ≡ false
-not_so false h = refl
-not_so true h = absurd (false≢true h)
-
-pub net_is : (d : Parts) (v : ℕ) (s : Signal) → slice_get d.signals v ≡ Some s → (b : Bool) → b ≡ not (is_variable s.kind) → (IsTrue b ↔ HasKind false d v)
-net_is d v s is b e = (
-  λ h. (s, is, not_so (is_variable s.kind) (sym e ∙ h)),
-  λ k. e ∙ ap not (subst (λ (x : Signal). is_variable x.kind ≡ false) (same_Some k.0 s (sym k.1 ∙ is)) k.2),
-)
 
 pub known_by : (d : Parts) (row : List Written) (ranges : List BitRange) (source : Bool) (r : BitRange) (b : Bool) → ranges ≡ ranges_of row → (HasKind false d r.signal → ⊥) →
     source ≡ false → (IsTrue b ↔ Cover d ranges r) → (IsTrue b ↔ (HasKind false d r.signal ⊎ (IsTrue source ⊎ Cover d (ranges_of row) r)))
@@ -151,7 +138,7 @@ pub earlier_is : (d : Parts) (c : Claims) (reader : ℕ) (r : BitRange) (row : L
 earlier_is d c reader r row are good h = (
   λ t b y is has driver writes.
       let l = listed d c r.signal row are b is (sym (parted r b.signal b.word b.place has).of) y driver writes in
-      subst (λ (x : Driver). IsSelf (driver_at d reader) x ⊎ StandsBefore d c x (driver_at d reader)) l.1
+      subst (λ (x : Driver). IsSelf (driver_at d reader) x ⊎ ComesBefore d c x (driver_at d reader)) l.1
       (h.0 t (record { driver = l.0; range = writes.range }) l.2 (record { bit = b; is = is; has = has; other_has = writes.has })),
   λ all. h.1 (λ w at share. let x = (are w.driver w.range).0 at in
       all share.bit (driver_at d w.driver) share.is share.has x.2 (record { range = w.range; writes = x.3; has = share.other_has })),

@@ -1,11 +1,9 @@
 -- What is asked of writers and seconds, by tests of points.
-use Rattle.std.proofs.Common.{◌≡◌, ℕ, ◌<◌, ◌⊎◌, ◌↔◌, inl, inr, Bool, true, false, IsTrue, Option, Some, None, List, length, get_or, slice_get, slice_index_or, refl, sym, ◌∙◌, ap, subst}
+use Rattle.std.proofs.Common.{◌≡◌, ℕ, ◌<◌, ◌⊎◌, ◌↔◌, inl, inr, Bool, true, false, IsTrue, Option, Some, None, List, slice_get, slice_index_or, refl, sym, ◌∙◌, subst}
 use Rattle.std.proofs.lemmas.Bool.{false≢true}
-use Rattle.std.proofs.lemmas.Option.{none-some, same_Some, slice_get-get_or}
-use Rattle.vs_design.specs.declared.signal.Signal.{Signal}
-use Rattle.vs_design.specs.Kinds.{is_variable}
+use Rattle.std.proofs.lemmas.Option.{none-some, same_Some}
 use Rattle.vs_design.specs.Parts.{Parts}
-use Rattle.vs_maps.specs.vs_rules.specs.Claims.{Name, Claims, names_process, HasKind, IsWriter, IsSecond, is_wide}
+use Rattle.vs_maps.specs.vs_rules.specs.Claims.{Name, Claims, names_process, IsWriter, IsSecond, is_wide}
 use Rattle.vs_maps.specs.vs_rules.specs.Paths.{IsPoint, IsSlot0, IsLate, WritesNow, WritesLater}
 use Rattle.vs_maps.specs.vs_rules.specs.Rules.{NeverNow, NeverLater}
 use Rattle.vs_claims.specs.vs_maps.specs.Ranges.{HasSignal, now_at, later_at}
@@ -145,15 +143,6 @@ all_as S T P same b f = (λ h i t. f.0 h i ((same i).1 t), λ all. f.1 (λ i s. 
 
 pub none_as : (S T : ℕ → Type 0) → ((i : ℕ) → (S i ↔ T i)) → (b : Bool) → (IsTrue b ↔ ((i : ℕ) → S i → ⊥)) → (IsTrue b ↔ ((i : ℕ) → T i → ⊥))
 none_as S T same b f = (λ h i t. f.0 h i ((same i).1 t), λ all. f.1 (λ i s. all i ((same i).0 s)))
-
-pub net_here : (d : Parts) (ss : List Signal) (v : ℕ) (s : Signal) → ss ≡ d.signals → v < length ss → (b : Bool) → (IsTrue b ↔ (is_variable (get_or ss v s).kind ≡ false)) →
-    (IsTrue b ↔ HasKind false d v)
-net_here d ss v s e less b f = (
-  λ h. (get_or ss v s, at, f.0 h),
-  λ y. f.1 (ap (λ (x : Signal). is_variable x.kind) (same_Some (get_or ss v s) y.0 (sym at ∙ y.1)) ∙ y.2),
-) where
-  at : slice_get d.signals v ≡ Some (get_or ss v s)
-  at = ap (λ (l : List Signal). slice_get l v) (sym e) ∙ slice_get-get_or ss v s less
 
 -- who writes is named
 pub named_as : (S T A B : ℕ → Type 0) (writer second : Option ℕ) → ((i : ℕ) → (S i ↔ T i)) → ((i : ℕ) → (A i ↔ writer ≡ Some i)) → ((i : ℕ) → (B i ↔ second ≡ Some i)) → (b : Bool) →

@@ -20,9 +20,10 @@ use Rattle.vs_maps.specs.vs_rules.specs.Paths.{ListsSignal, HasTerm}
 use Rattle.vs_claims.specs.vs_maps.specs.Ranges.{HasSignal}
 use Rattle.vs_claims.specs.vs_maps.specs.Reaches.{Chart}
 use Rattle.vs_claims.specs.vs_maps.proofs.EachWalk.{terms_exact}
-use Rattle.vs_claims.specs.vs_maps.proofs.RangeLemmas.{first_in, later_in, in_either, lists_signal}
+use Rattle.vs_claims.specs.vs_maps.proofs.RangeLemmas.{later_in, in_either, lists_signal}
 use Rattle.vs_claims.specs.Facts.{AreCharts}
 use Rattle.vs_maps.specs.Texts.{WaitsFor}
+use Rattle.vs_graph.proofs.RowLemmas.{head_in as first_in}
 use Rattle.vs_rules_of_signals.proofs.Here.{here}
 
 -- ---- continuous assignments

@@ -6,24 +6,18 @@ use Rattle.vs_process.specs.Ways.{Pause, none, delay, event}
 use Rattle.vs_graph.specs.Owed.{owed}
 use Rattle.vs_graph.specs.Reached.{Reached, begins, goes_on}
 use Rattle.vs_graph.proofs.Sweep.{owed_set}
-use Rattle.vs_drivers.proofs.ListLemmas.{same_read}
+use Rattle.vs_graph.proofs.Sets.{same_read}
 use Rattle.vs_claims.specs.vs_maps.specs.declared.along.Along.TheVariants.{ZeroTime}
 use Rattle.vs_claims.specs.vs_maps.specs.Inside.{along_in}
 use Rattle.vs_claims.specs.vs_maps.specs.Reaches.{Chart, IsPlace, passes, pause_at, places, statement_turns, stops_along, tos_by_turn}
 use Rattle.vs_claims.specs.vs_maps.proofs.Join.{by_turn_in, only}
+use Rattle.vs_design.specs.vs_logic4.proofs.Basics.{below_or}
 use Rattle.vs_rules_of_signals.specs.declared.ranks.Ranks.{Ranks}
 use Rattle.vs_rules_of_signals.specs.Ranks.{AreRanks, ApartAt, GoesUp, IsApart, Rises, rank_of}
 use Rattle.vs_rules_of_signals.specs.Places.{NeverHotIn, WritesAt}
 
-below_or : (i n : ℕ) → i < n + 1 → (i < n) ⊎ (i ≡ n)
-below_or i n h = grind (arith, h)
-
 either_way : (i j : ℕ) → (i < j) ⊎ ((j < i) ⊎ (i ≡ j))
 either_way i j = grind arith
-
--- what holds of all numbers below one, and of that
-pub further_at : (P : ℕ → Type 0) (i : ℕ) → ((k : ℕ) → k < i → P k) → P i → (k : ℕ) → k < i + 1 → P k
-further_at P i before here k h = elim (below_or k i h) [ inl l ↦ before k l | inr e ↦ subst P (sym e) here ]
 
 -- where no place has a rank, none goes down
 pub none_rises : (t : Chart) → Rises t []

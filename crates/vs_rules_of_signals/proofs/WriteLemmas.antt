@@ -1,8 +1,7 @@
 -- The places at which signals are written by their writers, and the ranks of processes.
-use Rattle.std.proofs.Common.{◌≡◌, ℕ, zero, suc, ◌+◌, ◌<◌, ◌⊎◌, inl, inr, Some, List, [], ◌∷◌, ◌++◌, length, slice_get, refl, sym, ◌∙◌, ap, subst, arith}
+use Rattle.std.proofs.Common.{◌≡◌, ℕ, ◌+◌, ◌<◌, ◌⊎◌, inl, inr, List, [], ◌∷◌, ◌++◌, length, refl, sym, ◌∙◌, ap, subst, arith}
 use Rattle.std.specs.List.{Contains}
 use Rattle.std.proofs.lemmas.List.{length-append}
-use Rattle.std.proofs.lemmas.Option.{none-some, same_Some}
 use Rattle.vs_graph.specs.Rows.{row}
 use Rattle.vs_maps.specs.Sites.{IsSite, IsWrite, site_of}
 use Rattle.vs_maps.specs.declared.sites.Site.{Site}
@@ -43,13 +42,3 @@ more_placed f old new n more long made before here v within = subst (λ rs. AreP
 
   row_last_here : ArePlacesOf f (length old) (row (old ++ more ∷ []) (length old))
   row_last_here = subst (ArePlacesOf f (length old)) (sym (row_last old more)) (subst (λ k. ArePlacesOf f k more) (sym long) here)
-
--- ---- lists
-
--- what holds of each element, and of one more
-pub each_more : {A : Type 0} (P : ℕ → A → Type 0) (xs : List A) (x : A) → ((k : ℕ) (y : A) → slice_get xs k ≡ Some y → P k y) → P (length xs) x →
-    (k : ℕ) (y : A) → slice_get (xs ++ x ∷ []) k ≡ Some y → P k y
-each_more P [] x before here zero y is = subst (P 0) (same_Some x y is) here
-each_more P [] x before here (suc k) y is = absurd (none-some y is)
-each_more P (z ∷ xs) x before here zero y is = before 0 y is
-each_more P (z ∷ xs) x before here (suc k) y is = each_more (λ n w. P (suc n) w) xs x (λ n w e. before (suc n) w e) here k y is

@@ -1,56 +1,20 @@
 //! The rule K3, on how a signal is written.
 ghost use Rattle.std.specs.Prelude.{ℕ, ◌≡◌, ◌<◌, ◌↔◌, Some, true, false, length, slice_get, IsTrue};
 ghost use Rattle.std.specs.List.{Contains};
-ghost use Rattle.vs_design.specs.Kinds.{is_variable};
-ghost use Rattle.vs_design.specs.declared.signal.Signal.{Signal};
 ghost use Rattle.vs_maps.specs.vs_rules.specs.Certificates.{mode_from};
-ghost use Rattle.vs_maps.specs.vs_rules.specs.Claims.{HasKind, IsBlock, IsSequential, IsWide};
+ghost use Rattle.vs_maps.specs.vs_rules.specs.Claims.{IsBlock, IsSequential, IsWide};
 ghost use Rattle.vs_design.specs.declared.design.Assign.{Assign};
 ghost use Rattle.vs_design.specs.declared.statement.EventTerm.{EventTerm};
 ghost use Rattle.vs_design.specs.Uses.{reads};
 ghost use Rattle.vs_maps.specs.vs_rules.specs.Paths.{HasTerm, ListsSignal, Writes, reads_of};
 ghost use Rattle.vs_maps.specs.vs_rules.specs.Rules.{HasWriter, IsAsModeSays, IsPrivate, K3, MayBlock, NeverLater, NeverNow};
-ghost use Rattle.vs_rules_of_signals.specs.Writers.{texts_in};
 
 use crate::points::NotOf;
 use crate::writers::Claimed;
 use vs_claims::Facts;
 use vs_claims::vs_certificate::SignalMode;
-use vs_design::{Design, SignalKind};
-use vs_maps::Uses;
-
-// Whether a kind is that of a net.
-fn is_net_kind(kind: SignalKind) -> bool
-    ensures { IsTrue result ↔ (is_variable kind ≡ false) }
-{
-    match kind {
-        SignalKind::Wire => true,
-        SignalKind::Reg | SignalKind::Integer => false,
-    }
-}
-
-// Whether a signal is a net.
-fn is_net(design: &Design, v: usize) -> bool
-    ensures { IsTrue result ↔ HasKind false design.now v }
-{
-    let signals = design.signals();
-    if v >= signals.len() {
-        return false;
-    }
-    is_net_kind(signals[v].kind)
-}
-
-// Whether all of some processes are this one.
-fn are_all(row: &[usize], one: usize) -> bool
-    ensures { IsTrue result ↔ ((j : ℕ) → Contains row.now j → j ≡ one) }
-{
-    for j in row {
-        if *j != one {
-            return false;
-        }
-    }
-    true
-}
+use vs_drivers::is_net;
+use vs_graph::all_are;
 
 // Whether there are none.
 fn are_none(row: &[usize]) -> bool
@@ -130,7 +94,7 @@ impl<'a> Claimed<'a> {
         ensures { IsTrue result ↔ ((j : ℕ) →
             ListsSignal self.now.facts.now.design (reads_of self.now.facts.now.design j) v → j ≡ i) }
     {
-        are_all(self.uses.readers(v), i)
+        all_are(self.uses.readers(v), i)
     }
 
     // Whether no continuous assignment does.
@@ -210,12 +174,14 @@ impl<'a> Claimed<'a> {
 }
 
 /// Whether a signal keeps the rule K3: it is written as its mode says. It takes as long as there are writes and reads of the signal.
-pub fn keeps_mode<'a>(facts: &'a Facts<'a>, uses: &'a Uses<'a>, v: usize) -> bool
-    requires same { uses.now ≡ texts_in facts.now }
+pub fn keeps_mode<'a>(facts: &'a Facts<'a>, v: usize) -> bool
     requires within { v < length facts.now.design.signals }
     ensures { IsTrue result ↔ K3 facts.entry.now.design facts.entry.now.claims v }
 {
-    let claimed = Claimed { facts, uses };
+    let claimed = Claimed {
+        facts,
+        uses: facts.uses(),
+    };
     match facts.mode(v) {
         None => true,
         Some(mode) => claimed.is_as_mode_says(v, mode),

@@ -1,7 +1,6 @@
 //! What a driver reads, and the drivers that write it.
-ghost use Rattle.std.specs.Prelude.{◌≡◌, ◌⊎◌, ◌↔◌, false, not, IfOk, IsTrue};
+ghost use Rattle.std.specs.Prelude.{◌≡◌, ◌⊎◌, ◌↔◌, false, IfOk, IsTrue};
 ghost use Rattle.std.specs.List.{Contains};
-ghost use Rattle.vs_design.specs.Kinds.{is_variable};
 ghost use Rattle.vs_drivers.specs.vs_rules.specs.Claims.{HasKind};
 ghost use Rattle.vs_drivers.specs.vs_rules.specs.Drivers.{IsSource};
 ghost use Rattle.vs_drivers.specs.Ranges.{Cover, Share};
@@ -12,28 +11,8 @@ ghost use Rattle.vs_rules_of_signals.specs.Order.{AreWriters, MayRead, ranges_of
 use crate::before::may_read;
 use std::alloc::{AllocError, Global};
 use vs_claims::Facts;
-use vs_design::{BitRange, Design, SignalKind};
-use vs_drivers::{Written, covers, share};
-
-// Whether a signal of a kind is a net.
-fn is_wire(kind: SignalKind) -> bool
-    ensures { result ≡ not (is_variable kind) }
-{
-    match kind {
-        SignalKind::Wire => true,
-        SignalKind::Reg | SignalKind::Integer => false,
-    }
-}
-
-// Whether a signal is a net.
-fn is_net(design: &Design, signal: usize) -> bool
-    ensures { IsTrue result ↔ HasKind false design.now signal }
-{
-    match design.signals().get(signal) {
-        None => false,
-        Some(s) => is_wire(s.kind),
-    }
-}
+use vs_design::{BitRange, Design};
+use vs_drivers::{Written, covers, is_net, share};
 
 // The ranges that are written.
 fn ranges_of(alloc: Global, row: &[Written]) -> Result<Vec<BitRange>, AllocError>

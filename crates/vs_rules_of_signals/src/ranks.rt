@@ -1,14 +1,13 @@
 //! Ranks of the places of a text, which no way that takes no time lowers.
 ghost use Rattle.std.specs.Prelude.{ℕ, ◌≡◌, ◌+◌, ◌<◌, ◌≤◌, ◌↔◌, false, length, IfOk, OnOk, IsTrue};
 ghost use Rattle.std.specs.List.{Contains};
-ghost use Rattle.std.specs.Bool.{OnTrue, OnFalse};
-ghost use Rattle.vs_graph.specs.Reached.{IsMarkedNow, WasMarked};
 ghost use Rattle.vs_claims.specs.vs_maps.specs.declared.along.Along.TheVariants.{ZeroTime};
-ghost use Rattle.vs_claims.specs.vs_maps.specs.Reaches.{Chart, passes, pause_view, stops_along};
+ghost use Rattle.vs_claims.specs.vs_maps.specs.Reaches.{Chart, stops_along};
 ghost use Rattle.vs_rules_of_signals.specs.Ranks.{AreRanks, ApartAt, GoesUp, IsApart, IsBelow, Rises, RisesFrom, rank_of};
 
 use std::alloc::{AllocError, Global};
-use vs_claims::vs_maps::{Pause, Tables};
+use vs_claims::vs_maps::{Tables, takes_no_time};
+use vs_graph::mark;
 
 /// Two ranks of each place of a process. From a place to those to which ways that take no time lead from it, neither goes down. The code of a text
 /// is written from its end to its start, so what is done first has a greater place.
@@ -43,17 +42,6 @@ fn set_rank(ranks: &mut Vec<usize>, place: usize, rank: usize) {
     }
 }
 
-// Whether a way that goes on so takes no time.
-fn takes_no_time(pause: Pause) -> bool
-    ensures { result ≡ passes (ZeroTime false) (pause_view pause.entry) }
-{
-    match pause {
-        Pause::Nothing => true,
-        Pause::Delay(_, ticks) => ticks == 0,
-        Pause::Event(_, _) => false,
-    }
-}
-
 // The places where ways that take no time lead from a place.
 fn nexts<'a>(tables: &'a Tables<'a>, place: usize) -> &'a [usize]
     ensures { result.now ≡ stops_along (ZeroTime false) tables.entry.now.stops place }
@@ -62,19 +50,6 @@ fn nexts<'a>(tables: &'a Tables<'a>, place: usize) -> &'a [usize]
         tables.tos(place)
     } else {
         &[]
-    }
-}
-
-// Marks a place as entered, and answers whether it wasn't before.
-fn enter(entered: &mut Vec<bool>, place: usize) -> bool
-    ensures fresh { OnTrue result (IsMarkedNow place entered.old.items entered.new.items) }
-    ensures old { OnFalse result (WasMarked place entered.old.items entered.new.items) }
-{
-    if place < entered.len() && !entered[place] {
-        entered[place] = true;
-        true
-    } else {
-        false
     }
 }
 
@@ -131,7 +106,7 @@ fn places_left<'a>(
         match visit {
             Visit::Leave(place) => left.push(place)?,
             Visit::Enter(place) => {
-                if enter(&mut entered, place) {
+                if mark(&mut entered, place) {
                     todo.push(Visit::Leave(place))?;
                     put_visits(alloc, &mut todo, nexts(tables, place), greatest_first)?;
                 }

@@ -182,12 +182,14 @@ impl<'a> Claimed<'a> {
 
 /// Whether a signal keeps the rule K2: its writer and its second are the processes that write it, and the second writes it at the start alone. It
 /// takes as long as there are writes of the signal.
-pub fn keeps_writers<'a>(facts: &'a Facts<'a>, uses: &'a Uses<'a>, v: usize) -> bool
-    requires same { uses.now ≡ texts_in facts.now }
+pub fn keeps_writers<'a>(facts: &'a Facts<'a>, v: usize) -> bool
     requires within { v < length facts.now.design.signals }
     ensures { IsTrue result ↔ K2 facts.entry.now.design facts.entry.now.claims v }
 {
-    let claimed = Claimed { facts, uses };
+    let claimed = Claimed {
+        facts,
+        uses: facts.uses(),
+    };
     if !claimed.are_named(v) {
         return false;
     }

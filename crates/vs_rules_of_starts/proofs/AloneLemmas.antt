@@ -3,7 +3,7 @@ use Rattle.std.proofs.Common.{◌≡◌, ℕ, zero, suc, ◌-◌, ◌<◌, Bool,
 use Rattle.vs_design.specs.declared.statement.Statement.{Statement}
 use Rattle.vs_design.specs.Stores.{Store}
 use Rattle.vs_design.specs.Writes.{Write}
-use Rattle.vs_rules.specs.vs_process.specs.Changes.{store_behind}
+use Rattle.vs_rules.specs.vs_process.specs.Changes.{store_after}
 use Rattle.vs_rules.specs.vs_process.specs.Places.{Todo, flat}
 use Rattle.vs_rules.specs.vs_process.specs.Steps.{Next, on, after, wait, step, has_nothing}
 use Rattle.std.proofs.lemmas.Option.{same_Some}
@@ -14,7 +14,7 @@ use Rattle.vs_rules_of_starts.specs.Alone.{Arrival, arrives, arrival, arrived_if
 -- ---- a run
 
 -- a run by its first step
-pub by_step : (most : ℕ) (k : Todo) (store : Store) (next : Next) (new : Store) → (step k store 0).next ≡ next → new ≡ store_behind store (step k store 0).write →
+pub by_step : (most : ℕ) (k : Todo) (store : Store) (next : Next) (new : Store) → (step k store 0).next ≡ next → new ≡ store_after store (step k store 0).write →
     arrival (suc most) k store ≡ arrives next (λ l. arrival most l new) new
 by_step most k store next new leads makes = ap₂ (λ (n : Next) (s : Store). arrives n (λ l. arrival most l s) s) leads (sym makes)
 
@@ -41,7 +41,7 @@ by_next (after number ticks l) rest alone store same = refl
 by_next (wait number terms l) rest alone store same = refl
 
 -- the store behind a step as the rule has it
-behind_is : (store : Store) (o : Option Write) → threads.store_behind store o ≡ store_behind store o
+behind_is : (store : Store) (o : Option Write) → threads.store_after store o ≡ store_after store o
 behind_is store None = refl
 behind_is store (Some w) = refl
 
@@ -49,14 +49,14 @@ behind_is store (Some w) = refl
 pub alone_is : (most : ℕ) (k : Todo) (store : Store) → run_alone most k store ≡ store_at (arrival most k store)
 alone_is zero k store = refl
 alone_is (suc most) k store =
-    let new : Store = store_behind store (step k store 0).write in
+    let new : Store = store_after store (step k store 0).write in
     ap (arrived (step k store 0).next (λ l s. run_alone most l s)) (behind_is store (step k store 0).write)
     ∙ by_next (step k store 0).next (λ l. arrival most l new) (λ l s. run_alone most l s) new (λ l. alone_is most l new)
 
 -- ---- as it is told
 
 -- after one step of several
-pub further : (left : ℕ) (k : Todo) (store : Store) (next : Next) (new : Store) → 0 < left → (step k store 0).next ≡ next → new ≡ store_behind store (step k store 0).write →
+pub further : (left : ℕ) (k : Todo) (store : Store) (next : Next) (new : Store) → 0 < left → (step k store 0).next ≡ next → new ≡ store_after store (step k store 0).write →
     arrives next (λ l. arrival (left - 1) l new) new ≡ arrival left k store
 further zero k store next new some leads makes = absurd (omega (arith, some))
 further (suc left) k store next new some leads makes =

@@ -35,6 +35,7 @@ use Rattle.vs_rules_of_starts.specs.Missing.{IsSure}
 use Rattle.vs_rules_of_starts.specs.Beginnings.{IsNamed, HasAt, AnyHas, IsKnownOne, GivesBit, GivesInWord, GivesAim, GivesNamed, BeginsLayer, BeginsBy, BeginsAt, WritesAt, StartsSurely, AreNamed}
 use Rattle.vs_rules_of_starts.specs.Started.{StartsFor}
 use Rattle.vs_rules_of_starts.proofs.MissingLemmas.{sure_ends, same_missing}
+use Rattle.vs_rules_of_starts.proofs.StartLemmas.{false_not, true_here}
 
 -- ---- searches
 
@@ -49,12 +50,6 @@ none_more P xs i x is before here k y lt at p = elim (cases_lt k i) [
       let e : k ≡ i = omega (arith, lt, above) in
       here (subst P (same_Some y x (sym at ∙ ap (slice_get xs) e ∙ is)) p)
 ]
-
-false_not : (IsTrue false) → ⊥
-false_not t = grind (arith, t)
-
-true_here : IsTrue true
-true_here = grind arith
 
 pub no_range : (named : List BitRange) (n : ℕ) (b : Bit) → length named ≤ n → NoneBelow (λ r. HasAt r b) named n → (IsTrue false ↔ AnyHas named b)
 no_range named n b past none = (
@@ -322,12 +317,6 @@ starts_for d i g w named are q stops start t is = (there, back)
 
 pub not_told : (f : Bool) (P : Type 0) → f ≡ false → (IsTrue f ↔ P) → P → ⊥
 not_told f P is told p = false_not (subst IsTrue is (told.1 p))
-
-pub more_below : (P : ℕ → Type 0) (i : ℕ) → ((k : ℕ) → k < i → P k → ⊥) → (P i → ⊥) → (k : ℕ) → k < i + 1 → P k → ⊥
-more_below P i before here k lt p = elim (cases_lt k i) [
-  | inl below ↦ before k below p
-  | inr above ↦ let e : k ≡ i = omega (arith, lt, above) in here (subst P e p)
-]
 
 pub gives_is : (d : Parts) (named : List BitRange) (target : Target) (value : Typed) (b : Bit) → IsBit d b → AnyHas named b → (digit : Option Digit) → digit ≡ given target value b →
     (t : Bool) → (IsTrue t ↔ IsKnownOne digit) → (IsTrue t ↔ GivesBit d named target value b)

@@ -1,5 +1,5 @@
 -- Combinational blocks that a run on the settled first store leaves as they are.
-use Rattle.std.proofs.Common.{◌≡◌, ◌↔◌, ℕ, zero, suc, ◌<◌, Bool, true, false, IsTrue, Option, Some, None, List, [], ◌∷◌, length, get_or, slice_get, refl, sym, ◌∙◌, ap, ap₂, subst, arith}
+use Rattle.std.proofs.Common.{◌≡◌, ◌↔◌, ℕ, zero, suc, ◌<◌, Bool, true, false, IsTrue, Option, Some, None, List, [], length, get_or, slice_get, refl, sym, ◌∙◌, ap, ap₂, subst, arith}
 use Rattle.std.proofs.lemmas.Option.{none-some, same_Some, slice_get-get_or}
 use Rattle.vs_design.specs.declared.design.Process.{Process}
 use Rattle.vs_design.specs.declared.statement.Statement.{Statement}
@@ -11,17 +11,18 @@ use Rattle.vs_rules.specs.vs_process.specs.Steps.{Next, on, after, wait, step}
 use Rattle.vs_rules.specs.vs_process.specs.Executions.{is_combinational}
 use Rattle.vs_rules.specs.vs_process.proofs.Stores.{shape, shape-put}
 use Rattle.vs_rules.specs.vs_process.specs.BlockDrivers.{sizes}
-use Rattle.vs_rules.specs.vs_process.specs.Threads.{store_behind}
+use Rattle.vs_rules.specs.vs_process.specs.Threads.{store_after}
 use Rattle.vs_rules.specs.Points.{Point}
 use Rattle.vs_rules.specs.Blocks.{arrived, run_alone, StaysCold}
 use Rattle.vs_maps.proofs.Texts.{begins_with}
+use Rattle.vs_design.specs.vs_logic4.proofs.Basics.{inside}
 use Rattle.vs_rules_of_starts.specs.Alone.{store_if, ComesTo}
-use Rattle.vs_rules_of_starts.specs.Cold.{SameWritten, StaysWithin, StaysAtEach, IsBehind, AreFirst}
+use Rattle.vs_rules_of_starts.specs.Cold.{SameWritten, StaysWithin, StaysAtEach, IsAfterControl, AreFirst}
 use Rattle.vs_rules_of_starts.proofs.ControlLemmas.{IsLoop, loop_of, behind_of, waits_once, waits_there, comes_in_two}
 
 -- ---- sizes
 
-sized_behind : (store : Store) (o : Option Write) → shape (store_behind store o) ≡ shape store
+sized_behind : (store : Store) (o : Option Write) → shape (store_after store o) ≡ shape store
 sized_behind store None = refl
 sized_behind store (Some w) = shape-put store w
 
@@ -34,7 +35,7 @@ by_next (wait number terms l) most store new again h = ap shape (sym (same_Some 
 alone_sized : (most : ℕ) (k : Todo) (store new : Store) → run_alone most k store ≡ Some new → shape new ≡ shape store
 alone_sized zero k store new h = absurd (none-some new h)
 alone_sized (suc most) k store new h =
-    let behind : Store = store_behind store (step k store 0).write in
+    let behind : Store = store_after store (step k store 0).write in
     by_next (step k store 0).next most behind new (λ l. alone_sized most l behind new) h ∙ sized_behind store (step k store 0).write
 
 -- ---- the control of a block
@@ -42,10 +43,10 @@ alone_sized (suc most) k store new h =
 pub process_at : (xs ys : List Process) (i : ℕ) (q : Process) → ys ≡ xs → i < length xs → q ≡ get_or ys i q → slice_get xs i ≡ Some q
 process_at xs ys i q same lt is = slice_get-get_or xs i q lt ∙ ap (λ x. Some x) (sym (is ∙ ap (λ l. get_or l i q) same))
 
-behind_is : (d : Parts) (i : ℕ) (q : Process) → slice_get d.processes i ≡ Some q → (b : IsLoop q.body) (behind : Todo) → IsBehind d i behind → behind ≡ behind_of q.body b
+behind_is : (d : Parts) (i : ℕ) (q : Process) → slice_get d.processes i ≡ Some q → (b : IsLoop q.body) (behind : Todo) → IsAfterControl d i behind → behind ≡ behind_of q.body b
 behind_is d i q is b behind h = waits_once q.body b h.control behind h.number h.terms (subst (λ (f : Todo). Point f h.control) (begins_with d i q is) h.point) h.goes
 
-there_is : (d : Parts) (i : ℕ) (q : Process) → slice_get d.processes i ≡ Some q → (b : IsLoop q.body) → IsBehind d i (behind_of q.body b)
+there_is : (d : Parts) (i : ℕ) (q : Process) → slice_get d.processes i ≡ Some q → (b : IsLoop q.body) → IsAfterControl d i (behind_of q.body b)
 there_is d i q is b =
     let w = waits_there q.body b in
     record { control = w.at; number = b.control; terms = b.terms.items; point = subst (λ (f : Todo). Point f w.at) (sym (begins_with d i q is)) w.point; goes = w.goes }
@@ -55,21 +56,21 @@ there_is d i q is b =
 -- what a run from the start, past two steps, says of one from after the control
 pub ran : (d : Parts) (i : ℕ) (q : Process) → slice_get d.processes i ≡ Some q → is_combinational q ≡ true → (body : Statement) (old settled : Store) → body ≡ q.body → old ≡ settled →
     (most : ℕ) (arrives : Bool) (new : Store) → ((behind : Todo) → ComesTo body old behind → store_if arrives new ≡ run_alone most behind old) →
-    (behind : Todo) → IsBehind d i behind → store_if arrives new ≡ run_alone most behind settled
+    (behind : Todo) → IsAfterControl d i behind → store_if arrives new ≡ run_alone most behind settled
 ran d i q is shape body old settled same copied most arrives new told behind h =
     let b = loop_of q shape in
     told behind (record { is = ap₂ (λ (s : Statement) (x : Store). Rattle.vs_rules_of_starts.specs.Alone.arrival 2 (flat s) x) same refl ∙ comes_in_two q.body b old ∙ ap (λ (k : Todo). Rattle.vs_rules_of_starts.specs.Alone.arrived_if true k old) (sym (behind_is d i q is b behind h)) })
     ∙ ap (run_alone most behind) copied
 
 pub run_sized : (d : Parts) (i : ℕ) (q : Process) → slice_get d.processes i ≡ Some q → is_combinational q ≡ true → (settled : Store) → sizes settled ≡ sizes (start_store d) → (most : ℕ) (arrives : Bool) → arrives ≡ true → (new : Store) →
-    ((behind : Todo) → IsBehind d i behind → store_if arrives new ≡ run_alone most behind settled) → sizes new ≡ sizes (start_store d)
+    ((behind : Todo) → IsAfterControl d i behind → store_if arrives new ≡ run_alone most behind settled) → sizes new ≡ sizes (start_store d)
 run_sized d i q is shape settled sized most arrives does new told =
     let b = loop_of q shape in
     alone_sized most (behind_of q.body b) settled new (sym (told (behind_of q.body b) (there_is d i q is b)) ∙ ap (λ (x : Bool). store_if x new) does) ∙ sized
 
 pub stays_is : (d : Parts) (i : ℕ) (settled start : Store) → start ≡ start_store d → (most : ℕ) (arrives : Bool) → arrives ≡ true → (new : Store) →
-    ((behind : Todo) → IsBehind d i behind → store_if arrives new ≡ run_alone most behind settled) → (t : Bool) → (IsTrue t ↔ SameWritten d i new start) →
-    (behind : Todo) → IsBehind d i behind → (IsTrue t ↔ StaysWithin most d i behind settled)
+    ((behind : Todo) → IsAfterControl d i behind → store_if arrives new ≡ run_alone most behind settled) → (t : Bool) → (IsTrue t ↔ SameWritten d i new start) →
+    (behind : Todo) → IsAfterControl d i behind → (IsTrue t ↔ StaysWithin most d i behind settled)
 stays_is d i settled start begins most arrives does new told t same behind h =
     let ends : run_alone most behind settled ≡ Some new = sym (told behind h) ∙ ap (λ (x : Bool). store_if x new) does in (
       λ s. record { store = new; arrives = ends; same = subst (SameWritten d i new) begins (same.0 s) },
@@ -77,8 +78,8 @@ stays_is d i settled start begins most arrives does new told t same behind h =
     )
 
 pub stays_not : (d : Parts) (i : ℕ) (settled : Store) (most : ℕ) (arrives : Bool) → arrives ≡ false → (new : Store) →
-    ((behind : Todo) → IsBehind d i behind → store_if arrives new ≡ run_alone most behind settled) →
-    (behind : Todo) → IsBehind d i behind → (IsTrue false ↔ StaysWithin most d i behind settled)
+    ((behind : Todo) → IsAfterControl d i behind → store_if arrives new ≡ run_alone most behind settled) →
+    (behind : Todo) → IsAfterControl d i behind → (IsTrue false ↔ StaysWithin most d i behind settled)
 stays_not d i settled most arrives never new told behind h = (
   λ t. absurd (grind (arith, t)),
   λ w. absurd (none-some w.store (ap (λ (x : Bool). store_if x new) (sym never) ∙ told behind h ∙ w.arrives)),
@@ -86,16 +87,11 @@ stays_not d i settled most arrives never new told behind h = (
 
 -- ---- on the settled first store
 
-inside : {A : Type 0} (xs : List A) (i : ℕ) → i < length xs → slice_get xs i ≡ None → ⊥
-inside [] i lt none = omega (arith, lt)
-inside (x ∷ xs) zero lt none = none-some x (sym none)
-inside (x ∷ xs) (suc i) lt none = inside xs i (omega (arith, lt)) none
-
 -- where it stays at each of its controls, it stays at one
-one_stays : (d : Parts) (i : ℕ) → i < length d.processes → ((q : Process) → slice_get d.processes i ≡ Some q → is_combinational q ≡ true) → StaysAtEach d i → (behind : Todo) × IsBehind d i behind × StaysCold d i behind
+one_stays : (d : Parts) (i : ℕ) → i < length d.processes → ((q : Process) → slice_get d.processes i ≡ Some q → is_combinational q ≡ true) → StaysAtEach d i → (behind : Todo) × IsAfterControl d i behind × StaysCold d i behind
 one_stays d i lt shape all = by_process (slice_get d.processes i) refl
   where
-    by_process : (o : Option Process) → slice_get d.processes i ≡ o → (behind : Todo) × IsBehind d i behind × StaysCold d i behind
+    by_process : (o : Option Process) → slice_get d.processes i ≡ o → (behind : Todo) × IsAfterControl d i behind × StaysCold d i behind
     by_process None none = absurd (inside d.processes i lt none)
     by_process (Some q) at =
         let b = loop_of q (shape q at) in
@@ -103,7 +99,7 @@ one_stays d i lt shape all = by_process (slice_get d.processes i) refl
         (behind_of q.body b, h, all h.control (behind_of q.body b) h.number h.terms h.point h.goes)
 
 pub each_is : (d : Parts) (i : ℕ) → i < length d.processes → ((q : Process) → slice_get d.processes i ≡ Some q → is_combinational q ≡ true) → (start : Store) (settled : Option Store) → AreFirst d start settled →
-    (first : Store) → settled ≡ Some first → (t : Bool) → ((behind : Todo) → IsBehind d i behind → (IsTrue t ↔ StaysWithin 10000 d i behind first)) → (IsTrue t ↔ StaysAtEach d i)
+    (first : Store) → settled ≡ Some first → (t : Bool) → ((behind : Todo) → IsAfterControl d i behind → (IsTrue t ↔ StaysWithin 10000 d i behind first)) → (IsTrue t ↔ StaysAtEach d i)
 each_is d i lt shape start settled firsts first is t told = (
   λ h k l number terms point goes.
       let w = (told l (record { control = k; number = number; terms = terms; point = point; goes = goes })).0 h in

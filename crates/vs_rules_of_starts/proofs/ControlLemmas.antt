@@ -4,7 +4,7 @@ use Rattle.std.specs.List.{list_any}
 use Rattle.std.specs.declared.vec.Vec.{Vec}
 use Rattle.std.specs.declared.alloc.Global.{Global}
 use Rattle.std.specs.declared.boxed.Box.{Box}
-use Rattle.std.proofs.lemmas.Bool.{and_parts, or_parts, or_from, not-true, false≢true, true≢false}
+use Rattle.std.proofs.lemmas.Bool.{and_parts, or_parts, not-true, false≢true, true≢false}
 use Rattle.vs_design.specs.declared.design.Process.{Process}
 use Rattle.vs_design.specs.declared.expression.Typed.{Typed}
 use Rattle.vs_design.specs.declared.statement.EventTerm.{EventTerm}
@@ -16,12 +16,12 @@ use Rattle.vs_design.specs.Statements.{has_control, has_control_step}
 use Rattle.vs_design.specs.Stores.{Store}
 use Rattle.vs_rules.specs.vs_process.specs.Drafts.{is_block}
 use Rattle.vs_rules.specs.vs_process.specs.Nexts.{past, nexts, statement_nexts}
-use Rattle.vs_rules.specs.vs_process.specs.Changes.{store_behind}
+use Rattle.vs_rules.specs.vs_process.specs.Changes.{store_after}
 use Rattle.vs_rules.specs.vs_process.specs.Places.{Item, perform, turns, Todo, flat}
 use Rattle.vs_rules.specs.vs_process.specs.Steps.{Next, Out, on, after, wait, goes, is_default, statement_step, step}
 use Rattle.vs_rules.specs.vs_process.proofs.Shapes.{flat-single}
 use Rattle.vs_rules.specs.vs_process.specs.Executions.{is_always, is_block_body, is_combinational, waits_for_levels}
-use Rattle.vs_rules.specs.vs_process.proofs.Free.{GoesOn, item_control, todo_control, both_free, flat_free}
+use Rattle.vs_rules.specs.vs_process.proofs.Free.{GoesOn, item_control, todo_control, both_free, flat_free, one_free, goes_to}
 use Rattle.vs_rules.specs.Points.{Among, first, further, Goes, Point, first_todo}
 use Rattle.vs_rules.specs.Points as r
 use Rattle.vs_rules_of_starts.specs.Alone.{arrival, arrived_if}
@@ -40,12 +40,6 @@ one_of P n _ all (further y xs h) = one_of P n xs all.1 h
 all_append : (P : Next → Type 0) (xs ys : List Next) → AllBy P xs → AllBy P ys → AllBy P (xs ++ ys)
 all_append P [] ys hx hy = hy
 all_append P (x ∷ xs) ys hx hy = (hx.0, all_append P xs ys hx.1 hy)
-
-one_free : (i : Item) → item_control i ≡ false → todo_control (i ∷ []) ≡ false
-one_free i h = or_from (item_control i) false h refl
-
-goes_to : (rest front whole : Todo) → todo_control front ≡ false → whole ≡ front ++ rest → GoesOn rest (on whole)
-goes_to rest front whole free is = record { front = front; free = free; is = ap (λ t. on t) is }
 
 -- to a statement, then to something else, and on
 then_item : (s : Statement) (i : Item) (rest : Todo) → has_control s ≡ false → item_control i ≡ false → GoesOn rest (on (flat s ++ i ∷ rest))
@@ -223,9 +217,9 @@ waits_there body b = record {
 pub comes_in_two : (body : Statement) (b : IsLoop body) (store : Store) → arrival 2 (flat body) store ≡ arrived_if true (behind_of body b) store
 comes_in_two body b store =
     ap (λ (k : Todo). arrival 2 k store) (whole_is body b)
-    ∙ by_step 1 (perform body ∷ []) store (on (flat b.loop.value ++ perform body ∷ [])) store (ap (λ (o : Out). o.next) first_step) (sym (ap (λ (o : Out). store_behind store o.write) first_step))
+    ∙ by_step 1 (perform body ∷ []) store (on (flat b.loop.value ++ perform body ∷ [])) store (ap (λ (o : Out). o.next) first_step) (sym (ap (λ (o : Out). store_after store o.write) first_step))
     ∙ ap (λ (t : Todo). arrival 1 (t ++ perform body ∷ []) store) (event_is body b)
-    ∙ by_step 0 (perform b.loop.value ∷ perform body ∷ []) store (wait b.control b.terms.items (behind_of body b)) store (ap (λ (o : Out). o.next) second_step) (sym (ap (λ (o : Out). store_behind store o.write) second_step))
+    ∙ by_step 0 (perform b.loop.value ∷ perform body ∷ []) store (wait b.control b.terms.items (behind_of body b)) store (ap (λ (o : Out). o.next) second_step) (sym (ap (λ (o : Out). store_after store o.write) second_step))
   where
     first_step : step (perform body ∷ []) store 0 ≡ goes (on (flat b.loop.value ++ perform body ∷ []))
     first_step = ap (λ (f : Statement-F Statement). statement_step body f [] store 0) b.is

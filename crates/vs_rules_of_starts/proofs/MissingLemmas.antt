@@ -33,11 +33,11 @@ use Rattle.vs_rules_of_starts.specs.Started.{EndsNowhere}
 
 -- ---- by marks
 
-is_true : (b : Bool) → IsTrue b → b ≡ true
+pub is_true : (b : Bool) → IsTrue b → b ≡ true
 is_true true h = refl
 is_true false h = absurd (let e : false ≡ true = grind (arith, h) in false≢true e)
 
-true_is : (b : Bool) → b ≡ true → IsTrue b
+pub true_is : (b : Bool) → b ≡ true → IsTrue b
 true_is b e = subst IsTrue (sym e) (grind arith)
 
 leads : (marked passing : Bool) (tos : List ℕ) (q : ℕ) → Contains (if marked then [] else (if passing then tos else [])) q → (marked ≡ false) × (passing ≡ true) × Contains tos q
@@ -70,16 +70,12 @@ missing_below : (t : Chart) (sort : ℕ → Type 0) (marks : List Bool) → Told
 missing_below t sort marks told _ MissingAt.begins = told.starts_in
 missing_below t sort marks told _ (MissingAt.goes_on p q h free passing to) = told.leads_in.ways p q to
 
-unmarked_there : (m : Bool) → (m ≡ true → ⊥) → m ≡ false
-unmarked_there true h = absurd (h refl)
-unmarked_there false h = refl
-
 from_missing : (t : Chart) (sort : ℕ → Type 0) (marks : List Bool) → Told t sort marks → (p : ℕ) → MissingAt t sort p → Reached (unmarked marks t.stops) (t.start ∷ []) p
 from_missing t sort marks told _ MissingAt.begins = begins t.start (head_in t.start [])
 from_missing t sort marks told _ (MissingAt.goes_on p q h free passing to) =
     goes_on p q (from_missing t sort marks told p h)
     (led (slice_index_or marks p false) (passes (ZeroTime false) (pause_at t p)) (stops_tos t.stops p) q
-    (unmarked_there (slice_index_or marks p false) (λ m. free ((told.marked p (missing_below t sort marks told p h)).0 (true_is (slice_index_or marks p false) m)))) passing to)
+    (false_from_ne_true (slice_index_or marks p false) (λ m. free ((told.marked p (missing_below t sort marks told p h)).0 (true_is (slice_index_or marks p false) m)))) passing to)
 
 -- whether each walk is sure to have it, by the places that walks from the start lead to
 pub sure_is : (t : Chart) (sort : ℕ → Type 0) (marks reached : List Bool) → t.start < places t → LeadsIn (places t) t.stops → AreMarked sort (places t) marks →

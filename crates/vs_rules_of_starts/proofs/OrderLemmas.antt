@@ -5,7 +5,7 @@ use Rattle.std.specs.Str.{bytes_eq}
 use Rattle.std.proofs.lemmas.Bool.{cases_eq, cases_lt}
 use Rattle.std.proofs.lemmas.Option.{none-some, same_Some, slice_get_within}
 use Rattle.std.proofs.lemmas.Slice.Eq.{bytes_eq-Decides}
-use Rattle.vs_design.specs.vs_logic4.proofs.Basics.{element_of as any_at}
+use Rattle.vs_design.specs.vs_logic4.proofs.Basics.{element_of as any_at, map_at}
 use Rattle.vs_design.specs.declared.design.Assign.{Assign}
 use Rattle.vs_design.specs.declared.range.BitRange.{BitRange}
 use Rattle.vs_design.specs.Parts.{Parts}
@@ -13,9 +13,10 @@ use Rattle.vs_design.specs.Uses.{covers, reads, writes}
 use Rattle.vs_design.specs.WellFormed.{WellFormed}
 use Rattle.vs_rules.specs.vs_process.specs.Bits.{HasBit}
 use Rattle.vs_rules.specs.vs_process.proofs.ThreadLists.{contains_at}
-use Rattle.vs_claims.specs.vs_process.proofs.ProcessLists.{map_at, set_same, set_other, distinct_place}
+use Rattle.vs_claims.specs.vs_process.proofs.ProcessLists.{set_same, set_other, distinct_place}
+use Rattle.vs_claims.proofs.PlaceLemmas.{same_name}
 use Rattle.vs_rules.specs.Claims.{Claims, Name, assign_name, place_of, times_in}
-use Rattle.vs_rules.specs.Drivers.{Driver, assign, WritesBit, StandsBefore}
+use Rattle.vs_rules.specs.Drivers.{Driver, assign, WritesBit, ComesBefore}
 use Rattle.vs_rules.specs.Rules.{K1_Assign, K4, IsSelf}
 use Rattle.vs_rules_of_starts.specs.Settled.{Drives, IsDrivenBefore, IsInOrder}
 use Rattle.vs_rules_of_starts.specs.Order.{place_at, IsGrown, IsPut, IsPutWhere, AreAtPlaces}
@@ -59,9 +60,6 @@ put_is place x none old mid new g within is = subst (IsPut place x none old) (sy
 
 -- ---- names
 
-bytes_same : (a b : Name) → bytes_eq a b ≡ true → a ≡ b
-bytes_same a b h = (bytes_eq-Decides a b).0 h
-
 same_bytes : (a b : Name) → a ≡ b → bytes_eq a b ≡ true
 same_bytes a b e = (bytes_eq-Decides a b).1 e
 
@@ -72,7 +70,7 @@ named_there name (n ∷ names) h = by_test (named_there name names) (bytes_eq n 
   where
     by_test : (place_of name names < length names → slice_get names (place_of name names) ≡ Some name) → (t : Bool) → bytes_eq n name ≡ t →
         slice_get (n ∷ names) (if t then 0 else suc (place_of name names)) ≡ Some name
-    by_test further true e = ap (λ x. Some x) (bytes_same n name e)
+    by_test further true e = ap (λ x. Some x) (same_name n name e)
     by_test further false e =
         further (let l : suc (place_of name names) < suc (length names) = subst (λ (t : Bool). (if t then 0 else suc (place_of name names)) < suc (length names)) e h in omega (arith, l))
 
@@ -189,7 +187,7 @@ in_order_is d c one four none table count all = record {
         written : WritesBit d (assign y) (record { signal = r.signal; word = w; place = n })
         written = record { range = found.1; writes = (by.assign, by.is, (contains_at (writes by.assign.target) found.0 found.1 found.2, tt)); has = found.3 }
 
-        by_before : (IsSelf (assign j) (assign y) ⊎ StandsBefore d c (assign y) (assign j)) → IsDrivenBefore d table i r.signal w n
+        by_before : (IsSelf (assign j) (assign y) ⊎ ComesBefore d c (assign y) (assign j)) → IsDrivenBefore d table i r.signal w n
         by_before (inl self) = absurd self
         by_before (inr before) =
             let one_is : before.one ≡ by.assign.name.items = same_Some before.one by.assign.name.items (sym before.is ∙ ap assign_name by.is) in

@@ -1,12 +1,12 @@
 -- What a process writes, in two stores.
-use Rattle.std.proofs.Common.{◌≡◌, ◌↔◌, ℕ, zero, suc, ◌+◌, ◌<◌, ◌≤◌, ◌&&◌, Bool, true, false, IsTrue, Option, Some, None, option_map, List, [], ◌∷◌, map, length, replicate, slice_get, refl, sym, ◌∙◌, ap, subst, inl, inr, arith}
+use Rattle.std.proofs.Common.{◌≡◌, ◌↔◌, ℕ, zero, suc, ◌+◌, ◌<◌, ◌≤◌, Bool, true, false, IsTrue, Option, Some, None, option_map, List, [], ◌∷◌, map, length, replicate, slice_get, refl, sym, ◌∙◌, ap, subst, inl, inr, arith}
 use Rattle.std.specs.List.{Contains}
-use Rattle.std.proofs.lemmas.Bool.{and_from, cases_lt, false≢true}
+use Rattle.std.proofs.lemmas.Bool.{and_from, cases_lt}
 use Rattle.std.proofs.lemmas.List.{length-replicate}
 use Rattle.std.proofs.lemmas.Option.{none-some, same_Some, slice_get_past, slice_get_within}
 use Rattle.vs_design.specs.vs_logic4.specs.declared.digit.Digit.{Digit}
 use Rattle.vs_design.specs.vs_logic4.specs.Vectors.{same_digits}
-use Rattle.vs_design.specs.vs_logic4.proofs.Basics.{same_lists}
+use Rattle.vs_design.specs.vs_logic4.proofs.Basics.{same_lists, and_left}
 use Rattle.vs_design.specs.declared.design.Assign.{Assign}
 use Rattle.vs_design.specs.declared.design.Process.{Process}
 use Rattle.vs_design.specs.declared.range.BitRange.{BitRange}
@@ -20,6 +20,7 @@ use Rattle.vs_rules.specs.vs_process.proofs.Copying.{start_at}
 use Rattle.vs_rules.specs.vs_process.proofs.ThreadLists.{contains_at, place_of}
 use Rattle.vs_rules.specs.vs_process.proofs.Ranges.{same_sizes}
 use Rattle.vs_rules_of_starts.specs.Cold.{SameWritten}
+use Rattle.vs_rules_of_starts.proofs.MissingLemmas.{is_true, true_is}
 
 -- ---- a word
 
@@ -29,19 +30,8 @@ head_is x y e = cc
 digits_alike : (x y : List Digit) → same_digits x y ≡ true → x ≡ y
 digits_alike x y h = head_is x y (same_words-true (x ∷ []) (y ∷ []) (and_from (same_digits x y) true h refl))
 
-and_left : (a b : Bool) → (a && b) ≡ true → a ≡ true
-and_left true b h = refl
-and_left false b h = h
-
 digits_self : (x : List Digit) → same_digits x x ≡ true
 digits_self x = and_left (same_digits x x) true (same_words_self (x ∷ []))
-
-is_true : (b : Bool) → IsTrue b → b ≡ true
-is_true true h = refl
-is_true false h = absurd (let e : false ≡ true = grind (arith, h) in false≢true e)
-
-true_is : (b : Bool) → b ≡ true → IsTrue b
-true_is b e = subst IsTrue (sym e) (grind arith)
 
 pub same_word : (o p : Option (List Digit)) (x y : List Digit) (t : Bool) → o ≡ Some x → p ≡ Some y → t ≡ same_digits x y → (IsTrue t ↔ (o ≡ p))
 same_word o p x y t is_x is_y told = (

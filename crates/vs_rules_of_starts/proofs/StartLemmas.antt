@@ -3,7 +3,7 @@ use Rattle.std.proofs.Common.{◌≡◌, ◌↔◌, ℕ, zero, suc, ◌+◌, ◌
 use Rattle.std.specs.List.{Contains}
 use Rattle.std.proofs.lemmas.Bool.{cases_lt}
 use Rattle.std.proofs.lemmas.List.Elements.{Contains-append_left, Contains-append_right, Contains-append_cases}
-use Rattle.std.proofs.lemmas.Option.{none-some, same_Some, slice_get_within, slice_get_past}
+use Rattle.std.proofs.lemmas.Option.{none-some, same_Some, slice_get_within}
 use Rattle.vs_design.specs.declared.design.Process.{Process}
 use Rattle.vs_design.specs.declared.range.BitRange.{BitRange}
 use Rattle.vs_design.specs.declared.statement.EventTerm.{EventTerm}
@@ -11,15 +11,17 @@ use Rattle.vs_design.specs.Parts.{Parts}
 use Rattle.vs_rules.specs.vs_process.specs.BlockDrivers.{outputs_for}
 use Rattle.vs_rules.specs.vs_process.proofs.ThreadLists.{contains_at, place_of}
 use Rattle.vs_drivers.specs.vs_process.specs.Writes.{statement_writes}
-use Rattle.vs_rules.specs.Claims.{Claims, Kind, Start, block, cold, starter, kind_of, kind_for, HasStart, IsBlock}
+use Rattle.vs_rules.specs.Claims.{Claims, Kind, Start, block, cold, starter, kind_of, HasStart, IsBlock}
 use Rattle.vs_rules.specs.Paths.{Writes}
 use Rattle.vs_rules.specs.Drivers.{block as driver, DriverNeeds, IsSource, Passes}
 use Rattle.vs_rules.specs.Blocks.{K11, IsCold, Starts, WaitsForSources}
 use Rattle.vs_drivers.specs.vs_maps.specs.Reaches.{Chart}
 use Rattle.vs_drivers.specs.vs_maps.specs.Ranges.{HasSignal, HasTermAt}
 use Rattle.vs_drivers.specs.vs_maps.proofs.EachWalk.{terms_exact}
+use Rattle.vs_design.specs.vs_logic4.proofs.Basics.{below_or, inside}
 use Rattle.vs_rules_of_starts.specs.Cold.{StaysAtEach}
 use Rattle.vs_drivers.specs.Wires.{IsWiringOf, Wiring, OfWiring}
+use Rattle.vs_drivers.proofs.ConeLemmas.{claimed_within}
 use Rattle.vs_claims.specs.Facts.{AreCharts}
 use Rattle.vs_rules_of_starts.specs.Started.{AreTerms}
 use Rattle.vs_rules_of_starts.specs.Starts.{AreApart, IsFine, AreFine, NeedsCold, NoStarterIn}
@@ -27,7 +29,7 @@ use Rattle.vs_rules_of_starts.specs.Starts.{AreApart, IsFine, AreFine, NeedsCold
 pub false_not : (IsTrue false) → ⊥
 false_not t = grind (arith, t)
 
-true_here : IsTrue true
+pub true_here : IsTrue true
 true_here = grind arith
 
 -- ---- signals of ranges
@@ -108,12 +110,6 @@ claimed d c j kind o p same all is s = (λ has. sym is ∙ (all s).0 (same ∙ h
 
 -- ---- cold
 
-pub is_block_of : (d : Parts) (c : Claims) (i : ℕ) → IsBlock d c i → i < length d.processes
-is_block_of d c i h = elim (cases_lt i (length d.processes)) [
-  | inl lt ↦ lt
-  | inr past ↦ absurd (none-some _ (ap (kind_for c) (sym (slice_get_past d.processes i past)) ∙ h.1))
-]
-
 pub cold_is : (d : Parts) (c : Claims) (i : ℕ) (x : Wiring) → IsWiringOf d c x → IsBlock d c i → StaysAtEach d i → (needs : List BitRange) (marks : List Bool) →
     OfWiring x (λ d c. (r : BitRange) → (Contains needs r ↔ (IsBlock d c i × DriverNeeds d (driver i) r))) →
     OfWiring x (λ d c. (j : ℕ) → (IsTrue (slice_index_or marks j false) ↔ ((r : BitRange) × Contains needs r × Passes d c (driver j) r))) →
@@ -127,11 +123,6 @@ pub cold_not : (d : Parts) (c : Claims) (i : ℕ) → (StaysAtEach d i → ⊥) 
 cold_not d c i never = (λ t. absurd (false_not t), λ k. absurd (never k.stays))
 
 -- ---- terms
-
-inside : {A : Type 0} (xs : List A) (k : ℕ) → k < length xs → slice_get xs k ≡ None → ⊥
-inside [] k l e = omega (arith, l)
-inside (x ∷ xs) zero l e = none-some x (sym e)
-inside (x ∷ xs) (suc k) l e = inside xs k (omega (arith, l)) e
 
 pub terms_are : (d : Parts) (charts : List Chart) → AreCharts d charts → (i : ℕ) → i < length d.processes → (t : Chart) → slice_get charts i ≡ Some t → (all : List EventTerm) →
     ((term : EventTerm) → (Contains all term ↔ HasTermAt t term)) → AreTerms d i all
@@ -182,9 +173,6 @@ one_claim d c i start one b told = (
 
 -- ---- what blocks of start `cold` need
 
-more_or : (i n : ℕ) → i < n + 1 → (i < n) ⊎ (i ≡ n)
-more_or i n h = grind (arith, h)
-
 -- what those below a number need
 abbrev pub AreNeedsBelow : Parts → Claims → ℕ → List BitRange → Type 0
 AreNeedsBelow d c n all = (r : BitRange) → (Contains all r ↔ ((i : ℕ) × (i < n) × NeedsCold d c i r))
@@ -193,7 +181,7 @@ pub no_needs_yet : (d : Parts) (c : Claims) (all : List BitRange) → all ≡ []
 no_needs_yet d c all e r = (λ h. absurd (omega (arith, (subst (λ (l : List BitRange). Contains l r) e h).1)), λ h. absurd (omega (arith, h.1)))
 
 pub needs_more : (d : Parts) (c : Claims) (n : ℕ) (old new : List BitRange) → AreNeedsBelow d c n old → ((r : BitRange) → (Contains new r ↔ (Contains old r ⊎ NeedsCold d c n r))) → AreNeedsBelow d c (n + 1) new
-needs_more d c n old new so more r = (λ h. into ((more r).0 h), λ h. (more r).1 (back h (more_or h.0 n h.1))) where
+needs_more d c n old new so more r = (λ h. into ((more r).0 h), λ h. (more r).1 (back h (below_or h.0 n h.1))) where
   into : Contains old r ⊎ NeedsCold d c n r → (i : ℕ) × (i < n + 1) × NeedsCold d c i r
   into (inl a) = let y = (so r).0 a in (y.0, omega (arith, y.1), y.2)
   into (inr b) = (n, omega arith, b)
@@ -205,7 +193,7 @@ needs_more d c n old new so more r = (λ h. into ((more r).0 h), λ h. (more r).
 pub needs_all : (d : Parts) (c : Claims) (n : ℕ) (all : List BitRange) → length d.processes ≤ n → AreNeedsBelow d c n all → (r : BitRange) → (Contains all r ↔ ((i : ℕ) × NeedsCold d c i r))
 needs_all d c n all past so r = (
   λ h. let y = (so r).0 h in (y.0, y.2),
-  λ h. (so r).1 (h.0, omega (arith, is_block_of d c h.0 (cold, h.1.0), past), h.1),
+  λ h. (so r).1 (h.0, omega (arith, claimed_within d c h.0 (cold, h.1.0), past), h.1),
 )
 
 -- nothing more

@@ -1,36 +1,37 @@
 -- Variables that a process is sure to change in the first slot.
-use Rattle.std.proofs.Common.{◌≡◌, ◌↔◌, ℕ, ◌+◌, ◌<◌, ◌≤◌, ◌⊎◌, ◌&&◌, Bool, true, false, IsTrue, Option, Some, None, List, [], ◌∷◌, length, slice_get, refl, sym, ◌∙◌, ap, subst, inl, inr, arith}
+use Rattle.std.proofs.Common.{◌≡◌, ◌↔◌, ℕ, ◌+◌, ◌<◌, ◌≤◌, ◌⊎◌, Bool, true, false, IsTrue, Option, Some, None, List, [], ◌∷◌, length, slice_get, refl, sym, ◌∙◌, ap, subst, inl, inr, arith}
 use Rattle.std.specs.List.{Contains}
-use Rattle.std.proofs.lemmas.Bool.{and_parts, cases_lt}
+use Rattle.std.proofs.lemmas.Bool.{cases_lt}
 use Rattle.std.proofs.lemmas.Option.{none-some, same_Some, slice_get_within, slice_get_past}
 use Rattle.vs_design.specs.declared.design.Process.{Process}
 use Rattle.vs_design.specs.declared.range.BitRange.{BitRange}
 use Rattle.vs_design.specs.declared.signal.Signal.{Signal}
 use Rattle.vs_design.specs.declared.statement.EventTerm.{EventTerm}
 use Rattle.vs_design.specs.Parts.{Parts}
-use Rattle.vs_design.specs.WellFormed.{WellFormed, counts_from, is_body_of, is_sound_process, is_sound_statement, numbers}
+use Rattle.vs_design.specs.vs_logic4.proofs.Basics.{inside}
 use Rattle.vs_rules.specs.vs_process.proofs.ThreadLists.{contains_at, place_of}
-use Rattle.vs_claims.specs.vs_process.proofs.ProcessLists.{all_slice}
-use Rattle.vs_rules.specs.Claims.{Claims, Kind, Mode, claim_for, delays, edges, mixed, mode_in, kind_for, kind_of, nonblocking, HasMode, IsDelay, IsSequential, IsWide, IsWriter}
+use Rattle.vs_claims.specs.Facts.{AreCharts}
+use Rattle.vs_drivers.specs.vs_maps.specs.Reaches.{Chart}
+use Rattle.vs_rules.specs.Claims.{Claims, Kind, Mode, claim_for, delays, edges, mixed, mode_in, kind_for, kind_of, nonblocking, HasMode, IsDelay, IsSequential, IsWriter}
 use Rattle.vs_rules.specs.Claims as claims
 use Rattle.vs_rules.specs.Blocks.{MayStart as MayBegin, CopiesWhole, HasStarter}
-use Rattle.vs_rules_of_starts.specs.Beginnings.{AreNamed}
+use Rattle.vs_rules_of_starts.specs.Beginnings.{AreNamed, StartsSurely}
 use Rattle.vs_rules_of_starts.specs.Started.{StartsFor, AreTerms, IsOf, MayStart, IsStartedBy}
-
-false_not : (IsTrue false) → ⊥
-false_not t = grind (arith, t)
-
-true_here : IsTrue true
-true_here = grind arith
-
--- the statements of a process are numbered
-pub counted : (d : Parts) → WellFormed d → (w : ℕ) (q : Process) → slice_get d.processes w ≡ Some q → counts_from 0 (numbers q.body) ≡ true
-counted d formed w q is =
-    (and_parts (is_sound_statement d.signals q.body) (counts_from 0 (numbers q.body))
-    (and_parts (is_sound_statement d.signals q.body && counts_from 0 (numbers q.body)) (is_body_of q.kind q.body) (all_slice (λ (p : Process). is_sound_process d.signals p ≡ true) d.processes w q is formed.processes)).0).1
+use Rattle.vs_rules_of_starts.proofs.BeginningLemmas.{starts_for}
+use Rattle.vs_rules_of_starts.proofs.StartLemmas.{false_not, true_here}
 
 pub both : (A B C : Type 0) → (A ↔ B) → (B ↔ C) → (A ↔ C)
 both A B C x y = (λ a. y.0 (x.0 a), λ c. x.1 (y.1 c))
+
+-- ---- a writer, by the map of its text
+
+pub starts_by_map : (d : Parts) (charts : List Chart) → AreCharts d charts → (w : ℕ) → w < length d.processes → (t : Chart) → slice_get charts w ≡ Some t → (g : ℕ) (named : List BitRange) (b : Bool) →
+    (IsTrue b ↔ StartsSurely d named g t) → (i : ℕ) → AreNamed d i g named → (IsTrue b ↔ StartsFor d i g w)
+starts_by_map d charts maps w lt t at g named b told i are = by_process (slice_get d.processes w) refl where
+  by_process : (o : Option Process) → slice_get d.processes w ≡ o → (IsTrue b ↔ StartsFor d i g w)
+  by_process None none = absurd (inside d.processes w lt none)
+  by_process (Some q) is =
+      both (IsTrue b) (StartsSurely d named g t) (StartsFor d i g w) told (starts_for d i g w named are q t.stops t.start (maps.each w q t is at) is)
 
 -- ---- who may start
 

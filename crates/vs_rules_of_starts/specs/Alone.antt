@@ -2,7 +2,7 @@
 use Rattle.std.specs.Prelude.{ℕ, zero, suc, ◌≡◌, Bool, true, false, Option, Some, None}
 use Rattle.vs_design.specs.declared.statement.Statement.{Statement}
 use Rattle.vs_design.specs.Stores.{Store}
-use Rattle.vs_rules.specs.vs_process.specs.Changes.{store_behind}
+use Rattle.vs_rules.specs.vs_process.specs.Changes.{store_after}
 use Rattle.vs_rules.specs.vs_process.specs.Places.{Todo, flat}
 use Rattle.vs_rules.specs.vs_process.specs.Steps.{Next, on, after, wait, step}
 
@@ -20,7 +20,7 @@ arrives (wait number terms l) rest store = Some (record { todo = l; store = stor
 abbrev pub arrival : ℕ → Todo → Store → Option Arrival
 arrival zero k store = None
 arrival (suc most) k store =
-    arrives (step k store 0).next (λ l. arrival most l (store_behind store (step k store 0).write)) (store_behind store (step k store 0).write)
+    arrives (step k store 0).next (λ l. arrival most l (store_after store (step k store 0).write)) (store_after store (step k store 0).write)
 
 -- it has arrived here, or doesn't
 abbrev pub arrived_if : Bool → Todo → Store → Option Arrival

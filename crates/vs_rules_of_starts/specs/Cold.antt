@@ -25,7 +25,7 @@ abbrev pub StaysAtEach : Parts → ℕ → Type 0
 StaysAtEach d i = (k l : Todo) (number : ℕ) (terms : List EventTerm) → IsPoint d i k → Goes k (wait number terms l) → StaysCold d i l
 
 -- there it waits, and after that has this to do
-pub record IsBehind (d : Parts) (i : ℕ) (behind : Todo) : Type 0 where
+pub record IsAfterControl (d : Parts) (i : ℕ) (behind : Todo) : Type 0 where
   pub control : Todo
   pub number : ℕ
   pub terms : List EventTerm

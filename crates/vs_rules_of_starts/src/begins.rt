@@ -1,50 +1,29 @@
 //! Statements that are sure to change a bit of a variable that a control names.
-ghost use Rattle.std.specs.Prelude.{ℕ, ◌≡◌, ◌<◌, ◌↔◌, ◌⊎◌, false, IfOk, IsTrue};
+ghost use Rattle.std.specs.Prelude.{ℕ, ◌<◌, ◌↔◌, ◌⊎◌, false, IfOk, IsTrue};
 ghost use Rattle.vs_design.specs.declared.statement.Statement.TheViews.{out-Statement};
-ghost use Rattle.vs_design.specs.Uses.{has_bit, has_word};
 ghost use Rattle.vs_design.specs.WellFormed.{width_at};
 ghost use Rattle.vs_rules_of_starts.specs.vs_process.specs.Stops.{statement_view};
 ghost use Rattle.vs_rules.specs.Paths as paths;
 ghost use Rattle.vs_rules.specs.Constants.{GivesDigit, IsKnown};
 ghost use Rattle.vs_drivers.specs.vs_slots_constants.specs.Givings.{bit_view};
 ghost use Rattle.vs_drivers.specs.vs_maps.specs.Reaches.{InSlot0};
-ghost use Rattle.vs_drivers.specs.vs_maps.specs.Ranges.{statement_at};
 ghost use Rattle.vs_rules_of_starts.specs.Beginnings.{HasAt, AnyHas, IsKnownOne, GivesBit, GivesInWord, GivesAim, GivesNamed};
 ghost use Rattle.vs_rules_of_starts.specs.Beginnings.{BeginsBy, BeginsLayer, BeginsAt, WritesAt, StartsSurely};
 
-use crate::missing::{is_sure, statement_at};
+use crate::missing::is_sure;
 use std::alloc::{AllocError, Global};
 use vs_design::vs_logic4::Digit;
 use vs_design::{Aim, BitRange, Design, Statement, Target, Typed};
 use vs_drivers::vs_maps::Tables;
 use vs_drivers::vs_slots_constants::{Bit, given};
+use vs_drivers::{has_place, has_word};
 use vs_graph::{Rule, all_keep};
-
-// Whether a range has a word.
-fn has_word(range: BitRange, word: usize) -> bool
-    ensures { result ≡ has_word range.word word }
-{
-    match range.word {
-        None => true,
-        Some(w) => w == word,
-    }
-}
-
-// Whether a range has the bit at a place of a word.
-fn has_bit(range: BitRange, place: u32) -> bool
-    ensures { result ≡ has_bit range.bits place }
-{
-    match range.bits {
-        None => true,
-        Some(b) => b.low <= place && (place as u64) < b.low as u64 + b.width as u64,
-    }
-}
 
 // Whether a range has the bit of its own signal at the word and place of this one.
 fn has(range: BitRange, bit: Bit) -> bool
     ensures { IsTrue result ↔ HasAt range (bit_view bit) }
 {
-    has_word(range, bit.word) && has_bit(range, bit.place)
+    has_word(range.word, bit.word) && has_place(range.bits, bit.place)
 }
 
 // Whether the design has a bit.
@@ -243,7 +222,7 @@ impl<'a> Rule for Beginnings<'a> {
             self.design,
             self.named,
             self.g,
-            statement_at(self.tables, i),
+            self.tables.statement(i),
         )
     }
 }
@@ -288,12 +267,10 @@ impl<'a> Rule for WritesAlone<'a> {
 pub(crate) fn starts_surely<'a>(
     alloc: Global,
     tables: &'a Tables<'a>,
-    start: usize,
     design: &'a Design,
     named: &'a [BitRange],
     g: usize,
 ) -> Result<bool, AllocError>
-    requires { start ≡ tables.now.start }
     ensures { IfOk result (λ b. (IsTrue b ↔ StartsSurely design.entry.now named.entry.now g tables.entry.now)) }
 {
     tables.leads_in();
@@ -303,7 +280,7 @@ pub(crate) fn starts_surely<'a>(
         named,
         g,
     };
-    let sure = is_sure(alloc, tables, start, &begins)?;
+    let sure = is_sure(alloc, tables, &begins)?;
     if !sure {
         return Ok(false);
     }

@@ -9,7 +9,7 @@ ghost use Rattle.vs_rules.specs.vs_process.specs.Executions.{is_combinational};
 ghost use Rattle.vs_rules.specs.Blocks.{run_alone};
 ghost use Rattle.vs_rules_of_starts.specs.Settled.{IsInOrder};
 ghost use Rattle.vs_rules_of_starts.specs.Alone.{store_if, ComesTo};
-ghost use Rattle.vs_rules_of_starts.specs.Cold.{IsBehind, StaysWithin, StaysAtEach};
+ghost use Rattle.vs_rules_of_starts.specs.Cold.{IsAfterControl, StaysWithin, StaysAtEach};
 
 use crate::alone::arrive;
 use crate::outputs::is_same_written;
@@ -44,9 +44,14 @@ impl<'a> Model for Beginning<'a> {
     ghost invariant = { λ b. AreFirst b.design.now b.start b.settled };
 }
 
-// Runs a process alone on a store, from after the control that its text comes to in two steps, for so many steps at most: whether it arrives at a
-// control again.
-fn comes_back(alloc: Global, code: &Code, store: &mut Store, most: u64) -> Result<bool, AllocError>
+/// Runs a process alone on a store, from after the control that its text comes to in two steps, for so many steps at most: whether it arrives at a
+/// control again.
+pub fn comes_back(
+    alloc: Global,
+    code: &Code,
+    store: &mut Store,
+    most: u64,
+) -> Result<bool, AllocError>
     ensures { IfOk result (λ b. (behind : Todo) → ComesTo code.now store.old behind →
         store_if b store.new ≡ run_alone most behind store.old) }
 {
@@ -72,7 +77,7 @@ fn stays_within(
     requires shape { (q : declared.Process) → slice_get design.now.processes i ≡ Some q → is_combinational q ≡ true }
     requires settled { sizes settled.now ≡ sizes (start_store design.now) }
     requires start { start.now ≡ start_store design.now }
-    ensures { IfOk result (λ b. (behind : Todo) → IsBehind design.now i behind →
+    ensures { IfOk result (λ b. (behind : Todo) → IsAfterControl design.now i behind →
         (IsTrue b ↔ StaysWithin most design.now i behind settled.now)) }
 {
     let mut store = settled.copy(alloc)?;

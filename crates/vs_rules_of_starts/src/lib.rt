@@ -15,9 +15,9 @@ mod starter;
 mod starts;
 
 pub use apart::Starts;
-pub use cold::Beginning;
+pub use cold::{Beginning, comes_back};
 pub use order::in_order;
-pub use settled::settled_start;
-pub use starts::{keeps_start, keeps_start_by};
+pub use settled::{make_all, settled_start};
+pub use starts::keeps_start_by;
 pub use vs_rules;
 pub use vs_rules::vs_process;

@@ -1,49 +1,15 @@
 //! Walks on a map from its start that take no time, on which nothing of a sort is done.
 ghost use Rattle.std.specs.Prelude.{ℕ, ◌≡◌, ◌<◌, ◌↔◌, false, length, slice_index_or, IfOk, IsTrue};
 ghost use Rattle.vs_rules_of_starts.specs.vs_process.specs.Stops.{LeadsIn, statement_view};
-ghost use Rattle.vs_drivers.specs.vs_maps.specs.declared.along.Along.TheVariants.{ZeroTime};
-ghost use Rattle.vs_drivers.specs.vs_maps.specs.Reaches.{passes, pause_view, places};
-ghost use Rattle.vs_drivers.specs.vs_maps.specs.Ranges.{statement_at};
+ghost use Rattle.vs_drivers.specs.vs_maps.specs.Reaches.{places};
 ghost use Rattle.vs_drivers.specs.vs_maps.specs.Walks.{AreMarked};
 ghost use Rattle.vs_rules_of_starts.specs.Missing.{MissingAt, IsSure, is_end, is_one, stops_here, unmarked};
 ghost use Rattle.vs_rules_of_starts.specs.Inside.{unmarked_in};
 
 use std::alloc::{AllocError, Global};
 use vs_design::Statement;
-use vs_drivers::vs_maps::{Pause, Tables, marks_of};
-use vs_graph::{Graph, Rule, all_keep, reach};
-
-// Whether ways that go on so take no time.
-fn takes_no_time(pause: Pause) -> bool
-    ensures { result ≡ passes (ZeroTime false) (pause_view pause.entry) }
-{
-    match pause {
-        Pause::Nothing => true,
-        Pause::Delay(_, ticks) => ticks == 0,
-        Pause::Event(_, _) => false,
-    }
-}
-
-// Whether a place is marked.
-fn is_marked(marks: &[bool], place: usize) -> bool
-    ensures { result ≡ slice_index_or marks.now place false }
-{
-    if place < marks.len() {
-        marks[place]
-    } else {
-        false
-    }
-}
-
-/// The statement at a place, where there is one.
-pub(crate) fn statement_at<'a>(tables: &Tables<'a>, place: usize) -> Option<&'a Statement>
-    ensures { statement_view result ≡ statement_at tables.now place }
-{
-    match tables.stop(place) {
-        None => None,
-        Some(stop) => stop.statement,
-    }
-}
+use vs_drivers::vs_maps::{Tables, marks_of, takes_no_time};
+use vs_graph::{Graph, Rule, all_keep, is_marked, reach};
 
 // Whether a place is the end of a text.
 fn is_end(statement: Option<&Statement>, tos: &[usize]) -> bool
@@ -59,7 +25,7 @@ fn is_end(statement: Option<&Statement>, tos: &[usize]) -> bool
 fn stops_here(tables: &Tables, place: usize) -> bool
     ensures { result ≡ stops_here tables.now place }
 {
-    if is_end(statement_at(tables, place), tables.tos(place)) {
+    if is_end(tables.statement(place), tables.tos(place)) {
         return true;
     }
     !takes_no_time(tables.pause(place))
@@ -119,10 +85,8 @@ impl<'a> Rule for GoOn<'a> {
 pub(crate) fn is_sure<'a, R: Rule>(
     alloc: Global,
     tables: &'a Tables<'a>,
-    start: usize,
     sort: &R,
 ) -> Result<bool, AllocError>
-    requires { start ≡ tables.now.start }
     ensures { IfOk result (λ b. (IsTrue b ↔ IsSure tables.entry.now (R.keeps sort.now))) }
 {
     tables.leads_in();
@@ -131,7 +95,7 @@ pub(crate) fn is_sure<'a, R: Rule>(
         tables: &*tables,
         marks: &done,
     };
-    let reached = reach(alloc, &walks, &[start])?;
+    let reached = reach(alloc, &walks, &[tables.start()])?;
     let go_on = GoOn {
         tables: &*tables,
         marks: &reached,

@@ -29,8 +29,8 @@ fn make(alloc: Global, assigns: &[Assign], j: usize, store: &mut Store) -> Resul
     Ok(())
 }
 
-// Makes continuous assignments, by their numbers, one after another.
-fn make_all(
+/// Makes continuous assignments, by their numbers, one after another; a number past the end is none.
+pub fn make_all(
     alloc: Global,
     assigns: &[Assign],
     order: &[usize],

@@ -118,7 +118,7 @@ fn is_started(
     if named.len() == 0 {
         return Ok(false);
     }
-    starts_for(alloc, facts.design(), w, &named, g)
+    starts_for(alloc, facts, w, &named, g)
 }
 
 /// Whether a block with these terms has a starter. It takes as long as there are signals, and for each variable by which a process may start

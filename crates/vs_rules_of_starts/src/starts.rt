@@ -9,7 +9,6 @@ ghost use Rattle.vs_rules.specs.Claims as claims;
 ghost use Rattle.vs_rules.specs.Claims.{block, cold, starter, HasStart, IsBlock};
 ghost use Rattle.vs_rules.specs.Blocks as rules;
 ghost use Rattle.vs_rules.specs.Blocks.{K5, K11, IsCold, WaitsForSources, HasStarter};
-ghost use Rattle.vs_drivers.specs.vs_maps.specs.Ranges.{HasSignal};
 ghost use Rattle.vs_drivers.specs.Wires.{IsWiringOf};
 ghost use Rattle.vs_claims.specs.Facts.{kind_seen};
 ghost use Rattle.vs_rules_of_starts.specs.Started.{AreTerms};
@@ -22,7 +21,7 @@ use std::alloc::{AllocError, Global};
 use vs_claims::Facts;
 use vs_claims::vs_certificate::{ClaimedKind, Start};
 use vs_design::{BitRange, EventTerm};
-use vs_drivers::vs_maps::terms;
+use vs_drivers::vs_maps::{has_signal, terms};
 use vs_drivers::vs_process::statement_writes;
 use vs_drivers::{Cones, Copies};
 
@@ -48,18 +47,6 @@ pub(crate) fn start_of(kind: Option<&ClaimedKind>) -> Option<Start>
     }
 }
 
-// Whether one of some ranges is of a signal.
-fn any_of(ranges: &[BitRange], signal: usize) -> bool
-    ensures { IsTrue result ↔ HasSignal ranges.now signal }
-{
-    for range in ranges {
-        if range.signal == signal {
-            return true;
-        }
-    }
-    false
-}
-
 // Whether a signal is a source, or one that is written.
 fn is_fine(facts: &Facts, cones: &Cones, written: &[BitRange], signal: usize) -> bool
     requires { IsWiringOf facts.now.design facts.now.claims cones.now }
@@ -68,7 +55,7 @@ fn is_fine(facts: &Facts, cones: &Cones, written: &[BitRange], signal: usize) ->
     if cones.is_source(signal) {
         return true;
     }
-    any_of(written, signal)
+    has_signal(written, signal)
 }
 
 // Whether of each term the signal is.
@@ -216,29 +203,6 @@ fn starts_as(
     }
 }
 
-// Whether a process keeps the rule K11, by whether blocks of start `cold` are apart from those of start `starter`.
-fn keeps_start_of(
-    alloc: Global,
-    facts: &Facts,
-    cones: &Cones,
-    copies: &Copies,
-    beginning: &Beginning,
-    apart: bool,
-    i: usize,
-) -> Result<bool, AllocError>
-    requires wiring { IsWiringOf facts.now.design facts.now.claims cones.now }
-    requires copies { copies.now ≡ facts.now.design }
-    requires beginning { beginning.now ≡ facts.now.design }
-    requires apart { IsTrue apart → AreApart facts.now.design facts.now.claims }
-    requires shape { K5 facts.now.design facts.now.claims i }
-    ensures { IfOk result (λ b. (IsTrue b ↔ K11 facts.now.design facts.now.claims i)) }
-{
-    match start_of(facts.kind(i)) {
-        None => Ok(true),
-        Some(start) => starts_as(alloc, facts, cones, copies, beginning, apart, i, start),
-    }
-}
-
 /// Whether a process keeps the rule K11: a combinational block that never ran has the outputs that a run would give it. The rules K1, K4 and K5 have to
 /// hold before: K1 and K4 make the beginning, and K5 gives a block its shape. It takes, of a block of start `cold`, as long as the design has words, the
 /// text of the block and 10,000 steps, and where some such block needs what one of start `starter` gives, the cone of what it needs; of start `sources`
@@ -257,31 +221,17 @@ pub fn keeps_start_by(
     requires shape { K5 starts.now.design starts.now.claims i }
     ensures exact { IfOk result (λ b. (IsTrue b ↔ K11 starts.now.design starts.now.claims i)) }
 {
-    keeps_start_of(
-        alloc,
-        starts.facts,
-        cones,
-        copies,
-        beginning,
-        starts.apart,
-        i,
-    )
-}
-
-/// The same by the facts alone: of a block of start `cold` it takes besides as long as the cone of what it needs.
-pub fn keeps_start(
-    alloc: Global,
-    facts: &Facts,
-    cones: &Cones,
-    copies: &Copies,
-    beginning: &Beginning,
-    i: usize,
-) -> Result<bool, AllocError>
-    requires wiring { IsWiringOf facts.now.design facts.now.claims cones.now }
-    requires copies { copies.now ≡ facts.now.design }
-    requires beginning { beginning.now ≡ facts.now.design }
-    requires shape { K5 facts.now.design facts.now.claims i }
-    ensures exact { IfOk result (λ b. (IsTrue b ↔ K11 facts.now.design facts.now.claims i)) }
-{
-    keeps_start_of(alloc, facts, cones, copies, beginning, false, i)
+    match start_of(starts.facts.kind(i)) {
+        None => Ok(true),
+        Some(start) => starts_as(
+            alloc,
+            starts.facts,
+            cones,
+            copies,
+            beginning,
+            starts.apart,
+            i,
+            start,
+        ),
+    }
 }

@@ -6,7 +6,7 @@ use Rattle.vs_design.specs.Stores.{changed_at}
 use Rattle.vs_run_active.specs.declared.process.Process.{Process}
 use Rattle.vs_run_active.specs.declared.process.Wait.{Wait}
 use Rattle.vs_run_active.specs.declared.process.Wait.TheVariants.{Nothing, Until, Inactive, Terms}
-use Rattle.vs_run_active.specs.Standings.{GoneOn, HasGone, gone_on, triggered_at, waits_at, waits_some}
+use Rattle.vs_run_active.specs.ProcessPlaces.{GoneOn, HasGone, gone_on, triggered_at, waits_at, waits_some}
 
 pub gone_none : (xs : List Process) → GoneOn xs xs
 gone_none xs = record { len = refl; each = λ i p at. inl at }
@@ -43,7 +43,7 @@ waits_there n (Until due) h = absurd (false≢true h)
 waits_there n Inactive h = absurd (false≢true h)
 waits_there n (Terms m terms) h = refl
 
-triggered_by_test : (p : Process) (b : Bool) → (b ≡ true → waits_some p.wait ≡ true) → HasGone p (Some (if b then gone_on p else p))
+pub triggered_by_test : (p : Process) (b : Bool) → (b ≡ true → waits_some p.wait ≡ true) → HasGone p (Some (if b then gone_on p else p))
 triggered_by_test p true h = inr (h refl, refl)
 triggered_by_test p false h = inl refl
 

@@ -4,29 +4,19 @@ use Rattle.std.proofs.lemmas.Bool.{false≢true}
 use Rattle.std.proofs.lemmas.Option.{none-some}
 use Rattle.vs_design.specs.Stores.{changed_at}
 use Rattle.vs_run_active.specs.declared.process.Process.{Process}
-use Rattle.vs_run_active.specs.Standings.{is_active}
-use Rattle.vs_run_active.specs.Listed.{count}
+use Rattle.vs_run_active.specs.ProcessPlaces.{is_active}
+use Rattle.vs_run_active.specs.ListCounts.{count}
 use Rattle.vs_run_active.proofs.ChangedLemmas.{changed_there}
-use Rattle.vs_run_active.proofs.ListedLemmas.{count-le-length, set_itself}
+use Rattle.vs_run_active.proofs.ListCountLemmas.{count-le-length, set_itself}
 
 pub going_fits : (xs : List Process) (n : ℕ) → n ≡ count is_active xs → length xs < 2 ^ 63 → n + 1 < 2 ^ 64
 going_fits xs n is short = omega (arith, is, count-le-length is_active xs)
-
--- one that is there
-pub there : {A : Type 0} (xs : List A) (i : ℕ) (x : A) → slice_get xs i ≡ Some x → i < length xs
-there [] i x h = absurd (none-some x h)
-there (y ∷ ys) zero x h = omega arith
-there (y ∷ ys) (suc i) x h = let rest = there ys i x h in omega (arith, rest)
 
 -- none is there
 pub changed_none : {A : Type 0} (f : A → A) (xs : List A) (i : ℕ) → slice_get xs i ≡ None → xs ≡ changed_at f i xs
 changed_none f [] i h = refl
 changed_none f (y ∷ ys) zero h = absurd (none-some y (sym h))
 changed_none {A} f (y ∷ ys) (suc i) h = ap (λ (l : List A). y ∷ l) (changed_none f ys i h)
-
--- one takes the place of what it is made of
-pub changed_put : {A : Type 0} (f : A → A) (xs : List A) (i : ℕ) (x y : A) → slice_get xs i ≡ Some x → y ≡ f x → slice_set xs i y ≡ changed_at f i xs
-changed_put f xs i x y here is = changed_there f xs i x y here is
 
 -- one that stays as it is
 pub changed_stays : {A : Type 0} (f : A → A) (xs : List A) (i : ℕ) (x : A) → slice_get xs i ≡ Some x → x ≡ f x → xs ≡ changed_at f i xs

@@ -1,7 +1,7 @@
 pub mod ChangedLemmas
-pub mod ListedLemmas
+pub mod ListCountLemmas
 pub mod GoneLemmas
-pub mod StandingsLemmas
+pub mod ProcessPlacesLemmas
 pub mod TakenLemmas
 pub mod TimelinesLemmas
 pub mod ChangesLemmas

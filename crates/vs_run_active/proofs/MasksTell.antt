@@ -3,6 +3,7 @@ use Rattle.std.proofs.Common.{◌≡◌, ◌≢◌, ℕ, ◌+◌, ◌-◌, ◌^�
 use Rattle.std.proofs.Math.Nat.{mod-eq_of_lt}
 use Rattle.std.proofs.lemmas.Bool.{cases_lt, eqb-true, eq-eqb, cases_Bool, false_from_ne_true}
 use Rattle.std.proofs.lemmas.Nat.{and_mask, and_comm}
+use Rattle.std.proofs.Math.Bool.{and_comm as and_comm_bool}
 use Rattle.vs_design.specs.vs_logic4.specs.declared.edge.Edge.{Edge}
 use Rattle.vs_design.specs.vs_logic4.specs.declared.edge.Edge.TheVariants.{Any, Posedge, Negedge}
 use Rattle.vs_design.specs.declared.range.Bits.{Bits}
@@ -49,12 +50,6 @@ lowest_bit-has (Some b) = elim (cases_lt 0 b.width) [
 and_true : (b : Bool) → (b && true) ≡ b
 and_true true = refl
 and_true false = refl
-
-and_comm_bool : (a b : Bool) → (a && b) ≡ (b && a)
-and_comm_bool true true = refl
-and_comm_bool true false = refl
-and_comm_bool false true = refl
-and_comm_bool false false = refl
 
 other_posedge : Posedge ≢ Any
 other_posedge = λ h. cc

@@ -6,7 +6,7 @@ use Rattle.vs_run_active.specs.declared.groups.Groups.{Groups}
 use Rattle.vs_run_active.specs.declared.rows.Row.{Row}
 use Rattle.vs_run_active.specs.Groups.{Adds}
 use Rattle.vs_run_active.specs.declared.watchers.Watcher.{Watcher}
-use Rattle.vs_run_active.specs.declared.watchers.ListedTerm.{ListedTerm}
+use Rattle.vs_run_active.specs.declared.watchers.ProcessTerm.{ProcessTerm}
 use Rattle.vs_run_active.specs.Rows.{row_at, row_watchers, Fits, IsRow, RowAdded}
 use Rattle.vs_run_active.specs.Watchers.{between, kind_watchers}
 
@@ -27,7 +27,7 @@ between_is {A = A} from to all xs ys zs f t a =
     ∙ ap (λ (l : List A). take (length ys) (drop (length xs) l)) a ∙ middle xs ys zs
 
 -- the parts of a row stand one after another
-row_fits : (old rest front : List Watcher) (terms : List ListedTerm) → Fits (row_at (length old) front terms) (length ((old ++ row_watchers front terms) ++ rest))
+row_fits : (old rest front : List Watcher) (terms : List ProcessTerm) → Fits (row_at (length old) front terms) (length ((old ++ row_watchers front terms) ++ rest))
 row_fits old rest front terms =
     let b = kind_watchers Any terms in
     let r = kind_watchers Posedge terms in
@@ -46,7 +46,7 @@ row_fits old rest front terms =
     (first, second, third, fourth, last)
 
 -- a row tells where the watchers of its signal stand
-pub row_tells : (old rest front : List Watcher) (terms : List ListedTerm) → IsRow (row_at (length old) front terms) ((old ++ row_watchers front terms) ++ rest) front terms
+pub row_tells : (old rest front : List Watcher) (terms : List ProcessTerm) → IsRow (row_at (length old) front terms) ((old ++ row_watchers front terms) ++ rest) front terms
 row_tells old rest front terms =
     let a = front in
     let b = kind_watchers Any terms in
@@ -85,7 +85,7 @@ same_row : (a b c d e a2 b2 c2 d2 e2 : ℕ) → a ≡ a2 → b ≡ b2 → c ≡ 
 same_row a b c d e a2 b2 c2 d2 e2 h i j k l = cc
 
 -- what code that adds a row does
-pub row_added : (old new : Groups) (before middle third fourth after plain : List Watcher) (terms : List ListedTerm) (from any rising falling end : ℕ) (row : Row) →
+pub row_added : (old new : Groups) (before middle third fourth after plain : List Watcher) (terms : List ProcessTerm) (from any rising falling end : ℕ) (row : Row) →
     Adds old new before middle plain → from ≡ length before → any ≡ length middle → rising ≡ length third → falling ≡ length fourth → end ≡ length after →
     third ≡ middle ++ kind_watchers Any terms → fourth ≡ third ++ kind_watchers Posedge terms → after ≡ fourth ++ kind_watchers Negedge terms →
     row ≡ record { readers = from; any = any; rising = rising; falling = falling; end = end } → RowAdded old new before after row plain terms

@@ -14,7 +14,7 @@ use Rattle.vs_run_active.specs.declared.groups.Group.{Group}
 use Rattle.vs_run_active.specs.declared.groups.Groups.{Groups}
 use Rattle.vs_run_active.specs.declared.rows.Row.{Row}
 use Rattle.vs_run_active.specs.declared.watchers.Watcher.{Watcher}
-use Rattle.vs_run_active.specs.declared.watchers.ListedTerm.{ListedTerm}
+use Rattle.vs_run_active.specs.declared.watchers.ProcessTerm.{ProcessTerm}
 use Rattle.vs_run_active.specs.Groups.{AllAssigns, Spells, meaning, meant_by, spelled}
 use Rattle.vs_run_active.specs.Lists.{AreBySignal, named}
 use Rattle.vs_run_active.specs.Rows.{row_at, row_watchers, AreRows, HasRow, IsRow, RowAdded, RowsFit}
@@ -29,7 +29,7 @@ old_or_new [] y z (suc i) h = absurd (none-some z h)
 old_or_new (x ∷ xs) y z zero h = inl h
 old_or_new (x ∷ xs) y z (suc i) h = elim (old_or_new xs y z i h) [ inl e ↦ inl e | inr p ↦ inr (ap suc p.0, p.1) ]
 
-pub no_rows : (assigns : List Assign) (terms : List ListedTerm) (groups : Groups) (rs : List Row) (ws : List Watcher) → rs ≡ [] → groups.assigns ≡ length assigns →
+pub no_rows : (assigns : List Assign) (terms : List ProcessTerm) (groups : Groups) (rs : List Row) (ws : List Watcher) → rs ≡ [] → groups.assigns ≡ length assigns →
     AreRows 0 assigns terms groups rs ws
 no_rows assigns terms groups rs ws h known = record {
   all = ap (λ (l : List Row). length l) h;
@@ -43,11 +43,11 @@ rows_at [] i d h = absurd (omega arith)
 rows_at (x ∷ xs) zero d h = refl
 rows_at (x ∷ xs) (suc i) d h = rows_at xs i d (omega arith)
 
-pub list_is : (terms : List ListedTerm) (signals signal : ℕ) (lists : List (Vec ListedTerm Global)) (list : Vec ListedTerm Global) → AreBySignal terms signals (rows lists) →
+pub list_is : (terms : List ProcessTerm) (signals signal : ℕ) (lists : List (Vec ProcessTerm Global)) (list : Vec ProcessTerm Global) → AreBySignal terms signals (rows lists) →
     signal < signals → list ≡ get_or lists signal list → list.items ≡ named signal terms
 list_is terms signals signal lists list by below is =
-    let within : signal < length lists = omega (arith, below, by.all, length-map lists (λ (row : Vec ListedTerm Global). row.items)) in
-    ap (λ (v : Vec ListedTerm Global). v.items) is ∙ sym (rows_at lists signal list within) ∙ by.each signal below
+    let within : signal < length lists = omega (arith, below, by.all, length-map lists (λ (row : Vec ProcessTerm Global). row.items)) in
+    ap (λ (v : Vec ProcessTerm Global). v.items) is ∙ sym (rows_at lists signal list within) ∙ by.each signal below
 
 -- ---- the numbers of readers
 
@@ -80,7 +80,7 @@ readers_below assigns signal known plain read same is of =
 -- ---- rows
 
 -- a row is there after another one has come
-row_later : (old new : Groups) (before after : List Watcher) (row other : Row) (plain : List Watcher) (read : List Reader) (terms listed : List ListedTerm) →
+row_later : (old new : Groups) (before after : List Watcher) (row other : Row) (plain : List Watcher) (read : List Reader) (terms listed : List ProcessTerm) →
     RowAdded old new before after other plain listed → HasRow row old before read terms → HasRow row new after read terms
 row_later old new before after row other plain read terms listed added h = record {
   front = h.front;
@@ -91,7 +91,7 @@ row_later old new before after row other plain read terms listed added h = recor
 }
 
 -- the row that has come
-row_new : (old new : Groups) (before after : List Watcher) (row : Row) (plain : List Watcher) (read : List Reader) (listed : List ListedTerm) → RowAdded old new before after row plain listed →
+row_new : (old new : Groups) (before after : List Watcher) (row : Row) (plain : List Watcher) (read : List Reader) (listed : List ProcessTerm) → RowAdded old new before after row plain listed →
     plain ≡ map reader_watcher read → HasRow row new after read listed
 row_new old new before after row plain read listed added is = record {
   front = added.adds.watchers;
@@ -102,8 +102,8 @@ row_new old new before after row plain read listed added is = record {
   spells = subst (Spells new added.adds.watchers) is added.adds.spell;
 }
 
-pub rows_next : (n : ℕ) (assigns : List Assign) (terms : List ListedTerm) (old new : Groups) (rs rs_next : List Row) (ws ws_next : List Watcher) (row : Row) (plain : List Watcher)
-    (read : List Reader) (listed : List ListedTerm) → AreRows n assigns terms old rs ws → plain ≡ map reader_watcher read → read ≡ readers assigns n → listed ≡ named n terms →
+pub rows_next : (n : ℕ) (assigns : List Assign) (terms : List ProcessTerm) (old new : Groups) (rs rs_next : List Row) (ws ws_next : List Watcher) (row : Row) (plain : List Watcher)
+    (read : List Reader) (listed : List ProcessTerm) → AreRows n assigns terms old rs ws → plain ≡ map reader_watcher read → read ≡ readers assigns n → listed ≡ named n terms →
     RowAdded old new ws ws_next row plain listed → rs_next ≡ rs ++ row ∷ [] → AreRows (n + 1) assigns terms new rs_next ws_next
 rows_next n assigns terms old new rs rs_next ws ws_next row plain read listed so_far is reads lists added pushed = record {
   all = ap (λ (l : List Row). length l) pushed ∙ length-append rs (row ∷ []) ∙ ap (λ (k : ℕ). k + 1) so_far.all;
@@ -115,22 +115,22 @@ rows_next n assigns terms old new rs rs_next ws ws_next row plain read listed so
         let own : HasRow row new ws_next read listed = row_new old new ws ws_next row plain read listed added is in
         let by_readers : HasRow row new ws_next (readers assigns signal) listed = subst (λ (l : List Reader). HasRow row new ws_next l listed) (reads ∙ ap (readers assigns) at) own in
         let by_terms : HasRow row new ws_next (readers assigns signal) (named signal terms) =
-        subst (λ (l : List ListedTerm). HasRow row new ws_next (readers assigns signal) l) (lists ∙ ap (λ (k : ℕ). named k terms) at) by_readers
+        subst (λ (l : List ProcessTerm). HasRow row new ws_next (readers assigns signal) l) (lists ∙ ap (λ (k : ℕ). named k terms) at) by_readers
         in
         subst (λ (r : Row). HasRow r new ws_next (readers assigns signal) (named signal terms)) (sym here.1) by_terms
   ];
 }
 
 -- what the row of a signal tells where nothing comes after the watchers
-pub row_is : {groups : Groups} {row : Row} {ws : List Watcher} {read : List Reader} {terms : List ListedTerm} → (h : HasRow row groups ws read terms) → IsRow row ws h.front terms
+pub row_is : {groups : Groups} {row : Row} {ws : List Watcher} {read : List Reader} {terms : List ProcessTerm} → (h : HasRow row groups ws read terms) → IsRow row ws h.front terms
 row_is {row = row} {ws = ws} {terms = terms} h = subst (λ (l : List Watcher). IsRow row l h.front terms) (append-nil ws) (h.tells [])
 
 -- and what its watchers stand for where no groups come later
-pub row_means : {groups : Groups} {row : Row} {ws : List Watcher} {read : List Reader} {terms : List ListedTerm} → (h : HasRow row groups ws read terms) →
+pub row_means : {groups : Groups} {row : Row} {ws : List Watcher} {read : List Reader} {terms : List ProcessTerm} → (h : HasRow row groups ws read terms) →
     spelled (meaning groups) h.front ≡ map reader_watcher read
 row_means {groups = groups} h =
     sym (ap₂ (λ (g : List Group) (m : List ℕ). spelled (meant_by groups.assigns g m) h.front) (append-nil groups.groups.items) (append-nil groups.members.items)) ∙ h.spells [] []
 
 -- rows that tell fit
-pub rows_fit : {n : ℕ} {assigns : List Assign} {terms : List ListedTerm} {groups : Groups} {rs : List Row} {ws : List Watcher} → AreRows n assigns terms groups rs ws → RowsFit rs ws
+pub rows_fit : {n : ℕ} {assigns : List Assign} {terms : List ProcessTerm} {groups : Groups} {rs : List Row} {ws : List Watcher} → AreRows n assigns terms groups rs ws → RowsFit rs ws
 rows_fit are = λ signal row here. (row_is (are.each signal row here)).fits

@@ -12,16 +12,14 @@ use Rattle.vs_process.specs.Places.{Place, Todo, going, sleeping, inactive, wait
 use Rattle.vs_process.proofs.ProcessLists.{set_same}
 use Rattle.vs_process.specs.Executions.{if_some, earlier, next_wake}
 use Rattle.vs_process.specs.States.{roused, woken_at, due_of}
-use Rattle.vs_run_active.specs.Listed.{is_number, names, Lists}
+use Rattle.vs_design.specs.vs_logic4.proofs.Basics.{set_twice}
+use Rattle.vs_run_active.specs.ListCounts.{is_number, names, Lists}
 use Rattle.vs_run_active.specs.Timelines.{sleeps_until, AreKept, AreKeptBut}
 use Rattle.vs_run_active.specs.Triggers.{changed_all}
-use Rattle.vs_run_active.proofs.ListedLemmas.{set_twice, set_itself, is_itself, lists_same, lists_new, lists_map, lists_none, visited}
+use Rattle.vs_run_active.proofs.ListCountLemmas.{set_itself, is_itself, lists_same, lists_new, lists_map, lists_none, visited}
+use Rattle.vs_run_active.proofs.ProcessPlacesLemmas.{active_still}
 
 -- ---- what a place waits for
-
-active_inactive : (gait : Gait) (todo : Todo) → is_inactive (active_at gait todo) ≡ false
-active_inactive gait [] = refl
-active_inactive gait (i ∷ rest) = refl
 
 active_sleeps : (gait : Gait) (time : ℕ) (todo : Todo) → sleeps_until time (active_at gait todo) ≡ false
 active_sleeps gait time [] = refl
@@ -36,7 +34,7 @@ going_sleeps (going gait todo) h time = refl
 going_sleeps _ h time = cc
 
 pub roused_inactive : (x : Place) → is_inactive (roused x) ≡ false
-roused_inactive (inactive todo) = active_inactive Woken todo
+roused_inactive (inactive todo) = active_still Woken todo
 roused_inactive (going gait todo) = refl
 roused_inactive (sleeping due todo) = refl
 roused_inactive (waiting terms todo) = refl
@@ -78,7 +76,7 @@ pub woken_inactive : (time : ℕ) (x : Place) → is_inactive (woken_at time x) 
 woken_inactive time (sleeping due todo) = by_test (due == time)
   where
     by_test : (b : Bool) → is_inactive (if b then active_at Woken todo else sleeping due todo) ≡ false
-    by_test true = active_inactive Woken todo
+    by_test true = active_still Woken todo
     by_test false = refl
 woken_inactive time (going gait todo) = refl
 woken_inactive time (inactive todo) = refl
@@ -128,7 +126,7 @@ inactive_sleeps ended h time = refl
 
 kept_start : (bodies : List Statement) (bag : List (Timed ℕ)) → bag ≡ [] → AreKept (map start_place bodies) [] bag
 kept_start bodies bag none = record {
-  inactive_ones = lists_none is_inactive start_place (λ s. active_inactive Fresh (flat s)) bodies;
+  inactive_ones = lists_none is_inactive start_place (λ s. active_still Fresh (flat s)) bodies;
   sleeping_ones = λ t. subst (λ (l : List ℕ). Lists (sleeps_until t) (map start_place bodies) l) (sym (ap (events_at t) none)) (lists_none (sleeps_until t) start_place (λ s. active_sleeps Fresh t (flat s)) bodies);
 }
 

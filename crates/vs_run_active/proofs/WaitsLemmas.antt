@@ -12,15 +12,15 @@ use Rattle.vs_eval.specs.Differences.{HaveOneSize}
 use Rattle.vs_eval.specs.Waking.{word_wakes, part_wakes}
 use Rattle.vs_eval.proofs.StoresLemmas.{put_size}
 use Rattle.vs_eval.proofs.WakingLemmas.{same_wakes_none, waking_by_parts}
-use Rattle.vs_process.specs.Places.{Todo, Place, going, sleeping, inactive, waiting, ended, active_at}
+use Rattle.vs_process.specs.Places.{Place, going, sleeping, inactive, waiting, ended}
 use Rattle.vs_process.specs.declared.changes.Change.{Change}
 use Rattle.vs_process.specs.Changes.{changed_word, changed_words}
-use Rattle.vs_process.specs.declared.gait.Gait.{Gait}
 use Rattle.vs_process.specs.declared.gait.Gait.TheVariants.{Woken}
 use Rattle.vs_run_active.specs.vs_process.specs.States.{terms_of, triggered, wakened}
 use Rattle.vs_run_active.specs.vs_process.proofs.Waking.{wakened-triggered}
 use Rattle.vs_run_active.specs.Triggers.{triggered_by}
 use Rattle.vs_run_active.specs.Waits.{triggered_changes}
+use Rattle.vs_run_active.proofs.ProcessPlacesLemmas.{active_waits}
 
 untriggered : (signal word : ℕ) (before behind : Option (List Digit)) (x : Place) → word_wakes (terms_of x) signal word before behind ≡ false → triggered_by signal word before behind x ≡ x
 untriggered signal word before behind x h = ap (λ (b : Bool). if b then triggered x else x) h
@@ -36,12 +36,8 @@ same_wakes_no_place xs signal word o =
 
 -- ---- what a process that is woken waits for
 
-active_terms : (gait : Gait) (todo : Todo) → terms_of (active_at gait todo) ≡ []
-active_terms gait [] = refl
-active_terms gait (i ∷ todo) = refl
-
 triggered_terms : (x : Place) → terms_of (triggered x) ≡ []
-triggered_terms (waiting terms todo) = active_terms Woken todo
+triggered_terms (waiting terms todo) = active_waits Woken todo
 triggered_terms (going gait todo) = refl
 triggered_terms (sleeping due todo) = refl
 triggered_terms (inactive todo) = refl

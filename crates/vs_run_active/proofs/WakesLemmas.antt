@@ -1,6 +1,6 @@
 -- What the change of a word wakes, by the watchers of its signal.
-use Rattle.std.proofs.Common.{◌≡◌, ℕ, zero, suc, ◌+◌, ◌-◌, ◌<◌, ◌≤◌, ◌^◌, ◌==◌, ◌&&◌, ◌||◌, not, Bool, true, false, Option, Some, List, [], ◌∷◌, ◌++◌, map, drop, take, length, get_or, slice_get, if◌then◌else◌, bit_and, inl, inr, refl, sym, ◌∙◌, ap, ap₂, subst, arith}
-use Rattle.std.proofs.lemmas.Bool.{and_right, cases_Bool, eq-eqb, eqb-true, false≢true}
+use Rattle.std.proofs.Common.{◌≡◌, ℕ, zero, suc, ◌+◌, ◌-◌, ◌<◌, ◌≤◌, ◌^◌, ◌==◌, ◌&&◌, ◌||◌, not, Bool, true, false, Option, Some, List, [], ◌∷◌, ◌++◌, map, drop, take, length, get_or, slice_get, if◌then◌else◌, bit_and, refl, sym, ◌∙◌, ap, ap₂, subst, arith}
+use Rattle.std.proofs.lemmas.Bool.{and_right, false≢true}
 use Rattle.std.proofs.lemmas.List.{drop_more, length-map}
 use Rattle.std.proofs.lemmas.Nat.{and_le_r}
 use Rattle.std.proofs.lemmas.Option.{none-some, same_Some}
@@ -10,6 +10,7 @@ use Rattle.vs_design.specs.declared.readers.Reader.{Reader}
 use Rattle.vs_design.specs.declared.statement.EventTerm.{EventTerm}
 use Rattle.vs_design.specs.Parts.{Parts}
 use Rattle.vs_design.specs.Readers.{readers}
+use Rattle.vs_eval.proofs.WakingLemmas.{same_eqb}
 use Rattle.vs_run_active.specs.vs_eval.specs.declared.masks.WordChange.{WordChange}
 use Rattle.vs_run_active.specs.vs_eval.specs.Differences.{sees, word_changes}
 use Rattle.vs_run_active.specs.vs_eval.specs.Masks.{AreEdges, AreEdgesOf, IsChangeOf, every_word, has_bits}
@@ -22,7 +23,7 @@ use Rattle.vs_run_active.specs.vs_process.specs.States.{AssignState, triggered}
 use Rattle.vs_run_active.specs.Triggers.{triggered_by}
 use Rattle.vs_run_active.specs.declared.rows.Row.{Row}
 use Rattle.vs_run_active.specs.declared.tables.Tables.{Tables}
-use Rattle.vs_run_active.specs.declared.watchers.ListedTerm.{ListedTerm}
+use Rattle.vs_run_active.specs.declared.watchers.ProcessTerm.{ProcessTerm}
 use Rattle.vs_run_active.specs.declared.watchers.Watcher.{Watcher}
 use Rattle.vs_run_active.specs.Groups.{meaning, numbered_as, spelled, spelled_one}
 use Rattle.vs_run_active.specs.Lists.{named}
@@ -36,11 +37,12 @@ use Rattle.vs_run_active.proofs.WakingLemmas.{kinds_wake, listed_wake}
 use Rattle.vs_run_active.proofs.WalksLemmas.{numbered_map, walked_none, walks_are}
 use Rattle.vs_run_active.specs.Touches.{AreOf, all_woken, woken_by, woken_in}
 use Rattle.vs_run_active.proofs.TouchesLemmas.{woken_for_word, woken_of}
+use Rattle.vs_run_active.proofs.GoneLemmas.{triggered_by_test}
 use Rattle.vs_run_active.specs.declared.process.Process.{Process}
 use Rattle.vs_run_active.specs.declared.process.Wait.{Wait}
 use Rattle.vs_run_active.specs.declared.process.Wait.TheVariants.{Nothing, Until, Inactive, Terms}
 use Rattle.vs_process.specs.Scripts.{todo_on}
-use Rattle.vs_run_active.specs.Standings.{GoneOn, HasGone, gone_on, place_by, place_in, waits_at, waits_some}
+use Rattle.vs_run_active.specs.ProcessPlaces.{GoneOn, HasGone, gone_on, place_by, place_in, waits_at, waits_some}
 use Rattle.vs_run_active.specs.Waiting.{AreWaiting, IsWaiting, places_of, waits_for}
 use Rattle.vs_run_active.specs.Wakes.{AreWalked, AreWatched, AreWoken, KindsWalked, has_one, walked_by, woken_all, woken_watched}
 
@@ -106,21 +108,12 @@ triggered_process signal word before after x = if word_wakes (waited x.wait) sig
 pub idle : (x : Process) (control : ℕ) → waits_for (gone_on x) control ≡ false
 idle x control = refl
 
-eqb-swap : (a b : ℕ) → (a == b) ≡ (b == a)
-eqb-swap a b = elim (cases_Bool (a == b)) [
-  | inl same ↦ same ∙ sym (eq-eqb b a (sym (eqb-true a b same)))
-  | inr other ↦ elim (cases_Bool (b == a)) [
-    | inl same ↦ absurd (false≢true (sym other ∙ eq-eqb a b (sym (eqb-true b a same))))
-    | inr apart ↦ other ∙ sym apart
-  ]
-]
-
 -- the watchers of a control that a process waits for hit it
 hit_watched : (x : Process) (n : ℕ) → ((control : ℕ) → waits_at control x.wait ≡ (n == control)) → (word bits number : ℕ) (ws : List Watcher) →
     is_hit waits_for (has_one word bits) ws number x ≡ watched number n word bits ws
 hit_watched x n waits word bits number [] = refl
 hit_watched x n waits word bits number (w ∷ ws) =
-    ap₂ (λ (a b : Bool). (has_bits w.mask word bits && ((w.number == number) && a)) || b) (waits w.control ∙ eqb-swap n w.control)
+    ap₂ (λ (a b : Bool). (has_bits w.mask word bits && ((w.number == number) && a)) || b) (waits w.control ∙ same_eqb n w.control)
     (hit_watched x n waits word bits number ws)
 
 -- none hits a process that waits for nothing
@@ -132,26 +125,26 @@ hit_none x none word bits number (w ∷ ws) =
     (hit_none x none word bits number ws)
 
 -- whether a watcher of one of the three kinds hits a process
-abbrev hits : ℕ → ℕ → ℕ → ℕ → List ListedTerm → ℕ → Process → Bool
+abbrev hits : ℕ → ℕ → ℕ → ℕ → List ProcessTerm → ℕ → Process → Bool
 hits word differing rising falling ts number x =
     (is_hit waits_for (has_one word differing) (kind_watchers Any ts) number x || is_hit waits_for (has_one word rising) (kind_watchers Posedge ts) number x)
     || is_hit waits_for (has_one word falling) (kind_watchers Negedge ts) number x
 
-hits_some : (word differing rising falling : ℕ) (ts : List ListedTerm) (number : ℕ) (x : Process) (n : ℕ) → ((control : ℕ) → waits_at control x.wait ≡ (n == control)) →
+hits_some : (word differing rising falling : ℕ) (ts : List ProcessTerm) (number : ℕ) (x : Process) (n : ℕ) → ((control : ℕ) → waits_at control x.wait ≡ (n == control)) →
     hits word differing rising falling ts number x ≡ kinds_watched number n word differing rising falling ts
 hits_some word differing rising falling ts number x n some =
     ap₂ (λ (a b : Bool). a || b)
     (ap₂ (λ (a b : Bool). a || b) (hit_watched x n some word differing number (kind_watchers Any ts)) (hit_watched x n some word rising number (kind_watchers Posedge ts)))
     (hit_watched x n some word falling number (kind_watchers Negedge ts))
 
-hits_none : (word differing rising falling : ℕ) (ts : List ListedTerm) (number : ℕ) (x : Process) → ((control : ℕ) → waits_at control x.wait ≡ false) →
+hits_none : (word differing rising falling : ℕ) (ts : List ProcessTerm) (number : ℕ) (x : Process) → ((control : ℕ) → waits_at control x.wait ≡ false) →
     hits word differing rising falling ts number x ≡ false
 hits_none word differing rising falling ts number x none =
     ap₂ (λ (a b : Bool). a || b)
     (ap₂ (λ (a b : Bool). a || b) (hit_none x none word differing number (kind_watchers Any ts)) (hit_none x none word rising number (kind_watchers Posedge ts)))
     (hit_none x none word falling number (kind_watchers Negedge ts))
 
-module _ (terms : List ListedTerm) (signal word differing rising falling : ℕ) (before after : List Digit) (within : word < every_word)
+module _ (terms : List ProcessTerm) (signal word differing rising falling : ℕ) (before after : List Digit) (within : word < every_word)
     (d : differing < 2 ^ 64) (r : rising < 2 ^ 64) (f : falling < 2 ^ 64) (same : length before ≡ length after) (short : length before ≤ 64)
     (differ : AreEdges Any before after differing) (rise : AreEdges Posedge before after rising) (fall : AreEdges Negedge before after falling) where
   -- the watchers hit a process where the change wakes it
@@ -230,12 +223,12 @@ all_map P f keeps [] h i y here = absurd (none-some y here)
 all_map P f keeps (x ∷ xs) h zero y here = subst (P zero) (same_Some (f x) y here) (keeps zero x (h zero x refl))
 all_map P f keeps (x ∷ xs) h (suc i) y here = all_map (λ j z. P (suc j) z) f (λ j z p. keeps (suc j) z p) xs (λ j z e. h (suc j) z e) i y here
 
-one_waits : (terms : List ListedTerm) (i : ℕ) (b : Bool) (x : Process) → IsWaiting terms i x.wait → IsWaiting terms i (if b then gone_on x else x).wait
+one_waits : (terms : List ProcessTerm) (i : ℕ) (b : Bool) (x : Process) → IsWaiting terms i x.wait → IsWaiting terms i (if b then gone_on x else x).wait
 one_waits terms i true x h = tt
 one_waits terms i false x h = h
 
 -- the processes that aren't woken wait as before
-still_waiting : (terms : List ListedTerm) (signal word : ℕ) (before after : List Digit) (xs : List Process) → AreWaiting terms xs →
+still_waiting : (terms : List ProcessTerm) (signal word : ℕ) (before after : List Digit) (xs : List Process) → AreWaiting terms xs →
     AreWaiting terms (map (triggered_process signal word before after) xs)
 still_waiting terms signal word before after xs h = record {
   each = all_map (λ i (x : Process). IsWaiting terms i x.wait) (triggered_process signal word before after)
@@ -249,10 +242,6 @@ some_waited (Until due) signal word before after h = absurd (false≢true h)
 some_waited Inactive signal word before after h = absurd (false≢true h)
 some_waited (Terms n ts) signal word before after h = refl
 
-gone_by : (p : Process) (b : Bool) → (b ≡ true → waits_some p.wait ≡ true) → HasGone p (Some (if b then gone_on p else p))
-gone_by p true h = inr (h refl, refl)
-gone_by p false h = inl refl
-
 gone_each : (f : Process → Process) → ((p : Process) → HasGone p (Some (f p))) → (xs : List Process) (i : ℕ) (p : Process) → slice_get xs i ≡ Some p → HasGone p (slice_get (map f xs) i)
 gone_each f goes [] i p here = absurd (none-some p here)
 gone_each f goes (x ∷ xs) zero p here = subst (λ (y : Process). HasGone y (Some (f x))) (same_Some x p here) (goes x)
@@ -263,12 +252,12 @@ gone_processes : (signal word : ℕ) (before after : List Digit) (xs : List Proc
 gone_processes signal word before after xs = record {
   len = length-map xs (triggered_process signal word before after);
   each = gone_each (triggered_process signal word before after)
-      (λ p. gone_by p (word_wakes (waited p.wait) signal word (Some before) (Some after)) (some_waited p.wait signal word (Some before) (Some after))) xs;
+      (λ p. triggered_by_test p (word_wakes (waited p.wait) signal word (Some before) (Some after)) (some_waited p.wait signal word (Some before) (Some after))) xs;
 }
 
 -- ---- the row of a signal
 
-pub wakes_row : (d : Parts) (terms : List ListedTerm) (tables : Tables) (signal word : ℕ) (change : WordChange) (row : Row) (differing : ℕ) (before after : List Digit)
+pub wakes_row : (d : Parts) (terms : List ProcessTerm) (tables : Tables) (signal word : ℕ) (change : WordChange) (row : Row) (differing : ℕ) (before after : List Digit)
     (assigns new_assigns : List AssignState) (processes new_processes : List Process) → AreWatched d terms tables assigns processes → IsChangeOf change before after →
     slice_get tables.rows.items signal ≡ Some row → word < every_word → differing < 2 ^ 64 → AreEdges Any before after differing →
     new_assigns ≡ woken_watched (has_one word differing) (spelled (meaning tables.groups) (between row.readers row.any tables.watchers.items)) assigns →
@@ -349,7 +338,7 @@ rises_walked watchers row word differing change xs ys none_any none_falling belo
 }
 
 -- the change of a signal that none watches wakes nothing
-pub unwatched : (d : Parts) (terms : List ListedTerm) (tables : Tables) (signal word : ℕ) (change : WordChange) (row : Row) (differing : ℕ) (before after : List Digit)
+pub unwatched : (d : Parts) (terms : List ProcessTerm) (tables : Tables) (signal word : ℕ) (change : WordChange) (row : Row) (differing : ℕ) (before after : List Digit)
     (assigns : List AssignState) (processes : List Process) → AreWatched d terms tables assigns processes → IsChangeOf change before after →
     slice_get tables.rows.items signal ≡ Some row → word < every_word → differing < 2 ^ 64 → AreEdgesOf Any change differing → Fits row (length tables.watchers.items) →
     row.end ≤ row.readers → AreWoken d terms tables signal word before after assigns assigns processes processes

@@ -7,7 +7,7 @@ use Rattle.vs_design.specs.Stores.{changed_at}
 use Rattle.vs_run_active.specs.vs_process.specs.States.{AssignState}
 use Rattle.vs_run_active.specs.declared.process.Process.{Process}
 use Rattle.vs_run_active.specs.declared.tables.Tables.{Tables}
-use Rattle.vs_run_active.specs.declared.watchers.ListedTerm.{ListedTerm}
+use Rattle.vs_run_active.specs.declared.watchers.ProcessTerm.{ProcessTerm}
 use Rattle.vs_run_active.specs.Waiting.{IsWaiting}
 use Rattle.vs_run_active.specs.Wakes.{AreWatched}
 
@@ -18,7 +18,7 @@ same_sources f same (x ∷ xs) zero = ap (λ (s : Typed). s ∷ map (λ (x : Ass
 same_sources f same (x ∷ xs) (suc i) = ap (λ (l : List Typed). x.source ∷ l) (same_sources f same xs i)
 
 -- continuous assignments of which one is changed, but not what it evaluates
-pub watched_assigns : (d : Parts) (terms : List ListedTerm) (tables : Tables) (assigns : List AssignState) (processes : List Process) (f : AssignState → AssignState) →
+pub watched_assigns : (d : Parts) (terms : List ProcessTerm) (tables : Tables) (assigns : List AssignState) (processes : List Process) (f : AssignState → AssignState) →
     ((x : AssignState) → (f x).source ≡ x.source) → (i : ℕ) → AreWatched d terms tables assigns processes → AreWatched d terms tables (changed_at f i assigns) processes
 watched_assigns d terms tables assigns processes f same i h = record {
   rows = h.rows;
@@ -27,7 +27,7 @@ watched_assigns d terms tables assigns processes f same i h = record {
 }
 
 -- what holds of each element, and of one in its place
-set_each : {A : Type 0} (P : ℕ → A → Type 0) (xs : List A) (i : ℕ) (p : A) → ((k : ℕ) (x : A) → slice_get xs k ≡ Some x → P k x) → P i p →
+pub set_each : {A : Type 0} (P : ℕ → A → Type 0) (xs : List A) (i : ℕ) (p : A) → ((k : ℕ) (x : A) → slice_get xs k ≡ Some x → P k x) → P i p →
     (k : ℕ) (x : A) → slice_get (slice_set xs i p) k ≡ Some x → P k x
 set_each P [] i p h own k x here = absurd (none-some x here)
 set_each P (y ∷ ys) zero p h own zero x here = subst (P zero) (same_Some p x here) own
@@ -36,7 +36,7 @@ set_each P (y ∷ ys) (suc i) p h own zero x here = h zero x here
 set_each P (y ∷ ys) (suc i) p h own (suc k) x here = set_each (λ j z. P (suc j) z) ys i p (λ j z e. h (suc j) z e) own k x here
 
 -- processes of which one takes the place of another that waits for what is listed for it
-pub watched_put : (d : Parts) (terms : List ListedTerm) (tables : Tables) (assigns : List AssignState) (processes : List Process) (i : ℕ) (p : Process) →
+pub watched_put : (d : Parts) (terms : List ProcessTerm) (tables : Tables) (assigns : List AssignState) (processes : List Process) (i : ℕ) (p : Process) →
     IsWaiting terms i p.wait → AreWatched d terms tables assigns processes → AreWatched d terms tables assigns (slice_set processes i p)
 watched_put d terms tables assigns processes i p own h = record {
   rows = h.rows;

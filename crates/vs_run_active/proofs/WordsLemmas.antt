@@ -4,20 +4,20 @@ use Rattle.std.specs.declared.vec.Vec.{Vec}
 use Rattle.std.specs.declared.alloc.Global.{Global}
 use Rattle.std.proofs.lemmas.Bool.{cases_Bool, eqb-true, eq-eqb, false_from_ne_true, false≢true}
 use Rattle.std.proofs.lemmas.List.{length-map, take_more}
-use Rattle.std.proofs.lemmas.Option.{none-some, same_Some}
+use Rattle.std.proofs.lemmas.Option.{none-some, same_Some, slice_get_within as within}
 use Rattle.vs_design.specs.declared.design.Assign.{Assign}
 use Rattle.vs_design.specs.Stores.{changed_at}
 use Rattle.vs_design.specs.Tables.{empty_rows, rows}
 use Rattle.vs_design.proofs.Stores.{length-changed_at}
+use Rattle.vs_design.proofs.Tables.{at_other as get_other, at_changed as get_same, none_at as none_in_empty}
 use Rattle.vs_eval.specs.Masks.{every_word}
 use Rattle.vs_run_active.specs.declared.groups.Groups.{Groups}
 use Rattle.vs_run_active.specs.declared.rows.Row.{Row}
-use Rattle.vs_run_active.specs.declared.watchers.ListedTerm.{ListedTerm}
+use Rattle.vs_run_active.specs.declared.watchers.ProcessTerm.{ProcessTerm}
 use Rattle.vs_run_active.specs.declared.watchers.Watcher.{Watcher}
 use Rattle.vs_run_active.specs.Rows.{row_at, row_watchers, AreRows, Fits, RowAdded}
 use Rattle.vs_run_active.specs.Watchers.{between}
 use Rattle.vs_run_active.specs.Words.{AreByWord, AreSeeing, NotedIn, changed_before, seeing, sees_word}
-use Rattle.vs_run_active.proofs.ListsLemmas.{get_other, get_same, none_in_empty}
 use Rattle.vs_run_active.proofs.RowsLemmas.{row_tells}
 use Rattle.vs_run_active.proofs.TablesLemmas.{old_or_new, row_is}
 
@@ -118,7 +118,7 @@ seen_more ws i d w old new lt is so_far noted = λ word within.
 -- ---- the lists of all signals
 
 -- the parts of a row that has come stand one after another
-pub added_fits : (old new : Groups) (before after : List Watcher) (row : Row) (plain : List Watcher) (terms : List ListedTerm) → RowAdded old new before after row plain terms →
+pub added_fits : (old new : Groups) (before after : List Watcher) (row : Row) (plain : List Watcher) (terms : List ProcessTerm) → RowAdded old new before after row plain terms →
     Fits row (length after)
 added_fits old new before after row plain terms added =
     let front = added.adds.watchers in
@@ -127,19 +127,14 @@ added_fits old new before after row plain terms added =
     (subst (λ (l : List Watcher). Fits (row_at (length before) front terms) (length l)) all (row_tells before [] front terms).fits)
 
 -- a row that was there tells of the same readers after another one has come
-same_readers : (old new : Groups) (before after plain : List Watcher) (row other : Row) (n signal : ℕ) (assigns : List Assign) (terms listed : List ListedTerm) (rs : List Row) →
+same_readers : (old new : Groups) (before after plain : List Watcher) (row other : Row) (n signal : ℕ) (assigns : List Assign) (terms listed : List ProcessTerm) (rs : List Row) →
     AreRows n assigns terms old rs before → slice_get rs signal ≡ Some row → RowAdded old new before after other plain listed →
     between row.readers row.any before ≡ between row.readers row.any after
 same_readers old new before after plain row other n signal assigns terms listed rs are here added =
     let has = are.each signal row here in
     (row_is has).readers ∙ sym (has.tells (row_watchers added.adds.watchers listed)).readers ∙ ap (between row.readers row.any) (sym added.after_is)
 
-within : {A : Type 0} (xs : List A) (i : ℕ) (x : A) → slice_get xs i ≡ Some x → i < length xs
-within [] i x h = absurd (none-some x h)
-within (y ∷ xs) zero x h = omega arith
-within (y ∷ xs) (suc i) x h = let rest = within xs i x h in omega (arith, rest)
-
-pub by_word_next : (n : ℕ) (assigns : List Assign) (terms listed : List ListedTerm) (old new : Groups) (rs rs_next : List Row) (ws ws_next plain : List Watcher)
+pub by_word_next : (n : ℕ) (assigns : List Assign) (terms listed : List ProcessTerm) (old new : Groups) (rs rs_next : List Row) (ws ws_next plain : List Watcher)
     (words words_next : List (Vec (Vec Watcher Global) Global)) (row : Row) (lists : Vec (Vec Watcher Global) Global) → AreRows n assigns terms old rs ws → AreByWord rs ws words →
     length words ≡ n → RowAdded old new ws ws_next row plain listed → rs_next ≡ rs ++ row ∷ [] → words_next ≡ words ++ lists ∷ [] →
     AreSeeing (between row.readers row.any ws_next) (rows lists.items) → AreByWord rs_next ws_next words_next

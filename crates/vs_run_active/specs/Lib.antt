@@ -1,5 +1,5 @@
-pub mod Listed
-pub mod Standings
+pub mod ListCounts
+pub mod ProcessPlaces
 pub mod Taken
 pub mod Timelines
 pub mod Triggers

@@ -8,7 +8,7 @@ use Rattle.vs_process.specs.Scripts.{IsStep}
 use Rattle.vs_process.specs.Steps.{Next, Out, goes, step}
 use Rattle.vs_process.specs.declared.moves.Move.TheVariants.{Step}
 use Rattle.vs_process.specs.Executions.{apply, is_enabled}
-use Rattle.vs_process.specs.States.{State, calls_behind, place_behind, updates_behind, written, written_behind}
+use Rattle.vs_process.specs.States.{State, calls_after, place_after_step, updates_after, written, written_after}
 
 -- a state with a process at a place
 abbrev pub placed : State → ℕ → Place → State
@@ -16,9 +16,9 @@ placed s i place = record s { places = slice_set s.places i place }
 
 -- a state with what comes of a step of a process, but for the place of the process itself
 abbrev pub left_by : State → ℕ → Out → State
-left_by s i out = record (written_behind s out.write) {
-  updates = updates_behind i s.time out.update s.updates;
-  calls = calls_behind i out.call s.calls;
+left_by s i out = record (written_after s out.write) {
+  updates = updates_after i s.time out.update s.updates;
+  calls = calls_after i out.call s.calls;
   finishing = s.finishing || out.finish;
 }
 
@@ -49,7 +49,7 @@ abbrev pub StepsAreTaken : Type 0
 StepsAreTaken =
     (n i : ℕ) (s u : State) (gait : Gait) (todo : Todo) (out : Out) (before : List ℕ) → AreTaken n i s (placed u i (active_at gait todo)) before →
     i < length u.places → IsStep todo u.store u.time out →
-    AreTaken (suc n) i s (placed (left_by u i out) i (place_behind (going gait todo) u.time out.next)) (before ++ text_of_line out.line)
+    AreTaken (suc n) i s (placed (left_by u i out) i (place_after_step (going gait todo) u.time out.next)) (before ++ text_of_line out.line)
 
 -- at first no step is taken
 abbrev pub NoneAreTaken : Type 0
@@ -59,9 +59,9 @@ NoneAreTaken = (i : ℕ) (s : State) (place : Place) → slice_get s.places i �
 pub record StepsLeave (u : State) (i : ℕ) (next : Next) : Type 0 where
   pub nothing : left_by u i (goes next) ≡ u
   pub write : (w : Write) → left_by u i (record (goes next) { write = Some w }) ≡ written u w
-  pub update : (ticks : ℕ) (w : Write) → left_by u i (record (goes next) { update = Some (ticks, w) }) ≡ record u { updates = updates_behind i u.time (Some (ticks, w)) u.updates }
+  pub update : (ticks : ℕ) (w : Write) → left_by u i (record (goes next) { update = Some (ticks, w) }) ≡ record u { updates = updates_after i u.time (Some (ticks, w)) u.updates }
   pub line : (text : List ℕ) → left_by u i (record (goes next) { line = Some text }) ≡ u
-  pub call : (format : Format) → left_by u i (record (goes next) { call = Some format }) ≡ record u { calls = calls_behind i (Some format) u.calls }
+  pub call : (format : Format) → left_by u i (record (goes next) { call = Some format }) ≡ record u { calls = calls_after i (Some format) u.calls }
   pub finish : left_by u i (record (goes next) { finish = true }) ≡ record u { finishing = true }
 
 abbrev pub StepsLeaveSo : Type 0

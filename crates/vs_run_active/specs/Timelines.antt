@@ -3,7 +3,7 @@ use Rattle.std.specs.Prelude.{ℕ, ◌≡◌, ◌==◌, Bool, true, false, List,
 use Rattle.vs_time_wheel.specs.declared.timing.Timed.{Timed}
 use Rattle.vs_time_wheel.specs.Bag.{events_at}
 use Rattle.vs_process.specs.Places.{Place, sleeping, is_going, is_inactive}
-use Rattle.vs_run_active.specs.Listed.{Lists}
+use Rattle.vs_run_active.specs.ListCounts.{Lists}
 
 -- whether the delay of a process ends at a time
 abbrev pub sleeps_until : ℕ → Place → Bool

@@ -4,8 +4,8 @@ use Rattle.vs_process.specs.Places.{Place}
 use Rattle.vs_run_active.specs.declared.process.Process.{Process}
 use Rattle.vs_run_active.specs.declared.process.Wait.{Wait}
 use Rattle.vs_run_active.specs.declared.process.Wait.TheVariants.{Terms}
-use Rattle.vs_run_active.specs.declared.watchers.ListedTerm.{ListedTerm}
-use Rattle.vs_run_active.specs.Standings.{place_in, waits_at}
+use Rattle.vs_run_active.specs.declared.watchers.ProcessTerm.{ProcessTerm}
+use Rattle.vs_run_active.specs.ProcessPlaces.{place_in, waits_at}
 use Rattle.vs_run_active.specs.Waking.{terms_at}
 
 -- whether a process waits for the event control of a number
@@ -19,10 +19,10 @@ places_of [] (x ∷ xs) = place_in x [] ∷ places_of [] xs
 places_of (c ∷ counters) (x ∷ xs) = place_in x c ∷ places_of counters xs
 
 -- a process that waits for an event control waits for the terms that are listed for it
-abbrev pub IsWaiting : List ListedTerm → ℕ → Wait → Type 0
+abbrev pub IsWaiting : List ProcessTerm → ℕ → Wait → Type 0
 IsWaiting terms i (Terms n ts) = ts.now ≡ terms_at i n terms
 IsWaiting terms i _ = Unit {0}
 
 -- each of some processes does
-pub record AreWaiting (terms : List ListedTerm) (xs : List Process) : Type 0 where
+pub record AreWaiting (terms : List ProcessTerm) (xs : List Process) : Type 0 where
   pub each : (i : ℕ) (x : Process) → slice_get xs i ≡ Some x → IsWaiting terms i x.wait

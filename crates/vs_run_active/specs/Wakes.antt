@@ -9,12 +9,12 @@ use Rattle.vs_run_active.specs.vs_eval.specs.Differences.{word_changes}
 use Rattle.vs_run_active.specs.vs_eval.specs.Masks.{AreEdges, IsChangeOf, has_bits}
 use Rattle.vs_run_active.specs.vs_process.specs.States.{AssignState}
 use Rattle.vs_run_active.specs.declared.process.Process.{Process}
-use Rattle.vs_run_active.specs.Standings.{GoneOn, gone_on}
+use Rattle.vs_run_active.specs.ProcessPlaces.{GoneOn, gone_on}
 use Rattle.vs_run_active.specs.Waiting.{AreWaiting, places_of, waits_for}
 use Rattle.vs_run_active.specs.Triggers.{triggered_by}
 use Rattle.vs_run_active.specs.declared.rows.Row.{Row}
 use Rattle.vs_run_active.specs.declared.tables.Tables.{Tables}
-use Rattle.vs_run_active.specs.declared.watchers.ListedTerm.{ListedTerm}
+use Rattle.vs_run_active.specs.declared.watchers.ProcessTerm.{ProcessTerm}
 use Rattle.vs_run_active.specs.declared.watchers.Watcher.{Watcher}
 use Rattle.vs_run_active.specs.Rows.{AreRows}
 use Rattle.vs_run_active.specs.Watchers.{between}
@@ -65,13 +65,13 @@ RowWalked tables signal word change old new =
     (row : Row) → slice_get tables.rows.items signal ≡ Some row → AreWalked tables.watchers.items row word change old new
 
 -- the tables are those of a design and of the terms of its processes' event controls, by which the continuous assignments and the processes wait
-pub record AreWatched (d : Parts) (terms : List ListedTerm) (tables : Tables) (assigns : List AssignState) (processes : List Process) : Type 0 where
+pub record AreWatched (d : Parts) (terms : List ProcessTerm) (tables : Tables) (assigns : List AssignState) (processes : List Process) : Type 0 where
   pub rows : AreRows (length d.signals) d.assigns terms tables.groups tables.rows.items tables.watchers.items
   pub sources : AreOf d assigns
   pub waiting : AreWaiting terms processes
 
 -- the change of a word has woken what reads a bit of it that differs, and the processes that wait for it
-pub record AreWoken (d : Parts) (terms : List ListedTerm) (tables : Tables) (signal word : ℕ) (before after : List Digit)
+pub record AreWoken (d : Parts) (terms : List ProcessTerm) (tables : Tables) (signal word : ℕ) (before after : List Digit)
     (assigns new_assigns : List AssignState) (processes new_processes : List Process) : Type 0 where
   pub assigns_are : new_assigns ≡ map (woken_by (word_changes signal word (Some before) (Some after))) assigns
   pub places_are : (counters : List (List ℕ)) → places_of counters new_processes ≡ map (triggered_by signal word (Some before) (Some after)) (places_of counters processes)
@@ -81,5 +81,5 @@ pub record AreWoken (d : Parts) (terms : List ListedTerm) (tables : Tables) (sig
 -- it has where the tables are those of a design
 abbrev pub Wakes : Tables → ℕ → ℕ → WordChange → List AssignState → List Process → List AssignState → List Process → Type 0
 Wakes tables signal word change assigns processes new_assigns new_processes =
-    (d : Parts) (terms : List ListedTerm) (before after : List Digit) → AreWatched d terms tables assigns processes → IsChangeOf change before after →
+    (d : Parts) (terms : List ProcessTerm) (before after : List Digit) → AreWatched d terms tables assigns processes → IsChangeOf change before after →
     AreWoken d terms tables signal word before after assigns new_assigns processes new_processes

@@ -26,7 +26,7 @@ impl<'a> Model for Assigns<'a> {
     ghost use Rattle.std.specs.Coded.{codes};
     ghost use Rattle.vs_design.specs.contracts.expression.Typed as expression;
     ghost use Rattle.vs_run_active.specs.vs_process.specs.States as states;
-    ghost use Rattle.vs_run_active.specs.Listed.{count};
+    ghost use Rattle.vs_run_active.specs.ListCounts.{count};
     ghost use Rattle.vs_run_active.specs.Touches.{is_left};
 
     ghost Value = { List states.AssignState };

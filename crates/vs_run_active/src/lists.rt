@@ -4,7 +4,7 @@ ghost use Rattle.vs_design.specs.Stores.{changed_at};
 ghost use Rattle.vs_design.specs.Tables.{empty_rows, rows};
 ghost use Rattle.vs_run_active.specs.Lists.{AreBySignal};
 
-use crate::watchers::ListedTerm;
+use crate::watchers::ProcessTerm;
 use std::alloc::{AllocError, Global};
 
 /// Puts an item at the end of one of some lists; past the end there is none.
@@ -35,9 +35,9 @@ pub(crate) fn empty_lists<T: Drop>(alloc: Global, count: usize) -> Result<Vec<Ve
 /// For each of so many signals the terms that name it, in their order.
 pub(crate) fn by_signal(
     alloc: Global,
-    terms: &[ListedTerm],
+    terms: &[ProcessTerm],
     signals: usize,
-) -> Result<Vec<Vec<ListedTerm>>, AllocError>
+) -> Result<Vec<Vec<ProcessTerm>>, AllocError>
     ensures { IfOk result (λ lists. AreBySignal terms.now signals (rows lists.items)) }
 {
     let mut lists = empty_lists(alloc, signals)?;

@@ -5,7 +5,7 @@ ghost use Rattle.vs_process.specs.Places.{Todo, is_going, is_inactive, is_inside
 ghost use Rattle.vs_process.specs.Scripts.{StartsWith, todo_on};
 ghost use Rattle.vs_process.specs.Steps.{has_nothing};
 ghost use Rattle.vs_process.specs.States as states;
-ghost use Rattle.vs_run_active.specs.Standings.{ActiveAreTold, IsWaitOf, OthersStay, RousedAreTold, WakesAreTold, WokenAreTold, place_by, place_in, roused_in, triggered_at, waits_at, woken_in};
+ghost use Rattle.vs_run_active.specs.ProcessPlaces.{ActiveIsDetermined, IsWaitOf, OthersStay, RousedAreDetermined, WakesAreDetermined, WokenAreDetermined, place_by, place_in, roused_in, triggered_at, waits_at, woken_in};
 
 use vs_design::EventTerm;
 use vs_process::{Gait, Script};
@@ -174,10 +174,10 @@ impl<'a> Process<'a> {
 
 /// Whether a process is active is known without its counters, what a change wakes of the processes that wait at event controls by the controls'
 /// numbers, and what becomes of an inactive process and of one whose delay ends by what it waits for (IEEE 1364-2005, clauses 9.7.2 and 11.3).
-pub fn wakes_are_told()
-    ensures active { ActiveAreTold }
-    ensures told { WakesAreTold }
+pub fn wakes_are_determined()
+    ensures active { ActiveIsDetermined }
+    ensures told { WakesAreDetermined }
     ensures others { OthersStay }
-    ensures roused { RousedAreTold }
-    ensures woken { WokenAreTold }
+    ensures roused { RousedAreDetermined }
+    ensures woken { WokenAreDetermined }
 {}

@@ -2,7 +2,7 @@
 ghost use Rattle.std.specs.Prelude.{◌≡◌, ◌++◌, ◌∷◌, [], Some, None, length, slice_get, slice_set, MatchOption, OnOk, OnErr};
 ghost use Rattle.std.specs.List.{list_any};
 ghost use Rattle.vs_design.specs.Stores.{changed_at};
-ghost use Rattle.vs_run_active.specs.Standings.{is_active, roused_in, triggered_at, waits_at, woken_in};
+ghost use Rattle.vs_run_active.specs.ProcessPlaces.{is_active, roused_in, triggered_at, waits_at, woken_in};
 
 use crate::{Process, Wait, recount};
 use std::alloc::{AllocError, Global};
@@ -56,8 +56,8 @@ impl<'a> Model for Processes<'a> {
     ghost use Rattle.std.specs.Coded.{codes};
     ghost use Rattle.vs_design.specs.contracts.statement.Statement as statement;
     ghost use Rattle.vs_run_active.specs.declared.process.Process.{Process};
-    ghost use Rattle.vs_run_active.specs.Standings.{is_active};
-    ghost use Rattle.vs_run_active.specs.Listed.{count};
+    ghost use Rattle.vs_run_active.specs.ProcessPlaces.{is_active};
+    ghost use Rattle.vs_run_active.specs.ListCounts.{count};
 
     ghost Value = { List Process };
 

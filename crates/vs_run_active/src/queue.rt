@@ -39,10 +39,7 @@ impl Queue {
     /// Whether a continuous assignment is silent, in a wave of updates.
     #[inline(always)]
     fn is_unseen(&self, assign: usize) -> bool {
-        match self.silent.get(assign) {
-            Some(silent) => self.in_wave && *silent,
-            None => false,
-        }
+        self.in_wave && matches!(self.silent.get(assign), Some(true))
     }
 
     /// Whether the update of a continuous assignment may be made with its evaluation: it would be next, or nothing sees it before the wave is over.

@@ -4,7 +4,7 @@ ghost use Rattle.vs_run_active.specs.Groups.{AllAssigns};
 ghost use Rattle.vs_run_active.specs.Rows.{RowAdded};
 
 use crate::groups::Groups;
-use crate::watchers::{ListedTerm, Watcher, add_kind};
+use crate::watchers::{ProcessTerm, Watcher, add_kind};
 use std::alloc::AllocError;
 use vs_design::vs_logic4::Edge;
 
@@ -24,7 +24,7 @@ pub(crate) fn add_row(
     watchers: &mut Vec<Watcher>,
     plain: &[Watcher],
     copies: &[bool],
-    terms: &[ListedTerm],
+    terms: &[ProcessTerm],
 ) -> Result<Row, AllocError>
     requires numbers { AllAssigns groups.old.assigns plain.now }
     requires room { groups.old.assigns < 2 ^ 63 }

@@ -7,7 +7,7 @@ ghost use Rattle.vs_run_active.specs.Words.{AreByWord, seeing};
 use crate::groups::Groups;
 use crate::lists::by_signal;
 use crate::rows::{Row, add_row};
-use crate::watchers::{ListedTerm, Watcher, readers_of};
+use crate::watchers::{ProcessTerm, Watcher, readers_of};
 use crate::words::lists_of;
 use std::alloc::{AllocError, Global};
 use vs_design::Design;
@@ -31,7 +31,7 @@ impl Tables {
         alloc: Global,
         design: &Design,
         signals: usize,
-        terms: &[ListedTerm],
+        terms: &[ProcessTerm],
         copies: &[bool],
     ) -> Result<Self, AllocError>
         requires { length design.now.assigns < 2 ^ 63 }

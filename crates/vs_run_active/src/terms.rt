@@ -2,24 +2,24 @@
 ghost use Rattle.std.specs.Prelude.{◌≡◌, ◌++◌, map, IfOk, OnOk};
 ghost use Rattle.vs_design.specs.Uses.{joined};
 ghost use Rattle.vs_process.specs.Scripts.{instruction_control};
-ghost use Rattle.vs_run_active.specs.Terms.{TermsAreListed, control_terms, listed, terms_from};
+ghost use Rattle.vs_run_active.specs.Terms.{TermsAreFound, control_terms, process_term, terms_from};
 
-use crate::watchers::ListedTerm;
+use crate::watchers::ProcessTerm;
 use std::alloc::{AllocError, Global};
 use vs_design::EventTerm;
 use vs_process::{Action, Instruction, Script};
 
 /// Adds the terms of an event control of a process.
 fn add_terms(
-    all: &mut Vec<ListedTerm>,
+    all: &mut Vec<ProcessTerm>,
     process: usize,
     control: u32,
     terms: &[EventTerm],
 ) -> Result<(), AllocError>
-    ensures { OnOk result (all.new.items ≡ all.old.items ++ map (listed process control) terms.now) }
+    ensures { OnOk result (all.new.items ≡ all.old.items ++ map (process_term process control) terms.now) }
 {
     for term in terms {
-        all.push(ListedTerm {
+        all.push(ProcessTerm {
             process,
             control,
             term: *term,
@@ -30,7 +30,7 @@ fn add_terms(
 
 /// Adds those of an instruction, where it waits at an event control.
 fn add_control(
-    all: &mut Vec<ListedTerm>,
+    all: &mut Vec<ProcessTerm>,
     process: usize,
     instruction: &Instruction,
 ) -> Result<(), AllocError>
@@ -47,7 +47,7 @@ fn add_control(
 
 /// Adds those of all instructions of a process.
 fn add_controls(
-    all: &mut Vec<ListedTerm>,
+    all: &mut Vec<ProcessTerm>,
     process: usize,
     instructions: &[Instruction],
 ) -> Result<(), AllocError>
@@ -61,7 +61,7 @@ fn add_controls(
 }
 
 /// Those of the processes that have these scripts.
-pub fn terms_of(alloc: Global, scripts: &[Script]) -> Result<Vec<ListedTerm>, AllocError>
+pub fn terms_of(alloc: Global, scripts: &[Script]) -> Result<Vec<ProcessTerm>, AllocError>
     ensures { IfOk result (λ terms. terms.items ≡ terms_from 0 scripts.now) }
 {
     let mut terms = Vec::new(alloc);
@@ -74,6 +74,6 @@ pub fn terms_of(alloc: Global, scripts: &[Script]) -> Result<Vec<ListedTerm>, Al
 }
 
 /// Under the number of each event control its terms are listed.
-pub fn terms_are_listed()
-    ensures { TermsAreListed }
+pub fn terms_are_found()
+    ensures { TermsAreFound }
 {}

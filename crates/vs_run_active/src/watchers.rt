@@ -19,7 +19,7 @@ pub struct Watcher {
 
 /// A term of an event control of a process.
 #[derive(Clone, Copy)]
-pub struct ListedTerm {
+pub struct ProcessTerm {
     pub process: usize,
     /// The number of the event control in the process's text.
     pub control: u32,
@@ -27,7 +27,7 @@ pub struct ListedTerm {
 }
 
 /// Whether a term waits for such an edge.
-fn is_kind(term: ListedTerm, edge: Edge) -> bool
+fn is_kind(term: ProcessTerm, edge: Edge) -> bool
     ensures { result ≡ is_kind edge term }
 {
     match (edge, term.term.edge) {
@@ -56,7 +56,7 @@ pub(crate) fn readers_of(alloc: Global, readers: &[Reader]) -> Result<Vec<Watche
 /// The watchers of those terms that wait for such an edge.
 pub(crate) fn add_kind(
     watchers: &mut Vec<Watcher>,
-    terms: &[ListedTerm],
+    terms: &[ProcessTerm],
     edge: Edge,
 ) -> Result<(), AllocError>
     ensures { OnOk result (watchers.new.items ≡ watchers.old.items ++ kind_watchers edge terms.now) }

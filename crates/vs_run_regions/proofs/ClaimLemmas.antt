@@ -7,13 +7,14 @@ use Rattle.std.proofs.lemmas.Option.{slice_get_read}
 use Rattle.vs_design.specs.Stores.{changed_at}
 use Rattle.vs_design.specs.Writes.{Write, names, shares}
 use Rattle.vs_process.proofs.Stores.{changed_other}
+use Rattle.vs_design.specs.vs_logic4.proofs.Basics.{map_at as slice_map}
 use Rattle.vs_run_regions.specs.declared.claims.Claim.{Claim}
 use Rattle.vs_run_regions.specs.declared.claims.Claim.TheVariants.{Nothing, Once, Often}
 use Rattle.vs_run_regions.specs.declared.update.Update.{Update}
 use Rattle.vs_run_regions.specs.declared.update.Update.TheVariants as u
 use Rattle.vs_run_regions.specs.Claims.{AreClaimed, HoldOf, Holds, are_once, claimed, is_once, named, one_of, parts_of, with_all, with_write}
 use Rattle.vs_run_regions.specs.Updates.{is_first_left, is_shared, is_shown, left_of, what_of}
-use Rattle.vs_run_regions.proofs.UpdatesLemmas.{is_left, slice_get-drop, slice_map}
+use Rattle.vs_run_regions.proofs.UpdatesLemmas.{is_left, slice_get-drop}
 
 -- ---- claims that hold
 

@@ -14,12 +14,12 @@ use Rattle.vs_process.specs.States.{Update, activated, is_due, without}
 use Rattle.vs_run_regions.specs.declared.item.Due.{Due}
 use Rattle.vs_run_regions.specs.declared.item.Due.TheVariants.{Late, Wake}
 use Rattle.vs_run_regions.specs.Active.{is_active, not_due, place_of_active}
-use Rattle.vs_run_regions.specs.Entries.{HasEntered, now_of}
+use Rattle.vs_run_regions.specs.Entries.{HasScheduled, now_of}
 use Rattle.vs_run_regions.specs.Items.{lates, sleepers_of}
 use Rattle.vs_run_regions.specs.Regions.{AreHeld, AreKept, what_all, without_oldest}
 use Rattle.vs_run_regions.specs.declared.update.Update as declared
 use Rattle.vs_run_regions.specs.declared.update.Update.TheVariants as r
-use Rattle.vs_run_regions.specs.Updates.{Listed, bits_write, is_first_left, is_shared, is_shown, is_there, left_of, somes}
+use Rattle.vs_run_regions.specs.Updates.{SlotView, bits_write, is_first_left, is_shared, is_shown, is_there, left_of, somes}
 use Rattle.vs_run_regions.specs.FilterLaws.{is_filled}
 use Rattle.vs_run_regions.proofs.FilterLemmas.{any_filled, none_any}
 use Rattle.vs_run_regions.proofs.ActiveLemmas.{place-first, place-get}
@@ -30,23 +30,23 @@ use Rattle.vs_run_regions.proofs.UpdatesLemmas.{any_somes, somes_all, somes_befo
 own_kept : {us active due : List Update} {bag : List (Timed Due)} {time : ℕ} → AreKept us active due bag time → AreKept us (filter is_active us) (filter (is_due time) us) bag time
 own_kept h = record { active_ones = refl; due_ones = refl; late_ones = h.late_ones; none_now = h.none_now }
 
-pub held_none : (listed : Listed) (bag : List (Timed Due)) (time : ℕ) → listed.active ≡ [] → listed.due ≡ [] → bag ≡ [] → AreHeld [] listed bag time
+pub held_none : (listed : SlotView) (bag : List (Timed Due)) (time : ℕ) → listed.active ≡ [] → listed.due ≡ [] → bag ≡ [] → AreHeld [] listed bag time
 held_none listed bag time active due none = record {
   kept = own_kept (kept_none bag time none);
   active_ones = sym (ap somes active);
   due_ones = sym due;
 }
 
-pub held_same : {us : List Update} {listed : Listed} {bag bag' : List (Timed Due)} {time : ℕ} → AreHeld us listed bag time → SameBag bag' bag → AreHeld us listed bag' time
+pub held_same : {us : List Update} {listed : SlotView} {bag bag' : List (Timed Due)} {time : ℕ} → AreHeld us listed bag time → SameBag bag' bag → AreHeld us listed bag' time
 held_same h s = record { kept = kept_same h.kept s; active_ones = h.active_ones; due_ones = h.due_ones }
 
-pub held_slept : {us : List Update} {listed : Listed} {bag bag' : List (Timed Due)} {time : ℕ} (until p : ℕ) → AreHeld us listed bag time →
+pub held_slept : {us : List Update} {listed : SlotView} {bag bag' : List (Timed Due)} {time : ℕ} (until p : ℕ) → AreHeld us listed bag time →
     SameBag bag' (bag ++ record { time = until; event = Wake p } ∷ []) → AreHeld us listed bag' time
 held_slept until p h s = record { kept = kept_slept until p h.kept s; active_ones = h.active_ones; due_ones = h.due_ones }
 
 -- ---- an update enters
-module _ (us : List Update) (listed new : Listed) (bag : List (Timed Due)) (time : ℕ) (h : AreHeld us listed bag time) (u : Update) (off : u.active ≡ false) where
-  entered_now : u.due ≡ time → HasEntered u time (filter (is_due time) us) (filter (is_due time) us ++ now_of time u) bag bag
+module _ (us : List Update) (listed new : SlotView) (bag : List (Timed Due)) (time : ℕ) (h : AreHeld us listed bag time) (u : Update) (off : u.active ≡ false) where
+  entered_now : u.due ≡ time → HasScheduled u time (filter (is_due time) us) (filter (is_due time) us ++ now_of time u) bag bag
   entered_now e = record { now = refl; later = SameBag-from_eq (sym (ap (λ l. bag ++ l) (later_none u time e) ∙ append-nil bag)) }
 
   -- one that is due in the slot
@@ -66,7 +66,7 @@ module _ (us : List Update) (listed new : Listed) (bag : List (Timed Due)) (time
   -- one that is due later
   pub held_late : {bag' : List (Timed Due)} → u.due ≢ time → SameBag bag' (bag ++ record { time = u.due; event = Late u } ∷ []) → AreHeld (us ++ u ∷ []) listed bag' time
   held_late {bag'} apart s =
-      let entered : HasEntered u time (filter (is_due time) us) (filter (is_due time) us) bag bag' =
+      let entered : HasScheduled u time (filter (is_due time) us) (filter (is_due time) us) bag bag' =
       record {
         now = sym (ap (λ l. filter (is_due time) us ++ l) (now_none u time time apart) ∙ append-nil (filter (is_due time) us));
         later = subst (λ l. SameBag bag' (bag ++ l)) (sym (later_one u time apart)) s;
@@ -81,7 +81,7 @@ remove-map f [] (suc k) = refl
 remove-map f (x ∷ xs) zero = refl
 remove-map f (x ∷ xs) (suc k) = ap (λ l. f x ∷ l) (remove-map f xs k)
 
-module _ (us : List Update) (listed new : Listed) (bag : List (Timed Due)) (time : ℕ) (h : AreHeld us listed bag time) (due : new.due ≡ listed.due) where
+module _ (us : List Update) (listed new : SlotView) (bag : List (Timed Due)) (time : ℕ) (h : AreHeld us listed bag time) (due : new.due ≡ listed.due) where
   pub held_taken : (k : ℕ) → somes new.active ≡ remove (somes listed.active) k → AreHeld (without (place_of_active k us) us) new bag time
   held_taken k e =
       let kept = kept_taken k h.kept refl in
@@ -172,7 +172,7 @@ whats_kept : (time : ℕ) (us : List Update) → what_all (map (activated time) 
 whats_kept time [] = refl
 whats_kept time (u ∷ us) = ap (λ l. u.what ∷ l) (whats_kept time us)
 
-pub held_activated : {us : List Update} {bag : List (Timed Due)} {time : ℕ} (listed new : Listed) → list_any is_active us ≡ false → AreHeld us listed bag time →
+pub held_activated : {us : List Update} {bag : List (Timed Due)} {time : ℕ} (listed new : SlotView) → list_any is_active us ≡ false → AreHeld us listed bag time →
     new.active ≡ map Some listed.due → new.due ≡ [] → AreHeld (map (activated time) us) new bag time
 held_activated {us} {bag} {time} listed new none h active due =
     let kept = kept_activated none h.kept refl refl in
@@ -183,11 +183,11 @@ held_activated {us} {bag} {time} listed new none h active due =
     }
 
 -- none is left where none is activated
-pub none_left : {us : List Update} {listed : Listed} {bag : List (Timed Due)} {time : ℕ} → list_any is_active us ≡ false → AreHeld us listed bag time → somes listed.active ≡ []
+pub none_left : {us : List Update} {listed : SlotView} {bag : List (Timed Due)} {time : ℕ} → list_any is_active us ≡ false → AreHeld us listed bag time → somes listed.active ≡ []
 none_left {us} none h = sym h.active_ones ∙ ap what_all (none_any is_active us none)
 
 -- ---- time goes on
-pub held_advanced : {us : List Update} {bag bag' : List (Timed Due)} {now : ℕ} (listed new : Listed) (time : ℕ) → AreHeld us listed bag now → list_any (is_due now) us ≡ false →
+pub held_advanced : {us : List Update} {bag bag' : List (Timed Due)} {now : ℕ} (listed new : SlotView) (time : ℕ) → AreHeld us listed bag now → list_any (is_due now) us ≡ false →
     new.active ≡ listed.active → new.due ≡ listed.due ++ what_all (lates (events_at time bag)) → events_at time bag' ≡ [] →
     ((t : ℕ) → time ≢ t → events_at t bag' ≡ events_at t bag) → AreHeld us new bag' time
 held_advanced {us} {bag} {bag'} {now} listed new time h none active due taken others =
@@ -202,7 +202,7 @@ held_advanced {us} {bag} {bag'} {now} listed new time h none active due taken ot
           ∙ sym due;
     }
 
-pub held_lost : {us : List Update} {bag bag' : List (Timed Due)} {now : ℕ} (listed new : Listed) (time : ℕ) → AreHeld us listed bag now → list_any (is_due now) us ≡ false →
+pub held_lost : {us : List Update} {bag bag' : List (Timed Due)} {now : ℕ} (listed new : SlotView) (time : ℕ) → AreHeld us listed bag now → list_any (is_due now) us ≡ false →
     new.active ≡ listed.active → new.due ≡ [] → events_at time bag' ≡ [] → ((t : ℕ) → time ≢ t → events_at t bag' ≡ events_at t bag) →
     AreHeld (filter (not_due time) us) new bag' time
 held_lost listed new time h none active due taken others =
@@ -214,10 +214,10 @@ filled_map : {A B : Type 0} (f : A → B) (xs : List A) → is_filled xs ≡ is_
 filled_map f [] = refl
 filled_map f (x ∷ xs) = refl
 
-pub held_any : {us : List Update} {listed : Listed} {bag : List (Timed Due)} {time : ℕ} → AreHeld us listed bag time → is_filled (somes listed.active) ≡ list_any is_active us
+pub held_any : {us : List Update} {listed : SlotView} {bag : List (Timed Due)} {time : ℕ} → AreHeld us listed bag time → is_filled (somes listed.active) ≡ list_any is_active us
 held_any {us} h = sym (any_filled is_active us ∙ filled_map (λ (v : Update). v.what) (filter is_active us) ∙ ap is_filled h.active_ones)
 
-pub held_due : {us : List Update} {listed : Listed} {bag : List (Timed Due)} {time : ℕ} → AreHeld us listed bag time → is_filled listed.due ≡ list_any (is_due time) us
+pub held_due : {us : List Update} {listed : SlotView} {bag : List (Timed Due)} {time : ℕ} → AreHeld us listed bag time → is_filled listed.due ≡ list_any (is_due time) us
 held_due {us} {time = time} h = sym (any_filled (is_due time) us ∙ filled_map (λ (v : Update). v.what) (filter (is_due time) us) ∙ ap is_filled h.due_ones)
 
 -- ---- the items of a time are taken one after another
@@ -240,14 +240,14 @@ late_sleepers bag bag' u s =
     SameBag-trans (sleepers_same s) (SameBag-from_eq (sleepers_append bag (record { time = u.due; event = Late u } ∷ []) ∙ append-nil (sleepers_of bag)))
 
 -- ---- the oldest one is taken out
-pub held_next : (us : List Update) (listed new : Listed) (bag : List (Timed Due)) (time : ℕ) → AreHeld us listed bag time → new.due ≡ listed.due → (ws : List Write) (u : declared.Update) →
+pub held_next : (us : List Update) (listed new : SlotView) (bag : List (Timed Due)) (time : ℕ) → AreHeld us listed bag time → new.due ≡ listed.due → (ws : List Write) (u : declared.Update) →
     listed.active ≡ left_of ws u ∷ new.active → AreHeld (without_oldest u us) new bag time
 held_next us listed new bag time h due ws r.Gone taken = held_gone us listed new bag time h due (sym (ap somes taken))
 held_next us listed new bag time h due ws (r.Bits b) taken = held_taken us listed new bag time h due 0 (sym (ap (λ l. remove (somes l) 0) taken))
 held_next us listed new bag time h due ws (r.Any n) taken = held_taken us listed new bag time h due 0 (sym (ap (λ l. remove (somes l) 0) taken))
 
 -- and what it writes is what it wrote in the execution
-pub next_there : (us : List Update) (listed : Listed) (bag : List (Timed Due)) (time : ℕ) → AreHeld us listed bag time → (ws : List Write) (u : declared.Update) (rest : List (Option Write)) →
+pub next_there : (us : List Update) (listed : SlotView) (bag : List (Timed Due)) (time : ℕ) → AreHeld us listed bag time → (ws : List Write) (u : declared.Update) (rest : List (Option Write)) →
     listed.active ≡ left_of ws u ∷ rest → IfSome (left_of ws u) (λ what. option_map (λ (v : Update). v.what) (slice_get us (place_of_active 0 us)) ≡ Some what)
 next_there us listed bag time h ws r.Gone rest taken = tt
 next_there us listed bag time h ws (r.Bits b) rest taken = what_there us listed.active 0 (bits_write b) h.active_ones (ap (λ (l : List (Option Write)). slice_get (somes l) 0) taken)
@@ -257,7 +257,7 @@ next_there us listed bag time h ws (r.Any n) rest taken = what_there us listed.a
 first_left : (us : List Update) (w : Write) (rest : List (Option Write)) → what_all (filter is_active us) ≡ somes (Some w ∷ rest) → if_some (is_first us (place_of_active 0 us)) (slice_get us (place_of_active 0 us)) ≡ true
 first_left us w rest e = sym (first_of_number us (Some w ∷ rest) 0 e)
 
-pub next_first : (us : List Update) (listed : Listed) (bag : List (Timed Due)) (time : ℕ) → AreHeld us listed bag time → (ws : List Write) (u : declared.Update) (rest : List (Option Write)) →
+pub next_first : (us : List Update) (listed : SlotView) (bag : List (Timed Due)) (time : ℕ) → AreHeld us listed bag time → (ws : List Write) (u : declared.Update) (rest : List (Option Write)) →
     listed.active ≡ left_of ws u ∷ rest → IfSome (left_of ws u) (λ what. if_some (is_first us (place_of_active 0 us)) (slice_get us (place_of_active 0 us)) ≡ true)
 next_first us listed bag time h ws r.Gone rest taken = tt
 next_first us listed bag time h ws (r.Bits b) rest taken = first_left us (bits_write b) rest (h.active_ones ∙ ap somes taken)

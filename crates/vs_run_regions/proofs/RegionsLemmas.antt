@@ -1,8 +1,8 @@
 -- The lists and the bag that hold the updates, behind each call.
-use Rattle.std.proofs.Common.{◌≡◌, ◌≢◌, ℕ, ◌&&◌, not, Bool, true, false, cond, List, [], ◌∷◌, ◌++◌, map, filter, refl, sym, ◌∙◌, ap, subst, inl, inr, append-nil}
+use Rattle.std.proofs.Common.{◌≡◌, ◌≢◌, ℕ, ◌&&◌, not, true, false, cond, List, [], ◌∷◌, ◌++◌, map, filter, refl, sym, ◌∙◌, ap, subst, inl, inr, append-nil}
 use Rattle.std.specs.Prelude.{nat_eq}
 use Rattle.std.specs.List.{list_any, remove}
-use Rattle.std.proofs.lemmas.Bool.{eq-eqb, ne_eqb, eqb-true, cases_eq}
+use Rattle.std.proofs.lemmas.Bool.{eq-eqb, ne_eqb, eqb-true, cases_eq, not-true}
 use Rattle.std.proofs.lemmas.List.Elements.{filter-append}
 use Rattle.vs_time_wheel.specs.declared.timing.Timed.{Timed}
 use Rattle.vs_time_wheel.specs.Bag.{events_at, SameBag}
@@ -12,7 +12,7 @@ use Rattle.vs_run_regions.specs.declared.item.Due.{Due}
 use Rattle.vs_run_regions.specs.declared.item.Due.TheVariants.{Wake, Late}
 use Rattle.vs_run_regions.specs.Items.{lates, sleepers_of}
 use Rattle.vs_run_regions.specs.Active.{is_active, not_due, place_of_active}
-use Rattle.vs_run_regions.specs.Entries.{now_of, later_of, HasEntered}
+use Rattle.vs_run_regions.specs.Entries.{now_of, later_of, HasScheduled}
 use Rattle.vs_run_regions.specs.Regions.{AreKept}
 use Rattle.vs_run_regions.proofs.ItemsLemmas.{lates-append, sleepers_same, sleepers_append}
 use Rattle.vs_run_regions.proofs.FilterLemmas.{none_any, filter_within, filter_out}
@@ -108,7 +108,7 @@ module _ (u : Update) (time : ℕ) where
     | inr other ↦ ap sleepers_of (later_one other)
   ]
 
-pub kept_entered : {us active due due' : List Update} {bag bag' : List (Timed Due)} {time : ℕ} (u : Update) → u.active ≡ false → AreKept us active due bag time → HasEntered u time due due' bag bag' → AreKept (us ++ u ∷ []) active due' bag' time
+pub kept_entered : {us active due due' : List Update} {bag bag' : List (Timed Due)} {time : ℕ} (u : Update) → u.active ≡ false → AreKept us active due bag time → HasScheduled u time due due' bag bag' → AreKept (us ++ u ∷ []) active due' bag' time
 kept_entered {us} {active} {due} {due'} {bag} {bag'} {time} u off h e = record {
   active_ones = filter-append is_active us (u ∷ []) ∙ ap (λ l. filter is_active us ++ l) (new_active u off) ∙ append-nil (filter is_active us) ∙ h.active_ones;
   due_ones =
@@ -119,7 +119,7 @@ kept_entered {us} {active} {due} {due'} {bag} {bag'} {time} u off h e = record {
   none_now = late_entered u time bag bag' e.later time ∙ ap (λ l. lates (events_at time bag) ++ l) (entered_now u time) ∙ append-nil (lates (events_at time bag)) ∙ h.none_now;
 }
 
-pub entered_sleepers : {due due' : List Update} {bag bag' : List (Timed Due)} {time : ℕ} (u : Update) → HasEntered u time due due' bag bag' → SameBag (sleepers_of bag') (sleepers_of bag)
+pub entered_sleepers : {due due' : List Update} {bag bag' : List (Timed Due)} {time : ℕ} (u : Update) → HasScheduled u time due due' bag bag' → SameBag (sleepers_of bag') (sleepers_of bag)
 entered_sleepers {bag = bag} {time = time} u e =
     SameBag-trans (sleepers_same e.later)
     (SameBag-from_eq (sleepers_append bag (later_of time u) ∙ ap (λ l. sleepers_of bag ++ l) (no_sleeper u time) ∙ append-nil (sleepers_of bag)))
@@ -162,10 +162,6 @@ kept_advanced {us} {active} {due} {due'} {bag} {bag'} {now} time h none new take
   none_now = ap lates taken;
 }
 
-not_both : (b : Bool) → not b ≡ true → b ≡ false
-not_both true h = cc
-not_both false h = refl
-
 due_elsewhere : (time t : ℕ) → time ≢ t → (u : Update) → is_due t u ≡ true → not_due time u ≡ true
 due_elsewhere time t apart u h =
     let due : u.due ≡ t = eqb-true u.due t (and_right (not u.active) (nat_eq u.due t) h) in
@@ -176,7 +172,7 @@ pub kept_lost : {us active due due' : List Update} {bag bag' : List (Timed Due)}
     due' ≡ [] → events_at time bag' ≡ [] → ((t : ℕ) → time ≢ t → events_at t bag' ≡ events_at t bag) → AreKept (filter (not_due time) us) active due' bag' time
 kept_lost {us} {active} {due} {due'} {bag} {bag'} {now} time h none new taken others = record {
   active_ones = filter_within is_active (not_due time) (λ u e. not_other (is_due time u) (active_not_due time u e)) us ∙ h.active_ones;
-  due_ones = filter_out (is_due time) (not_due time) (λ u e. not_both (is_due time u) e) us ∙ sym new;
+  due_ones = filter_out (is_due time) (not_due time) (λ u e. not-true (is_due time u) e) us ∙ sym new;
   late_ones = λ t apart. filter_within (is_due t) (not_due time) (due_elsewhere time t apart) us ∙ late_at h none t ∙ sym (ap lates (others t apart));
   none_now = ap lates taken;
 }

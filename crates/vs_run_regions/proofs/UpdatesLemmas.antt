@@ -10,9 +10,10 @@ use borrow.Author.Tests.{ltb-true}
 use Rattle.std.proofs.lemmas.Bool.{ltb-false, true≢false}
 use Rattle.vs_design.specs.declared.signal.Signal.{Signal}
 use Rattle.vs_design.specs.Writes.{Write, shares}
+use Rattle.vs_design.specs.vs_logic4.proofs.Basics.{map_at}
 use Rattle.vs_run_regions.specs.declared.update.Update.{Update}
 use Rattle.vs_run_regions.specs.declared.update.Update.TheVariants as u
-use Rattle.vs_run_regions.specs.Updates.{AreIn, AreListed, IsIn, is_first_left, is_shared, is_shown, left_of, somes, what_of}
+use Rattle.vs_run_regions.specs.Updates.{AreIn, AreSlotUpdates, IsIn, is_first_left, is_shared, is_shown, left_of, somes, what_of}
 
 -- ---- one more at the end
 pub in_more : (signals : List Signal) (ws : List Write) (xs : List Update) (x : Update) → AreIn signals ws xs → IsIn signals ws x → AreIn signals ws (xs ++ x ∷ [])
@@ -72,7 +73,7 @@ none_gone_grown signals ws w xs known h = lefts_grown signals ws w xs known ∙ 
 
 -- ---- the lists of a call
 pub listed_bits : (signals : List Signal) (active : List Update) (made left : ℕ) (ws : List Write) (due : List Update) (dws : List Write) (x : Update) (w : Write) →
-    AreListed signals active made left ws due dws → IsIn signals dws x → left_of dws x ≡ Some w → what_of dws x ≡ w → AreListed signals active made left ws (due ++ x ∷ []) dws
+    AreSlotUpdates signals active made left ws due dws → IsIn signals dws x → left_of dws x ≡ Some w → what_of dws x ≡ w → AreSlotUpdates signals active made left ws (due ++ x ∷ []) dws
 listed_bits signals active made left ws due dws x w h new left_is what_is = record {
   active_in = h.active_in;
   counted = h.counted;
@@ -81,7 +82,7 @@ listed_bits signals active made left ws due dws x w h new left_is what_is = reco
 }
 
 pub listed_grown : (signals : List Signal) (active : List Update) (made left : ℕ) (ws : List Write) (due : List Update) (dws : List Write) (w : Write) →
-    AreListed signals active made left ws due dws → AreListed signals active made left ws due (dws ++ w ∷ [])
+    AreSlotUpdates signals active made left ws due dws → AreSlotUpdates signals active made left ws due (dws ++ w ∷ [])
 listed_grown signals active made left ws due dws w h = record {
   active_in = h.active_in;
   counted = h.counted;
@@ -90,7 +91,7 @@ listed_grown signals active made left ws due dws w h = record {
 }
 
 pub listed_any : (signals : List Signal) (active : List Update) (made left : ℕ) (ws : List Write) (due : List Update) (dws : List Write) (w : Write) (n : ℕ) → n ≡ length dws →
-    AreListed signals active made left ws due dws → AreListed signals active made left ws (due ++ u.Any n ∷ []) (dws ++ w ∷ [])
+    AreSlotUpdates signals active made left ws due dws → AreSlotUpdates signals active made left ws (due ++ u.Any n ∷ []) (dws ++ w ∷ [])
 listed_any signals active made left ws due dws w n is h =
     let last = last_there dws w n is in
     let long = length-append dws (w ∷ []) in
@@ -149,11 +150,6 @@ slice_set-map f [] (suc n) x = refl
 slice_set-map f (y ∷ ys) zero x = refl
 slice_set-map f (y ∷ ys) (suc n) x = ap (λ l. f y ∷ l) (slice_set-map f ys n x)
 
-pub slice_map : {A B : Type 0} (f : A → B) (xs : List A) (n : ℕ) (x : A) → slice_get xs n ≡ Some x → slice_get (map f xs) n ≡ Some (f x)
-slice_map f [] n x h = absurd (none-some x h)
-slice_map f (y ∷ ys) zero x h = ap (λ z. Some (f z)) (same_Some y x h)
-slice_map f (y ∷ ys) (suc n) x h = slice_map f ys n x h
-
 pub slice_map_none : {A B : Type 0} (f : A → B) (xs : List A) (n : ℕ) → slice_get xs n ≡ None → slice_get (map f xs) n ≡ None
 slice_map_none f [] zero h = refl
 slice_map_none f [] (suc n) h = refl
@@ -197,13 +193,13 @@ somes_before (None ∷ xs) (suc n) = somes_before xs n
 somes_before (Some x ∷ xs) (suc n) = ap (λ l. x ∷ l) (somes_before xs n)
 
 -- the lists after one was taken out by its number
-module _ (signals : List Signal) (active : List Update) (made left : ℕ) (ws : List Write) (due : List Update) (dws : List Write) (h : AreListed signals active made left ws due dws)
+module _ (signals : List Signal) (active : List Update) (made left : ℕ) (ws : List Write) (due : List Update) (dws : List Write) (h : AreSlotUpdates signals active made left ws due dws)
     (n at : ℕ) (at_is : at ≡ made + n) (x : Update) (there : slice_get active at ≡ Some x) where
   abbrev lefts : List (Option Write)
   lefts = map (left_of ws) (drop made active)
 
   pub left_there : slice_get lefts n ≡ Some (left_of ws x)
-  left_there = slice_map (left_of ws) (drop made active) n x (slice_get-drop active made n ∙ ap (slice_get active) (sym at_is) ∙ there)
+  left_there = map_at (left_of ws) (drop made active) n x (slice_get-drop active made n ∙ ap (slice_get active) (sym at_is) ∙ there)
 
   pub lefts_without : map (left_of ws) (drop made (slice_set active at u.Gone)) ≡ slice_set lefts n None
   lefts_without =
@@ -221,7 +217,7 @@ module _ (signals : List Signal) (active : List Update) (made left : ℕ) (ws : 
     pub some_left : 0 < left
     some_left = less.0
 
-    pub listed_taken : AreListed signals (slice_set active at u.Gone) made (left - 1) ws due dws
+    pub listed_taken : AreSlotUpdates signals (slice_set active at u.Gone) made (left - 1) ws due dws
     listed_taken = record {
       active_in = in_set signals ws active at h.active_in;
       counted = less.1 ∙ ap (λ l. length (somes l)) (sym lefts_without);
@@ -235,7 +231,7 @@ somes_all [] = refl
 somes_all (x ∷ xs) = ap (λ l. x ∷ l) (somes_all xs)
 
 pub listed_activated : (signals : List Signal) (active : List Update) (made left : ℕ) (ws : List Write) (due : List Update) (dws : List Write) →
-    AreListed signals active made left ws due dws → AreListed signals due 0 (length due) dws [] []
+    AreSlotUpdates signals active made left ws due dws → AreSlotUpdates signals due 0 (length due) dws [] []
 listed_activated signals active made left ws due dws h = record {
   active_in = h.due_in;
   counted =
@@ -279,7 +275,7 @@ module _ (ws : List Write) (active : List Update) (made n at : ℕ) (at_is : at 
   first_by o h = ap (is_shown (take n left_ones)) h
 
   there : (x : Update) → slice_get active at ≡ Some x → slice_get left_ones n ≡ Some (left_of ws x)
-  there x h = slice_map (left_of ws) (drop made active) n x (slice_get-drop active made n ∙ ap (slice_get active) (sym at_is) ∙ h)
+  there x h = map_at (left_of ws) (drop made active) n x (slice_get-drop active made n ∙ ap (slice_get active) (sym at_is) ∙ h)
 
   pub shown_first : (x : Update) → slice_get active at ≡ Some x → (x ≡ u.Gone → ⊥) → (b : Bool) →
       b ≡ list_any (is_shared (what_of ws x)) (map (left_of ws) (take (at - made) (drop made active))) → not b ≡ is_first_left left_ones n
@@ -302,7 +298,7 @@ pub drop_next : {A : Type 0} (xs : List A) (k : ℕ) (x : A) → slice_get xs k 
 drop_next xs k x h = let one : suc k ≡ k + 1 = omega arith in drop_there xs k x h ∙ ap (λ n. x ∷ drop n xs) one
 
 -- the lists after the oldest one is made
-module _ (signals : List Signal) (active : List Update) (made left : ℕ) (ws : List Write) (due : List Update) (dws : List Write) (h : AreListed signals active made left ws due dws)
+module _ (signals : List Signal) (active : List Update) (made left : ℕ) (ws : List Write) (due : List Update) (dws : List Write) (h : AreSlotUpdates signals active made left ws due dws)
     (x : Update) (there : slice_get active made ≡ Some x) where
   next_counted : left ≡ length (somes (map (left_of ws) (x ∷ drop (made + 1) active)))
   next_counted = h.counted ∙ ap (λ (l : List Update). length (somes (map (left_of ws) l))) (drop_next active made x there)
@@ -310,7 +306,7 @@ module _ (signals : List Signal) (active : List Update) (made left : ℕ) (ws : 
   pub next_left : (x ≡ u.Gone → ⊥) → 0 < left
   next_left some = (counted_next ws (drop (made + 1) active) x left (what_of ws x) next_counted (is_left ws x some)).0
 
-  pub listed_next : (x ≡ u.Gone → ⊥) → AreListed signals active (made + 1) (left - 1) ws due dws
+  pub listed_next : (x ≡ u.Gone → ⊥) → AreSlotUpdates signals active (made + 1) (left - 1) ws due dws
   listed_next some = record {
     active_in = h.active_in;
     counted = (counted_next ws (drop (made + 1) active) x left (what_of ws x) next_counted (is_left ws x some)).1;
@@ -318,7 +314,7 @@ module _ (signals : List Signal) (active : List Update) (made left : ℕ) (ws : 
     none_gone = h.none_gone;
   }
 
-  pub listed_gone : x ≡ u.Gone → AreListed signals active (made + 1) left ws due dws
+  pub listed_gone : x ≡ u.Gone → AreSlotUpdates signals active (made + 1) left ws due dws
   listed_gone gone = record {
     active_in = h.active_in;
     counted = counted_gone ws (drop (made + 1) active) x left next_counted (ap (left_of ws) gone);
@@ -327,14 +323,14 @@ module _ (signals : List Signal) (active : List Update) (made left : ℕ) (ws : 
   }
 
 pub listed_swapped : (signals : List Signal) (active : List Update) (made left : ℕ) (ws : List Write) (due : List Update) (dws : List Write) →
-    AreListed signals active made left ws due dws → (active' : List Update) (left' : ℕ) (ws' : List Write) (due' : List Update) (dws' : List Write) → active' ≡ due →
-    left' ≡ length due → ws' ≡ dws → due' ≡ [] → dws' ≡ [] → AreListed signals active' 0 left' ws' due' dws'
+    AreSlotUpdates signals active made left ws due dws → (active' : List Update) (left' : ℕ) (ws' : List Write) (due' : List Update) (dws' : List Write) → active' ≡ due →
+    left' ≡ length due → ws' ≡ dws → due' ≡ [] → dws' ≡ [] → AreSlotUpdates signals active' 0 left' ws' due' dws'
 listed_swapped signals active made left ws due dws h active' left' ws' due' dws' a l w d e =
-    subst (λ x. AreListed signals x 0 left' ws' due' dws') (sym a)
-    (subst (λ x. AreListed signals due 0 x ws' due' dws') (sym l)
-    (subst (λ x. AreListed signals due 0 (length due) x due' dws') (sym w)
-    (subst (λ x. AreListed signals due 0 (length due) dws x dws') (sym d)
-    (subst (λ x. AreListed signals due 0 (length due) dws [] x) (sym e) (listed_activated signals active made left ws due dws h)))))
+    subst (λ x. AreSlotUpdates signals x 0 left' ws' due' dws') (sym a)
+    (subst (λ x. AreSlotUpdates signals due 0 x ws' due' dws') (sym l)
+    (subst (λ x. AreSlotUpdates signals due 0 (length due) x due' dws') (sym w)
+    (subst (λ x. AreSlotUpdates signals due 0 (length due) dws x dws') (sym d)
+    (subst (λ x. AreSlotUpdates signals due 0 (length due) dws [] x) (sym e) (listed_activated signals active made left ws due dws h)))))
 
 -- what holds anyway holds where there is an error
 pub on_err : {A E : Type 0} {P : Type 0} (r : Result A E) → P → OnErr r P

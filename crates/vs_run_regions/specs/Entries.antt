@@ -15,6 +15,6 @@ abbrev pub later_of : ℕ → Update → List (Timed Due)
 later_of time u = if u.due == time then [] else record { time = u.due; event = Late u } ∷ []
 
 -- an update enters the list of those due in the slot, or the queue
-pub record HasEntered (update : Update) (time : ℕ) (due due' : List Update) (bag bag' : List (Timed Due)) : Type 0 where
+pub record HasScheduled (update : Update) (time : ℕ) (due due' : List Update) (bag bag' : List (Timed Due)) : Type 0 where
   pub now : due' ≡ due ++ now_of time update
   pub later : SameBag bag' (bag ++ later_of time update)

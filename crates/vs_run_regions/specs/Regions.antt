@@ -9,7 +9,7 @@ use Rattle.vs_run_regions.specs.declared.update.Update as declared
 use Rattle.vs_run_regions.specs.declared.update.Update.TheVariants as r
 use Rattle.vs_run_regions.specs.Active.{is_active, place_of_active}
 use Rattle.vs_run_regions.specs.Items.{lates}
-use Rattle.vs_run_regions.specs.Updates.{Listed, somes}
+use Rattle.vs_run_regions.specs.Updates.{SlotView, somes}
 
 -- the time of the slot, the inactive processes in the order of their arrival, the ends of delays, and the nonblocking updates in the order of
 -- execution (clauses 11.3 and 11.4); and what is known of the updates of the slot by their numbers
@@ -18,7 +18,7 @@ pub record Waiting : Type 0 where
   pub inactive : List ℕ
   pub sleepers : List (Timed ℕ)
   pub updates : List Update
-  pub listed : Listed
+  pub listed : SlotView
 
 -- what updates write
 abbrev pub what_all : List Update → List Write
@@ -32,7 +32,7 @@ pub record AreKept (updates active due : List Update) (bag : List (Timed Due)) (
   pub none_now : lates (events_at time bag) ≡ []
 
 -- the same, where of those of the slot it is known what they write
-pub record AreHeld (updates : List Update) (listed : Listed) (bag : List (Timed Due)) (time : ℕ) : Type 0 where
+pub record AreHeld (updates : List Update) (listed : SlotView) (bag : List (Timed Due)) (time : ℕ) : Type 0 where
   pub kept : AreKept updates (filter is_active updates) (filter (is_due time) updates) bag time
   pub active_ones : what_all (filter is_active updates) ≡ somes listed.active
   pub due_ones : what_all (filter (is_due time) updates) ≡ listed.due

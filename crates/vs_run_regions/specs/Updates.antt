@@ -43,14 +43,14 @@ AreIn signals writes (x ∷ xs) = IsIn signals writes x × AreIn signals writes 
 
 -- what a contract sees of the updates of a slot: the design's signals, what the activated ones write, by their numbers, where they aren't gone, what those
 -- write that are due and not activated, and the writes of any kind of the activated ones
-pub record Listed : Type 0 where
+pub record SlotView : Type 0 where
   pub signals : List Signal
   pub active : List (Option Write)
   pub due : List Write
   pub writes : List Write
 
 -- the activated ones, of which so many are made and so many are left, and those that are due, of which none is gone
-pub record AreListed (signals : List Signal) (active : List Update) (made left : ℕ) (writes : List Write) (due : List Update) (due_writes : List Write) : Type 0 where
+pub record AreSlotUpdates (signals : List Signal) (active : List Update) (made left : ℕ) (writes : List Write) (due : List Update) (due_writes : List Write) : Type 0 where
   pub active_in : AreIn signals writes active
   pub counted : left ≡ length (somes (map (left_of writes) (drop made active)))
   pub due_in : AreIn signals due_writes due

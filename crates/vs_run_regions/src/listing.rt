@@ -33,9 +33,9 @@ pub struct SlotUpdates<'a> {
 impl<'a> Model for SlotUpdates<'a> {
     ghost use Rattle.std.specs.Prelude.{map, drop};
     ghost use Rattle.vs_run_regions.specs.Claims.{AreClaimed};
-    ghost use Rattle.vs_run_regions.specs.Updates.{AreListed, Listed, left_of, what_of};
+    ghost use Rattle.vs_run_regions.specs.Updates.{AreSlotUpdates, SlotView, left_of, what_of};
 
-    ghost Value = { Listed };
+    ghost Value = { SlotView };
 
     ghost view = { λ s. record {
       signals = s.design.now.signals;
@@ -44,7 +44,7 @@ impl<'a> Model for SlotUpdates<'a> {
       writes = s.writes.items;
     } };
 
-    ghost invariant = { λ s. AreListed s.design.now.signals s.active.items s.made s.left s.writes.items s.due.items s.due_writes.items
+    ghost invariant = { λ s. AreSlotUpdates s.design.now.signals s.active.items s.made s.left s.writes.items s.due.items s.due_writes.items
         × AreClaimed s.claimed s.claims.items (map (left_of s.writes.items) (drop s.made s.active.items)) };
 }
 

@@ -11,9 +11,9 @@ ghost use Rattle.vs_process.specs.Spots.{IsSpotIn};
 ghost use Rattle.vs_run_regions.specs.Updates.{IsIn, bits_write, is_there, left_of, what_of};
 
 use crate::entry::{enter_queue, take_due};
+use crate::ghost_list::GhostList;
 use crate::item::Due;
 use crate::late::LateUpdate;
-use crate::listed::GhostList;
 use crate::listing::SlotUpdates;
 use crate::update::{Bits, Update};
 use std::alloc::{AllocError, Global};

@@ -1,5 +1,5 @@
 -- Moves of a continuous assignment, by what is left of it.
-use Rattle.std.proofs.Common.{◌≡◌, ℕ, zero, suc, Bool, true, false, Option, Some, None, List, [], ◌∷◌, slice_get, slice_set, is_some, if◌then◌else◌, refl, sym, ◌∙◌, ap, subst}
+use Rattle.std.proofs.Common.{◌≡◌, ℕ, Bool, true, false, Option, Some, None, List, [], slice_get, slice_set, is_some, if◌then◌else◌, refl, sym, ◌∙◌, ap, subst}
 use Rattle.vs_design.specs.vs_logic4.specs.declared.digit.Digit.{Digit}
 use Rattle.vs_design.specs.Stores.{changed_at, changes_nothing}
 use Rattle.vs_design.specs.Writes.{Write}
@@ -9,21 +9,13 @@ use Rattle.vs_run_active.specs.vs_process.proofs.ProcessLists.{set_same}
 use Rattle.vs_run_active.specs.vs_process.specs.declared.moves.Move.TheVariants.{Evaluate, Propagate, Make}
 use Rattle.vs_run_active.specs.vs_process.specs.Executions.{apply, if_some, is_enabled}
 use Rattle.vs_run_active.specs.vs_process.specs.States.{AssignState, State, Update, evaluate, evaluated, make, propagate, propagate_value, settled, without, written}
+use Rattle.vs_run_active.proofs.ChangedLemmas.{changed_there}
+use Rattle.vs_design.specs.vs_logic4.proofs.Basics.{set_twice}
 use Rattle.vs_run_steps.specs.Turns.{AreMade}
 
 -- a continuous assignment after an evaluation that leaves this value to be written, or none
 abbrev pub valued : Option (List Digit) → AssignState → AssignState
 valued v x = record x { needs = false; pending = v }
-
-changed_there : {A : Type 0} (f : A → A) (xs : List A) (i : ℕ) (x y : A) → slice_get xs i ≡ Some x → y ≡ f x → slice_set xs i y ≡ changed_at f i xs
-changed_there f [] i x y here is = cc
-changed_there f (z ∷ zs) zero x y here is = let e : z ≡ x = cc in ap (λ v. v ∷ zs) (is ∙ ap f (sym e))
-changed_there f (z ∷ zs) (suc i) x y here is = ap (λ l. z ∷ l) (changed_there f zs i x y here is)
-
-set_twice : {A : Type 0} (xs : List A) (i : ℕ) (p q : A) → slice_set (slice_set xs i p) i q ≡ slice_set xs i q
-set_twice [] i p q = refl
-set_twice (x ∷ xs) zero p q = refl
-set_twice (x ∷ xs) (suc i) p q = ap (λ l. x ∷ l) (set_twice xs i p q)
 
 -- the value that an evaluation gives, as the definition has it
 value_left : (s : State) (x : AssignState) (v : List Digit) (b : Bool) → v ≡ target_value x.target x.source s.store s.time → changes_nothing s.store (assigned x.target v s.store s.time) ≡ b →

@@ -14,8 +14,9 @@ use Rattle.vs_design.specs.vs_logic4.specs.Sameness.{same_digits_self, same_digi
 use Rattle.vs_design.specs.vs_logic4.specs.Vectors.{same_digits}
 use Rattle.vs_design.specs.vs_logic4.proofs.Parts.{get_or-selected}
 use Rattle.vs_design.specs.vs_logic4.proofs.Properties.{get_or-with_part, same_digits_make_equal_lem, selected-with_part, slice_get-with_part}
+use Rattle.vs_design.specs.vs_logic4.proofs.Basics.{same_tests}
 use Rattle.vs_design.specs.declared.write.Part.{Part}
-use Rattle.vs_design.specs.Behind.{is_kept, behind}
+use Rattle.vs_design.specs.WordWrites.{is_kept, after_parts}
 use Rattle.vs_design.specs.Stores.{Store, changes_nothing, overlaid, word_of}
 use Rattle.vs_design.proofs.Stores.{keeps_all}
 use Rattle.vs_eval.specs.declared.node.Planes.{Planes}
@@ -23,12 +24,6 @@ use Rattle.vs_eval.specs.PlanesOf.{planes_of}
 use Rattle.vs_eval.proofs.PlanesLemmas.{bits_are}
 
 -- ---- bits of a word
-
--- two tests that follow from each other
-same_tests : (b c : Bool) → (b ≡ true → c ≡ true) → (c ≡ true → b ≡ true) → b ≡ c
-same_tests true c h k = sym (h refl)
-same_tests false true h k = k refl
-same_tests false false h k = refl
 
 -- bits that a word has already
 put_held : (low : ℕ) (ds word : List Digit) → low + length ds ≤ length word → selected (pos low) (length ds) word ≡ ds → with_part (pos low) ds word ≡ word
@@ -90,7 +85,7 @@ pub one_kept : (store : Store) (p : Part) (word : List Digit) → word_of store 
 one_kept store p word there =
     sym (keeps_all store (p ∷ []))
     ∙ ap (λ (b : Bool). b && true) (
-    ap (is_kept (behind (p ∷ []) p.signal p.word)) there
+    ap (is_kept (after_parts (p ∷ []) p.signal p.word)) there
     ∙ ap (λ (b : Bool). same_digits word (if b then overlaid p.low p.digits word else word)) (ap₂ (λ (a c : Bool). a && c) (same_number p.signal) (same_number p.word))
     )
     ∙ and_true (same_digits word (overlaid p.low p.digits word))

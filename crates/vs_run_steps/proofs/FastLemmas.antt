@@ -12,7 +12,7 @@ use Rattle.vs_design.specs.vs_logic4.specs.Planes.{ArePlanes, digits_of_planes, 
 use Rattle.vs_design.specs.vs_logic4.specs.Sameness.{same_digits-true}
 use Rattle.vs_design.specs.vs_logic4.specs.Vectors.{same_digits}
 use Rattle.vs_design.specs.vs_logic4.proofs.Bits.{below_64, ones_below}
-use Rattle.vs_design.specs.vs_logic4.proofs.Parts.{with_part_is, written}
+use Rattle.vs_design.specs.vs_logic4.proofs.Parts.{with_part_is, written, power_of}
 use Rattle.vs_design.specs.declared.signal.Signal.{Signal}
 use Rattle.vs_design.specs.InOrder.{IsStoreOf, numbered_word, with_word}
 use Rattle.vs_design.specs.Stores.{Store, changed_at, overlaid, put, word_in, word_of}
@@ -35,9 +35,6 @@ moved digits (suc shift) h = refl
 
 less_one : (a b : ℕ) → a * b ≡ b * (a + 1) - b
 less_one a b = omega arith
-
-power_of : (width : ℕ) → 2 ^ width - 1 + 1 ≡ 2 ^ width
-power_of width = omega (arith, pow_pos width)
 
 -- the bits of a spot as a mask
 spot_mask : (shift width size : ℕ) → shift + width ≤ size → size ≤ 64 → 2 ^ (shift + width) - 2 ^ shift ≡ bit_and (lowered (neg_ℤ (pos shift)) (2 ^ width - 1)) (2 ^ size - 1)

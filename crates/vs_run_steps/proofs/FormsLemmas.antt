@@ -1,12 +1,11 @@
 -- Lemmas on how continuous assignments are evaluated and driven.
-use Rattle.std.proofs.Common.{◌≡◌, ℕ, zero, suc, ◌+◌, ◌^◌, ◌<◌, ◌≤◌, ◌==◌, pos, Bool, false, not, Some, List, [], ◌∷◌, ◌++◌, length, slice_get, sym, ◌∙◌, ap, subst, arith}
+use Rattle.std.proofs.Common.{◌≡◌, ℕ, zero, suc, ◌+◌, ◌≤◌, ◌==◌, pos, Bool, false, not, Some, List, [], ◌∷◌, ◌++◌, length, slice_get, sym, ◌∙◌, ap, subst, arith}
 use Rattle.std.proofs.lemmas.Option.{none-some, same_Some}
 use Rattle.vs_design.specs.vs_logic4.specs.declared.digit.Digit.{Digit}
 use Rattle.vs_design.specs.vs_logic4.specs.declared.edge.Edge.TheVariants.{Any}
 use Rattle.vs_design.specs.vs_logic4.specs.Extensions.{length-resized}
 use Rattle.vs_design.specs.vs_logic4.specs.Parts.{selected}
-use Rattle.vs_design.specs.vs_logic4.specs.PlaneLaws.{unknown_plane-lt, value_plane-lt}
-use Rattle.vs_design.specs.vs_logic4.specs.Planes.{ArePlanes, digits_of_planes, unknown_plane, value_plane}
+use Rattle.vs_design.specs.vs_logic4.specs.Planes.{digits_of_planes}
 use Rattle.vs_design.specs.vs_logic4.specs.Vectors.{resized, same_digits}
 use Rattle.vs_design.specs.vs_logic4.proofs.Properties.{resized-own_width}
 use Rattle.vs_design.specs.declared.design.Assign.{Assign}
@@ -114,15 +113,6 @@ copy_held signals a spot from store time b h is same =
     ∙ ap (λ (n : ℕ). same_digits (selected (pos 0) n word) v) (sym (h.whole store is))
     ∙ ap (λ (l : List Digit). same_digits l v) (sym (all_selected word))
     ∙ same
-
--- its planes
-pub planes_of_word : (width value unknown : ℕ) (ds : List Digit) → 0 < width → width ≤ 64 → length ds ≡ width → value ≡ value_plane ds → unknown ≡ unknown_plane ds → ArePlanes width value unknown
-planes_of_word width value unknown ds some most long v u = record {
-  some = some;
-  most = most;
-  value_below = subst (λ (n : ℕ). value < 2 ^ n) long (subst (λ (n : ℕ). n < 2 ^ length ds) (sym v) (value_plane-lt ds));
-  unknown_below = subst (λ (n : ℕ). unknown < 2 ^ n) long (subst (λ (n : ℕ). n < 2 ^ length ds) (sym u) (unknown_plane-lt ds));
-}
 
 -- the places at which they differ tell whether it would change anything
 pub copy_evaluated : (d : Parts) (j : ℕ) (store : Store) (time : ℕ) (spot : Spot) (from : ℕ) (change : WordChange) → ((a : Assign) → slice_get d.assigns j ≡ Some a → IsCopy d.signals a spot from) →

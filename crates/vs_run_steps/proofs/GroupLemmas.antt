@@ -9,9 +9,9 @@ use Rattle.vs_run_active.specs.vs_process.specs.States.{AssignState, State}
 use Rattle.vs_run_steps.specs.Turns.{AreMade, is_silent}
 use Rattle.vs_run_steps.proofs.MadeLemmas.{made_more, made_then}
 use Rattle.vs_run_active.specs.Changes.{MarkChanges}
+use Rattle.vs_run_active.proofs.MarkingLemmas.{changes_more as marks_then, changes_none as none_marked}
 use Rattle.vs_run_steps.specs.declared.run.RunState.{RunState}
 use Rattle.vs_run_steps.specs.Runs.{IsRunOf, marks_of, state_of}
-use Rattle.vs_run_steps.proofs.RunLemmas.{marks_then, none_marked}
 use Rattle.vs_run_steps.specs.Members.{assign_move, members_in}
 use Rattle.vs_run_steps.specs.MembersMade.{AreDone, HasBegun}
 

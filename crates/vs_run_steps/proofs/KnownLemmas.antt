@@ -14,7 +14,7 @@ use Rattle.vs_run_active.specs.vs_process.proofs.ProcessLists.{map_cases, set_ca
 use Rattle.vs_run_active.specs.vs_process.specs.declared.moves.Move.{Move}
 use Rattle.vs_run_active.specs.vs_process.specs.declared.moves.Move.TheVariants.{Step, Evaluate, Propagate, Make, Rouse, Activate, EndSlot}
 use Rattle.vs_run_active.specs.vs_process.specs.Executions.{after, apply}
-use Rattle.vs_run_active.specs.vs_process.specs.States.{AssignState, State, Update, evaluate, evaluated, make, propagate, propagate_value, settled, start_assign, stepped, touched, written_behind}
+use Rattle.vs_run_active.specs.vs_process.specs.States.{AssignState, State, Update, evaluate, evaluated, make, propagate, propagate_value, settled, start_assign, stepped, touched, written_after}
 use Rattle.vs_run_steps.specs.Known.{AreAssigns, IsAssign}
 
 -- ---- one continuous assignment
@@ -58,7 +58,7 @@ all_set d xs j x y here own h = record {
   ];
 }
 
-all_behind : (d : Parts) (s : State) (o : Option Write) → AreAssigns d s.assigns → AreAssigns d (written_behind s o).assigns
+all_behind : (d : Parts) (s : State) (o : Option Write) → AreAssigns d s.assigns → AreAssigns d (written_after s o).assigns
 all_behind d s None h = h
 all_behind d s (Some w) h = all_touched d s.store (put s.store w) s.assigns h
 

@@ -3,14 +3,14 @@ use Rattle.std.proofs.Common.{◌≡◌, ℕ, Bool, true, Option, Some, None, Li
 use Rattle.std.proofs.lemmas.Bool.{false≢true}
 use Rattle.vs_design.specs.vs_logic4.specs.declared.digit.Digit.{Digit}
 use Rattle.vs_design.specs.Writes.{Write}
-use Rattle.vs_run_active.specs.vs_process.specs.Places.{Place, todo_of}
-use Rattle.vs_run_active.specs.vs_process.specs.Steps.{step}
+use Rattle.vs_run_active.specs.vs_process.specs.Places.{Place}
 use Rattle.vs_run_active.specs.vs_process.specs.declared.moves.Move.{Move}
 use Rattle.vs_run_active.specs.vs_process.specs.declared.moves.Move.TheVariants.{Step, Evaluate, Propagate, Make, Rouse, Activate, EndSlot}
 use Rattle.vs_run_active.specs.vs_process.specs.Executions.{apply, ended_slot, move_lines}
-use Rattle.vs_run_active.specs.vs_process.specs.States.{State, AssignState, Update, stepped, evaluate, propagate, propagate_value, make, written_behind}
-use Rattle.vs_run_active.specs.vs_process.proofs.Times.{behind_time, stepped_over}
-use Rattle.vs_run_steps.specs.Insides.{inside_told}
+use Rattle.vs_run_active.specs.vs_process.specs.States.{State, AssignState, Update, evaluate, propagate, propagate_value, make, written_after}
+use Rattle.vs_run_active.specs.vs_process.proofs.Times.{stepped_over}
+use Rattle.vs_process.proofs.Times.{stepped_time}
+use Rattle.vs_run_steps.specs.Insides.{inside_by_flags}
 use Rattle.vs_run_steps.specs.Turns.{is_silent}
 
 -- only the end of a slot ends one
@@ -24,7 +24,7 @@ not_ended Rouse s h = refl
 not_ended Activate s h = refl
 
 -- no move but the end of a slot ends the execution
-pub behind_over : (s : State) (w : Option Write) → (written_behind s w).over ≡ s.over
+pub behind_over : (s : State) (w : Option Write) → (written_after s w).over ≡ s.over
 behind_over s None = refl
 behind_over s (Some w) = refl
 
@@ -45,25 +45,21 @@ make_over s i None = refl
 make_over s i (Some u) = refl
 
 -- nor changes the time
-evaluated_time : (s : State) (j : ℕ) (o : Option AssignState) → (evaluate s j o).time ≡ s.time
+pub evaluated_time : (s : State) (j : ℕ) (o : Option AssignState) → (evaluate s j o).time ≡ s.time
 evaluated_time s j None = refl
 evaluated_time s j (Some x) = refl
 
-value_time : (s : State) (j : ℕ) (x : AssignState) (o : Option (List Digit)) → (propagate_value s j x o).time ≡ s.time
+pub value_time : (s : State) (j : ℕ) (x : AssignState) (o : Option (List Digit)) → (propagate_value s j x o).time ≡ s.time
 value_time s j x None = refl
 value_time s j x (Some v) = refl
 
-propagated_time : (s : State) (j : ℕ) (o : Option AssignState) → (propagate s j o).time ≡ s.time
+pub propagated_time : (s : State) (j : ℕ) (o : Option AssignState) → (propagate s j o).time ≡ s.time
 propagated_time s j None = refl
 propagated_time s j (Some x) = value_time s j x x.pending
 
-make_time : (s : State) (i : ℕ) (o : Option Update) → (make s i o).time ≡ s.time
+pub make_time : (s : State) (i : ℕ) (o : Option Update) → (make s i o).time ≡ s.time
 make_time s i None = refl
 make_time s i (Some u) = refl
-
-stepped_time : (s : State) (i : ℕ) (o : Option Place) → (stepped s i o).time ≡ s.time
-stepped_time s i None = refl
-stepped_time s i (Some x) = behind_time s (step (todo_of x) s.store s.time).write
 
 -- an evaluation and an update leave the time and the end
 pub silent_stands : (s : State) (m : Move) → is_silent m ≡ true → ((apply m s).over ≡ s.over) × ((apply m s).time ≡ s.time)
@@ -90,7 +86,7 @@ silent_lines s Activate h = absurd (false≢true h)
 silent_lines s EndSlot h = absurd (false≢true h)
 
 -- no block has left its control after one
-pub silent_inside : (blocks : List Bool) (xs : List Place) (m : Move) → is_silent m ≡ true → inside_told blocks xs m ≡ None
+pub silent_inside : (blocks : List Bool) (xs : List Place) (m : Move) → is_silent m ≡ true → inside_by_flags blocks xs m ≡ None
 silent_inside blocks xs (Evaluate j) h = refl
 silent_inside blocks xs (Propagate j) h = refl
 silent_inside blocks xs (Make i) h = refl

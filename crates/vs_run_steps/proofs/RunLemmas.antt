@@ -1,12 +1,12 @@
 -- The moves of a continuous assignment in a run.
-use Rattle.std.proofs.Common.{◌≡◌, ℕ, Bool, true, false, not, Option, Some, None, List, ◌∷◌, length, slice_get, refl, sym, ◌∙◌, ap, subst, arith}
+use Rattle.std.proofs.Common.{◌≡◌, ℕ, Bool, true, false, not, Option, Some, None, List, ◌∷◌, length, slice_get, refl, sym, ◌∙◌, ap, subst}
 use Rattle.std.proofs.lemmas.Bool.{false≢true}
 use Rattle.vs_design.specs.vs_logic4.specs.declared.digit.Digit.{Digit}
 use Rattle.vs_design.specs.vs_logic4.specs.Extensions.{length-resized}
 use Rattle.vs_design.specs.declared.design.Assign.{Assign}
 use Rattle.vs_design.specs.declared.statement.Target.{Target}
 use Rattle.vs_design.specs.Parts.{Parts}
-use Rattle.vs_design.specs.Stores.{Store, changed_at, changes_nothing}
+use Rattle.vs_design.specs.Stores.{changed_at, changes_nothing}
 use Rattle.vs_eval.specs.Targets.{assigned}
 use Rattle.vs_eval.specs.Values.{target_value, value_of}
 use Rattle.vs_run_active.specs.vs_process.specs.declared.moves.Move.{Move}
@@ -16,12 +16,11 @@ use Rattle.vs_run_active.specs.vs_process.specs.States.{AssignState, State, sett
 use Rattle.vs_run_active.specs.declared.queue.Queue.{Queue}
 use Rattle.vs_run_active.specs.Left.{valued}
 use Rattle.vs_run_active.specs.Wakes.{AreWatched}
-use Rattle.vs_run_active.specs.declared.watchers.ListedTerm.{ListedTerm}
+use Rattle.vs_run_active.specs.declared.watchers.ProcessTerm.{ProcessTerm}
 use Rattle.vs_run_active.proofs.WatchedLemmas.{watched_assigns}
 use Rattle.vs_run_steps.specs.Turns.{AreMade, IsReached}
 use Rattle.vs_run_steps.proofs.AssignLemmas.{driven, evaluated_none, evaluated_some, propagated}
 use Rattle.vs_run_steps.proofs.MadeLemmas.{made_reached}
-use Rattle.vs_run_active.specs.Changes.{MarkChanges}
 use Rattle.vs_run_steps.specs.declared.run.RunState.{RunState}
 use Rattle.vs_run_steps.specs.Runs.{Agrees, IsRunOf, Plan, plan_of, state_of}
 use Rattle.vs_run_steps.proofs.RunsLemmas.{plan_in, plan_out}
@@ -125,7 +124,7 @@ abbrev pub with_assigns : {Q : Type 0} → RunState Q → List AssignState → Q
 with_assigns r xs q = record r { watched = record r.watched { events = record r.watched.events { assigns = xs; queue = q } } }
 
 -- its parts agree where one of them is changed, but not what it evaluates
-pub agrees_with : {Q : Type 0} (d : Parts) (terms : List ListedTerm) (r : RunState Q) (xs : List AssignState) (q : Queue) (f : AssignState → AssignState) (j : ℕ) →
+pub agrees_with : {Q : Type 0} (d : Parts) (terms : List ProcessTerm) (r : RunState Q) (xs : List AssignState) (q : Queue) (f : AssignState → AssignState) (j : ℕ) →
     ((x : AssignState) → (f x).source ≡ x.source) → Agrees d terms r → xs ≡ changed_at f j r.watched.events.assigns → Agrees d terms (with_assigns r xs q)
 agrees_with d terms r xs q f j same h is = record {
   store = h.store;
@@ -208,15 +207,3 @@ run_queued d r q h = (
     };
   },
 )
-
--- nothing is marked where nothing changes
-pub none_marked : (marks : List ℕ) (store : Store) → MarkChanges marks marks store store
-none_marked marks store = record { len = refl; marked = λ v none below. (none, refl) }
-
-pub marks_then : (a b c : List ℕ) (s t u : Store) → MarkChanges a b s t → MarkChanges b c t u → MarkChanges a c s u
-marks_then a b c s t u h k = record {
-  len = k.len ∙ h.len;
-  marked = λ v none below.
-      let later = k.marked v none (omega (arith, below, h.len)) in
-      let first = h.marked v later.0 below in (first.0, later.1 ∙ first.1);
-}

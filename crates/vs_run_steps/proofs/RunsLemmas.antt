@@ -5,7 +5,7 @@ use Rattle.std.specs.declared.alloc.Global.{Global}
 use Rattle.std.specs.declared.vec.Vec.{Vec}
 use Rattle.std.proofs.lemmas.Bool.{false≢true}
 use Rattle.std.proofs.lemmas.List.{length-map, length-set}
-use Rattle.std.proofs.lemmas.Option.{none-some, same_Some, slice_get-map, slice_get_past}
+use Rattle.std.proofs.lemmas.Option.{none-some, same_Some, slice_get-map, slice_get_past, slice_get_within}
 use Rattle.vs_design.specs.declared.signal.Signal.{Signal}
 use Rattle.vs_design.specs.declared.statement.EventTerm.{EventTerm}
 use Rattle.vs_design.specs.InOrder.{word_sizes}
@@ -15,6 +15,7 @@ use Rattle.vs_design.specs.Writes.{Write}
 use Rattle.vs_design.specs.vs_logic4.specs.declared.digit.Digit.{Digit}
 use Rattle.vs_design.specs.vs_logic4.specs.PlaneLaws.{digits_of_planes-of, unknown_plane-lt, value_plane-lt}
 use Rattle.vs_design.specs.vs_logic4.specs.Planes.{ArePlanes, digits_of_planes, unknown_plane, value_plane}
+use Rattle.vs_design.specs.vs_logic4.proofs.Basics.{set_here as set_there}
 use Rattle.vs_run_steps.specs.vs_eval.specs.Waking.{wake_any}
 use Rattle.vs_run_regions.specs.vs_time_wheel.specs.Bag.{SameBag}
 use Rattle.vs_run_regions.specs.vs_time_wheel.specs.declared.timing.Timed.{Timed}
@@ -32,26 +33,27 @@ use Rattle.vs_run_active.specs.vs_process.proofs.Stores.{shape-put}
 use Rattle.vs_run_active.specs.declared.process.Process.{Process}
 use Rattle.vs_run_active.specs.declared.process.Wait.{Wait}
 use Rattle.vs_run_active.specs.declared.process.Wait.TheVariants.{Nothing, Until, Inactive, Terms}
-use Rattle.vs_run_active.specs.Standings.{GoneOn, HasGone, gone_on, place_by, place_in, waits_some}
+use Rattle.vs_run_active.specs.ProcessPlaces.{GoneOn, HasGone, gone_on, place_by, place_in, waits_some}
 use Rattle.vs_run_active.specs.Taken.{placed}
 use Rattle.vs_run_active.specs.Timelines.{AreKept, AreKeptBut, sleeps_until}
 use Rattle.vs_run_active.proofs.GoneLemmas.{gone_none}
-use Rattle.vs_run_active.proofs.StandingsLemmas.{active_due, active_still, active_told, none_past}
-use Rattle.vs_run_active.proofs.TakenLemmas.{set_there}
+use Rattle.vs_run_active.proofs.ProcessPlacesLemmas.{active_due, active_still, active_told, none_past}
 use Rattle.vs_run_active.proofs.TimelinesLemmas.{kept_but, kept_inactive, kept_other, kept_sleeping, same_bag}
-use Rattle.vs_run_steps.specs.vs_run_active.specs.declared.watchers.ListedTerm.{ListedTerm}
+use Rattle.vs_run_active.proofs.WatchedLemmas.{set_each}
+use Rattle.vs_run_active.proofs.MarkingLemmas.{changes_none}
+use Rattle.vs_run_steps.specs.vs_run_active.specs.declared.watchers.ProcessTerm.{ProcessTerm}
 use Rattle.vs_run_steps.specs.vs_run_active.specs.declared.tables.Tables.{Tables}
 use Rattle.vs_run_steps.specs.vs_run_active.specs.Waiting.{IsWaiting, places_of}
 use Rattle.vs_run_steps.specs.vs_run_active.specs.Wakes.{AreWatched}
 use Rattle.vs_run_steps.specs.vs_run_active.proofs.WatchedLemmas.{watched_put}
 use Rattle.vs_run_regions.specs.Regions.{Waiting}
-use Rattle.vs_run_regions.specs.Updates.{Listed}
+use Rattle.vs_run_regions.specs.Updates.{SlotView}
 use Rattle.vs_run_steps.specs.vs_run_active.specs.Changes.{MarkChanges}
 use Rattle.vs_run_steps.specs.declared.writes.Watched.{Watched}
 use Rattle.vs_run_steps.specs.Writes.{IsMade, Makes}
 use Rattle.vs_run_steps.specs.declared.run.RunState.{RunState}
 use Rattle.vs_run_steps.specs.Runs.{Agrees, AreScriptsIn, IsRun, IsRunOf, IsScriptIn, Keeps, Plan, counters_at, counters_of, plan_of, state_of}
-use Rattle.vs_run_steps.specs.Stepping.{Enters, IsLater, IsStand, Noted, StandsElsewhere}
+use Rattle.vs_run_steps.specs.Stepping.{Enters, IsLater, IsValidWait, Noted, IsMovedFrom}
 
 -- ---- its design and its terms
 
@@ -99,11 +101,6 @@ places_long css [] = refl
 places_long [] (x ∷ xs) = ap suc (places_long [] xs)
 places_long (c ∷ css) (x ∷ xs) = ap suc (places_long css xs)
 
-pub within : {A : Type 0} (xs : List A) (i : ℕ) (x : A) → slice_get xs i ≡ Some x → i < length xs
-within [] i x at = absurd (none-some x at)
-within (y ∷ ys) zero x at = omega arith
-within (y ∷ ys) (suc i) x at = let rest : i < length ys = within ys i x at in omega (arith, rest)
-
 -- ---- the counters of one process change
 
 pub counters_there : (css : List (List ℕ)) (i : ℕ) (cs : List ℕ) → i < length css → get_or (slice_set css i cs) i [] ≡ cs
@@ -118,7 +115,7 @@ counters_long (c ∷ css) zero (suc number) cs h = refl
 counters_long (c ∷ css) (suc i) zero cs h = refl
 counters_long (c ∷ css) (suc i) (suc number) cs h = counters_long css i number cs h
 
-pub scripts_counted : (signals : List Signal) (terms : List ListedTerm) (css : List (List ℕ)) (ps : List Process) (i : ℕ) (cs : List ℕ) → length cs ≡ length (get_or css i []) →
+pub scripts_counted : (signals : List Signal) (terms : List ProcessTerm) (css : List (List ℕ)) (ps : List Process) (i : ℕ) (cs : List ℕ) → length cs ≡ length (get_or css i []) →
     AreScriptsIn signals terms css ps → AreScriptsIn signals terms (slice_set css i cs) ps
 scripts_counted signals terms css ps i cs long h = record {
   each = λ number p at.
@@ -208,7 +205,7 @@ gone_from old new i q (Some p) h at was = ⊎_elim
     (λ goes. (p, was, ap (λ (x : Process). x.script.now) (same_Some q (gone_on p) (sym at ∙ goes.1))))
     (h.each i p was)
 
-pub scripts_gone : (signals : List Signal) (terms : List ListedTerm) (css : List (List ℕ)) (old new : List Process) → GoneOn old new →
+pub scripts_gone : (signals : List Signal) (terms : List ProcessTerm) (css : List (List ℕ)) (old new : List Process) → GoneOn old new →
     AreScriptsIn signals terms css old → AreScriptsIn signals terms css new
 scripts_gone signals terms css old new gone h = record {
   each = λ number q at.
@@ -222,15 +219,7 @@ stays_there old new i p gone at active = ⊎_elim (λ stays. stays) (λ goes. ab
 
 -- ---- one process takes the place of another
 
-set_each : {A : Type 0} (P : ℕ → A → Type 0) (xs : List A) (i : ℕ) (p : A) → ((k : ℕ) (x : A) → slice_get xs k ≡ Some x → P k x) → P i p →
-    (k : ℕ) (x : A) → slice_get (slice_set xs i p) k ≡ Some x → P k x
-set_each P [] i p h own k x here = absurd (none-some x here)
-set_each P (y ∷ ys) zero p h own zero x here = subst (P zero) (same_Some p x here) own
-set_each P (y ∷ ys) zero p h own (suc k) x here = h (suc k) x here
-set_each P (y ∷ ys) (suc i) p h own zero x here = h zero x here
-set_each P (y ∷ ys) (suc i) p h own (suc k) x here = set_each (λ j z. P (suc j) z) ys i p (λ j z e. h (suc j) z e) own k x here
-
-pub scripts_set : (signals : List Signal) (terms : List ListedTerm) (css : List (List ℕ)) (ps : List Process) (i : ℕ) (q : Process) →
+pub scripts_set : (signals : List Signal) (terms : List ProcessTerm) (css : List (List ℕ)) (ps : List Process) (i : ℕ) (q : Process) →
     IsScriptIn signals terms i q.script.now (get_or css i []) → AreScriptsIn signals terms css ps → AreScriptsIn signals terms css (slice_set ps i q)
 scripts_set signals terms css ps i q own h = record {
   each = set_each (λ k (x : Process). IsScriptIn signals terms k x.script.now (get_or css k [])) ps i q (λ k x at. h.each k x at) own;
@@ -238,16 +227,13 @@ scripts_set signals terms css ps i q own h = record {
 
 -- ---- nothing is done, and what is done twice
 
-same_marks : (marks : List ℕ) (store : Store) → MarkChanges marks marks store store
-same_marks marks store = record { len = refl; marked = λ v none below. (none, refl) }
-
-pub keeps_none : {Q : Type 0} (d : Parts) (terms : List ListedTerm) (r : RunState Q) → Agrees d terms r → Keeps d terms r r
-keeps_none d terms r h = record { agrees = h; time = refl; gone = gone_none r.watched.events.processes; marked = same_marks r.watched.marks.items r.watched.store }
+pub keeps_none : {Q : Type 0} (d : Parts) (terms : List ProcessTerm) (r : RunState Q) → Agrees d terms r → Keeps d terms r r
+keeps_none d terms r h = record { agrees = h; time = refl; gone = gone_none r.watched.events.processes; marked = changes_none r.watched.marks.items r.watched.store }
 
 -- ---- a write
 
 -- after a write the parts agree
-pub wrote : {Q : Type 0} (d : Parts) (terms : List ListedTerm) (r : RunState Q) (v : Watched) (room : Vec Change Global) (w : Write) → Agrees d terms r → v.store ≡ put r.watched.store w →
+pub wrote : {Q : Type 0} (d : Parts) (terms : List ProcessTerm) (r : RunState Q) (v : Watched) (room : Vec Change Global) (w : Write) → Agrees d terms r → v.store ≡ put r.watched.store w →
     v.tables ≡ r.watched.tables → Makes r.watched.tables r.watched.store w r.watched.events.assigns r.watched.events.processes v.events.assigns v.events.processes →
     MarkChanges r.watched.marks.items v.marks.items r.watched.store v.store → Keeps d terms r (record r { watched = v; changes = room })
 wrote d terms r v room w h store tables makes marked =
@@ -272,7 +258,7 @@ wrote d terms r v room w h store tables makes marked =
     }
 
 -- and the state is that of the definition
-pub wrote_state : {Q : Type 0} (d : Parts) (terms : List ListedTerm) (r : RunState Q) (v : Watched) (room : Vec Change Global) (w : Write) → Agrees d terms r → v.store ≡ put r.watched.store w →
+pub wrote_state : {Q : Type 0} (d : Parts) (terms : List ProcessTerm) (r : RunState Q) (v : Watched) (room : Vec Change Global) (w : Write) → Agrees d terms r → v.store ≡ put r.watched.store w →
     Makes r.watched.tables r.watched.store w r.watched.events.assigns r.watched.events.processes v.events.assigns v.events.processes →
     state_of (record r { watched = v; changes = room }) ≡ written (state_of r) w
 wrote_state d terms r v room w h store makes =
@@ -296,7 +282,7 @@ planes_hold width value unknown ds long v u =
 
 -- ---- what waits changes
 
-pub keeps_regions : {Q : Type 0} (d : Parts) (terms : List ListedTerm) (r : RunState Q) (v : Waiting) → Agrees d terms r → v.time ≡ r.regions.time → v.inactive ≡ r.regions.inactive →
+pub keeps_regions : {Q : Type 0} (d : Parts) (terms : List ProcessTerm) (r : RunState Q) (v : Waiting) → Agrees d terms r → v.time ≡ r.regions.time → v.inactive ≡ r.regions.inactive →
     SameBag v.sleepers r.regions.sleepers → v.listed.signals ≡ r.regions.listed.signals → Keeps d terms r (record r { regions = v })
 keeps_regions d terms r v h time still sleepers signals = record {
   agrees = record {
@@ -311,30 +297,30 @@ keeps_regions d terms r v h time still sleepers signals = record {
   };
   time = time;
   gone = gone_none r.watched.events.processes;
-  marked = same_marks r.watched.marks.items r.watched.store;
+  marked = changes_none r.watched.marks.items r.watched.store;
 }
 
 -- so do the calls, or the run is finishing
 
-pub keeps_calls : {Q : Type 0} (d : Parts) (terms : List ListedTerm) (r : RunState Q) (calls : Vec Called Global) → Agrees d terms r → Keeps d terms r (record r { calls = calls })
+pub keeps_calls : {Q : Type 0} (d : Parts) (terms : List ProcessTerm) (r : RunState Q) (calls : Vec Called Global) → Agrees d terms r → Keeps d terms r (record r { calls = calls })
 keeps_calls d terms r calls h = record {
   agrees = record { store = h.store; watched = h.watched; rows = h.rows; kept = h.kept; signals = h.signals; counted = h.counted; scripts = h.scripts; plan = h.plan };
   time = refl;
   gone = gone_none r.watched.events.processes;
-  marked = same_marks r.watched.marks.items r.watched.store;
+  marked = changes_none r.watched.marks.items r.watched.store;
 }
 
-pub keeps_finish : {Q : Type 0} (d : Parts) (terms : List ListedTerm) (r : RunState Q) → Agrees d terms r → Keeps d terms r (record r { finishing = true })
+pub keeps_finish : {Q : Type 0} (d : Parts) (terms : List ProcessTerm) (r : RunState Q) → Agrees d terms r → Keeps d terms r (record r { finishing = true })
 keeps_finish d terms r h = record {
   agrees = record { store = h.store; watched = h.watched; rows = h.rows; kept = h.kept; signals = h.signals; counted = h.counted; scripts = h.scripts; plan = h.plan };
   time = refl;
   gone = gone_none r.watched.events.processes;
-  marked = same_marks r.watched.marks.items r.watched.store;
+  marked = changes_none r.watched.marks.items r.watched.store;
 }
 
 -- so do counters
 
-pub keeps_counters : {Q : Type 0} (d : Parts) (terms : List ListedTerm) (r : RunState Q) (counters : Vec (Vec ℕ Global) Global) (i : ℕ) (cs : List ℕ) → Agrees d terms r →
+pub keeps_counters : {Q : Type 0} (d : Parts) (terms : List ProcessTerm) (r : RunState Q) (counters : Vec (Vec ℕ Global) Global) (i : ℕ) (cs : List ℕ) → Agrees d terms r →
     counters_of (record r { counters = counters }) ≡ slice_set (counters_of r) i cs → length cs ≡ length (get_or (counters_of r) i []) → Keeps d terms r (record r { counters = counters })
 keeps_counters d terms r counters i cs h set long = record {
   agrees = record {
@@ -352,7 +338,7 @@ keeps_counters d terms r counters i cs h set long = record {
   };
   time = refl;
   gone = gone_none r.watched.events.processes;
-  marked = same_marks r.watched.marks.items r.watched.store;
+  marked = changes_none r.watched.marks.items r.watched.store;
 }
 
 -- ---- a process stands elsewhere
@@ -364,31 +350,31 @@ entered_kept number (Nothing gait) todo places x old v h at active noted =
     let but : AreKeptBut (slice_set places number y) old.inactive old.sleepers number = kept_but h number x y at active refl in
     same_bag noted.1
     (subst (λ (l : List ℕ). AreKept (slice_set places number y) l old.sleepers) (sym noted.0)
-    (kept_other number y but (set_there places number y (within places number x at)) (active_still gait todo) (active_due gait todo)))
+    (kept_other number y but (set_there places number y (slice_get_within places number x at)) (active_still gait todo) (active_due gait todo)))
 entered_kept number (Until due) todo places x old v h at active noted =
     let y : Place = sleeping due todo in
     let but : AreKeptBut (slice_set places number y) old.inactive old.sleepers number = kept_but h number x y at active refl in
     subst (λ (l : List ℕ). AreKept (slice_set places number y) l v.sleepers) (sym noted.0)
-    (kept_sleeping number due y but (set_there places number y (within places number x at)) refl refl noted.1)
+    (kept_sleeping number due y but (set_there places number y (slice_get_within places number x at)) refl refl noted.1)
 entered_kept number Inactive todo places x old v h at active noted =
     let y : Place = inactive todo in
     let but : AreKeptBut (slice_set places number y) old.inactive old.sleepers number = kept_but h number x y at active refl in
-    same_bag noted.1 (kept_inactive number y but (set_there places number y (within places number x at)) refl refl noted.0)
+    same_bag noted.1 (kept_inactive number y but (set_there places number y (slice_get_within places number x at)) refl refl noted.0)
 entered_kept number (Terms n terms) todo places x old v h at active noted =
     let y : Place = waiting terms.now todo in
     let but : AreKeptBut (slice_set places number y) old.inactive old.sleepers number = kept_but h number x y at active refl in
     same_bag noted.1
     (subst (λ (l : List ℕ). AreKept (slice_set places number y) l old.sleepers) (sym noted.0)
-    (kept_other number y but (set_there places number y (within places number x at)) refl refl))
+    (kept_other number y but (set_there places number y (slice_get_within places number x at)) refl refl))
 
-waits_listed : (signals : List Signal) (terms : List ListedTerm) (number time : ℕ) (c : Text) (counters : List ℕ) (wait : Wait) → IsScriptIn signals terms number c counters → IsStand c time wait → IsWaiting terms number wait
+waits_listed : (signals : List Signal) (terms : List ProcessTerm) (number time : ℕ) (c : Text) (counters : List ℕ) (wait : Wait) → IsScriptIn signals terms number c counters → IsValidWait c time wait → IsWaiting terms number wait
 waits_listed signals terms number time c counters (Nothing gait) is h = tt
 waits_listed signals terms number time c counters (Until due) is h = tt
 waits_listed signals terms number time c counters Inactive is h = tt
 waits_listed signals terms number time c counters (Terms n ts) is h = is.listed n ts.now h
 
 -- its own script
-script_of : {Q : Type 0} (d : Parts) (terms : List ListedTerm) (r : RunState Q) (number : ℕ) (q : Process) → Agrees d terms r → StandsElsewhere number q r.watched.events.processes →
+script_of : {Q : Type 0} (d : Parts) (terms : List ProcessTerm) (r : RunState Q) (number : ℕ) (q : Process) → Agrees d terms r → IsMovedFrom number q r.watched.events.processes →
     IsScriptIn d.signals terms number q.script.now (get_or (counters_of r) number [])
 script_of d terms r number q h from =
     subst (λ (c : Text). IsScriptIn d.signals terms number c (get_or (counters_of r) number [])) from.script (h.scripts.each number from.old from.at)
@@ -404,8 +390,8 @@ stood_state r v ps number q set enters =
     ∙ ap₂ (λ (us : List Update) (n : ℕ). record (state_of r) { places = places_of (counters_of r) (slice_set r.watched.events.processes number q); updates = us; time = n }) enters.updates enters.time
     ∙ ap (λ (l : List Place). record (state_of r) { places = l }) (places_set (counters_of r) r.watched.events.processes number q)
 
-pub stood_agrees : {Q : Type 0} (d : Parts) (terms : List ListedTerm) (r : RunState Q) (v : Waiting) (ps : List Process) (number : ℕ) (q : Process) → Agrees d terms r → StandsElsewhere number q r.watched.events.processes →
-    IsStand q.script.now r.regions.time q.wait → ps ≡ slice_set r.watched.events.processes number q → Enters number q.wait r.regions v → Agrees d terms (stood r v ps)
+pub stood_agrees : {Q : Type 0} (d : Parts) (terms : List ProcessTerm) (r : RunState Q) (v : Waiting) (ps : List Process) (number : ℕ) (q : Process) → Agrees d terms r → IsMovedFrom number q r.watched.events.processes →
+    IsValidWait q.script.now r.regions.time q.wait → ps ≡ slice_set r.watched.events.processes number q → Enters number q.wait r.regions v → Agrees d terms (stood r v ps)
 stood_agrees d terms r v ps number q h from stand set enters =
     let old : List Process = r.watched.events.processes in
     let own : IsScriptIn d.signals terms number q.script.now (get_or (counters_of r) number []) = script_of d terms r number q h from in
@@ -419,7 +405,7 @@ stood_agrees d terms r v ps number q h from stand set enters =
           subst (λ (l : List Place). AreKept l v.inactive v.sleepers) (sym (ap (places_of (counters_of r)) set ∙ places_set (counters_of r) old number q))
           (entered_kept number q.wait (todo_on q.script.now (get_or (counters_of r) number []) q.index) (places_of (counters_of r) old) (place_in from.old (get_or (counters_of r) number [])) r.regions v h.kept
           (place_there (counters_of r) old number from.old from.at) (active_told from.old (get_or (counters_of r) number []) ∙ from.active) enters.noted);
-      signals = ap (λ (l : Listed). l.signals) enters.listed ∙ h.signals;
+      signals = ap (λ (l : SlotView). l.signals) enters.listed ∙ h.signals;
       counted = h.counted ∙ sym (ap (λ (l : List Process). length l) set ∙ length-set old number q);
       scripts =
           subst (λ (l : List Process). AreScriptsIn d.signals terms (counters_of r) l) (sym set) (scripts_set d.signals terms (counters_of r) old number q own h.scripts);
@@ -427,7 +413,7 @@ stood_agrees d terms r v ps number q h from stand set enters =
     }
 
 -- a delay that ends later
-pub stand_later : (c : Text) (time : ℕ) (wait : Wait) → IsStand c time wait → IsLater time wait
+pub stand_later : (c : Text) (time : ℕ) (wait : Wait) → IsValidWait c time wait → IsLater time wait
 stand_later c time (Nothing gait) h = tt
 stand_later c time (Until due) h = h
 stand_later c time Inactive h = tt
@@ -438,7 +424,7 @@ stand_later c time (Terms n ts) h = tt
 digits_made : (tables : Tables) (store : Store) (spot : Spot) (ds es : List Digit) (x y : List AssignState) (p q : List Process) → ds ≡ es → Makes tables store (spot_write spot ds) x p y q → Makes tables store (spot_write spot es) x p y q
 digits_made tables store spot ds es x y p q same h = subst (λ (l : List Digit). Makes tables store (spot_write spot l) x p y q) same h
 
-pub wrote_spot : {Q : Type 0} (d : Parts) (terms : List ListedTerm) (r : RunState Q) (v : Watched) (spot : Spot) (value unknown : ℕ) (ds : List Digit) → Agrees d terms r → length ds ≡ spot.width → value ≡ value_plane ds → unknown ≡ unknown_plane ds →
+pub wrote_spot : {Q : Type 0} (d : Parts) (terms : List ProcessTerm) (r : RunState Q) (v : Watched) (spot : Spot) (value unknown : ℕ) (ds : List Digit) → Agrees d terms r → length ds ≡ spot.width → value ≡ value_plane ds → unknown ≡ unknown_plane ds →
     v.store ≡ put r.watched.store (spot_write spot (digits_of_planes spot.width value unknown)) → v.tables ≡ r.watched.tables →
     Makes r.watched.tables r.watched.store (spot_write spot (digits_of_planes spot.width value unknown)) r.watched.events.assigns r.watched.events.processes v.events.assigns v.events.processes →
     MarkChanges r.watched.marks.items v.marks.items r.watched.store v.store → Keeps d terms r (record r { watched = v })
@@ -447,7 +433,7 @@ wrote_spot d terms r v spot value unknown ds h long is_value is_unknown store ta
     wrote d terms r v r.changes (spot_write spot ds) h (store ∙ ap (λ (l : List Digit). put r.watched.store (spot_write spot l)) same) tables
     (digits_made r.watched.tables r.watched.store spot (digits_of_planes spot.width value unknown) ds r.watched.events.assigns v.events.assigns r.watched.events.processes v.events.processes same makes) marked
 
-pub wrote_spot_state : {Q : Type 0} (d : Parts) (terms : List ListedTerm) (r : RunState Q) (v : Watched) (spot : Spot) (value unknown : ℕ) (ds : List Digit) → Agrees d terms r → length ds ≡ spot.width → value ≡ value_plane ds →
+pub wrote_spot_state : {Q : Type 0} (d : Parts) (terms : List ProcessTerm) (r : RunState Q) (v : Watched) (spot : Spot) (value unknown : ℕ) (ds : List Digit) → Agrees d terms r → length ds ≡ spot.width → value ≡ value_plane ds →
     unknown ≡ unknown_plane ds → v.store ≡ put r.watched.store (spot_write spot (digits_of_planes spot.width value unknown)) →
     Makes r.watched.tables r.watched.store (spot_write spot (digits_of_planes spot.width value unknown)) r.watched.events.assigns r.watched.events.processes v.events.assigns v.events.processes →
     state_of (record r { watched = v }) ≡ written (state_of r) (spot_write spot ds)

@@ -34,15 +34,15 @@ use Rattle.vs_process.specs.Scripts.{Does, IsScriptOf, IsStep, Steps, instructio
 use Rattle.vs_process.specs.Spots.{spot_write}
 use Rattle.vs_process.specs.Steps.{Next, Out, after, assignment, branch, goes, on, step, turns_for, wait}
 use Rattle.vs_process.specs.Texts.{Control, HasControl, Text, controls_of}
-use Rattle.vs_run_active.specs.vs_process.specs.States.{State, calls_behind, paused, place_behind, updates_behind, written}
+use Rattle.vs_run_active.specs.vs_process.specs.States.{State, calls_after, paused, place_after_step, updates_after, written}
 use Rattle.vs_run_active.specs.declared.process.Process.{Process}
 use Rattle.vs_run_active.specs.declared.process.Wait.{Wait}
 use Rattle.vs_run_active.specs.declared.process.Wait.TheVariants as w
-use Rattle.vs_run_active.specs.Standings.{place_by}
+use Rattle.vs_run_active.specs.ProcessPlaces.{place_by}
 use Rattle.vs_run_active.specs.Taken.{left_by, placed, text_of_line}
 use Rattle.vs_run_active.proofs.TakenLemmas.{left_call, left_finish, left_line, left_nothing, left_update, left_write}
 use Rattle.std.proofs.lemmas.Option.{slice_get-map}
-use Rattle.vs_run_steps.specs.vs_run_active.specs.declared.watchers.ListedTerm.{ListedTerm}
+use Rattle.vs_run_steps.specs.vs_run_active.specs.declared.watchers.ProcessTerm.{ProcessTerm}
 use Rattle.vs_run_steps.specs.vs_run_active.specs.Waiting.{places_of}
 use Rattle.vs_run_steps.specs.declared.run.RunState.{RunState}
 use Rattle.vs_run_steps.specs.declared.step.Went.{Went}
@@ -143,9 +143,9 @@ Made number (a.Assign spot r) next old new went = (counters_of new ≡ counters_
 Made number (a.AssignAny t e) next old new went = (counters_of new ≡ counters_of old) × (went ≡ On next)
     × (state_of new ≡ written (state_of old) (assignment t.now e.now old.watched.store old.regions.time))
 Made number (a.Update spot r) next old new went = (counters_of new ≡ counters_of old) × (went ≡ On next)
-    × (state_of new ≡ record (state_of old) { updates = updates_behind number old.regions.time (Some (0, spot_write spot (spot_value spot r old.watched.store old.regions.time))) old.regions.updates })
+    × (state_of new ≡ record (state_of old) { updates = updates_after number old.regions.time (Some (0, spot_write spot (spot_value spot r old.watched.store old.regions.time))) old.regions.updates })
 Made number (a.UpdateAny ticks t e) next old new went = (counters_of new ≡ counters_of old) × (went ≡ On next)
-    × (state_of new ≡ record (state_of old) { updates = updates_behind number old.regions.time (Some (ticks.count, assignment t.now e.now old.watched.store old.regions.time)) old.regions.updates })
+    × (state_of new ≡ record (state_of old) { updates = updates_after number old.regions.time (Some (ticks.count, assignment t.now e.now old.watched.store old.regions.time)) old.regions.updates })
 Made number (a.Branch r other) next old new went = (new ≡ old) × (went ≡ On (branch (truth (value_of r.expression old.watched.store old.regions.time)) next other))
 Made number (a.Case all) next old new went = (new ≡ old) × (went ≡ On (led_by all.items next old.watched.store old.regions.time))
 Made number (a.Repeat choice) next old new went =
@@ -153,7 +153,7 @@ Made number (a.Repeat choice) next old new went =
 Made number (a.Turns choice) next old new went = Turned number choice.count (turns_lands choice (counters_at number old)) old new went
 Made number (a.Display format) next old new went = (new ≡ old) × (went ≡ On next)
 Made number (a.Strobe format) next old new went = (counters_of new ≡ counters_of old) × (went ≡ On next)
-    × (state_of new ≡ record (state_of old) { calls = calls_behind number (Some format.now) old.calls.items })
+    × (state_of new ≡ record (state_of old) { calls = calls_after number (Some format.now) old.calls.items })
 Made number a.Finish next old new went = (new ≡ record old { finishing = true }) × (went ≡ On next)
 Made number (a.Delay n ticks) next old new went = (new ≡ old) × (rest : Wait) × (went ≡ Rests next rest) × ((todo : Todo) → place_by rest todo ≡ paused old.regions.time ticks.count todo)
 Made number (a.Wait n terms) next old new went = (new ≡ old) × (went ≡ Rests next (w.Terms n terms))
@@ -321,14 +321,14 @@ assigned_as number next time x spot e old new ds is others state digits now =
     )
 
 pub updated_as : {Q : Type 0} (number next time : ℕ) (x : Action) (spot : Spot) (e : Meaning) (old new : RunState Q) (ds : List Digit) → x ≡ a.Update spot e → new ≡ record old { regions = new.regions } →
-    state_of new ≡ record (state_of old) { updates = updates_behind number old.regions.time (Some (0, spot_write spot ds)) old.regions.updates } → ds ≡ resized false spot.width (value_of e.expression old.watched.store time) →
+    state_of new ≡ record (state_of old) { updates = updates_after number old.regions.time (Some (0, spot_write spot ds)) old.regions.updates } → ds ≡ resized false spot.width (value_of e.expression old.watched.store time) →
     time ≡ old.regions.time → Acts number x next old new (On next)
 updated_as number next time x spot e old new ds is others state digits now =
     acts_as number x (a.Update spot e) next old new (On next) is (
       ap (λ r. counters_of r) others,
       refl,
       state
-          ∙ ap (λ (l : List Digit). record (state_of old) { updates = updates_behind number old.regions.time (Some (0, spot_write spot l)) old.regions.updates })
+          ∙ ap (λ (l : List Digit). record (state_of old) { updates = updates_after number old.regions.time (Some (0, spot_write spot l)) old.regions.updates })
           (digits ∙ ap (λ (t : ℕ). spot_value spot e old.watched.store t) now),
     )
 
@@ -343,14 +343,14 @@ pub delayed_as : {Q : Type 0} (number next time n : ℕ) (x : Action) (ticks : T
 delayed_as number next time n x ticks rest old is place now =
     acts_as number x (a.Delay n ticks) next old old (Rests next rest) is (refl, rest, refl, λ todo. place todo ∙ ap (λ (t : ℕ). paused t ticks.count todo) now)
 
-pub repeat_keeps : {Q : Type 0} (d : Parts) (terms : List ListedTerm) (number : ℕ) (x : Action) (choice : Repeat) (old new : RunState Q) → x ≡ a.Repeat choice → Agrees d terms old → new ≡ record old { counters = new.counters } →
+pub repeat_keeps : {Q : Type 0} (d : Parts) (terms : List ProcessTerm) (number : ℕ) (x : Action) (choice : Repeat) (old new : RunState Q) → x ≡ a.Repeat choice → Agrees d terms old → new ≡ record old { counters = new.counters } →
     counters_of new ≡ slice_set (counters_of old) number (repeat_lands choice (counters_at number old) old.watched.store old.regions.time).counters → Keeps d terms old new
 repeat_keeps d terms number x choice old new is h others set =
     subst (λ r. Keeps d terms old r) (sym others)
     (keeps_counters d terms old new.counters number (repeat_lands choice (counters_at number old) old.watched.store old.regions.time).counters h (sym (ap (λ r. counters_of r) others) ∙ set)
     (turned_long (turns_for choice.signed (value_of choice.e.now old.watched.store old.regions.time)) choice.op.now (counters_at number old)))
 
-pub turn_keeps : {Q : Type 0} (d : Parts) (terms : List ListedTerm) (number : ℕ) (x : Action) (choice : Turns) (old new : RunState Q) → x ≡ a.Turns choice → Agrees d terms old → new ≡ record old { counters = new.counters } →
+pub turn_keeps : {Q : Type 0} (d : Parts) (terms : List ProcessTerm) (number : ℕ) (x : Action) (choice : Turns) (old new : RunState Q) → x ≡ a.Turns choice → Agrees d terms old → new ≡ record old { counters = new.counters } →
     counters_of new ≡ slice_set (counters_of old) number (turns_lands choice (counters_at number old)).counters → Keeps d terms old new
 turn_keeps d terms number x choice old new is h others set =
     subst (λ r. Keeps d terms old r) (sym others)

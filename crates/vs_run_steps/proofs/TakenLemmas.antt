@@ -13,7 +13,7 @@ use Rattle.vs_run_active.specs.vs_process.specs.States.{State}
 use Rattle.vs_run_active.specs.Taken.{AreTaken, step_text}
 use Rattle.vs_vcd_writing.specs.Progress.{Progress}
 use Rattle.vs_vcd_writing.specs.Sinks.{AppendsPart}
-use Rattle.vs_run_steps.specs.Insides.{inside_told, is_told}
+use Rattle.vs_run_steps.specs.Insides.{inside_by_flags, is_block_inside}
 use Rattle.vs_run_steps.specs.Points.{point}
 use Rattle.vs_run_steps.specs.Taken.{TakenPart, TakesSteps}
 use Rattle.vs_run_steps.specs.Turns.{AllTurned, AllTurnedPart, EventTurned, EventTurnedPart, IsReached, Turned}
@@ -68,10 +68,10 @@ taken_reached d (suc n) i s t text h all =
 -- the block that has left its control after so many steps of a process
 abbrev pub inside_after : ℕ → List Bool → Option ℕ → ℕ → State → Option ℕ
 inside_after zero blocks inside i t = inside
-inside_after (suc n) blocks inside i t = inside_told blocks t.places (Step i)
+inside_after (suc n) blocks inside i t = inside_by_flags blocks t.places (Step i)
 
-own_step : (i : ℕ) (blocks : List Bool) (xs : List Place) → is_step_of_any (inside_told blocks xs (Step i)) (Step i) ≡ true
-own_step i blocks xs = by_told (is_told (slice_get blocks i) (slice_get xs i))
+own_step : (i : ℕ) (blocks : List Bool) (xs : List Place) → is_step_of_any (inside_by_flags blocks xs (Step i)) (Step i) ≡ true
+own_step i blocks xs = by_told (is_block_inside (slice_get blocks i) (slice_get xs i))
   where
     by_told : (b : Bool) → is_step_of_any (if b then Some i else None) (Step i) ≡ true
     by_told true = eq-eqb i i refl
@@ -83,7 +83,7 @@ free_after (suc n) blocks inside i t free = own_step i blocks t.places
 
 -- one
 step_turned : (blocks : List Bool) (inside : Option ℕ) (i : ℕ) (s t : State) (writer : Option Progress) (vcd old new : Option (List ℕ)) → is_step_of_any inside (Step i) ≡ true → is_enabled s (Step i) ≡ true →
-    t ≡ apply (Step i) s → Appends old new (step_text s i) → Turned blocks (point inside s writer vcd old) (point (inside_told blocks t.places (Step i)) t writer vcd new)
+    t ≡ apply (Step i) s → Appends old new (step_text s i) → Turned blocks (point inside s writer vcd old) (point (inside_by_flags blocks t.places (Step i)) t writer vcd new)
 step_turned blocks inside i s t writer vcd old new free enabled made printed =
     one_turned blocks inside s t writer vcd old new (Step i) (step_inner i) enabled free made (subst (Appends old new) (sym (step_prints s i)) printed)
 
@@ -108,7 +108,7 @@ taken_known blocks inside (suc n) i s t text writer vcd old free alive h =
 -- one at least
 pub taken_turned : (blocks : List Bool) (inside : Option ℕ) (n i : ℕ) (s t : State) (text : List ℕ) (writer : Option Progress) (vcd old new : Option (List ℕ)) → is_step_of_any inside (Step i) ≡ true →
     s.over ≡ false → 0 < n → AreTaken n i s t text → Appends old new text →
-    AllTurned n blocks (point inside s writer vcd old) (point (inside_told blocks t.places (Step i)) t writer vcd new)
+    AllTurned n blocks (point inside s writer vcd old) (point (inside_by_flags blocks t.places (Step i)) t writer vcd new)
 taken_turned blocks inside zero i s t text writer vcd old new free alive some h printed = absurd (omega (arith, some))
 taken_turned blocks inside (suc n) i s t text writer vcd old new free alive some h printed =
     let before = taken_stands n i s h.0 h.1 h.2 in
@@ -140,7 +140,7 @@ part_taken blocks inside limit i s writer vcd old new free alive h =
 -- ---- those of an event
 
 -- a process that isn't active is no block that has left its control
-not_inside : (blocks : List Bool) (i : ℕ) (t : State) → if_some is_going (slice_get t.places i) ≡ false → inside_told blocks t.places (Step i) ≡ None
+not_inside : (blocks : List Bool) (i : ℕ) (t : State) → if_some is_going (slice_get t.places i) ≡ false → inside_by_flags blocks t.places (Step i) ≡ None
 not_inside blocks i t stopped = by_place (slice_get blocks i) (slice_get t.places i) stopped
   where
     at_place : (x : Place) → is_going x ≡ false → is_inside x ≡ false
@@ -156,7 +156,7 @@ not_inside blocks i t stopped = by_place (slice_get blocks i) (slice_get t.place
     and_false true c h = h
     and_false false c h = refl
 
-    by_place : (block : Option Bool) (x : Option Place) → if_some is_going x ≡ false → (if is_told block x then Some i else None) ≡ None
+    by_place : (block : Option Bool) (x : Option Place) → if_some is_going x ≡ false → (if is_block_inside block x then Some i else None) ≡ None
     by_place None x h = refl
     by_place (Some b) None h = refl
     by_place (Some b) (Some x) h = ap (λ (c : Bool). if c then Some i else None) (and_false b (is_inside x) (at_place x h))
@@ -168,7 +168,7 @@ event_taken blocks limit n i s t old new alive some h =
       within = h.within;
       going = stands.0 ∙ alive;
       time = stands.1;
-      now = inside_told blocks t.places (Step i);
+      now = inside_by_flags blocks t.places (Step i);
       closed = λ fewer. not_inside blocks i t (h.stopped fewer);
       turned = λ writer vcd. taken_turned blocks None n i s t h.text writer vcd old new refl alive some h.all h.printed;
     }

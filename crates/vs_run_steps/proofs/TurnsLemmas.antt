@@ -17,7 +17,7 @@ use Rattle.vs_vcd_writing.specs.Progress.{Progress, vcd_slot}
 use Rattle.vs_vcd_writing.specs.Sinks.{AppendsPart}
 use Rattle.vs_vcd_writing.specs.Text.{vcd_slots}
 use Rattle.vs_vcd_writing.proofs.ProgressLemmas.{vcd_slots-push}
-use Rattle.vs_run_steps.specs.Insides.{inside_told}
+use Rattle.vs_run_steps.specs.Insides.{inside_by_flags}
 use Rattle.vs_run_steps.specs.Points.{Point, point}
 use Rattle.vs_run_steps.specs.Prints.{lines_text}
 use Rattle.vs_run_steps.specs.Recording.{HasNoted}
@@ -38,7 +38,7 @@ no_slot old m s inner d before = (
 
 -- such a step
 pub one_turned : (blocks : List Bool) (inside : Option ℕ) (s t : State) (writer : Option Progress) (vcd old new : Option (List ℕ)) (m : Move) → (m ≡ EndSlot → ⊥) → is_enabled s m ≡ true →
-    is_step_of_any inside m ≡ true → t ≡ apply m s → Appends old new (lines_text (move_lines m s)) → Turned blocks (point inside s writer vcd old) (point (inside_told blocks t.places m) t writer vcd new)
+    is_step_of_any inside m ≡ true → t ≡ apply m s → Appends old new (lines_text (move_lines m s)) → Turned blocks (point inside s writer vcd old) (point (inside_by_flags blocks t.places m) t writer vcd new)
 one_turned blocks inside s t writer vcd old new m inner enabled free made printed = record {
   choice = m;
   enabled = enabled;

@@ -1,15 +1,16 @@
 -- What follows from writes.
-use Rattle.std.proofs.Common.{◌≡◌, ℕ, zero, suc, ◌<◌, if◌then◌else◌, replicate, Bool, true, false, Option, Some, None, List, [], ◌∷◌, ◌++◌, map, length, slice_get, refl, sym, ◌∙◌, ap, ap₂, subst, append-nil, arith}
-use Rattle.std.proofs.lemmas.List.{length-map, length-replicate}
-use Rattle.std.proofs.lemmas.Option.{none-some, same_Some}
+use Rattle.std.proofs.Common.{◌≡◌, ℕ, zero, suc, ◌<◌, if◌then◌else◌, replicate, Bool, true, false, Option, Some, None, List, [], ◌∷◌, ◌++◌, map, length, refl, sym, ◌∙◌, ap, ap₂, subst, append-nil, arith}
+use Rattle.std.proofs.lemmas.Option.{same_Some, slice_get_within}
 use Rattle.vs_design.specs.vs_logic4.specs.declared.digit.Digit.{Digit}
 use Rattle.vs_design.specs.vs_logic4.specs.Vectors.{same_digits}
+use Rattle.vs_design.specs.vs_logic4.proofs.Basics.{same_first, tail_is}
 use Rattle.vs_design.specs.declared.signal.Signal.{Signal}
 use Rattle.vs_design.specs.declared.write.Part.{Part}
 use Rattle.vs_design.specs.InOrder.{IsStoreOf, sizes_of_signals, word_sizes}
 use Rattle.vs_design.specs.Parts.{Parts}
 use Rattle.vs_design.specs.Stores.{Store, put, word_of}
 use Rattle.vs_design.specs.Writes.{Write}
+use Rattle.vs_design.proofs.InOrderLemmas.{head_long as long}
 use Rattle.vs_run_active.specs.vs_eval.specs.declared.masks.WordChange.{WordChange}
 use Rattle.vs_run_active.specs.vs_eval.specs.Differences.{HaveOneSize}
 use Rattle.vs_run_active.specs.vs_eval.specs.Masks.{IsChangeOf, every_word}
@@ -20,8 +21,8 @@ use Rattle.vs_process.specs.Places.{Place}
 use Rattle.vs_run_active.specs.vs_process.specs.States.{AssignState, State, wakened, written}
 use Rattle.vs_run_active.specs.declared.process.Process.{Process}
 use Rattle.vs_run_active.specs.declared.tables.Tables.{Tables}
-use Rattle.vs_run_active.specs.declared.watchers.ListedTerm.{ListedTerm}
-use Rattle.vs_run_active.specs.Standings.{GoneOn}
+use Rattle.vs_run_active.specs.declared.watchers.ProcessTerm.{ProcessTerm}
+use Rattle.vs_run_active.specs.ProcessPlaces.{GoneOn}
 use Rattle.vs_run_active.specs.Waiting.{places_of}
 use Rattle.vs_run_active.proofs.GoneLemmas.{gone_more, gone_none}
 use Rattle.vs_run_active.specs.Wakes.{AreWatched, Wakes}
@@ -79,7 +80,7 @@ pub words_of_part : (store new : Store) (part : Part) (before after : List Digit
     changed_word part.signal part.word (Some before) (Some after) ≡ changed_words store new (part ∷ [])
 words_of_part store new part before after a b = sym (append-nil (changed_part store new part) ∙ part_words store new part before after a b)
 
-pub makes_written : (s : State) (w : Write) (d : Parts) (terms : List ListedTerm) (tables : Tables) (counters : List (List ℕ)) (p p' : List Process) (a' : List AssignState) →
+pub makes_written : (s : State) (w : Write) (d : Parts) (terms : List ProcessTerm) (tables : Tables) (counters : List (List ℕ)) (p p' : List Process) (a' : List AssignState) →
     s.places ≡ places_of counters p → IsMade d terms tables s.store w s.assigns a' p p' → record s { store = put s.store w; assigns = a'; places = places_of counters p' } ≡ written s w
 makes_written s w d terms tables counters p p' a' places h =
     let there : places_of counters p' ≡ map (wakened s.store (put s.store w)) s.places =
@@ -89,39 +90,25 @@ makes_written s w d terms tables counters p p' a' places h =
 
 -- ---- a spot's word
 
-pub within : {A : Type 0} (xs : List A) (i : ℕ) (x : A) → slice_get xs i ≡ Some x → i < length xs
-within [] i x h = absurd (none-some x h)
-within (y ∷ ys) zero x h = omega arith
-within (y ∷ ys) (suc i) x h = let below = within ys i x h in omega (arith, below)
-
 pub spot_signal : (signals : List Signal) (spot : Spot) (n : ℕ) → IsSpotIn signals spot → length signals ≡ n → spot.signal < n
-spot_signal signals spot n h long = let below = within signals spot.signal h.declared h.at in omega (arith, below, long)
+spot_signal signals spot n h long = let below = slice_get_within signals spot.signal h.declared h.at in omega (arith, below, long)
 
 pub spot_word : (signals : List Signal) (spot : Spot) → IsSpotIn signals spot → spot.word < every_word
 spot_word signals spot h = let most = h.declared.counted.1 in let below = h.below in omega (arith, most, below)
 
 -- ---- the words of a store
 
-same_head : {A : Type 0} (x y : A) (xs ys : List A) → (x ∷ xs) ≡ (y ∷ ys) → x ≡ y
-same_head x y xs ys h = cc
-
-same_tail : {A : Type 0} (x y : A) (xs ys : List A) → (x ∷ xs) ≡ (y ∷ ys) → xs ≡ ys
-same_tail x y xs ys h = cc
-
-long : (words : List (List Digit)) (s : Signal) → map length words ≡ replicate s.count s.width → length words ≡ s.count
-long words s h = sym (length-map words length) ∙ ap length h ∙ length-replicate s.count s.width
-
 -- a word that a store has is one of a signal, and its number doesn't stand for all words
 word_there : (signals : List Signal) (store : Store) (signal word : ℕ) (ds : List Digit) → IsStoreOf signals store → word_of store signal word ≡ Some ds → (signal < length signals) × (word < every_word)
 word_there signals [] signal word ds is h = cc
 word_there [] (ws ∷ rest) signal word ds is h = cc
 word_there (s ∷ ss) (ws ∷ rest) zero word ds is h =
-    let size = long ws s (same_head (map length ws) (replicate s.count s.width) (word_sizes rest) (sizes_of_signals ss) is) in
-    let below = within ws word ds h in
+    let size = long ws s (same_first (map length ws) (replicate s.count s.width) (word_sizes rest) (sizes_of_signals ss) is) in
+    let below = slice_get_within ws word ds h in
     let most = s.counted.1 in
     (omega arith, omega (arith, size, below, most))
 word_there (s ∷ ss) (ws ∷ rest) (suc i) word ds is h =
-    let inner = word_there ss rest i word ds (same_tail (map length ws) (replicate s.count s.width) (word_sizes rest) (sizes_of_signals ss) is) h in
+    let inner = word_there ss rest i word ds (tail_is (map length ws) (replicate s.count s.width) (word_sizes rest) (sizes_of_signals ss) is) h in
     let below = inner.0 in
     (omega (arith, below), inner.1)
 
@@ -160,14 +147,14 @@ named_by_write signals store new w cs n is all wrote words =
 -- ---- one change after another
 
 -- what the changes that are left wake of what the others have woken is what all wake
-pub record LeftAt (d : Parts) (terms : List ListedTerm) (tables : Tables) (all left : List Change) (a now : List AssignState) (p p_now : List Process) : Type 0 where
+pub record LeftAt (d : Parts) (terms : List ProcessTerm) (tables : Tables) (all left : List Change) (a now : List AssignState) (p p_now : List Process) : Type 0 where
   pub assigns : woken_changes left now ≡ woken_changes all a
   pub places : (counters : List (List ℕ)) → triggered_changes left (places_of counters p_now) ≡ triggered_changes all (places_of counters p)
   pub gone : GoneOn p p_now
   pub watched : AreWatched d terms tables now p_now
 
 abbrev pub LeftToFollow : Tables → List Change → List Change → List AssignState → List AssignState → List Process → List Process → Type 0
-LeftToFollow tables all left a now p p_now = (d : Parts) (terms : List ListedTerm) → AreWatched d terms tables a p → LeftAt d terms tables all left a now p p_now
+LeftToFollow tables all left a now p p_now = (d : Parts) (terms : List ProcessTerm) → AreWatched d terms tables a p → LeftAt d terms tables all left a now p p_now
 
 pub left_at_first : (tables : Tables) (cs : List Change) (a : List AssignState) (p : List Process) → LeftToFollow tables cs cs a a p p
 left_at_first tables cs a p = λ d terms watched. record { assigns = refl; places = λ counters. refl; gone = gone_none p; watched = watched }

@@ -9,9 +9,9 @@ use Rattle.vs_design.specs.Parts.{Parts}
 use Rattle.vs_process.specs.Texts.{HasControl, Text}
 use Rattle.vs_run_active.specs.vs_process.specs.States.{State}
 use Rattle.vs_run_active.specs.declared.process.Process.{Process}
-use Rattle.vs_run_active.specs.Standings.{GoneOn}
+use Rattle.vs_run_active.specs.ProcessPlaces.{GoneOn}
 use Rattle.vs_run_active.specs.Timelines.{AreKept}
-use Rattle.vs_run_steps.specs.vs_run_active.specs.declared.watchers.ListedTerm.{ListedTerm}
+use Rattle.vs_run_steps.specs.vs_run_active.specs.declared.watchers.ProcessTerm.{ProcessTerm}
 use Rattle.vs_run_steps.specs.vs_run_active.specs.Waiting.{places_of}
 use Rattle.vs_run_steps.specs.vs_run_active.specs.Waking.{terms_at}
 use Rattle.vs_run_steps.specs.vs_run_active.specs.Wakes.{AreWatched}
@@ -22,7 +22,7 @@ use Rattle.vs_run_steps.specs.declared.run.RunState.{RunState}
 -- the design of a run, and the terms of its processes' event controls
 pub record Plan : Type 0 where
   pub design : Parts
-  pub terms : List ListedTerm
+  pub terms : List ProcessTerm
 
 -- what a contract sees of a run, whatever its queue is
 abbrev pub Running : Type 0
@@ -73,17 +73,17 @@ abbrev pub marks_of : {Q : Type 0} → RunState Q → List ℕ
 marks_of r = r.watched.marks.items
 
 -- the script of a process is of a design with these signals and has so many counters, and its event controls have the terms that are listed for them
-pub record IsScriptIn (signals : List Signal) (terms : List ListedTerm) (number : ℕ) (c : Text) (counters : List ℕ) : Type 0 where
+pub record IsScriptIn (signals : List Signal) (terms : List ProcessTerm) (number : ℕ) (c : Text) (counters : List ℕ) : Type 0 where
   pub signals_are : c.signals ≡ signals
   pub counted : length counters ≡ c.counters
   pub listed : (n : ℕ) (ts : List EventTerm) → HasControl c n ts → ts ≡ terms_at number n terms
 
-pub record AreScriptsIn (signals : List Signal) (terms : List ListedTerm) (counters : List (List ℕ)) (processes : List Process) : Type 0 where
+pub record AreScriptsIn (signals : List Signal) (terms : List ProcessTerm) (counters : List (List ℕ)) (processes : List Process) : Type 0 where
   pub each : (number : ℕ) (p : Process) → slice_get processes number ≡ Some p →
       IsScriptIn signals terms number p.script.now (get_or counters number [])
 
 -- the parts of a run agree with each other, and with the design and the terms of its processes' event controls
-pub record PartsAgree (d : Parts) (terms : List ListedTerm) (r : Running) : Type 0 where
+pub record PartsAgree (d : Parts) (terms : List ProcessTerm) (r : Running) : Type 0 where
   pub store : IsStoreOf d.signals r.watched.store
   pub watched : AreWatched d terms r.watched.tables r.watched.events.assigns r.watched.events.processes
   pub rows : length d.signals ≡ length r.watched.tables.rows.items
@@ -93,24 +93,24 @@ pub record PartsAgree (d : Parts) (terms : List ListedTerm) (r : Running) : Type
   pub scripts : AreScriptsIn d.signals terms (counters_of r) r.watched.events.processes
   pub plan : plan_of r ≡ record { design = d; terms = terms }
 
-abbrev pub Agrees : {Q : Type 0} → Parts → List ListedTerm → RunState Q → Type 0
+abbrev pub Agrees : {Q : Type 0} → Parts → List ProcessTerm → RunState Q → Type 0
 Agrees d terms r = PartsAgree d terms (running_of r)
 
 -- so do they where the state is one to which moves of the design lead
-pub record IsRunning (d : Parts) (terms : List ListedTerm) (r : Running) : Type 0 where
+pub record IsRunning (d : Parts) (terms : List ProcessTerm) (r : Running) : Type 0 where
   pub reached : IsReached d (state_of r)
   pub agrees : PartsAgree d terms r
 
-abbrev pub IsRun : {Q : Type 0} → Parts → List ListedTerm → RunState Q → Type 0
+abbrev pub IsRun : {Q : Type 0} → Parts → List ProcessTerm → RunState Q → Type 0
 IsRun d terms r = IsRunning d terms (running_of r)
 
 -- it is a run of a design
 abbrev pub IsRunOf : {Q : Type 0} → Parts → RunState Q → Type 0
-IsRunOf d r = (terms : List ListedTerm) × IsRun d terms r
+IsRunOf d r = (terms : List ProcessTerm) × IsRun d terms r
 
 -- something was done in a run: its parts agree still, at the same time, each process is as it was or has gone on from an event control, and the
 -- signals that changed are marked
-pub record Keeps {Q : Type 0} (d : Parts) (terms : List ListedTerm) (old new : RunState Q) : Type 0 where
+pub record Keeps {Q : Type 0} (d : Parts) (terms : List ProcessTerm) (old new : RunState Q) : Type 0 where
   pub agrees : Agrees d terms new
   pub time : new.regions.time ≡ old.regions.time
   pub gone : GoneOn old.watched.events.processes new.watched.events.processes

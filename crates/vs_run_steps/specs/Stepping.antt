@@ -13,14 +13,14 @@ use Rattle.vs_process.specs.Scripts.{AreSwitchesOf, Does, IsStep, todo_on}
 use Rattle.vs_process.specs.Spots.{IsSpotIn}
 use Rattle.vs_process.specs.Steps.{Next, Out, on}
 use Rattle.vs_process.specs.Texts.{HasControl, Text}
-use Rattle.vs_run_active.specs.vs_process.specs.States.{State, place_behind}
+use Rattle.vs_run_active.specs.vs_process.specs.States.{State, place_after_step}
 use Rattle.vs_run_regions.specs.vs_time_wheel.specs.Bag.{SameBag}
 use Rattle.vs_run_active.specs.declared.process.Process.{Process}
 use Rattle.vs_run_active.specs.declared.process.Wait.{Wait}
 use Rattle.vs_run_active.specs.declared.process.Wait.TheVariants as w
-use Rattle.vs_run_active.specs.Standings.{is_active, place_by}
+use Rattle.vs_run_active.specs.ProcessPlaces.{is_active, place_by}
 use Rattle.vs_run_active.specs.Taken.{AreTaken, left_by, placed}
-use Rattle.vs_run_steps.specs.vs_run_active.specs.declared.watchers.ListedTerm.{ListedTerm}
+use Rattle.vs_run_steps.specs.vs_run_active.specs.declared.watchers.ProcessTerm.{ProcessTerm}
 use Rattle.vs_run_regions.specs.Regions.{Waiting}
 use Rattle.vs_run_steps.specs.declared.run.RunState.{RunState}
 use Rattle.vs_run_steps.specs.declared.step.Went.{Went}
@@ -53,11 +53,11 @@ IsRest c time w.Inactive = Unit {0}
 IsRest c time (w.Terms n terms) = HasControl c n terms.now
 
 -- so does one that may be active
-abbrev pub IsStand : Text → ℕ → Wait → Type 0
-IsStand c time (w.Nothing gait) = Unit {0}
-IsStand c time (w.Until due) = time ≤ due
-IsStand c time w.Inactive = Unit {0}
-IsStand c time (w.Terms n terms) = HasControl c n terms.now
+abbrev pub IsValidWait : Text → ℕ → Wait → Type 0
+IsValidWait c time (w.Nothing gait) = Unit {0}
+IsValidWait c time (w.Until due) = time ≤ due
+IsValidWait c time w.Inactive = Unit {0}
+IsValidWait c time (w.Terms n terms) = HasControl c n terms.now
 
 -- the end of a delay isn't before a time
 abbrev pub IsLater : ℕ → Wait → Type 0
@@ -82,7 +82,7 @@ pub record Enters (number : ℕ) (wait : Wait) (old new : Waiting) : Type 0 wher
 abbrev pub LeadsTo : Text → List ℕ → ℕ → Next → Went → Type 0
 LeadsTo c counters time next (On index) = next ≡ on (todo_on c counters index)
 LeadsTo c counters time next (Rests index wait) =
-    IsRest c time wait × ((gait : Gait) (todo : Todo) → place_behind (going gait todo) time next ≡ place_by wait (todo_on c counters index))
+    IsRest c time wait × ((gait : Gait) (todo : Todo) → place_after_step (going gait todo) time next ≡ place_by wait (todo_on c counters index))
 
 -- a process that stands at an index of its text has taken a step in a run, but for its own place: what comes of the step is done, and where it
 -- leads is told
@@ -98,7 +98,7 @@ pub record Acts {Q : Type 0} (number : ℕ) (action : Action) (next : ℕ) (old 
       IsStepDone number c index old new went
 
 -- a process of this number was active, with the script that this one has
-pub record StandsElsewhere (number : ℕ) (process : Process) (all : List Process) : Type 0 where
+pub record IsMovedFrom (number : ℕ) (process : Process) (all : List Process) : Type 0 where
   pub old : Process
   pub at : slice_get all number ≡ Some old
   pub active : is_active old ≡ true
@@ -114,7 +114,7 @@ gait_at zero gait = gait
 gait_at (suc n) gait = stepped_gait gait
 
 -- a process that began at an index with a gait has taken so many steps in a run, but for its own place, and stands at another index now
-pub record IsStepping {Q : Type 0} (d : Parts) (terms : List ListedTerm) (number : ℕ) (c : Text) (from : ℕ) (gait : Gait) (old : RunState Q) (known : Option (List ℕ))
+pub record IsStepping {Q : Type 0} (d : Parts) (terms : List ProcessTerm) (number : ℕ) (c : Text) (from : ℕ) (gait : Gait) (old : RunState Q) (known : Option (List ℕ))
     (steps index : ℕ) (now : RunState Q) (known_now : Option (List ℕ)) : Type 0 where
   pub first : steps ≡ 0 → index ≡ from
   pub keeps : Keeps d terms old now

@@ -10,7 +10,7 @@ use Rattle.vs_run_active.specs.vs_process.specs.Executions.{after, apply, ended_
 use Rattle.vs_run_active.specs.vs_process.specs.States.{State}
 use Rattle.vs_vcd_writing.specs.Progress.{Progress}
 use Rattle.vs_vcd_writing.specs.Sinks.{AppendsPart}
-use Rattle.vs_run_steps.specs.Insides.{inside_told}
+use Rattle.vs_run_steps.specs.Insides.{inside_by_flags}
 use Rattle.vs_run_steps.specs.Points.{Point, point}
 use Rattle.vs_run_steps.specs.Prints.{lines_text}
 use Rattle.vs_run_steps.specs.Recording.{HasNoted}
@@ -43,7 +43,7 @@ pub record Turned (blocks : List Bool) (old new : Point) : Type 0 where
   pub enabled : is_enabled old.state choice ≡ true
   pub free : is_step_of_any old.inside choice ≡ true
   pub made : new.state ≡ apply choice old.state
-  pub told : new.inside ≡ inside_told blocks new.state.places choice
+  pub told : new.inside ≡ inside_by_flags blocks new.state.places choice
   pub written : (d : Parts) (before : List Slot) → HasNoted old.writer old.vcd d before → HasNoted new.writer new.vcd d (before ++ ended_slot choice old.state)
   pub text : (d : Parts) (before : List Slot) → HasNoted old.writer old.vcd d before → AppendsSlots old.vcd new.vcd d before (ended_slot choice old.state)
   pub lines : Appends old.lines new.lines (lines_text (move_lines choice old.state))

@@ -153,9 +153,17 @@ fn make_evaluation<Q: EventQueue<Due>>(
     give(run, forms, assign, copied.spot, digits, at_once)
 }
 
+/// Whether the update of a continuous assignment may be made with its evaluation, in at most so many moves.
+#[inline(always)]
+pub fn may_follow<Q: EventQueue<Due>>(run: &RunState<Q>, assign: usize, limit: u64) -> bool
+    ensures { result ≡ true → 1 < limit }
+{
+    limit > 1 && run.watched.events.queue.may_follow(assign)
+}
+
 /// The evaluation of a continuous assignment, and at once its update, where that may be: how many moves.
 #[inline(always)]
-pub(crate) fn evaluate_by<Q: EventQueue<Due>>(
+pub fn evaluate<Q: EventQueue<Due>>(
     run: &mut RunState<Q>,
     forms: &Forms,
     assign: usize,
@@ -181,28 +189,6 @@ pub(crate) fn evaluate_by<Q: EventQueue<Due>>(
         }
         Evaluated::Written => Ok(2),
     }
-}
-
-/// The evaluation of a continuous assignment, and its update, where that is the next event: how many moves, at most so many.
-#[inline(always)]
-pub fn evaluate<Q: EventQueue<Due>>(
-    run: &mut RunState<Q>,
-    forms: &Forms,
-    assign: usize,
-    limit: u64,
-) -> Result<u64, AllocError>
-    requires limit { 0 < limit }
-    requires run { IsRunOf forms.now run.old }
-    requires active { executions.is_enabled (state_of run.old) (Move.Evaluate assign) ≡ true }
-    ensures run { OnOk result (IsRunOf forms.now run.new) }
-    ensures some { IfOk result (λ made. 0 < made) }
-    ensures within { IfOk result (λ made. made ≤ limit) }
-    ensures made { IfOk result (λ made. AreMade made (state_of run.old) (state_of run.new)) }
-    ensures one { IfOk result (λ made. made ≡ 1 → state_of run.new ≡ executions.apply (Move.Evaluate assign) (state_of run.old)) }
-    ensures marked { OnOk result (MarkChanges (marks_of run.old) (marks_of run.new) (state_of run.old).store (state_of run.new).store) }
-{
-    let at_once = limit > 1 && run.watched.events.queue.may_follow(assign);
-    evaluate_by(run, forms, assign, limit, at_once)
 }
 
 /// The evaluation of a continuous assignment alone, which isn't listed: whether its value waits to be written.

@@ -46,7 +46,7 @@ impl<'a> Model for Forms<'a> {
 }
 
 /// Whether a signal is one word of a size.
-fn is_whole(design: &Design, signal: usize, width: u32) -> bool
+pub(crate) fn is_whole(design: &Design, signal: usize, width: u32) -> bool
     ensures { result ≡ true → IsSized design.now.signals signal width }
 {
     match design.signals().get(signal) {
@@ -143,6 +143,13 @@ impl<'a> Forms<'a> {
 
     /// Of each whether it is silent: a copy that nothing sees before a wave of updates is over.
     pub fn silent(&self, alloc: Global) -> Result<Vec<bool>, AllocError> {
+        if !self
+            .items
+            .iter()
+            .any(|form| matches!(form, Form::Copy(_, _)))
+        {
+            return Ok(Vec::new(alloc));
+        }
         silent_of(alloc, self.design, &self.items)
     }
 

@@ -8,7 +8,7 @@ ghost use Rattle.vs_run_steps.specs.Turns.{AreMade};
 ghost use Rattle.vs_run_active.specs.Changes.{MarkChanges};
 
 use crate::RunState;
-use crate::assigns::{evaluate_alone, evaluate_by, is_pending, needs, update_member};
+use crate::assigns::{evaluate, evaluate_alone, is_pending, needs, update_member};
 use crate::forms::Forms;
 use std::alloc::AllocError;
 use vs_run_active::vs_process::Move;
@@ -140,7 +140,7 @@ fn copy_group<Q: EventQueue<Due>>(
         };
         if needs(run, assign) {
             let left = limit - taken;
-            let made = evaluate_by(run, forms, assign, left, left > 1)?;
+            let made = evaluate(run, forms, assign, left, left > 1)?;
             taken += made;
         }
     }

@@ -19,7 +19,7 @@ mod steps_writes;
 mod wave;
 mod writes;
 
-pub use assigns::{evaluate, is_pending, needs, propagate};
+pub use assigns::{evaluate, is_pending, may_follow, needs, propagate};
 pub use called::Called;
 pub use dropped::Dropped;
 pub use forms::Forms;

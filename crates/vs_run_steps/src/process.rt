@@ -3,10 +3,10 @@ ghost use Rattle.std.specs.Prelude.{◌≡◌, ◌<◌, ◌≤◌, ◌^◌, true
 ghost use Rattle.vs_process.specs.Places.{is_going};
 ghost use Rattle.vs_process.specs.Scripts.{todo_on};
 ghost use Rattle.vs_run_active.specs.vs_process.specs.Executions as executions;
-ghost use Rattle.vs_run_active.specs.Standings.{is_active, place_by, place_in};
+ghost use Rattle.vs_run_active.specs.ProcessPlaces.{is_active, place_by, place_in};
 ghost use Rattle.vs_run_active.specs.Taken.{placed};
 ghost use Rattle.vs_run_steps.specs.Runs.{Agrees, IsRun, Keeps, Plan, counters_at, state_of};
-ghost use Rattle.vs_run_steps.specs.Stepping.{Enters, HaveTaken, IsLater, IsStand, StandsElsewhere};
+ghost use Rattle.vs_run_steps.specs.Stepping.{Enters, HaveTaken, IsLater, IsValidWait, IsMovedFrom};
 ghost use Rattle.vs_run_steps.specs.Taken.{TakenPart};
 ghost use Rattle.vs_run_steps.specs.vs_run_active.specs.Changes.{MarkChanges};
 ghost use Rattle.vs_vcd_writing.specs.Progress.{is_write_fault};
@@ -57,11 +57,11 @@ fn enter<'a, Q: EventQueue<Due>>(
 impl<'a, Q: EventQueue<Due>> RunState<'a, Q> {
     /// An active process stands elsewhere in its script, and waits so.
     #[inline(always)]
-    fn stand(&mut self, number: usize, process: Process<'a>) -> Result<(), AllocError>
+    fn move_process(&mut self, number: usize, process: Process<'a>) -> Result<(), AllocError>
         ghost plan: { Plan }
         requires agrees { Agrees plan.design plan.terms self.old }
-        requires there { StandsElsewhere number process self.old.watched.events.processes }
-        requires stands { IsStand process.script.now self.old.regions.time process.wait }
+        requires there { IsMovedFrom number process self.old.watched.events.processes }
+        requires stands { IsValidWait process.script.now self.old.regions.time process.wait }
         ensures agrees { OnOk result (Agrees plan.design plan.terms self.new) }
         ensures state { OnOk result (state_of self.new
             ≡ placed (state_of self.old) number (place_in process.entry (counters_at number self.old))) }
@@ -96,7 +96,7 @@ impl<'a, Q: EventQueue<Due>> RunState<'a, Q> {
         ensures taken { IfOk result (λ t. HaveTaken t.steps number (state_of self.old)
             (placed (state_of self.new) number (place_by t.wait (todo_on process.entry.script.now (counters_at number self.new) t.index)))
             (L.bytes lines.old) (L.bytes lines.new)) }
-        ensures stands { IfOk result (λ t. IsStand process.entry.script.now self.old.regions.time t.wait) }
+        ensures stands { IfOk result (λ t. IsValidWait process.entry.script.now self.old.regions.time t.wait) }
         ensures keeps { OnOk result (Keeps plan.design plan.terms self.old self.new) }
         ensures err { OnErr result (TakenPart limit number (state_of self.old) (L.bytes lines.old) (L.bytes lines.new)) }
         ensures failures { L.failed lines.new ≡ failed_after (is_write_fault result) (L.failed lines.old) }
@@ -169,7 +169,7 @@ impl<'a, Q: EventQueue<Due>> RunState<'a, Q> {
             index: taken.index,
             wait: taken.wait,
         };
-        self.stand(number, stands)?;
+        self.move_process(number, stands)?;
         Ok(taken.steps)
     }
 }

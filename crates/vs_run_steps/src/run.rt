@@ -2,7 +2,7 @@
 
 use crate::Watched;
 use crate::called::Called;
-use crate::vs_run_active::ListedTerm;
+use crate::vs_run_active::ProcessTerm;
 use std::alloc::Global;
 use vs_design::Design;
 use vs_process::Change;
@@ -15,7 +15,7 @@ pub struct RunState<'a, Q: EventQueue<Due>> {
     pub alloc: Global,
     pub design: &'a Design,
     /// The terms of its processes' event controls, from which its tables were made.
-    pub terms: Vec<ListedTerm>,
+    pub terms: Vec<ProcessTerm>,
     /// The store, who watches its signals, the continuous assignments and the processes.
     pub watched: Watched<'a>,
     /// The time of the slot, and what waits in it and after it.

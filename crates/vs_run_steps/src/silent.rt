@@ -1,7 +1,7 @@
 //! Copies that nothing sees before a wave of updates is over. Such a wave lasts from where nonblocking updates are activated to the next move of a
 //! region. In it these copies may be made at once: in as many moves, to the same states of what is seen. No contract speaks of it.
 
-use crate::forms::Form;
+use crate::forms::{Form, is_whole};
 use crate::wave::{Wave, wave_of};
 use std::alloc::{AllocError, Global};
 use vs_design::{Assign, BitRange, Design, SignalKind, Typed, reads, writes};
@@ -18,14 +18,6 @@ struct Candidates {
     todo: Vec<usize>,
 }
 
-/// Whether a spot is the whole of a signal.
-fn is_all(design: &Design, spot: &Spot) -> bool {
-    match design.signals().get(spot.signal) {
-        Some(s) => s.width == spot.width && s.words.is_none(),
-        None => false,
-    }
-}
-
 /// Counts a driver of signals: one of a whole signal as one, any other as two.
 fn count_driver(drivers: &mut Vec<usize>, ranges: &[BitRange], whole: bool) {
     for range in ranges {
@@ -40,7 +32,11 @@ fn drivers_of(alloc: Global, design: &Design, forms: &[Form]) -> Result<Vec<usiz
     let mut drivers = vec![in alloc; 0; design.signals().len()]?;
     for (number, assign) in design.assigns().iter().enumerate() {
         let whole = match forms.get(number) {
-            Some(Form::Copy(spot, _) | Form::Fixed(spot, _)) => is_all(design, spot),
+            Some(Form::Copy(spot, _) | Form::Fixed(spot, _)) => is_whole(
+                design,
+                spot.signal,
+                spot.width,
+            ),
             Some(Form::Other) | None => false,
         };
         let ranges = writes(alloc, &assign.target)?;

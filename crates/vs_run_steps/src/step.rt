@@ -7,7 +7,7 @@ ghost use Rattle.vs_eval.specs.Values.{value_of};
 ghost use Rattle.vs_process.specs.vs_strobe.specs.Lines.{full_line};
 ghost use Rattle.vs_process.specs.Choices.{index_of, repeat_lands, turns_lands};
 ghost use Rattle.vs_process.specs.Steps.{branch};
-ghost use Rattle.vs_run_active.specs.vs_process.specs.States.{calls_behind};
+ghost use Rattle.vs_run_active.specs.vs_process.specs.States.{calls_after};
 ghost use Rattle.vs_run_steps.specs.Runs.{Agrees, Keeps, Plan, counters_at, counters_of, state_of};
 ghost use Rattle.vs_run_steps.specs.Stepping.{Acts, IsKnown, action_text};
 ghost use Rattle.vs_vcd_writing.specs.Progress.{is_write_fault};
@@ -108,7 +108,7 @@ impl<'a, Q: EventQueue<Due>> RunState<'a, Q> {
     #[inline(never)]
     fn strobe(&mut self, process: usize, format: &'a Format<'a>) -> Result<(), AllocError>
         ensures state { OnOk result (state_of self.new ≡ record (state_of self.old) {
-          calls = calls_behind process (Some format.entry.now) self.old.calls.items;
+          calls = calls_after process (Some format.entry.now) self.old.calls.items;
         }) }
         ensures others { self.new ≡ record self.old { calls = self.new.calls } }
     {

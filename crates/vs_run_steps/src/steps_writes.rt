@@ -3,7 +3,7 @@ ghost use Rattle.std.specs.Prelude.{◌≡◌, ◌<◌, ◌^◌, [], Some, lengt
 ghost use Rattle.vs_design.specs.vs_logic4.specs.Planes.{ArePlanes, digits_of_planes};
 ghost use Rattle.vs_process.specs.Spots.{IsSpotIn, spot_write};
 ghost use Rattle.vs_process.specs.Steps.{assignment};
-ghost use Rattle.vs_run_active.specs.vs_process.specs.States.{updates_behind, written};
+ghost use Rattle.vs_run_active.specs.vs_process.specs.States.{updates_after, written};
 ghost use Rattle.vs_run_steps.specs.Runs.{Agrees, Keeps, Plan, state_of};
 
 use crate::run::RunState;
@@ -64,7 +64,7 @@ impl<'a, Q: EventQueue<Due>> RunState<'a, Q> {
 
     /// Makes the write of an activated update of any kind, by its number among those.
     #[inline(always)]
-    pub fn write_listed(&mut self, number: usize) -> Result<(), AllocError>
+    pub fn write_activated(&mut self, number: usize) -> Result<(), AllocError>
         ghost plan: { Plan }
         requires agrees { Agrees plan.design plan.terms self.old }
         requires there { number < length self.old.regions.listed.writes }
@@ -107,7 +107,7 @@ impl<'a, Q: EventQueue<Due>> RunState<'a, Q> {
         requires spot { IsSpotIn plan.design.signals spot.now }
         requires size { length digits ≡ spot.now.width }
         ensures state { OnOk result (state_of self.new ≡ record (state_of self.old) {
-          updates = updates_behind process self.old.regions.time (Some (0, spot_write spot.now digits)) self.old.regions.updates;
+          updates = updates_after process self.old.regions.time (Some (0, spot_write spot.now digits)) self.old.regions.updates;
         }) }
         ensures keeps { OnOk result (Keeps plan.design plan.terms self.old self.new) }
         ensures others { self.new ≡ record self.old { regions = self.new.regions } }
@@ -134,7 +134,7 @@ impl<'a, Q: EventQueue<Due>> RunState<'a, Q> {
         requires agrees { Agrees plan.design plan.terms self.old }
         requires early { self.old.regions.time < 2 ^ 62 }
         ensures state { OnOk result (state_of self.new ≡ record (state_of self.old) {
-          updates = updates_behind process self.old.regions.time
+          updates = updates_after process self.old.regions.time
               (Some (ticks.count, assignment target.now e.now self.old.watched.store self.old.regions.time)) self.old.regions.updates;
         }) }
         ensures keeps { OnOk result (Keeps plan.design plan.terms self.old self.new) }

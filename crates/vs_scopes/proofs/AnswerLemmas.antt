@@ -8,7 +8,7 @@ use Rattle.vs_scopes.specs.declared.faults.BodyFault.TheVariants as b
 use Rattle.vs_scopes.specs.declared.faults.ElabFault.{ElabFault}
 use Rattle.vs_scopes.specs.declared.faults.ElabFault.TheVariants.{Memory, At}
 use Rattle.vs_scopes.specs.Printed.{Path}
-use Rattle.vs_scopes.specs.scopes_passes.Answers.{Refuses, Elaborates, Told, IsFaultAt, IsRefusal, Grows}
+use Rattle.vs_scopes.specs.scopes_passes.Answers.{Refuses, Elaborates, IsReported, IsFaultAt, IsRefusal, Grows}
 use Rattle.vs_scopes.proofs.Folds.{flat_more}
 use Rattle.std.proofs.lemmas.List.Concat.{flat_map_single as flat_one}
 
@@ -22,17 +22,17 @@ answered_by stands also P Q (Ok x) good bad h = good x h.0 h.1
 answered_by stands also P Q (Err e) good bad h = refused_by stands also e bad h
 
 -- a fault at a path stands where its reason does
-pub told_at : (Stands : Reason → Path → Type 0) (r : Reason) (p : Path) (e : ElabFault) → Stands r p → IsFaultAt r p e → Told Stands e
+pub told_at : (Stands : Reason → Path → Type 0) (r : Reason) (p : Path) (e : ElabFault) → Stands r p → IsFaultAt r p e → IsReported Stands e
 told_at Stands r p Memory s h = tt
 told_at Stands r p (At q bytes) s h = (p, h.1, subst (λ z. Stands z p) (sym h.0) s)
 
-pub told_by : (Stands Also : Reason → Path → Type 0) (e : ElabFault) → ((r : Reason) (p : Path) → Stands r p → Also r p) → Told Stands e → Told Also e
+pub told_by : (Stands Also : Reason → Path → Type 0) (e : ElabFault) → ((r : Reason) (p : Path) → Stands r p → Also r p) → IsReported Stands e → IsReported Also e
 told_by Stands Also Memory f h = tt
 told_by Stands Also (At r bytes) f h = (h.0, h.1, f r h.0 h.2)
 
 -- a fault of a part of a scope
-pub told_part : (Stands : Reason → Path → Type 0) (stands : Reason → Bool) (p : Path) (f : BodyFault) (e : ElabFault) → ((r : Reason) → stands r ≡ true → Stands r p) → Refuses stands f → IsRefusal p f e → Told Stands e
-told_part Stands stands p b.Memory e g h k = subst (Told Stands) (sym k) tt
+pub told_part : (Stands : Reason → Path → Type 0) (stands : Reason → Bool) (p : Path) (f : BodyFault) (e : ElabFault) → ((r : Reason) → stands r ≡ true → Stands r p) → Refuses stands f → IsRefusal p f e → IsReported Stands e
+told_part Stands stands p b.Memory e g h k = subst (IsReported Stands) (sym k) tt
 told_part Stands stands p (b.Refused r) e g h k = told_at Stands r p e (g r h) k
 
 -- what holds of elements done holds with more behind them
@@ -68,13 +68,13 @@ module _ {A C X : Type 0} (f : X → List A) where
   kept_all Old New xs i h g start done o = subst (λ z. New start (done ++ flat_map f z)) (take_all i xs h) (g start done o)
 
   -- a fault of one element
-  pub kept_fault : (Old Mid : C → List A → Type 0) (Stands : C → List A → Reason → Path → Type 0) (xs : List X) (i : ℕ) (x : X) (e : ElabFault) → i < length xs → x ≡ get_or xs i x → Grown Stands → Kept Old Mid (flat_map f (take i xs)) → ((start : C) (done : List A) → Mid start done → Told (Stands start (done ++ f x)) e) → (start : C) (done : List A) → Old start done → Told (Stands start (done ++ flat_map f xs)) e
+  pub kept_fault : (Old Mid : C → List A → Type 0) (Stands : C → List A → Reason → Path → Type 0) (xs : List X) (i : ℕ) (x : X) (e : ElabFault) → i < length xs → x ≡ get_or xs i x → Grown Stands → Kept Old Mid (flat_map f (take i xs)) → ((start : C) (done : List A) → Mid start done → IsReported (Stands start (done ++ f x)) e) → (start : C) (done : List A) → Old start done → IsReported (Stands start (done ++ flat_map f xs)) e
   kept_fault Old Mid Stands xs i x e h k more g m start done o =
       let before = flat_map f (take i xs) in
       let rest = flat_split f xs i x h k in
       let whole : ((done ++ before) ++ f x) ++ rest.0 ≡ done ++ flat_map f xs = append_assoc (done ++ before) (f x) rest.0 ∙ append_assoc done before (f x ++ rest.0) ∙ ap (λ z. done ++ z) rest.1 in
       let told = told_by _ (Stands start (((done ++ before) ++ f x) ++ rest.0)) e (λ r p s. more start ((done ++ before) ++ f x) rest.0 r p s) (m start (done ++ before) (g start done o)) in
-      subst (λ z. Told (Stands start z) e) whole told
+      subst (λ z. IsReported (Stands start z) e) whole told
 
 -- the same, where each element has one piece
 module _ {A C X : Type 0} (f : X → A) where
@@ -85,6 +85,6 @@ module _ {A C X : Type 0} (f : X → A) where
   pub one_all : (Old New : C → List A → Type 0) (xs : List X) (i : ℕ) → length xs ≤ i → Kept Old New (map f (take i xs)) → Kept Old New (map f xs)
   one_all Old New xs i h g start done o = subst (λ z. New start (done ++ map f z)) (take_all i xs h) (g start done o)
 
-  pub one_fault : (Old Mid : C → List A → Type 0) (Stands : C → List A → Reason → Path → Type 0) (xs : List X) (i : ℕ) (x : X) (e : ElabFault) → i < length xs → x ≡ get_or xs i x → Grown Stands → Kept Old Mid (map f (take i xs)) → ((start : C) (done : List A) → Mid start done → Told (Stands start (done ++ f x ∷ [])) e) → (start : C) (done : List A) → Old start done → Told (Stands start (done ++ map f xs)) e
+  pub one_fault : (Old Mid : C → List A → Type 0) (Stands : C → List A → Reason → Path → Type 0) (xs : List X) (i : ℕ) (x : X) (e : ElabFault) → i < length xs → x ≡ get_or xs i x → Grown Stands → Kept Old Mid (map f (take i xs)) → ((start : C) (done : List A) → Mid start done → IsReported (Stands start (done ++ f x ∷ [])) e) → (start : C) (done : List A) → Old start done → IsReported (Stands start (done ++ map f xs)) e
   one_fault Old Mid Stands xs i x e h k more g m start done o =
-      subst (λ z. Told (Stands start (done ++ z)) e) (flat_one f xs) (kept_fault (λ z. f z ∷ []) Old Mid Stands xs i x e h k more (subst (Kept Old Mid) (sym (flat_one f (take i xs))) g) m start done o)
+      subst (λ z. IsReported (Stands start (done ++ z)) e) (flat_one f xs) (kept_fault (λ z. f z ∷ []) Old Mid Stands xs i x e h k more (subst (Kept Old Mid) (sym (flat_one f (take i xs))) g) m start done o)

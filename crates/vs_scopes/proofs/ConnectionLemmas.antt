@@ -17,6 +17,7 @@ use Rattle.vs_syntax.specs.vs_logic4.proofs.Basics.{or_four as swap, or_none as 
 
 -- ---- names among others
 
+-- whether two names are one is the same from both sides
 pub bytes_eq-sym : (x y : List ℕ) → bytes_eq x y ≡ bytes_eq y x
 bytes_eq-sym x y = by (bytes_eq x y) (bytes_eq y x) refl refl
   where

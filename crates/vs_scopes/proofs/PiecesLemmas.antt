@@ -25,7 +25,7 @@ use Rattle.vs_syntax.specs.declared.tree.ModuleItem.TheVariants.{rolls-Region}
 use Rattle.vs_syntax.specs.declared.tree.ModuleItem.TheViews.{roll-ModuleItem, out-ModuleItem, out-roll-ModuleItem}
 use Rattle.vs_syntax.specs.declared.tree.ModuleItem.TheFolds.{fold-ModuleItem, fold-roll-ModuleItem, map-ModuleItem}
 use Rattle.vs_scopes.specs.Pieces.{NamedBlock, Piece, each_of, blocks_step, blocks_in, blocks_among, pieces_step, pieces_in, pieces_of}
-use Rattle.vs_scopes.specs.pieces_passes.Parts.{blocks_behind, blocks_in_items}
+use Rattle.vs_scopes.specs.pieces_passes.Parts.{blocks_of_else, blocks_in_items}
 
 -- what functions made of values give of those values
 pub each_of_made : {A B : Type 0} (g : A → A → List B) (xs : List A) → each_of (map g xs) xs ≡ flat_map (λ x. g x x) xs
@@ -67,7 +67,7 @@ blocks_Delay d x = blocks_layer (f.Delay d x) _ (s.rolls-Delay d x)
 pub blocks_Event : (v : EventControl) (x : Box Stmt Global) → blocks_in (s.Event v x) ≡ blocks_in x.value
 blocks_Event v x = blocks_layer (f.Event v x) _ (s.rolls-Event v x)
 
-pub blocks_If : (e : Box Expr Global) (x : Box Stmt Global) (o : Option (Box Stmt Global)) → blocks_in (s.If e x o) ≡ blocks_in x.value ++ blocks_behind o
+pub blocks_If : (e : Box Expr Global) (x : Box Stmt Global) (o : Option (Box Stmt Global)) → blocks_in (s.If e x o) ≡ blocks_in x.value ++ blocks_of_else o
 blocks_If e x None = blocks_layer (f.If e x None) _ (rolls-If e x None)
 blocks_If e x (Some y) = blocks_layer (f.If e x (Some y)) _ (rolls-If e x (Some y))
 

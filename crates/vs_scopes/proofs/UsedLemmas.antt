@@ -26,7 +26,7 @@ use Rattle.vs_syntax.specs.declared.tree.PartSelect.{PartSelect}
 use Rattle.vs_syntax.specs.Derivation.{Tree, leaf, both, down, tokens}
 use Rattle.vs_syntax.specs.SourceNames.{else_names}
 use Rattle.vs_syntax.specs.Symbols.{Symbol, a_name}
-use Rattle.vs_syntax.specs.Views.{row_of, commas_tree, listed_tree, link_tree, head_of, arms_of, choice_tree, select_tree, some_tree, expr_step, expr_tree, chosen_tree, left_step, left_tree, net_assignment_tree, end_tree, connection_tree, connections_tree, instance_tree, item_tree, else_tree, module_item_step, module_item_tree, module_tree, directive_tree, directed_trees}
+use Rattle.vs_syntax.specs.Views.{row_of, commas_tree, comma_list_tree, link_tree, head_of, arms_of, choice_tree, select_tree, some_tree, expr_step, expr_tree, chosen_tree, left_step, left_tree, net_assignment_tree, end_tree, connection_tree, connections_tree, instance_tree, item_tree, else_tree, module_item_step, module_item_tree, module_tree, directive_tree, directed_trees}
 use Rattle.vs_scopes.specs.Uses.{Bytes, select_names, expr_names_step, expr_names, select_expr_names, left_names_step, left_names, end_names, connection_names, connections_names, instance_names, assignment_names, names_used_by, used_step, names_used_in, names_used_among, UsedAreTokens}
 use Rattle.std.proofs.lemmas.Bool.{and_from as and_of}
 use Rattle.vs_syntax.specs.vs_logic4.proofs.Basics.{and_left as first_of, and_right as second_of}
@@ -80,7 +80,7 @@ module _ {A : Type 0} (p : Symbol → Bool) (tree : A → Tree) (names : A → B
   commas_named (x ∷ xs) h =
       both_named p (names x) (flat_map names xs) (each x (within (in_left (in_right itself)) h)) (commas_named xs (within (in_right itself) h))
 
-  listed_named : (xs : List A) → Fine p (listed_tree (map tree xs)) → named p (flat_map names xs) ≡ true
+  listed_named : (xs : List A) → Fine p (comma_list_tree (map tree xs)) → named p (flat_map names xs) ≡ true
   listed_named [] h = refl
   listed_named (x ∷ xs) h =
       both_named p (names x) (flat_map names xs) (each x (within (in_left itself) h)) (commas_named xs (within (in_right (in_left itself)) h))

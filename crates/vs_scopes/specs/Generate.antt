@@ -19,7 +19,7 @@ use Rattle.vs_widths.specs.declared.constants.Const.{Const}
 use Rattle.vs_widths.specs.declared.faults.WidthReason.{WidthReason}
 use Rattle.vs_widths.specs.declared.faults.WidthReason.TheVariants.{Unknown, WrongKind}
 use Rattle.vs_widths.specs.Environment.{Environment}
-use Rattle.vs_widths.specs.Findings.{stands}
+use Rattle.vs_widths.specs.Findings.{has_width_fault}
 use Rattle.vs_widths.specs.Meants.{own}
 use Rattle.vs_widths.specs.Constants.{constant_finding, whole_number}
 use Rattle.vs_scopes.specs.vs_widths.specs.Expressions.{meant}
@@ -39,7 +39,7 @@ holds env e = list_any (same_digit One) (own (meant env e) [] 0)
 
 -- a fault of a condition
 abbrev pub condition_fault : Environment → Expr → WidthReason → Bool
-condition_fault env e w = stands w (constant_finding (meant env e))
+condition_fault env e w = has_width_fault w (constant_finding (meant env e))
 
 -- ---- loops
 
@@ -224,15 +224,15 @@ inner_in i env names k (inside b) = named b ∷ []
 inner_in i env names k (net n) = []
 
 -- the number of the next generate construct, behind a piece (clause 12.4.3)
-abbrev pub behind_piece : ℕ → Piece → ℕ
-behind_piece k (loop h x) = suc k
-behind_piece k (choice e x o) = suc k
-behind_piece k _ = k
+abbrev pub after_piece : ℕ → Piece → ℕ
+after_piece k (loop h x) = suc k
+after_piece k (choice e x o) = suc k
+after_piece k _ = k
 
 -- what pieces open, in the order of the text, where the first has this place and the first generate construct this number
 abbrev pub inner_from : ℕ → Environment → List (List ℕ) → ℕ → List Piece → List Inner
 inner_from i env names k [] = []
-inner_from i env names k (p ∷ ps) = inner_in i env names k p ++ inner_from (suc i) env names (behind_piece k p) ps
+inner_from i env names k (p ∷ ps) = inner_in i env names k p ++ inner_from (suc i) env names (after_piece k p) ps
 
 -- ---- faults of generate constructs
 
@@ -264,4 +264,4 @@ construct_fault r env names k _ = false
 -- a fault of one of the generate constructs of a scope, of which the first has this number
 abbrev pub constructs_fault : Reason → Environment → List (List ℕ) → ℕ → List Piece → Bool
 constructs_fault r env names k [] = false
-constructs_fault r env names k (p ∷ ps) = construct_fault r env names k p || constructs_fault r env names (behind_piece k p) ps
+constructs_fault r env names k (p ∷ ps) = construct_fault r env names k p || constructs_fault r env names (after_piece k p) ps

@@ -28,16 +28,16 @@ permits before (g.DefaultNettype Wire) = true
 permits before (g.DefaultNettype Forbidden) = false
 
 -- the same behind directives
-abbrev pub permits_behind : Bool → List Directive → Bool
-permits_behind before [] = before
-permits_behind before (d ∷ ds) = permits_behind (permits before d) ds
+abbrev pub permits_after : Bool → List Directive → Bool
+permits_after before [] = before
+permits_after before (d ∷ ds) = permits_after (permits before d) ds
 
 -- the same in the first module of a name: a directive holds for all modules behind it
 abbrev pub permits_from : Bool → List Module → List ℕ → Bool
 permits_from before [] n = before
 permits_from before (m ∷ ms) n =
-    if bytes_eq n m.name.items then permits_behind before m.directives.items
-    else permits_from (permits_behind before m.directives.items) ms n
+    if bytes_eq n m.name.items then permits_after before m.directives.items
+    else permits_from (permits_after before m.directives.items) ms n
 
 -- whether undeclared names are nets in the first module of a name; without a directive they are (clause 19.2)
 abbrev pub permits_nets : List Module → List ℕ → Bool
@@ -89,20 +89,20 @@ pieces_with_nets true text around ps = with_nets (is_known text around) [] ps
 -- ---- nets that are declared behind their use
 
 -- the names that a piece declares as ports or nets
-abbrev pub told_in : Piece → List (List ℕ)
-told_in (plain (i.Port f ns)) = map (λ (n : Vec ℕ Global). n.items) ns.items
-told_in (plain (i.Wire f ds)) = map (λ (d : Declarator). d.name.items) ds.items
-told_in (net n) = n ∷ []
-told_in _ = []
+abbrev pub nets_in : Piece → List (List ℕ)
+nets_in (plain (i.Port f ns)) = map (λ (n : Vec ℕ Global). n.items) ns.items
+nets_in (plain (i.Wire f ds)) = map (λ (d : Declarator). d.name.items) ds.items
+nets_in (net n) = n ∷ []
+nets_in _ = []
 
 -- the same of pieces, each name with the place of its piece, where the first has this place
-abbrev pub told_from : ℕ → List Piece → List (List ℕ × ℕ)
-told_from place [] = []
-told_from place (p ∷ ps) = map (λ (n : List ℕ). (n, place)) (told_in p) ++ told_from (suc place) ps
+abbrev pub nets_from : ℕ → List Piece → List (List ℕ × ℕ)
+nets_from place [] = []
+nets_from place (p ∷ ps) = map (λ (n : List ℕ). (n, place)) (nets_in p) ++ nets_from (suc place) ps
 
 -- the place of the first piece that declares a name so
-abbrev pub first_told : List Piece → List ℕ → Option ℕ
-first_told ps n = meaning_of (told_from 0 ps) n
+abbrev pub first_net : List Piece → List ℕ → Option ℕ
+first_net ps n = meaning_of (nets_from 0 ps) n
 
 -- whether a place is before another one
 abbrev pub is_before : Option ℕ → ℕ → Bool

@@ -13,7 +13,7 @@ use Rattle.vs_widths.specs.declared.constants.Const.{Const}
 use Rattle.vs_widths.specs.declared.faults.WidthReason.{WidthReason}
 use Rattle.vs_widths.specs.declared.faults.WidthReason.TheVariants.{TooWide, Unknown, NotConstant, WrongKind}
 use Rattle.vs_widths.specs.Environment.{Environment}
-use Rattle.vs_widths.specs.Findings.{Finding, Has, Lacks, stands}
+use Rattle.vs_widths.specs.Findings.{Finding, Has, Lacks, has_width_fault}
 use Rattle.vs_widths.specs.Meants.{Meant, own}
 use Rattle.vs_widths.specs.Selects.{size_found}
 use Rattle.vs_widths.specs.Constants.{constant_finding, constant_in}
@@ -67,13 +67,13 @@ constant_given around env g = constant_by (takes_by env g.0.form) (given_meant a
 
 -- a fault of a parameter in its module: one of what is said of it, or one of its value that nothing overrides
 abbrev pub own_fault : WidthReason → Environment → Given → Bool
-own_fault w env (p, None) = takes_fault w (takes_by env p.form) || stands w (constant_finding (meant env p.value))
+own_fault w env (p, None) = takes_fault w (takes_by env p.form) || has_width_fault w (constant_finding (meant env p.value))
 own_fault w env (p, Some e) = takes_fault w (takes_by env p.form)
 
 -- a fault of what overrides a parameter, in the scope around
 abbrev pub outer_fault : WidthReason → Environment → Given → Bool
 outer_fault w around (p, None) = false
-outer_fault w around (p, Some e) = stands w (constant_finding (meant around e))
+outer_fault w around (p, Some e) = has_width_fault w (constant_finding (meant around e))
 
 -- whether any fault stands
 abbrev pub any_fault : (WidthReason → Bool) → Bool
@@ -102,12 +102,12 @@ known_after zero around env gs = with_given (λ g. b.Pending) gs env
 known_after (suc n) around env gs = with_given (bound_given around (known_after n around env gs)) gs env
 
 -- What names are bound to in a module behind its parameters: in as many rounds as there are parameters each has its value that doesn't need itself.
-abbrev pub known_behind : Environment → Environment → List Given → Environment
-known_behind around env gs = known_after (length gs) around env gs
+abbrev pub known_in_module : Environment → Environment → List Given → Environment
+known_in_module around env gs = known_after (length gs) around env gs
 
 -- the constants that parameters are, each by its name
 abbrev pub constants_of : Environment → Environment → List Given → List (List ℕ × Const)
-constants_of around env gs = map (λ (g : Given). (g.0.name, constant_given around (known_behind around env gs) g)) gs
+constants_of around env gs = map (λ (g : Given). (g.0.name, constant_given around (known_in_module around env gs) g)) gs
 
 -- What a parameter's name is bound to where those are told apart that wait for a value: nothing yet where it isn't a constant itself, or names one of
 -- those; and something that has no value where it has another fault, its own or that of what overrides it.
@@ -122,13 +122,13 @@ abbrev pub blamed_after : ℕ → Environment → Environment → List Given →
 blamed_after zero around env gs = with_given (λ g. b.Pending) gs env
 blamed_after (suc n) around env gs = with_given (blamed_given around (blamed_after n around env gs)) gs env
 
-abbrev pub blamed_behind : Environment → Environment → List Given → Environment
-blamed_behind around env gs = blamed_after (length gs) around env gs
+abbrev pub blamed_in_module : Environment → Environment → List Given → Environment
+blamed_in_module around env gs = blamed_after (length gs) around env gs
 
 -- What names are bound to where a fault of a parameter is looked for: a parameter is no faulty constant because it names one that has another fault.
 abbrev pub known_for : WidthReason → Environment → Environment → List Given → Environment
-known_for NotConstant around env gs = blamed_behind around env gs
-known_for w around env gs = known_behind around env gs
+known_for NotConstant around env gs = blamed_in_module around env gs
+known_for w around env gs = known_in_module around env gs
 
 -- a fault of one of these parameters in their module
 abbrev pub own_faults : WidthReason → Environment → Environment → List Given → Bool

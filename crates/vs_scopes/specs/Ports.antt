@@ -127,13 +127,13 @@ abbrev pub is_name_list : List Port → Bool
 is_name_list [] = false
 is_name_list (p ∷ ps) = is_none p.form
 
-abbrev pub listed_ports : List Piece → Option (Vec Port Global) → List ModulePort
-listed_ports pieces None = []
-listed_ports pieces (Some ps) = if is_name_list ps.items then map (port_by_items pieces) ps.items else ports_from None ps.items
+abbrev pub ports_of_header : List Piece → Option (Vec Port Global) → List ModulePort
+ports_of_header pieces None = []
+ports_of_header pieces (Some ps) = if is_name_list ps.items then map (port_by_items pieces) ps.items else ports_from None ps.items
 
 -- the ports of a module, in their order (clauses 12.3.1 to 12.3.4)
 abbrev pub ports_of : Module → List ModulePort
-ports_of m = listed_ports (pieces_of m.items.items) m.ports
+ports_of m = ports_of_header (pieces_of m.items.items) m.ports
 
 abbrev pub port_names : List ModulePort → List (List ℕ)
 port_names ps = map (λ (p : ModulePort). p.name) ps

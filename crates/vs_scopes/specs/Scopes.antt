@@ -21,10 +21,10 @@ use Rattle.vs_scopes.specs.Pieces.{block_pieces, Piece, plain, pieces_of}
 use Rattle.vs_scopes.specs.Uses.{names_used}
 use Rattle.vs_scopes.specs.Printed.{PathName, plainly, Path, same_path}
 use Rattle.vs_scopes.specs.Connections.{ends_of, is_mismatch}
-use Rattle.vs_scopes.specs.Parameters.{said, parameters_of, parameters_among, Given, given_from, given_to, is_override_mismatch, with_constant, known_behind, constants_of, own_faults, outer_faults, any_fault}
+use Rattle.vs_scopes.specs.Parameters.{said, parameters_of, parameters_among, Given, given_from, given_to, is_override_mismatch, with_constant, known_in_module, constants_of, own_faults, outer_faults, any_fault}
 use Rattle.vs_scopes.specs.Ports.{ModulePort, ports_of, port_names, ports_again}
 use Rattle.vs_scopes.specs.Declarations.{Bindings, DeclaredName, declared_names, names_in, meaning_as, Use, uses_among, genvars_in, inner_names_among, bound_to, unsized_of, valueless_of, early_names}
-use Rattle.vs_scopes.specs.Nets.{permits_nets, Sight, unseen, seen, coming, nothing_seen, coming_paths, pieces_with_nets, first_told, is_before, is_net}
+use Rattle.vs_scopes.specs.Nets.{permits_nets, Sight, unseen, seen, coming, nothing_seen, coming_paths, pieces_with_nets, first_net, is_before, is_net}
 use Rattle.vs_scopes.specs.Generate.{Inner, instance, generated, inner_from, turns_among}
 use Rattle.vs_scopes.specs.Generate as g
 
@@ -151,7 +151,7 @@ sight_by s n told (Some x) = if told && is_net x then coming (named s n) else se
 -- how a name stands in a scope before the piece at a place: only a net has to be declared before it is used so (clauses 4.5 and 12.7; profile)
 abbrev pub sight_in : Scope → ℕ → List ℕ → Sight
 sight_in s place n =
-    if is_before (first_told s.pieces n) place then seen else sight_by s n (is_some (first_told s.pieces n)) (meaning_of s.text n)
+    if is_before (first_net s.pieces n) place then seen else sight_by s n (is_some (first_net s.pieces n)) (meaning_of s.text n)
 
 -- the nets that are declared behind their use in pieces of a scope, of which the first has this place, by their paths
 abbrev pub late_from : Scope → ℕ → List Piece → List Path
@@ -164,7 +164,7 @@ late_nets s = late_from s 0 s.pieces
 
 -- whether a name is that of an implicit net of a scope
 abbrev pub is_implicit : Scope → List ℕ → Bool
-is_implicit s n = is_some (first_told s.pieces n) && is_none (meaning_of s.text n)
+is_implicit s n = is_some (first_net s.pieces n) && is_none (meaning_of s.text n)
 
 -- whether what opens a scope in a scope is a generate block that has the name of an implicit net there (clauses 4.5 and 12.4.3)
 abbrev pub is_named_as_net : Scope → Inner → Bool
@@ -200,8 +200,8 @@ abbrev pub turn_count : List Scope → ℕ
 turn_count ss = sum (map turns_in ss)
 
 -- what stands before a scope that follows these
-abbrev pub behind : Before → List Scope → Before
-behind at ss = record {
+abbrev pub before_following : Before → List Scope → Before
+before_following at ss = record {
   scopes = at.scopes + length ss;
   signals = at.signals + signal_count ss;
   instances = at.instances + instance_count ss;
@@ -232,7 +232,7 @@ top_scope nets m = record {
   ports = ports_of m;
   pieces = module_pieces nets m;
   constants = constants_of nowhere (early m) (given_to None m);
-  known = known_behind nowhere (early m) (given_to None m);
+  known = known_in_module nowhere (early m) (given_to None m);
   within = m.name.items ∷ [];
   home = plainly m.name.items ∷ [];
   around = [];
@@ -257,7 +257,7 @@ instance_scope nets s at u m = record {
   ports = ports_of m;
   pieces = module_pieces nets m;
   constants = constants_of (environment s) (early m) (given_to u.overrides m);
-  known = known_behind (environment s) (early m) (given_to u.overrides m);
+  known = known_in_module (environment s) (early m) (given_to u.overrides m);
   within = m.name.items ∷ s.within;
   home = named s u.name;
   around = s.path;
@@ -301,7 +301,7 @@ block_scope place s at n cs ps = record {
   ports = [];
   pieces = pieces_with_nets s.nets (block_text cs ps) (sight_in s place) ps;
   constants = cs ++ constants_of nowhere (early_block s cs ps) (block_given ps);
-  known = known_behind nowhere (early_block s cs ps) (block_given ps);
+  known = known_in_module nowhere (early_block s cs ps) (block_given ps);
   within = s.within;
   home = s.home;
   around = s.path;
@@ -340,20 +340,20 @@ opened ms s at (generated place n cs xs) = opened_block place s at n cs (pieces_
 opened ms s at (g.named x) = opened_block 0 s at (plainly x.name) [] (block_pieces x)
 
 -- what f lists of a scope that was opened
-abbrev pub listed : {A : Type 0} → (Scope → List A) → Option Scope → List A
-listed f None = []
-listed f (Some s) = f s
+abbrev pub of_opened : {A : Type 0} → (Scope → List A) → Option Scope → List A
+of_opened f None = []
+of_opened f (Some s) = f s
 
 -- The scopes of instances and blocks in a scope, and what f lists below each of them, in design order: with so much before them.
 abbrev pub below : List Module → (Scope → List Scope) → Scope → Before → List Inner → List Scope
 below ms f s at [] = []
 below ms f s at (x ∷ xs) =
-    let inner = listed f (opened ms s at x) in
-    inner ++ below ms f s (behind at inner) xs
+    let inner = of_opened f (opened ms s at x) in
+    inner ++ below ms f s (before_following at inner) xs
 
 -- what stands before the first scope in a scope
 abbrev pub within_first : Scope → Before
-within_first s = behind (before s) (s ∷ [])
+within_first s = before_following (before s) (s ∷ [])
 
 -- a scope and those inside it down to so many levels, in design order: its own members first, then its instances and blocks in the order of the text,
 -- each whole
@@ -376,7 +376,7 @@ opened_top nets (Some m) = if has_no_values nowhere None m then None else Some (
 
 -- The scopes of a source with a top in design order, down to one level more than a design may have (clause 12).
 abbrev pub scopes_of : List Module → List ℕ → List Scope
-scopes_of ms top = listed (scopes_within deepest ms) (opened_top (permits_nets ms top) (module_named ms top))
+scopes_of ms top = of_opened (scopes_within deepest ms) (opened_top (permits_nets ms top) (module_named ms top))
 
 -- what names are bound to in the scope of a path, among scopes (clause 12.7)
 abbrev pub environment_at : List Scope → Path → Environment

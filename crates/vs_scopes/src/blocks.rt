@@ -3,7 +3,7 @@ ghost use Rattle.std.specs.Prelude.{◌≡◌, [], ◌∷◌, ◌++◌, map, IfO
 ghost use Rattle.std.specs.List.{flat_map};
 ghost use Rattle.vs_scopes.specs.Pieces.{blocks_in, blocks_among, blocks_of};
 ghost use Rattle.vs_scopes.specs.Reads.{read_block};
-ghost use Rattle.vs_scopes.specs.pieces_passes.Parts.{blocks_behind, blocks_in_items};
+ghost use Rattle.vs_scopes.specs.pieces_passes.Parts.{blocks_of_else, blocks_in_items};
 
 use std::alloc::{AllocError, Global};
 use vs_syntax::{CaseLabel, Item, LocalDeclaration, Stmt};
@@ -52,7 +52,7 @@ fn add_blocks<'s>(blocks: &mut Vec<NamedBlock<'s>>, s: &'s Stmt) -> Result<(), A
         Stmt::Named(name, locals, inner) => add_block(blocks, name, locals, inner),
         Stmt::If(_, x, other) => {
             add_blocks(blocks, x)?;
-            add_blocks_behind(blocks, other)
+            add_else_blocks(blocks, other)
         }
         Stmt::Case(_, _, items) => add_blocks_in_items(blocks, items),
         Stmt::For(_, x) => add_blocks(blocks, x),
@@ -83,12 +83,12 @@ fn add_blocks_among<'s>(blocks: &mut Vec<NamedBlock<'s>>, all: &'s [Stmt]) -> Re
 /// Adds the outermost named blocks of the statement behind `else`, where there is one.
 #[cycle(blocks)]
 #[inline(never)]
-fn add_blocks_behind<'s>(
+fn add_else_blocks<'s>(
     blocks: &mut Vec<NamedBlock<'s>>,
     other: &'s Option<Box<Stmt>>,
 ) -> Result<(), AllocError>
     ensures { OnOk result (map read_block blocks.new.items
-        ≡ map read_block blocks.old.items ++ blocks_behind other.entry.now) }
+        ≡ map read_block blocks.old.items ++ blocks_of_else other.entry.now) }
 {
     match other {
         Some(s) => add_blocks(blocks, s),

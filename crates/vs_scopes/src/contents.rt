@@ -60,7 +60,7 @@ fn add_names<'s>(names: &mut Vec<&'s [u8]>, item: &'s ModuleItem) -> Result<(), 
     match item {
         ModuleItem::If(_, x, other) => {
             add_names(names, x)?;
-            add_names_behind(names, other)
+            add_else_names(names, other)
         }
         ModuleItem::Block(name, _) => add_name(names, name),
         _ => Ok(()),
@@ -70,7 +70,7 @@ fn add_names<'s>(names: &mut Vec<&'s [u8]>, item: &'s ModuleItem) -> Result<(), 
 /// Adds the names of the blocks that stand behind `else`.
 #[cycle(names)]
 #[inline(never)]
-fn add_names_behind<'s>(
+fn add_else_names<'s>(
     names: &mut Vec<&'s [u8]>,
     other: &'s Option<Box<ModuleItem>>,
 ) -> Result<(), AllocError>
@@ -94,6 +94,6 @@ pub fn branch_names<'s>(
 {
     let mut names = Vec::new(alloc);
     add_names(&mut names, first)?;
-    add_names_behind(&mut names, other)?;
+    add_else_names(&mut names, other)?;
     Ok(names)
 }

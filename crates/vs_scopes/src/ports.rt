@@ -2,7 +2,7 @@
 ghost use Rattle.std.specs.Prelude.{◌≡◌, ℕ, List, map, Some, None, IfOk};
 ghost use Rattle.vs_scopes.specs.Pieces.{Piece as GivenPiece};
 ghost use Rattle.vs_scopes.specs.Reads.{read_piece};
-ghost use Rattle.vs_scopes.specs.Ports.{kind_of_port, port_as, ports_from, port_said, kind_said, is_name_list, port_of_items, port_by_items, listed_ports};
+ghost use Rattle.vs_scopes.specs.Ports.{kind_of_port, port_as, ports_from, port_said, kind_said, is_name_list, port_of_items, port_by_items, ports_of_header};
 ghost use Rattle.vs_scopes.specs.scopes_passes.Parts.{read_end, read_port};
 ghost use Rattle.vs_scopes.specs.scopes_passes.Declared.{read_said, ArePortForms, AreKinds};
 
@@ -182,7 +182,7 @@ pub fn module_ports<'s>(
     pieces: &[ScopePiece<'s>],
 ) -> Result<Vec<ModulePort<'s>>, AllocError>
     ensures { IfOk result (λ v. map read_port v.items
-        ≡ listed_ports (map read_piece pieces.now) «module».entry.now.ports) }
+        ≡ ports_of_header (map read_piece pieces.now) «module».entry.now.ports) }
 {
     let Some(list) = &module.ports else {
         return Ok(Vec::new(alloc));

@@ -52,7 +52,7 @@ abbrev pub listing : Parts → List ℕ
 listing d = flat_map signal_line d.signals ++ flat_map assign_line d.assigns ++ flat_map process_line d.processes
 
 -- the listing of the design that bytes and a top define was appended to the known bytes of a sink
-pub record IsListed (bytes top : List ℕ) (old new : Option (List ℕ)) : Type 0 where
+pub record IsListing (bytes top : List ℕ) (old new : Option (List ℕ)) : Type 0 where
   pub design : Parts
   pub defined : Defines bytes top design
   pub written : Appends old new (listing design)

@@ -3,7 +3,7 @@ ghost use Rattle.std.specs.Prelude.{◌≡◌, ◌++◌, ◌∷◌, [], true, fa
 ghost use Rattle.std.specs.List.{flat_map};
 ghost use Rattle.vs_kernel.specs.vs_vcd_writing.specs.Sinks.{failed_after};
 ghost use Rattle.vs_simulate.specs.Honesty.{SimulationFails, is_refusal, is_write};
-ghost use Rattle.vs_simulate.specs.Listing.{kind_word, sign_word, process_word, spaced, signal_line, assign_line, process_line, listing, IsListed, HasBegunListing};
+ghost use Rattle.vs_simulate.specs.Listing.{kind_word, sign_word, process_word, spaced, signal_line, assign_line, process_line, listing, IsListing, HasBegunListing};
 
 use crate::fault::SimFault;
 use crate::simulation::design_of;
@@ -116,7 +116,7 @@ pub fn list_design<'s, L: Sink>(
     top: &[u8],
     lines: &mut L,
 ) -> Result<(), SimFault<'s>>
-    ensures listed { IfOk result (λ _. IsListed source.entry.now top.now (L.bytes lines.old) (L.bytes lines.new)) }
+    ensures listed { IfOk result (λ _. IsListing source.entry.now top.now (L.bytes lines.old) (L.bytes lines.new)) }
     ensures fault { IfErr result (λ fault. SimulationFails source.entry.now top.now fault) }
     ensures refused { IfErr result (λ fault. is_refusal fault ≡ true → lines.new ≡ lines.old) }
     ensures begun { IfErr result (λ fault. is_refusal fault ≡ false →

@@ -17,7 +17,7 @@ use Rattle.vs_process.specs.Numbers.{number_next, number_of}
 use Rattle.vs_process.specs.Stops.{Stop, next_statement, IsText}
 use Rattle.vs_maps.specs.vs_rules.specs.Claims.{Claims, Kind, is_wide, HasLists, IsDelay, IsWriter}
 use Rattle.vs_maps.specs.vs_rules.specs.Constants.{bit_of, given_by, todo_assigns, Gives}
-use Rattle.vs_maps.specs.vs_rules.specs.Paths.{ListsSignal, RunsBehind, WritesNow, WritesAny, todo_now, todo_later, statement_now, statement_later}
+use Rattle.vs_maps.specs.vs_rules.specs.Paths.{ListsSignal, RunsFrom, WritesNow, WritesAny, todo_now, todo_later, statement_now, statement_later}
 use Rattle.vs_maps.specs.vs_rules.specs.Slots.{counts, Ends, Fires, HasSlot, RunsByDelays}
 use Rattle.vs_claims.specs.vs_maps.proofs.EachPoint.{now_here, later_here}
 use Rattle.vs_claims.specs.vs_maps.proofs.Texts.{place_of, place_back}
@@ -28,7 +28,7 @@ use Rattle.vs_slots.proofs.RunLemmas.{runs_are_exact}
 
 -- run slots of a process of kind delay
 pub by_lists : (d : Parts) (c : Claims) (i : ℕ) (lists : List (List ℕ)) (k : Todo) (r : ℕ) → HasLists d c i lists → (HasSlot d c i k r ↔ RunsByDelays d (is_wide c) i lists k r)
-by_lists d c i lists k r has = subst (λ (x : Option Kind). (RunsBehind d (is_wide c) i (Ends d c i x) k r ↔ RunsByDelays d (is_wide c) i lists k r)) (sym has) (λ h. h, λ h. h)
+by_lists d c i lists k r has = subst (λ (x : Option Kind). (RunsFrom d (is_wide c) i (Ends d c i x) k r ↔ RunsByDelays d (is_wide c) i lists k r)) (sym has) (λ h. h, λ h. h)
 
 terms_are : (d : Parts) (c : Claims) (t : EventTerm) (r : ℕ) → (TermFires d c t r ↔ Fires d c t r)
 terms_are d c t r = (

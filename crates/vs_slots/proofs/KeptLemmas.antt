@@ -1,10 +1,10 @@
 -- What is kept of run slots, and run slots of places.
-use Rattle.std.proofs.Common.{◌≡◌, ℕ, zero, suc, ◌+◌, ◌<◌, ◌≤◌, ◌⊎◌, ◌↔◌, inl, inr, true, Option, Some, None, List, [], ◌∷◌, ◌++◌, length, get_or, slice_get, refl, sym, ◌∙◌, ap, subst, arith}
+use Rattle.std.proofs.Common.{◌≡◌, ℕ, zero, suc, ◌+◌, ◌<◌, ◌≤◌, ◌↔◌, inl, inr, true, Option, Some, None, List, [], ◌∷◌, ◌++◌, length, get_or, slice_get, refl, sym, ◌∙◌, ap, subst, arith}
 use Rattle.std.specs.Prelude.{Result, IfOk}
 use Rattle.std.specs.List.{Contains}
 use Rattle.std.specs.declared.vec.Vec.{Vec}
 use Rattle.std.specs.declared.alloc.Global.{Global}
-use Rattle.std.proofs.lemmas.Bool.{false≢true}
+use Rattle.std.proofs.lemmas.Bool.{false≢true, cases_lt}
 use Rattle.std.proofs.lemmas.Option.{none-some, same_Some, slice_get_past, slice_get_within, slice_get-get_or}
 use Rattle.std.proofs.lemmas.Result.{IfOk-weaker}
 use Rattle.vs_design.specs.vs_logic4.specs.declared.digit.Digit.{Digit}
@@ -32,6 +32,7 @@ use Rattle.vs_claims.specs.vs_maps.specs.Reaches.{Chart, IsPlace, pause_at, plac
 use Rattle.vs_claims.specs.vs_maps.proofs.Texts.{place_of, place_back}
 use Rattle.vs_claims.specs.vs_maps.proofs.WalkLemmas.{place_below}
 use Rattle.vs_claims.specs.Facts.{Case, AreCharts}
+use Rattle.vs_design.specs.vs_logic4.proofs.Basics.{there as there_is}
 use Rattle.vs_slots.specs.declared.roots.Firing.{Firing}
 use Rattle.vs_slots.specs.declared.runs.Runs.{Runs}
 use Rattle.vs_slots.specs.Firing.{RootFires}
@@ -43,14 +44,9 @@ use Rattle.vs_slots.specs.Seen.{seen_by}
 use Rattle.vs_slots.specs.Terms.{TermsFire}
 use Rattle.vs_slots.proofs.FiringLemmas.{firing_is_exact, now_exact, now_numbered}
 use Rattle.vs_slots.proofs.SeenLemmas.{seen_is}
-use Rattle.vs_slots.proofs.RunLemmas.{ends_as, fired_runs, listed_runs, runs_alone, runs_are_exact, runs_parts}
+use Rattle.vs_slots.proofs.RunLemmas.{ends_as, fired_runs, runs_by_lists, runs_alone, runs_are_exact, runs_parts}
 
 -- ---- numbers within
-
-pub there_is : {A : Type 0} (xs : List A) (i : ℕ) → i < length xs → (x : A) × (slice_get xs i ≡ Some x)
-there_is [] i h = absurd (omega (arith, h))
-there_is (x ∷ xs) zero h = (x, refl)
-there_is (x ∷ xs) (suc i) h = there_is xs i (omega (arith, h))
 
 -- the process of a chart
 pub process_of : (f : Case) (i : ℕ) (t : Chart) → AreCharts f.design f.charts → slice_get f.charts i ≡ Some t → (q : Process) × (slice_get f.design.processes i ≡ Some q)
@@ -110,7 +106,7 @@ pub listed_are : (f : Case) (i : ℕ) (q : Process) (t : Chart) (lists : List (L
     AreRuns (Plain (is_wide f.claims)) (DelayPauseEnds f.design f.claims i) t before ends
 listed_are f i q t lists before ends inside is has h =
     let e : list_of (controls_of f.design i) lists ≡ list_of (controls_in q.body) lists = ap (λ (x : Option Process). list_of (controls_at x) lists) is in
-    listed_runs f.design f.claims i lists t before ends has inside (subst (λ (l : ℕ → List ℕ). AreRunsBy (Plain (is_wide f.claims)) (DelayEndsBy l) t before ends) (sym e) h)
+    runs_by_lists f.design f.claims i lists t before ends has inside (subst (λ (l : ℕ → List ℕ). AreRunsBy (Plain (is_wide f.claims)) (DelayEndsBy l) t before ends) (sym e) h)
 
 terms_end : (d : Parts) (c : Claims) (pause : Pause) (r : ℕ) → (TermsEnd d c pause r ↔ EdgeEnds d c (next_by pause []) r)
 terms_end d c none r = (λ y. absurd (omega (arith, y.1.1)), λ h. absurd h)
@@ -224,9 +220,6 @@ writes_are f waiting fired u r maps both = (there, back) where
         ),
       )
 
-below_or_past : (u n : ℕ) → (u < n) ⊎ (n ≤ u)
-below_or_past u n = grind arith
-
 row_past : (xs : List (Vec ℕ Global)) (u r : ℕ) → length xs ≤ u → Contains (row (rows xs) u) r → ⊥
 row_past [] u r h c = omega (arith, c.1)
 row_past (x ∷ xs) zero r h c = omega (arith, h)
@@ -234,7 +227,7 @@ row_past (x ∷ xs) (suc u) r h c = row_past xs u r (omega (arith, h)) c
 
 -- of a signal past the end too
 pub write_slots_are : (f : Case) (table : List (Vec ℕ Global)) (u r : ℕ) → AreWriteSlots f table → (Contains (row (rows table) u) r ↔ HasWriteSlot f.design f.claims u r)
-write_slots_are f table u r h = elim (below_or_past u (length f.design.signals)) [
+write_slots_are f table u r h = elim (cases_lt u (length f.design.signals)) [
   | inl l ↦ h.1 u r l
   | inr p ↦ (λ c. absurd (row_past table u r (omega (arith, p, h.0)) c), λ w. absurd (omega (arith, p, write_within f.design f.claims u r w)))
 ]
@@ -341,14 +334,6 @@ terms_in f x terms r are = (
 
 -- ---- tables, row by row
 
--- what holds of each element, and of one more
-pub each_more : {A : Type 0} (P : ℕ → A → Type 0) (xs : List A) (x : A) → ((k : ℕ) (y : A) → slice_get xs k ≡ Some y → P k y) → P (length xs) x →
-    (k : ℕ) (y : A) → slice_get (xs ++ x ∷ []) k ≡ Some y → P k y
-each_more P [] x before here zero y is = subst (P 0) (same_Some x y is) here
-each_more P [] x before here (suc k) y is = absurd (none-some y is)
-each_more P (z ∷ xs) x before here zero y is = before 0 y is
-each_more P (z ∷ xs) x before here (suc k) y is = each_more (λ n w. P (suc n) w) xs x (λ n w e. before (suc n) w e) here k y is
-
 -- the same of what is read, past the end too
 pub read_more : (P : ℕ → Option Clock → Type 0) (xs : List (Option Clock)) (x : Option Clock) → ((k : ℕ) → k < length xs → P k (get_or xs k None)) → P (length xs) x →
     (k : ℕ) → k < length xs + 1 → P k (get_or (xs ++ x ∷ []) k None)
@@ -356,10 +341,6 @@ read_more P [] x before here zero h = here
 read_more P [] x before here (suc k) h = absurd (omega (arith, h))
 read_more P (z ∷ xs) x before here zero h = before 0 (omega arith)
 read_more P (z ∷ xs) x before here (suc k) h = read_more (λ n w. P (suc n) w) xs x (λ n l. before (suc n) (omega (arith, l))) here k (omega (arith, h))
-
--- an element at a place
-pub found : {A : Type 0} (xs : List A) (i : ℕ) (x : A) → i < length xs → x ≡ get_or xs i x → slice_get xs i ≡ Some x
-found xs i x h e = slice_get-get_or xs i x h ∙ ap Some (sym e)
 
 -- what holds of an element at a place
 pub at_element : {A : Type 0} (P : A → Type 0) (xs : List A) (i : ℕ) (d : A) → i < length xs → (P (get_or xs i d) ↔ ((x : A) × (slice_get xs i ≡ Some x) × P x))

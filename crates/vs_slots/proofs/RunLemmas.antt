@@ -5,12 +5,12 @@ use Rattle.vs_design.specs.Parts.{Parts}
 use Rattle.vs_process.specs.Numbers.{number_next}
 use Rattle.vs_process.specs.Places.{Todo, flat}
 use Rattle.vs_process.specs.Steps.{Next}
-use Rattle.vs_process.specs.Stops.{Stop, stop_at, stop_statement, stops_tos, stops_behind, IsText}
+use Rattle.vs_process.specs.Stops.{Stop, stop_at, stop_statement, stops_tos, stops_next, IsText}
 use Rattle.vs_process.specs.Ways.{Pause, none, delay, event, next_by}
 use Rattle.vs_maps.specs.vs_rules.specs.Points.{Goes, nexts_by}
 use Rattle.vs_maps.specs.vs_rules.specs.Claims.{Claims, Kind, block, edges, delays, mixed, is_wide, kind_of, HasMixedLists, IsDelay, WaitsForEdges, WaitsForTimes}
 use Rattle.vs_maps.specs.vs_rules.specs.Controls.{controls_of, list_of}
-use Rattle.vs_maps.specs.vs_rules.specs.Paths.{PathBy, RunsBehind, is_plain}
+use Rattle.vs_maps.specs.vs_rules.specs.Paths.{PathBy, RunsFrom, is_plain}
 use Rattle.vs_maps.specs.vs_rules.specs.Slots.{DelayEnds, EdgeEnds, Ends, HasSlot, RunsByDelays, RunsByEdges}
 use Rattle.vs_claims.specs.vs_maps.specs.declared.along.Along.{Along}
 use Rattle.vs_claims.specs.vs_maps.specs.declared.along.Along.TheVariants.{Plain}
@@ -94,14 +94,14 @@ events_end d c i next r (inr (lists, e), h) = subst (λ (k : Option Kind). Ends 
 walk_as : (t : Chart) (along : Along) (sort other : ℕ → Type 0) (p : ℕ) → ((q : ℕ) → sort q → other q) → WalkFrom t along sort p → WalkFrom t along other p
 walk_as t along sort other p f w = record { from = w.from; to = w.to; is_place = w.is_place; starts = f w.from w.starts; leads = w.leads; reached = w.reached }
 
-runs_as : (d : Parts) (wide : Bool) (i : ℕ) (one other : Next → ℕ → Type 0) (k : Todo) (r : ℕ) → ((next : Next) → one next r → other next r) → RunsBehind d wide i one k r →
-    RunsBehind d wide i other k r
+runs_as : (d : Parts) (wide : Bool) (i : ℕ) (one other : Next → ℕ → Type 0) (k : Todo) (r : ℕ) → ((next : Next) → one next r → other next r) → RunsFrom d wide i one k r →
+    RunsFrom d wide i other k r
 runs_as d wide i one other k r f h = record { at = h.at; next = h.next; point = h.point; goes = h.goes; starts = f h.next h.starts; path = h.path }
 
 module _ (d : Parts) (wide : Bool) (i : ℕ) (can_end : Next → ℕ → Type 0) (alike : (pause : Pause) (l m : Todo) (r : ℕ) → can_end (next_by pause l) r → can_end (next_by pause m) r)
     (q : Process) (stops : List Stop) (start : ℕ) (t : IsText q.body stops start) (is : slice_get d.processes i ≡ Some q) where
   -- a run slot of a point is one of a place of it
-  on_by : (k : Todo) (r : ℕ) → RunsBehind d wide i can_end k r → (p : ℕ) × HasRunBy (Plain wide) (λ pause s. can_end (next_by pause []) s) (record { stops = stops; start = start }) p r × (t.at p ≡ k)
+  on_by : (k : Todo) (r : ℕ) → RunsFrom d wide i can_end k r → (p : ℕ) × HasRunBy (Plain wide) (λ pause s. can_end (next_by pause []) s) (record { stops = stops; start = start }) p r × (t.at p ≡ k)
   on_by k r h =
       let a = place_of d i q stops start t is h.at h.point in
       let s = step_on q.body stops start t a.0 h.next (subst (λ (z : Todo). Goes z h.next) (sym a.2) h.goes) in
@@ -120,7 +120,7 @@ module _ (d : Parts) (wide : Bool) (i : ℕ) (can_end : Next → ℕ → Type 0)
         w.2,
       )
 
-  back_by : (p r : ℕ) → HasRunBy (Plain wide) (λ pause s. can_end (next_by pause []) s) (record { stops = stops; start = start }) p r → RunsBehind d wide i can_end (t.at p) r
+  back_by : (p r : ℕ) → HasRunBy (Plain wide) (λ pause s. can_end (next_by pause []) s) (record { stops = stops; start = start }) p r → RunsFrom d wide i can_end (t.at p) r
   back_by p r h =
       let pause = pause_of (stop_statement (stop_at stops h.from)) in record {
         at = t.at h.from;
@@ -133,10 +133,10 @@ module _ (d : Parts) (wide : Bool) (i : ℕ) (can_end : Next → ℕ → Type 0)
       }
 
   exact_by : (p n r : ℕ) → number_next (t.at p) ≡ Some n →
-      (HasRunBy (Plain wide) (λ pause s. can_end (next_by pause []) s) (record { stops = stops; start = start }) p r ↔ RunsBehind d wide i can_end (t.at p) r)
+      (HasRunBy (Plain wide) (λ pause s. can_end (next_by pause []) s) (record { stops = stops; start = start }) p r ↔ RunsFrom d wide i can_end (t.at p) r)
   exact_by p n r numbered = (
     back_by p r,
-    λ h. same_place (flat q.body) t.at start (stops_behind stops) (stops_tos stops) t.is_map
+    λ h. same_place (flat q.body) t.at start (stops_next stops) (stops_tos stops) t.is_map
         (λ p. HasRunBy (Plain wide) (λ pause s. can_end (next_by pause []) s) (record { stops = stops; start = start }) p r) p n numbered (on_by (t.at p) r h),
   )
 
@@ -157,7 +157,7 @@ delays_alike : (d : Parts) (c : Claims) (i : ℕ) (pause : Pause) (l m : Todo) (
 delays_alike d c i pause l m r y = (y.0, y.1, delay_alike d i y.0 pause l m r y.2)
 
 -- the run slots of a point behind delay controls, by its lists
-by_one : (d : Parts) (c : Claims) (i : ℕ) (lists : List (List ℕ)) (k : Todo) (r : ℕ) → WaitsForTimes d c i lists → (RunsBehind d (is_wide c) i (DelaysEnd d c i) k r ↔ RunsByDelays d (is_wide c) i lists k r)
+by_one : (d : Parts) (c : Claims) (i : ℕ) (lists : List (List ℕ)) (k : Todo) (r : ℕ) → WaitsForTimes d c i lists → (RunsFrom d (is_wide c) i (DelaysEnd d c i) k r ↔ RunsByDelays d (is_wide c) i lists k r)
 by_one d c i lists k r has = (
   runs_as d (is_wide c) i (DelaysEnd d c i) (DelayEnds d i lists) k r (λ next y. subst (λ (l : List (List ℕ)). DelayEnds d i l next r) (one_lists d c i y.0 lists y.1 has) y.2),
   runs_as d (is_wide c) i (DelayEnds d i lists) (DelaysEnd d c i) k r (λ next h. (lists, has, h)),
@@ -271,10 +271,10 @@ delay_ends d c i lists has pause r = (
   back (delay number ticks) h = h
   back (event number terms) h = h
 
-pub listed_runs : (d : Parts) (c : Claims) (i : ℕ) (lists : List (List ℕ)) (t : Chart) (before ends : List (List ℕ)) → WaitsForTimes d c i lists →
+pub runs_by_lists : (d : Parts) (c : Claims) (i : ℕ) (lists : List (List ℕ)) (t : Chart) (before ends : List (List ℕ)) → WaitsForTimes d c i lists →
     ((p : ℕ) → IsPlace t p → p < places t) → AreRunsBy (Plain (is_wide c)) (DelayEndsBy (list_of (controls_of d i) lists)) t before ends →
     AreRuns (Plain (is_wide c)) (DelayPauseEnds d c i) t before ends
-listed_runs d c i lists t before ends has inside h =
+runs_by_lists d c i lists t before ends has inside h =
     runs_by (Plain (is_wide c)) (DelayPauseEnds d c i) (λ pause r y. delay_control d i y.0 pause r y.2) t before ends
     (ends_as (Plain (is_wide c)) (DelayEndsBy (list_of (controls_of d i) lists)) (DelayPauseEnds d c i) t before ends (delay_ends d c i lists has) h) inside
 

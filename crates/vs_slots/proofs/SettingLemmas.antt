@@ -23,9 +23,9 @@ use Rattle.vs_slots_constants.proofs.ConstantLemmas.{gives_by_places}
 use Rattle.vs_slots_constants.proofs.PointLemmas.{writer_there}
 use Rattle.vs_slots_constants.proofs.TurnLemmas.{alike_writes}
 use Rattle.vs_claims.specs.Facts.{AreCharts}
+use Rattle.vs_design.specs.vs_logic4.proofs.Basics.{there as there_is}
 use Rattle.vs_slots.specs.Settings.{AreSetAlike, IsSetAt, IsWriteOf}
 use Rattle.vs_slots.proofs.FiringLemmas.{lists_signal, now_exact}
-use Rattle.vs_slots.proofs.KeptLemmas.{there_is}
 use Rattle.vs_slots.proofs.SiteLemmas.{uses_here}
 
 -- ---- sites

@@ -1,9 +1,10 @@
 -- Tables of lists, row by row.
-use Rattle.std.proofs.Common.{◌≡◌, ℕ, zero, suc, ◌+◌, ◌<◌, ◌⊎◌, ◌↔◌, inl, inr, List, [], ◌∷◌, ◌++◌, length, refl, sym, subst, arith}
+use Rattle.std.proofs.Common.{◌≡◌, ℕ, zero, suc, ◌+◌, ◌<◌, ◌↔◌, inl, inr, List, [], ◌∷◌, ◌++◌, length, refl, sym, subst, arith}
 use Rattle.std.specs.List.{Contains}
 use Rattle.std.specs.declared.vec.Vec.{Vec}
 use Rattle.std.specs.declared.alloc.Global.{Global}
 use Rattle.vs_design.specs.Tables.{rows}
+use Rattle.vs_design.specs.vs_logic4.proofs.Basics.{below_or}
 use Rattle.vs_slots.specs.Lists.{row}
 
 -- the first rows say what they have to
@@ -18,9 +19,6 @@ row_before (x ∷ xs) v (suc k) h = row_before xs v k (omega (arith, h))
 row_last : (xs : List (Vec ℕ Global)) (v : Vec ℕ Global) → row (rows (xs ++ v ∷ [])) (length xs) ≡ v.items
 row_last [] v = refl
 row_last (x ∷ xs) v = row_last xs v
-
-below_or : (i n : ℕ) → i < n + 1 → (i < n) ⊎ (i ≡ n)
-below_or i n h = grind (arith, h)
 
 pub no_rows : (has : ℕ → ℕ → Type 0) → AreRows has []
 no_rows has k r h = absurd (omega (arith, h))

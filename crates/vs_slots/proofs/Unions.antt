@@ -1,19 +1,12 @@
 -- Unions of lists, list by list.
-use Rattle.std.proofs.Common.{◌≡◌, ℕ, zero, suc, ◌+◌, ◌<◌, ◌≤◌, ◌⊎◌, ◌↔◌, inl, inr, List, [], ◌∷◌, length, get_or, ◌∙◌, refl, sym, subst, arith}
+use Rattle.std.proofs.Common.{◌≡◌, ℕ, ◌+◌, ◌<◌, ◌≤◌, ◌⊎◌, ◌↔◌, inl, inr, List, [], length, get_or, ◌∙◌, refl, sym, subst, arith}
 use Rattle.std.specs.List.{Contains}
-use Rattle.vs_graph.proofs.Sets.{contains_at}
+use Rattle.vs_graph.proofs.Sets.{contains_at, same_read}
+use Rattle.vs_design.specs.vs_logic4.proofs.Basics.{below_or}
 
 -- one of the first elements of a list is such a one
 abbrev pub SomeBefore : List ℕ → ℕ → (ℕ → Type 0) → Type 0
 SomeBefore xs i P = (k : ℕ) × (k < i) × (k < length xs) × P (get_or xs k 0)
-
-below_or : (i n : ℕ) → i < n + 1 → (i < n) ⊎ (i ≡ n)
-below_or i n h = grind (arith, h)
-
-same_read : (xs : List ℕ) (k d e : ℕ) → k < length xs → get_or xs k d ≡ get_or xs k e
-same_read [] k d e h = absurd (omega (arith, h))
-same_read (x ∷ xs) zero d e h = refl
-same_read (x ∷ xs) (suc k) d e h = same_read xs k d e (omega (arith, h))
 
 -- before any
 pub none_before : (base now : Type 0) (xs : List ℕ) (P : ℕ → Type 0) → (now ↔ base) → (now ↔ (base ⊎ SomeBefore xs 0 P))

@@ -15,7 +15,7 @@ use vs_claims::vs_maps::{Along, Tables, controls, controls_before};
 use vs_design::Statement;
 
 // The runs of a process that waits for times, by the version of the certificate, its text, its tables and its lists.
-fn listed_runs<'a>(
+fn runs_by_lists<'a>(
     alloc: Global,
     wide: bool,
     body: &Statement,
@@ -47,7 +47,7 @@ fn runs_of_delays<'a>(alloc: Global, facts: &'a Facts<'a>, i: usize) -> Result<R
         return Ok(Runs::none(alloc));
     };
     tables.leads_in();
-    listed_runs(alloc, facts.is_wide(), &processes[i].body, tables, lists)
+    runs_by_lists(alloc, facts.is_wide(), &processes[i].body, tables, lists)
 }
 
 /// The runs of all processes behind their delay controls, in their order; of those that wait for no times there are none.

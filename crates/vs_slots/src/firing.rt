@@ -44,10 +44,7 @@ pub(crate) fn given_at<'a>(
 ) -> Result<Option<Digit>, AllocError>
     ensures { IfOk result (λ o. o ≡ given_here (statement_at tables.entry.now place) (bit_of signal)) }
 {
-    match tables.stop(place) {
-        None => Ok(None),
-        Some(stop) => given_of(alloc, stop.statement, signal),
-    }
+    given_of(alloc, tables.statement(place), signal)
 }
 
 // Whether an edge of a signal, which may be a clock, can fire at a residue.

@@ -1,10 +1,11 @@
 //! The edges that roots have where event terms' edges come.
-ghost use Rattle.std.specs.Prelude.{◌≡◌, false, get_or};
+ghost use Rattle.std.specs.Prelude.{◌≡◌};
 ghost use Rattle.vs_maps.specs.vs_rules.specs.Copies.{opposite};
 ghost use Rattle.vs_slots.specs.Seen.{seen_by};
 
 use vs_design::EventTerm;
 use vs_design::vs_logic4::Edge;
+use vs_graph::is_marked;
 
 // The edge of a signal where its inverse has an edge.
 fn opposite(edge: Edge) -> Edge
@@ -15,13 +16,6 @@ fn opposite(edge: Edge) -> Edge
         Edge::Posedge => Edge::Negedge,
         Edge::Negedge => Edge::Posedge,
     }
-}
-
-// Whether a signal is marked; one past the end isn't.
-fn is_marked(marks: &[bool], v: usize) -> bool
-    ensures { result ≡ get_or marks.now v false }
-{
-    v < marks.len() && marks[v]
 }
 
 /// The edge that the root of a term's signal has where the term's edge comes, by which signals show a variable inverted.

@@ -48,11 +48,6 @@ core_inside s all inner core is only c = record { bare = inside s all inner (out
 pub core_itself : (s : Statement) → is_single (out-Statement s) ≡ false → IsCore s s
 core_itself s h = record { bare = itself s (out-Statement s) refl; end = h }
 
-pub only_one : {A : Type 0} (xs : List A) (x : A) → length xs ≡ 1 → x ≡ get_or xs 0 x → xs ≡ x ∷ []
-only_one [] x h e = absurd (omega (arith, h))
-only_one (y ∷ []) x h e = ap (λ z. z ∷ []) (sym e)
-only_one (y ∷ z ∷ zs) x h e = absurd (omega (arith, h))
-
 pub not_one : {A : Type 0} (xs : List A) → (length xs ≡ 1 → ⊥) → is_one xs ≡ false
 not_one [] h = refl
 not_one (y ∷ []) h = absurd (h refl)

@@ -1,5 +1,5 @@
 -- What is written at the points of a text, the text writes.
-use Rattle.std.proofs.Common.{◌≡◌, ℕ, zero, suc, ◌++◌, Bool, true, false, Option, Some, None, List, [], ◌∷◌, map, get_or, slice_get, refl, sym, ◌∙◌, ap, subst, append_assoc, arith}
+use Rattle.std.proofs.Common.{◌≡◌, ℕ, zero, suc, ◌++◌, Bool, true, false, Option, Some, None, List, [], ◌∷◌, map, get_or, slice_get, refl, sym, ◌∙◌, ap, subst, append_assoc}
 use Rattle.std.specs.List.{Contains, list_any}
 use Rattle.std.specs.declared.vec.Vec.{Vec}
 use Rattle.std.specs.declared.alloc.Global.{Global}
@@ -14,7 +14,7 @@ use Rattle.vs_design.specs.declared.statement.Statement.TheViews.{out-Statement}
 use Rattle.vs_design.specs.Uses.{joined}
 use Rattle.vs_design.specs.Parts.{Parts}
 use Rattle.vs_process.specs.declared.gait.Gait.TheVariants.{Fresh}
-use Rattle.vs_process.specs.Landings.{todo_behind}
+use Rattle.vs_process.specs.Landings.{todo_after}
 use Rattle.vs_process.specs.Nexts.{past, statement_nexts, nexts}
 use Rattle.vs_process.specs.Places.{perform, turns, Todo, active_at, ended, flat, start_place, todo_of}
 use Rattle.vs_process.specs.Steps.{Next, on, after, wait, is_default}
@@ -25,6 +25,7 @@ use Rattle.vs_rules.specs.vs_process.specs.BlockDrivers.{outputs, outputs_for}
 use Rattle.vs_rules.specs.Points.{Goes, Point, first_todo}
 use Rattle.vs_rules.specs.Points as r
 use Rattle.vs_rules.specs.Paths.{IsPoint, Writes, WritesNow, statement_now, todo_now}
+use Rattle.vs_design.specs.vs_logic4.proofs.Basics.{none_in}
 
 -- ---- what is to be done
 
@@ -42,9 +43,9 @@ flat_among all s rest h r =
 -- what is to be done behind each of some ways has ranges among these alone
 abbrev AllAmong : List BitRange → List Next → Type 0
 AllAmong all [] = Unit {0}
-AllAmong all (n ∷ ns) = Among (todo_writes (todo_behind n)) all × AllAmong all ns
+AllAmong all (n ∷ ns) = Among (todo_writes (todo_after n)) all × AllAmong all ns
 
-one_of : (all : List BitRange) (n : Next) (ns : List Next) → AllAmong all ns → r.Among n ns → Among (todo_writes (todo_behind n)) all
+one_of : (all : List BitRange) (n : Next) (ns : List Next) → AllAmong all ns → r.Among n ns → Among (todo_writes (todo_after n)) all
 one_of all n _ h (r.Among.first ns) = h.0
 one_of all n _ h (r.Among.further m ns more) = one_of all n ns h.1 more
 
@@ -98,7 +99,7 @@ statement_among all s (Statement-F.Repeat n signed e body) rest own h k =
 statement_among all s (Statement-F.Forever n body) rest own h k =
     (flat_among all body.value (perform s ∷ rest) h (both_among (statement_writes s) (todo_writes rest) all own k), tt)
 
-next_among : (k : Todo) (n : Next) → Goes k n → Among (todo_writes (todo_behind n)) (todo_writes k)
+next_among : (k : Todo) (n : Next) → Goes k n → Among (todo_writes (todo_after n)) (todo_writes k)
 next_among [] n g = one_of (todo_writes []) n (nexts []) ((λ q c. c), tt) g
 next_among (perform s ∷ rest) n g =
     let all = statement_writes s ++ todo_writes rest in
@@ -130,9 +131,6 @@ pub first_is : (ps : List Process) (i : ℕ) (p : Process) → slice_get ps i �
 first_is [] i p is = absurd (none-some p is)
 first_is (q ∷ ps) zero p is = active_todo (flat q.body) ∙ ap (λ (x : Process). flat x.body) (same_Some q p is)
 first_is (q ∷ ps) (suc i) p is = first_is ps i p is
-
-pub none_in : {A : Type 0} (x : A) → Contains [] x → ⊥
-none_in x h = omega (arith, h.1)
 
 first_among : (ps : List Process) (i : ℕ) → Among (todo_writes (todo_of (get_or (map (λ (p : Process). start_place p.body) ps) i ended))) (outputs_for (slice_get ps i))
 first_among [] i = λ q c. absurd (none_in q c)

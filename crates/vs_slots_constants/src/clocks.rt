@@ -162,8 +162,8 @@ fn forever_layer(design: &Design, wide: bool, v: usize, s: &Statement) -> Option
     }
 }
 
-// The ticks `h` of a statement that is `forever #h u = ~u`.
-fn turns_forever(design: &Design, wide: bool, v: usize, s: &Statement) -> Option<u64>
+/// The ticks `h` of a statement that is `forever #h u = ~u`, with h above 0, but for `begin` and `end`. Where clocks are wide, `!u` is as good.
+pub fn turns_forever(design: &Design, wide: bool, v: usize, s: &Statement) -> Option<u64>
     ensures { (half : ℕ) → (TurnsForever design.now wide v half s.now ↔ result ≡ Some half) }
 {
     forever_layer(design, wide, v, core_of(s))
@@ -260,8 +260,8 @@ fn pair_layer(
     }
 }
 
-// The clock of a statement that is `begin [#o] u = c; forever #h u = ~u; end`.
-fn sets_and_turns(
+/// The clock of a statement that is `begin [#o] u = c; forever #h u = ~u; end`.
+pub fn sets_and_turns(
     alloc: Global,
     design: &Design,
     wide: bool,
@@ -294,8 +294,13 @@ pub fn other(xs: &[usize], i: usize) -> Option<usize>
     found
 }
 
-// The 0 or 1 to which an `initial` process, by its number, sets a whole signal.
-fn set_by(alloc: Global, design: &Design, v: usize, j: usize) -> Result<Option<Digit>, AllocError>
+/// The 0 or 1 to which an `initial` process, by its number, sets a whole signal.
+pub fn set_by(
+    alloc: Global,
+    design: &Design,
+    v: usize,
+    j: usize,
+) -> Result<Option<Digit>, AllocError>
     ensures { IfOk result (λ o. (digit : Digit) → (HasBody design.now j Initial (Sets design.now v digit) ↔ o ≡ Some digit)) }
 {
     match design.processes().get(j) {

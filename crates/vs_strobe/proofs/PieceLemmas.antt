@@ -8,7 +8,7 @@ use Rattle.std.specs.Borrow.{Bor}
 use Rattle.vs_strobe.specs.declared.piece.FormatPiece.{FormatPiece}
 use Rattle.vs_strobe.specs.declared.piece.FormatPiece.TheVariants.{Byte, Path, Shown}
 use Rattle.vs_strobe.specs.declared.fault.FormatReason.TheVariants.{TooFewArguments, TooManyArguments}
-use Rattle.vs_strobe.specs.Pieces.{joined, wanted, fault_for, directive_of, pieces_of, pieces_from, behind_percent, behind_zero}
+use Rattle.vs_strobe.specs.Pieces.{joined, wanted, fault_for, directive_of, pieces_of, pieces_from, after_percent, after_percent_zero}
 
 -- pieces before others, where those are good
 abbrev pub behind : List FormatPiece → Option (List FormatPiece) → Option (List FormatPiece)
@@ -55,42 +55,42 @@ pub plain_byte : (bs : List ℕ) → 1 ≤ length bs → get_or bs 0 0 ≢ 37 �
     pieces_of bs ≡ joined (Some (Byte (get_or bs 0 0))) (pieces_of (take (length bs - 1) (drop 1 bs)))
 plain_byte [] some other = absurd (omega arith)
 plain_byte (b ∷ bs) some other =
-    ap (λ t. if t then pieces_from behind_percent bs else joined (Some (Byte b)) (pieces_of bs)) (ne_eqb b 37 other)
+    ap (λ t. if t then pieces_from after_percent bs else joined (Some (Byte b)) (pieces_of bs)) (ne_eqb b 37 other)
     ∙ ap (λ rest. joined (Some (Byte b)) (pieces_of rest)) (sym (rest_at (b ∷ bs) 1))
 
 -- a `%`
-plain_percent : (bs : List ℕ) → 1 ≤ length bs → get_or bs 0 0 ≡ 37 → pieces_of bs ≡ pieces_from behind_percent (take (length bs - 1) (drop 1 bs))
+plain_percent : (bs : List ℕ) → 1 ≤ length bs → get_or bs 0 0 ≡ 37 → pieces_of bs ≡ pieces_from after_percent (take (length bs - 1) (drop 1 bs))
 plain_percent [] some is = absurd (omega arith)
 plain_percent (b ∷ bs) some is =
-    ap (λ t. if t then pieces_from behind_percent bs else joined (Some (Byte b)) (pieces_of bs)) (eq-eqb b 37 is)
-    ∙ ap (pieces_from behind_percent) (sym (rest_at (b ∷ bs) 1))
+    ap (λ t. if t then pieces_from after_percent bs else joined (Some (Byte b)) (pieces_of bs)) (eq-eqb b 37 is)
+    ∙ ap (pieces_from after_percent) (sym (rest_at (b ∷ bs) 1))
 
 -- a piece behind a `%` is read
 pub percent_read : (bs : List ℕ) (read : Option (FormatPiece × Bor (List ℕ))) → 1 ≤ length bs → get_or bs 0 0 ≡ 37 →
-    MatchOption read (pieces_from behind_percent (take (length bs - 1) (drop 1 bs)) ≡ None)
-    (λ x. (pieces_from behind_percent (take (length bs - 1) (drop 1 bs)) ≡ joined (Some x.0) (pieces_of x.1.now)) × (length x.1.now ≤ length (take (length bs - 1) (drop 1 bs)))) →
+    MatchOption read (pieces_from after_percent (take (length bs - 1) (drop 1 bs)) ≡ None)
+    (λ x. (pieces_from after_percent (take (length bs - 1) (drop 1 bs)) ≡ joined (Some x.0) (pieces_of x.1.now)) × (length x.1.now ≤ length (take (length bs - 1) (drop 1 bs)))) →
     MatchOption read (pieces_of bs ≡ None) (λ x. (pieces_of bs ≡ joined (Some x.0) (pieces_of x.1.now)) × (length x.1.now < length bs))
 percent_read bs None some is none = plain_percent bs some is ∙ none
 percent_read bs (Some x) some is found = (plain_percent bs some is ∙ found.0, omega (arith, found.1, rest_length bs 1))
 
 -- the pieces behind a `%`, by whether a `%` or a `0` comes first
 behind_by : (b : ℕ) (bs : List ℕ) (percent nought : Bool) → (b == 37) ≡ percent → (b == 48) ≡ nought →
-    pieces_from behind_percent (b ∷ bs)
-    ≡ (if percent then joined (Some (Byte 37)) (pieces_of bs) else (if nought then pieces_from behind_zero bs else joined (directive_of false b) (pieces_of bs)))
+    pieces_from after_percent (b ∷ bs)
+    ≡ (if percent then joined (Some (Byte 37)) (pieces_of bs) else (if nought then pieces_from after_percent_zero bs else joined (directive_of false b) (pieces_of bs)))
 behind_by b bs percent nought p z =
-    ap (λ t. if t then joined (Some (Byte 37)) (pieces_of bs) else (if b == 48 then pieces_from behind_zero bs else joined (directive_of false b) (pieces_of bs))) p
-    ∙ ap (λ t. if percent then joined (Some (Byte 37)) (pieces_of bs) else (if t then pieces_from behind_zero bs else joined (directive_of false b) (pieces_of bs))) z
+    ap (λ t. if t then joined (Some (Byte 37)) (pieces_of bs) else (if b == 48 then pieces_from after_percent_zero bs else joined (directive_of false b) (pieces_of bs))) p
+    ∙ ap (λ t. if percent then joined (Some (Byte 37)) (pieces_of bs) else (if t then pieces_from after_percent_zero bs else joined (directive_of false b) (pieces_of bs))) z
 
 -- a second `%`
 pub second_percent : (bs : List ℕ) → 1 ≤ length bs → get_or bs 0 0 ≡ 37 →
-    pieces_from behind_percent bs ≡ joined (Some (Byte 37)) (pieces_of (take (length bs - 1) (drop 1 bs)))
+    pieces_from after_percent bs ≡ joined (Some (Byte 37)) (pieces_of (take (length bs - 1) (drop 1 bs)))
 second_percent [] some is = absurd (omega arith)
 second_percent (b ∷ bs) some is =
     behind_by b bs true (b == 48) (eq-eqb b 37 is) refl ∙ ap (λ rest. joined (Some (Byte 37)) (pieces_of rest)) (sym (rest_at (b ∷ bs) 1))
 
 -- a `0` and a letter
 pub zero_letter : (bs : List ℕ) → 2 ≤ length bs → get_or bs 0 0 ≡ 48 →
-    pieces_from behind_percent bs ≡ joined (directive_of true (get_or bs 1 0)) (pieces_of (take (length bs - 2) (drop 2 bs)))
+    pieces_from after_percent bs ≡ joined (directive_of true (get_or bs 1 0)) (pieces_of (take (length bs - 2) (drop 2 bs)))
 zero_letter [] some is = absurd (omega arith)
 zero_letter (b ∷ []) some is = absurd (omega arith)
 zero_letter (b ∷ d ∷ bs) some is =
@@ -99,7 +99,7 @@ zero_letter (b ∷ d ∷ bs) some is =
 
 -- a letter, or a `0` at the end, which is none
 pub letter : (bs : List ℕ) → 1 ≤ length bs → get_or bs 0 0 ≢ 37 → (get_or bs 0 0 ≡ 48 → length bs < 2) →
-    pieces_from behind_percent bs ≡ joined (directive_of false (get_or bs 0 0)) (pieces_of (take (length bs - 1) (drop 1 bs)))
+    pieces_from after_percent bs ≡ joined (directive_of false (get_or bs 0 0)) (pieces_of (take (length bs - 1) (drop 1 bs)))
 letter [] some other last = absurd (omega arith)
 letter (b ∷ bs) some other last =
     ⊎_elim
@@ -108,7 +108,7 @@ letter (b ∷ bs) some other last =
     (eqb_tells b 48)
     ∙ ap (λ rest. joined (directive_of false b) (pieces_of rest)) (sym (rest_at (b ∷ bs) 1))
   where
-    alone : (cs : List ℕ) → b ≡ 48 → suc (length cs) < 2 → pieces_from behind_percent (b ∷ cs) ≡ joined (directive_of false b) (pieces_of cs)
+    alone : (cs : List ℕ) → b ≡ 48 → suc (length cs) < 2 → pieces_from after_percent (b ∷ cs) ≡ joined (directive_of false b) (pieces_of cs)
     alone [] is short = behind_by b [] false true (ne_eqb b 37 other) (eq-eqb b 48 is) ∙ ap (λ d. joined (directive_of false d) (Some [])) (sym is)
     alone (d ∷ cs) is short = absurd (omega arith)
 

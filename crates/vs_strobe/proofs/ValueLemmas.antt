@@ -2,7 +2,7 @@
 use Rattle.std.proofs.Common.{◌≡◌, ℕ, zero, suc, ◌+◌, ◌-◌, ◌*◌, ◌^◌, ◌<◌, ◌≤◌, ◌≢◌, min, ℤ, pos, ◌*ℤ◌, Bool, true, false, cond, eqb, Some, None, List, [], ◌∷◌, ◌++◌, length, get_or, take, drop, refl, sym, ap, append_assoc, ◌∙◌, arith}
 use Rattle.std.specs.Prelude.{slice_get}
 use Rattle.std.proofs.Math.Seq.{drop-cons}
-use Rattle.std.proofs.Math.Nat.{pow-succ', pow-le-pow_right, mul-le-mul_left}
+use Rattle.std.proofs.Math.Nat.{pow-le-pow_right, mul-le-mul_left}
 use Rattle.std.proofs.lemmas.List.{length-drop, length-take, take_min}
 use Rattle.std.proofs.lemmas.Bool.{cond-false, ne_eqb}
 use Rattle.vs_design.specs.vs_logic4.specs.declared.digit.Digit.{Digit}
@@ -14,12 +14,8 @@ use Rattle.vs_design.specs.vs_logic4.specs.Arithmetic.{bit_of, number, integer, 
 use Rattle.vs_strobe.specs.Values.{unknown_letter, group, group_count, by_groups, without_zeros, without_zero_bytes, number_text}
 use Rattle.std.specs.List.{list_any}
 use Rattle.vs_design.specs.vs_logic4.specs.Vectors.{same_digit}
+use Rattle.vs_design.specs.vs_logic4.proofs.Numbers.{number-lt}
 use Rattle.vs_strobe.proofs.PieceLemmas.{drop_at}
-use Rattle.vs_design.specs.vs_logic4.proofs.Numbers.{bit_of-lt}
-
-pub number-lt : (ds : List Digit) → number ds < 2 ^ length ds
-number-lt [] = omega arith
-number-lt (d ∷ ds) = omega (arith, bit_of-lt d, number-lt ds, pow-succ' 2 (length ds))
 
 -- the number of at most so many digits
 pub number_below : (n : ℕ) (ds : List Digit) → length ds ≤ n → number ds < 2 ^ n

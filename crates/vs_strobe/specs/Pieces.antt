@@ -26,10 +26,10 @@ abbrev pub directive_of : Bool → ℕ → Option FormatPiece
 directive_of bare b = if b == 109 || b == 77 then Some Path else option_map (λ show. Shown show bare) (show_of b)
 
 -- where a byte of a text stands: among those printed as they are, behind a `%`, or behind a `%0`
-pub data Standing : Type 0 where
-  plain : Standing
-  behind_percent : Standing
-  behind_zero : Standing
+pub data FormatState : Type 0 where
+  plain : FormatState
+  after_percent : FormatState
+  after_percent_zero : FormatState
 
 -- a piece and those behind it, where both are good
 abbrev pub joined : Option FormatPiece → Option (List FormatPiece) → Option (List FormatPiece)
@@ -37,16 +37,16 @@ joined (Some p) (Some ps) = Some (p ∷ ps)
 joined _ _ = None
 
 -- the pieces of a text from a byte on; none where it has a bad directive (clause 17.1.1; a width other than 0 is one: profile)
-abbrev pub pieces_from : Standing → List ℕ → Option (List FormatPiece)
+abbrev pub pieces_from : FormatState → List ℕ → Option (List FormatPiece)
 pieces_from plain [] = Some []
-pieces_from plain (b ∷ bs) = if b == 37 then pieces_from behind_percent bs else joined (Some (Byte b)) (pieces_from plain bs)
-pieces_from behind_percent [] = None
-pieces_from behind_percent (b ∷ bs) =
+pieces_from plain (b ∷ bs) = if b == 37 then pieces_from after_percent bs else joined (Some (Byte b)) (pieces_from plain bs)
+pieces_from after_percent [] = None
+pieces_from after_percent (b ∷ bs) =
     if b == 37 then joined (Some (Byte 37)) (pieces_from plain bs)
-    else (if b == 48 then pieces_from behind_zero bs
+    else (if b == 48 then pieces_from after_percent_zero bs
     else joined (directive_of false b) (pieces_from plain bs))
-pieces_from behind_zero [] = None
-pieces_from behind_zero (b ∷ bs) = joined (directive_of true b) (pieces_from plain bs)
+pieces_from after_percent_zero [] = None
+pieces_from after_percent_zero (b ∷ bs) = joined (directive_of true b) (pieces_from plain bs)
 
 -- the pieces of a text
 abbrev pub pieces_of : List ℕ → Option (List FormatPiece)

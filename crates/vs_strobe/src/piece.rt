@@ -1,6 +1,6 @@
 //! The pieces of a format's text (IEEE 1364-2005, clause 17.1.1).
 ghost use Rattle.std.specs.Prelude.{◌≡◌, ◌<◌, ◌≤◌, None, Some, [], length, unwrap_or, IfOk, MatchOption, MatchResult};
-ghost use Rattle.vs_strobe.specs.Pieces.{show_of, directive_of, joined, pieces_of, pieces_from, behind_percent, wanted, Refuses, format_fault};
+ghost use Rattle.vs_strobe.specs.Pieces.{show_of, directive_of, joined, pieces_of, pieces_from, after_percent, wanted, Refuses, format_fault};
 
 use crate::fault::{FormatFault, FormatReason};
 use std::alloc::{AllocError, Global};
@@ -64,8 +64,8 @@ fn directive_of(bare: bool, letter: u8) -> Option<FormatPiece>
 
 /// The piece behind a `%`, and the bytes behind it; nothing where it is no directive.
 fn read_directive(bytes: &[u8]) -> Option<(FormatPiece, &[u8])>
-    ensures { MatchOption result (pieces_from behind_percent bytes.now ≡ None)
-        (λ x. (pieces_from behind_percent bytes.now ≡ joined (Some x.0) (pieces_of x.1.now)) × (length x.1.now ≤ length bytes.now)) }
+    ensures { MatchOption result (pieces_from after_percent bytes.now ≡ None)
+        (λ x. (pieces_from after_percent bytes.now ≡ joined (Some x.0) (pieces_of x.1.now)) × (length x.1.now ≤ length bytes.now)) }
 {
     match bytes {
         [b'%', rest @ ..] => Some((FormatPiece::Byte(b'%'), rest)),

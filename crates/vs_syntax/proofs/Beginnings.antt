@@ -2,7 +2,7 @@
 use Rattle.std.specs.Prelude.{◌≡◌, ℕ, Bool, true, false, List, [], refl}
 use Rattle.std.proofs.Common.{◌∙◌, ap}
 use Rattle.vs_syntax.specs.Symbols.{Symbol, no_token, first}
-use Rattle.vs_syntax.specs.Grammar.{Nonterminal, a_source, a_module, a_header_parameter, told_ports, net_ports, variable_ports, port_names, a_bare_name, a_generate_block, a_local, an_item, a_constant, an_instance, a_connection, a_net, a_variable, an_assignment, a_stmt, an_argument, a_dump_argument, a_case_item, an_event_expr, a_target, an_expr, a_level, Grammar, nothing, token, seq, either, many, part, node, chain, optional}
+use Rattle.vs_syntax.specs.Grammar.{Nonterminal, a_source, a_module, a_header_parameter, directed_ports, net_ports, variable_ports, port_names, a_bare_name, a_generate_block, a_local, an_item, a_constant, an_instance, a_connection, a_net, a_variable, an_assignment, a_stmt, an_argument, a_dump_argument, a_case_item, an_event_expr, a_target, an_expr, a_level, Grammar, nothing, token, seq, either, many, part, node, chain, optional}
 use Rattle.vs_syntax.specs.Tables.{fronts_of, fronts, among, null, goes}
 use Rattle.vs_syntax.specs.Reading.{Stuck, stuck_here, stuck_deep, stuck_first, stuck_second, stuck_left, stuck_right, stuck_many, stuck_more, stuck_part, stuck_node, stuck_one, stuck_link, stuck_high, stuck_behind}
 use Rattle.vs_syntax.proofs.Fronts.{clash, goes-seq, goes-either, goes-node, goes-chain}
@@ -14,7 +14,7 @@ part_there : (p : Nonterminal) → among no_token (fronts_of p) ≡ false
 part_there a_source = refl
 part_there a_module = refl
 part_there a_header_parameter = refl
-part_there told_ports = refl
+part_there directed_ports = refl
 part_there net_ports = refl
 part_there variable_ports = refl
 part_there port_names = refl

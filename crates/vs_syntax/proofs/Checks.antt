@@ -1,7 +1,7 @@
 -- The tables are those of the rules.
 use Rattle.std.specs.Prelude.{◌≡◌, ℕ, zero, suc, List, [], ◌∷◌, refl}
 use Rattle.vs_lexer.specs.declared.token.Mark.{Mark}
-use Rattle.vs_syntax.specs.Grammar.{Nonterminal, a_source, a_module, a_header_parameter, told_ports, net_ports, variable_ports, port_names, a_bare_name, a_generate_block, a_local, an_item, a_constant, an_instance, a_connection, a_net, a_variable, an_assignment, a_stmt, an_argument, a_dump_argument, a_case_item, an_event_expr, a_target, an_expr, a_level, operands, levels, level_at, rule}
+use Rattle.vs_syntax.specs.Grammar.{Nonterminal, a_source, a_module, a_header_parameter, directed_ports, net_ports, variable_ports, port_names, a_bare_name, a_generate_block, a_local, an_item, a_constant, an_instance, a_connection, a_net, a_variable, an_assignment, a_stmt, an_argument, a_dump_argument, a_case_item, an_event_expr, a_target, an_expr, a_level, operands, levels, level_at, rule}
 use Rattle.vs_syntax.specs.Tables.{null_of, low_of, operand_fronts, fronts_of, null, low, fronts}
 
 operands_null : (p : Nonterminal) (ops : List Mark) → null (operands p ops) ≡ null_of p
@@ -20,7 +20,7 @@ pub rule_null : (p : Nonterminal) → null (rule p) ≡ null_of p
 rule_null a_source = refl
 rule_null a_module = refl
 rule_null a_header_parameter = refl
-rule_null told_ports = refl
+rule_null directed_ports = refl
 rule_null net_ports = refl
 rule_null variable_ports = refl
 rule_null port_names = refl
@@ -48,7 +48,7 @@ pub rule_low : (p : Nonterminal) → low (rule p) ≡ low_of p
 rule_low a_source = refl
 rule_low a_module = refl
 rule_low a_header_parameter = refl
-rule_low told_ports = refl
+rule_low directed_ports = refl
 rule_low net_ports = refl
 rule_low variable_ports = refl
 rule_low port_names = refl
@@ -76,7 +76,7 @@ pub rule_fronts : (p : Nonterminal) → fronts (rule p) ≡ fronts_of p
 rule_fronts a_source = refl
 rule_fronts a_module = refl
 rule_fronts a_header_parameter = refl
-rule_fronts told_ports = refl
+rule_fronts directed_ports = refl
 rule_fronts net_ports = refl
 rule_fronts variable_ports = refl
 rule_fronts port_names = refl

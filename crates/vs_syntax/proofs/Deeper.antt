@@ -3,14 +3,14 @@ use Rattle.std.specs.Prelude.{◌≡◌, ℕ, zero, suc, max, ◌-◌, ◌<◌, 
 use Rattle.std.proofs.Common.{sym, ◌∙◌, ap, subst, inl, inr, append_assoc, arith}
 use Rattle.vs_lexer.specs.declared.token.Mark.{Mark}
 use Rattle.vs_syntax.specs.Symbols.{Symbol, Class, class_of, first, same_class}
-use Rattle.vs_syntax.specs.Grammar.{Nonterminal, a_source, a_module, a_header_parameter, told_ports, net_ports, variable_ports, port_names, a_bare_name, a_generate_block, a_local, an_item, a_constant, an_instance, a_connection, a_net, a_variable, an_assignment, a_stmt, an_argument, a_dump_argument, a_case_item, an_event_expr, a_target, an_expr, a_level, Grammar, nothing, token, seq, either, many, part, node, chain, optional, operands, levels, level_at, rule}
+use Rattle.vs_syntax.specs.Grammar.{Nonterminal, a_source, a_module, a_header_parameter, directed_ports, net_ports, variable_ports, port_names, a_bare_name, a_generate_block, a_local, an_item, a_constant, an_instance, a_connection, a_net, a_variable, an_assignment, a_stmt, an_argument, a_dump_argument, a_case_item, an_event_expr, a_target, an_expr, a_level, Grammar, nothing, token, seq, either, many, part, node, chain, optional, operands, levels, level_at, rule}
 use Rattle.vs_syntax.specs.Tables.{Front, null_of, operand_fronts, fronts_of, null, low, fronts, among, goes}
 use Rattle.vs_syntax.specs.Derivation.{Tree, empty, leaf, both, down, tokens, height, Is, is_nothing, is_token, is_seq, is_right, is_stop, is_part, is_node, is_one, is_present, is_absent}
 use Rattle.vs_syntax.specs.Reading.{Gets, Stuck, stuck_here, stuck_deep, stuck_first, stuck_second, stuck_left, stuck_right, stuck_many, stuck_more, stuck_part, stuck_node, stuck_one, stuck_link, stuck_high, stuck_behind}
 use Rattle.vs_syntax.proofs.Fronts.{clash, goes-seq, goes-either, goes-node, goes-chain}
-use Rattle.std.proofs.lemmas.Bool.{or_parts as or_false, or_left, or_right}
+use Rattle.std.proofs.lemmas.Bool.{or_parts as or_false, or_left, or_right, not-true as not_true}
 use Rattle.vs_syntax.proofs.Starts.{silent, goes_behind, seq_first, seq_second}
-use Rattle.vs_syntax.proofs.Least.{least, least_is, least-height, is_class, sound, rule_sound, sound_seq, sound_either, sound_many, sound_chain, not_true, first_nil}
+use Rattle.vs_syntax.proofs.Least.{least, least_is, least-height, is_class, sound, rule_sound, sound_seq, sound_either, sound_many, sound_chain, first_nil}
 use Rattle.vs_logic4.proofs.Basics.{and_left, and_right}
 use Rattle.vs_syntax.proofs.Refused.{front_of, front_text}
 use Rattle.vs_syntax.proofs.Viable.{Viable, viable_first, viable_second, viable_left, viable_right, viable_many, viable_more, viable_link, viable_behind}
@@ -89,7 +89,7 @@ part_nothing : (p : Nonterminal) → null_of p ≡ true → (m : List Symbol) �
 part_nothing a_source n m h = record { tree = empty; is = is_part (is_stop h); none = refl }
 part_nothing a_module n m h = absurd (clash n refl)
 part_nothing a_header_parameter n m h = absurd (clash n refl)
-part_nothing told_ports n m h = absurd (clash n refl)
+part_nothing directed_ports n m h = absurd (clash n refl)
 part_nothing net_ports n m h = absurd (clash n refl)
 part_nothing variable_ports n m h = absurd (clash n refl)
 part_nothing port_names n m h = absurd (clash n refl)
@@ -257,7 +257,7 @@ rule_reach : (p : Nonterminal) → all_pass (λ c. reach 4 c p) (fronts_of p) �
 rule_reach a_source = refl
 rule_reach a_module = refl
 rule_reach a_header_parameter = refl
-rule_reach told_ports = refl
+rule_reach directed_ports = refl
 rule_reach net_ports = refl
 rule_reach variable_ports = refl
 rule_reach port_names = refl
@@ -288,7 +288,7 @@ front_either : (ga gb ra rb : Bool) → (ga ≡ true → ra ≡ true) → (gb �
 front_either true gb ra rb f g h = or_left ra (false && rb) (f refl)
 front_either false gb ra rb f g h = or_right ra rb (g h)
 
-or_nil : (a : Bool) → (a || false) ≡ true → a ≡ true
+pub or_nil : (a : Bool) → (a || false) ≡ true → a ≡ true
 or_nil true h = refl
 or_nil false h = h
 

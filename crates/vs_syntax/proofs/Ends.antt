@@ -5,7 +5,7 @@ use Rattle.vs_lexer.specs.declared.token.Mark.{Mark}
 use Rattle.vs_lexer.specs.declared.token.Mark.TheVariants as m
 use Rattle.vs_lexer.specs.declared.token.Word.TheVariants as w
 use Rattle.vs_syntax.specs.Symbols.{Symbol, Class, the_mark, the_word, the_directive, same_class, first}
-use Rattle.vs_syntax.specs.Grammar.{Nonterminal, a_source, a_module, a_header_parameter, told_ports, net_ports, variable_ports, port_names, a_bare_name, a_generate_block, a_local, an_item, a_constant, an_instance, a_connection, a_net, a_variable, an_assignment, a_stmt, an_argument, a_dump_argument, a_case_item, an_event_expr, a_target, an_expr, a_level, Grammar, nothing, token, seq, either, many, part, node, chain, optional, ◌·◌, one_or_more, one_mark, operands, a_condition, arm, levels, level_at, rule}
+use Rattle.vs_syntax.specs.Grammar.{Nonterminal, a_source, a_module, a_header_parameter, directed_ports, net_ports, variable_ports, port_names, a_bare_name, a_generate_block, a_local, an_item, a_constant, an_instance, a_connection, a_net, a_variable, an_assignment, a_stmt, an_argument, a_dump_argument, a_case_item, an_event_expr, a_target, an_expr, a_level, Grammar, nothing, token, seq, either, many, part, node, chain, optional, ◌·◌, one_or_more, one_mark, operands, a_condition, arm, levels, level_at, rule}
 use Rattle.vs_syntax.specs.Tables.{Front, at_least, mark_fronts, null, fronts, among, goes}
 use Rattle.vs_syntax.specs.Derivation.{Tree, tokens, Is, is_nothing, is_token, is_seq, is_left, is_right, is_stop, is_more, is_part, is_node, is_one, is_chain, is_present, is_absent}
 use Rattle.vs_syntax.proofs.Fronts.{clash, goes_same, among-append, among-seq}
@@ -37,7 +37,7 @@ abbrev pub lasts_of : Bool → Nonterminal → List Front
 lasts_of plain a_source = at_least (the_word w.Module) 0 ∷ at_least the_directive 0 ∷ []
 lasts_of plain a_header_parameter = expr_lasts
 lasts_of plain a_constant = expr_lasts
-lasts_of plain told_ports = port_lasts
+lasts_of plain directed_ports = port_lasts
 lasts_of plain net_ports = port_lasts
 lasts_of plain variable_ports = port_lasts
 lasts_of plain port_names = at_least (the_mark m.Comma) 0 ∷ []
@@ -151,7 +151,7 @@ pub rule_goes_on : (plain : Bool) (p : Nonterminal) (c : Class) → among c (las
 rule_goes_on plain a_source c h = h
 rule_goes_on plain a_module c h = refl
 rule_goes_on plain a_header_parameter c h = kept_one (among c expr_lasts) h
-rule_goes_on plain told_ports c h = ports_go_on (among c port_lasts) h
+rule_goes_on plain directed_ports c h = ports_go_on (among c port_lasts) h
 rule_goes_on plain net_ports c h =
     net_ports_go_on (among c port_lasts) (same_class c (the_mark m.Comma)) h (none_of (same_class c (the_mark m.Comma)) (same_class c (the_mark m.Assign)) (among c expr_lasts) h).0
 rule_goes_on plain variable_ports c h =
@@ -207,7 +207,7 @@ stops_again : (g a : Grammar) (m n : List Symbol) → (goes_on false g (first n)
 stops_again g a m n f (inl e) h = goes_same a n m e ∙ h
 stops_again g a m n f (inr k) h = f k
 
-and_true : (a b : Bool) → a ≡ true → (a && b) ≡ false → b ≡ false
+pub and_true : (a b : Bool) → a ≡ true → (a && b) ≡ false → b ≡ false
 and_true a b p h = ap (λ u. u && b) (sym p) ∙ h
 
 -- Other symbols may follow a tree, where they begin alike or the part can't go on with them.

@@ -2,7 +2,7 @@
 use Rattle.std.specs.Prelude.{◌≡◌, ℕ, zero, suc, min, ◌==◌, nat_le, not, Bool, true, false, cond, ◌&&◌, ◌||◌, List, [], ◌∷◌, ◌++◌, length, refl, replicate}
 use Rattle.std.proofs.Common.{sym, ◌∙◌, ap, inr, arith}
 use Rattle.std.proofs.lemmas.Bool.Decides.{nat_tests}
-use Rattle.std.proofs.lemmas.Bool.{eqb-true}
+use Rattle.std.proofs.lemmas.Bool.{eqb-true, not-true}
 use Rattle.vs_syntax.proofs.Fronts.{among-append}
 use Rattle.std.proofs.lemmas.Bool.{or_parts as or_false}
 use Rattle.vs_logic4.specs.declared.digit.Digit.TheVariants.{Zero}
@@ -15,7 +15,7 @@ use Rattle.vs_lexer.specs.declared.token.Mark.{Mark}
 use Rattle.vs_lexer.specs.declared.token.Mark.TheVariants as m
 use Rattle.vs_lexer.specs.declared.token.Word.TheVariants as w
 use Rattle.vs_syntax.specs.Symbols.{Symbol, a_mark, a_word, a_name, a_number, a_cast, a_text, a_print, a_finish, a_dump, a_time, a_directive, another, Class, no_token, the_mark, the_word, any_name, any_number, the_cast, any_text, the_print, the_finish, the_dump, the_time, the_directive, any_other, class_of, same_class, first}
-use Rattle.vs_syntax.specs.Grammar.{Nonterminal, a_source, a_module, a_header_parameter, told_ports, net_ports, variable_ports, port_names, a_bare_name, a_generate_block, a_local, an_item, a_constant, an_instance, a_connection, a_net, a_variable, an_assignment, a_stmt, an_argument, a_dump_argument, a_case_item, an_event_expr, a_target, an_expr, a_level, Grammar, nothing, token, seq, either, many, part, node, chain, optional, select, operands, levels, level_at, rule}
+use Rattle.vs_syntax.specs.Grammar.{Nonterminal, a_source, a_module, a_header_parameter, directed_ports, net_ports, variable_ports, port_names, a_bare_name, a_generate_block, a_local, an_item, a_constant, an_instance, a_connection, a_net, a_variable, an_assignment, a_stmt, an_argument, a_dump_argument, a_case_item, an_event_expr, a_target, an_expr, a_level, Grammar, nothing, token, seq, either, many, part, node, chain, optional, select, operands, levels, level_at, rule}
 use Rattle.vs_syntax.specs.Tables.{low_of, mark_fronts, null, low, fronts, among, goes}
 use Rattle.vs_syntax.specs.Derivation.{Tree, empty, leaf, both, down, tokens, height, Is, is_nothing, is_token, is_seq, is_left, is_right, is_stop, is_part, is_node, is_one, is_absent}
 use Rattle.vs_syntax.proofs.Ends.{goes_on, again, level_lasts, link_fronts}
@@ -78,7 +78,7 @@ abbrev pub least_of : Nonterminal → Tree
 least_of a_source = empty
 least_of a_module = both (leaf (a_word w.Module)) (both (leaf (sample any_name)) (both empty (both empty (both (leaf (a_mark m.Semicolon)) (both empty (leaf (a_word w.Endmodule)))))))
 least_of a_header_parameter = both empty least_constant
-least_of told_ports = both (leaf (a_word w.Input)) (both empty (both (both empty empty) least_port))
+least_of directed_ports = both (leaf (a_word w.Input)) (both empty (both (both empty empty) least_port))
 least_of net_ports = least_port
 least_of variable_ports = least_port
 least_of port_names = least_port
@@ -141,7 +141,7 @@ rule_least a_source = is_part (is_stop refl)
 rule_least a_module = is_part (is_seq (is_token refl) (is_seq (is_token refl) (is_seq (is_right refl is_nothing) (is_seq (is_right refl is_nothing)
     (is_seq (is_token refl) (is_seq (is_stop refl) (is_token refl)))))))
 rule_least a_header_parameter = is_part (is_seq (is_right refl is_nothing) constant_least)
-rule_least told_ports = is_part (is_seq (is_left refl (is_token refl)) (is_right refl (is_seq (is_right refl is_nothing) (is_seq (is_seq (is_right refl is_nothing) (is_right refl is_nothing)) net_ports_least))))
+rule_least directed_ports = is_part (is_seq (is_left refl (is_token refl)) (is_right refl (is_seq (is_right refl is_nothing) (is_seq (is_seq (is_right refl is_nothing) (is_right refl is_nothing)) net_ports_least))))
 rule_least net_ports = net_ports_least
 rule_least variable_ports = is_part (is_seq (is_token refl) (is_seq (is_right refl is_nothing) (is_right refl is_nothing)))
 rule_least port_names = is_part (is_seq (is_token refl) (is_seq is_nothing (is_right refl is_nothing)))
@@ -169,7 +169,7 @@ least_of-height : (p : Nonterminal) → height (least_of p) ≡ low_of p
 least_of-height a_source = refl
 least_of-height a_module = refl
 least_of-height a_header_parameter = refl
-least_of-height told_ports = refl
+least_of-height directed_ports = refl
 least_of-height net_ports = refl
 least_of-height variable_ports = refl
 least_of-height port_names = refl
@@ -231,7 +231,7 @@ pub rule_sound : (p : Nonterminal) → sound (rule p) ≡ true
 rule_sound a_source = refl
 rule_sound a_module = refl
 rule_sound a_header_parameter = refl
-rule_sound told_ports = refl
+rule_sound directed_ports = refl
 rule_sound net_ports = refl
 rule_sound variable_ports = refl
 rule_sound port_names = refl
@@ -271,17 +271,13 @@ class_there the_time h = refl
 class_there the_directive h = refl
 class_there any_other h = refl
 
-pub not_true : (a : Bool) → not a ≡ true → a ≡ false
-not_true true h = cc
-not_true false h = refl
-
 pub first_nil : (xs : List Symbol) → first (xs ++ []) ≡ first xs
 first_nil [] = refl
 first_nil (x ∷ xs) = refl
 
 least_either : (a b : Grammar) (s : Bool) → Is a (least a) [] → Is b (least b) [] → cond s (goes a (tokens (least a))) (not (goes a (tokens (least b)))) ≡ true → Is (either a b) (cond s (least a) (least b)) []
 least_either a b true p q h = is_left (ap (λ c. among c (fronts a)) (first_nil (tokens (least a))) ∙ h) p
-least_either a b false p q h = is_right (ap (λ c. among c (fronts a)) (first_nil (tokens (least b))) ∙ not_true (goes a (tokens (least b))) h) q
+least_either a b false p q h = is_right (ap (λ c. among c (fronts a)) (first_nil (tokens (least b))) ∙ not-true (goes a (tokens (least b))) h) q
 
 -- with the least tree of the next part
 pub before_least : (a b : Grammar) (x : Tree) (m : List Symbol) → Is a x m → goes_on false a (first (tokens (least b))) ≡ false → Is a x (tokens (least b) ++ [])
@@ -291,7 +287,7 @@ before_least a b x m p h = again p (tokens (least b) ++ []) (inr (ap (goes_on fa
 pub sound_seq : (a b : Grammar) → sound (seq a b) ≡ true → (sound a ≡ true) × (sound b ≡ true) × (goes_on false a (first (tokens (least b))) ≡ false)
 sound_seq a b h =
     let r = and_right (sound a) (sound b && not (goes_on false a (first (tokens (least b))))) h in
-    (and_left (sound a) (sound b && not (goes_on false a (first (tokens (least b))))) h, and_left (sound b) (not (goes_on false a (first (tokens (least b))))) r, not_true (goes_on false a (first (tokens (least b)))) (and_right (sound b) (not (goes_on false a (first (tokens (least b))))) r))
+    (and_left (sound a) (sound b && not (goes_on false a (first (tokens (least b))))) h, and_left (sound b) (not (goes_on false a (first (tokens (least b))))) r, not-true (goes_on false a (first (tokens (least b)))) (and_right (sound b) (not (goes_on false a (first (tokens (least b))))) r))
 
 pub sound_either : (a b : Grammar) → sound (either a b) ≡ true → (sound a ≡ true) × (sound b ≡ true) × (cond (nat_le (low a) (low b)) (goes a (tokens (least a))) (not (goes a (tokens (least b)))) ≡ true) × (null a ≡ false)
 sound_either a b h =
@@ -299,7 +295,7 @@ sound_either a b h =
     let n = not (null a) in
     let r = and_right (sound a) (sound b && (n && c)) h in
     let t = and_right (sound b) (n && c) r in
-    (and_left (sound a) (sound b && (n && c)) h, and_left (sound b) (n && c) r, and_right n c t, not_true (null a) (and_left n c t))
+    (and_left (sound a) (sound b && (n && c)) h, and_left (sound b) (n && c) r, and_right n c t, not-true (null a) (and_left n c t))
 
 pub sound_chain : (a b : Grammar) → sound (chain a b) ≡ true → (sound a ≡ true) × (sound b ≡ true) × (goes_on false a no_token ≡ false) × (among no_token (fronts b) ≡ false) × (low b ≡ 0) × (null a ≡ false)
 sound_chain a b h =
@@ -309,13 +305,13 @@ sound_chain a b h =
     let r = and_right (sound a) (sound b && (s && (z && n))) h in
     let t = and_right (sound b) (s && (z && n)) r in
     let v = and_right s (z && n) t in
-    let o = or_false (goes_on false a no_token) (among no_token (fronts b)) (not_true (goes_on false a no_token || among no_token (fronts b)) (and_left s (z && n) t)) in
-    (and_left (sound a) (sound b && (s && (z && n))) h, and_left (sound b) (s && (z && n)) r, o.0, o.1, eqb-true (low b) 0 (and_left z n v), not_true (null a) (and_right z n v))
+    let o = or_false (goes_on false a no_token) (among no_token (fronts b)) (not-true (goes_on false a no_token || among no_token (fronts b)) (and_left s (z && n) t)) in
+    (and_left (sound a) (sound b && (s && (z && n))) h, and_left (sound b) (s && (z && n)) r, o.0, o.1, eqb-true (low b) 0 (and_left z n v), not-true (null a) (and_right z n v))
 
 pub sound_many : (a : Grammar) → sound (many a) ≡ true → (sound a ≡ true) × (goes_on false a no_token ≡ false) × (among no_token (fronts a) ≡ false)
 sound_many a h =
     let s = not (goes_on false a no_token || among no_token (fronts a)) in
-    let o = or_false (goes_on false a no_token) (among no_token (fronts a)) (not_true (goes_on false a no_token || among no_token (fronts a)) (and_right (sound a) s h)) in
+    let o = or_false (goes_on false a no_token) (among no_token (fronts a)) (not-true (goes_on false a no_token || among no_token (fronts a)) (and_right (sound a) s h)) in
     (and_left (sound a) s h, o.0, o.1)
 
 -- The least tree is one of the grammar.

@@ -5,16 +5,16 @@ use denote.Enum.Bare.{same_true}
 use Rattle.vs_lexer.specs.contracts.token.Mark as marks
 use Rattle.vs_lexer.specs.contracts.token.Word as words
 use Rattle.vs_syntax.specs.Symbols.{Symbol, Class, no_token, the_mark, the_word, any_name, any_number, the_cast, any_text, the_print, the_finish, the_dump, the_time, the_directive, any_other, class_of, first, same_class}
-use Rattle.vs_syntax.specs.Grammar.{Nonterminal, a_source, a_module, a_header_parameter, told_ports, net_ports, variable_ports, port_names, a_bare_name, a_generate_block, a_local, an_item, a_constant, an_instance, a_connection, a_net, a_variable, an_assignment, a_stmt, an_argument, a_dump_argument, a_case_item, an_event_expr, a_target, an_expr, a_level, Grammar, nothing, token, seq, either, many, part, node, chain, optional, operands, levels, rule}
+use Rattle.vs_syntax.specs.Grammar.{Nonterminal, a_source, a_module, a_header_parameter, directed_ports, net_ports, variable_ports, port_names, a_bare_name, a_generate_block, a_local, an_item, a_constant, an_instance, a_connection, a_net, a_variable, an_assignment, a_stmt, an_argument, a_dump_argument, a_case_item, an_event_expr, a_target, an_expr, a_level, Grammar, nothing, token, seq, either, many, part, node, chain, optional, operands, levels, rule}
 use Rattle.vs_syntax.specs.Tables.{Front, null, fronts, among, goes}
 use Rattle.vs_syntax.specs.Derivation.{Tree, down, tokens, Is, is_nothing, is_token, is_seq, is_left, is_right, is_stop, is_more, is_part, is_node, is_one, is_chain, is_present, is_absent}
 use Rattle.vs_syntax.specs.Plain.{IsPlain, plain_nothing, plain_token, plain_seq, plain_left, plain_right, plain_stop, plain_more, plain_part, plain_node, plain_one, plain_chain, plain_present, plain_absent}
 use Rattle.vs_syntax.proofs.Checks.{rule_null}
 use Rattle.vs_syntax.proofs.Fronts.{clash, same_class-refl, goes-seq, goes-either, goes-node, goes-chain, goes-present}
-use Rattle.std.proofs.lemmas.Bool.{or_parts as or_false, or_left, or_right}
+use Rattle.std.proofs.lemmas.Bool.{or_parts as or_false, or_left, or_right, not-true as not_true}
 use Rattle.vs_syntax.proofs.Starts.{nil_left, nil_right, goes-part}
-use Rattle.vs_syntax.proofs.Ends.{goes_on, rule_goes_on}
-use Rattle.vs_syntax.proofs.Least.{not_true, row_passes}
+use Rattle.vs_syntax.proofs.Ends.{goes_on, rule_goes_on, and_true}
+use Rattle.vs_syntax.proofs.Least.{row_passes}
 use Rattle.vs_logic4.proofs.Basics.{and_left, and_right}
 use Rattle.std.proofs.lemmas.Bool.{and_from as and_both}
 
@@ -80,7 +80,7 @@ pub rule_decided : (p : Nonterminal) → decided (rule p) ≡ true
 rule_decided a_source = refl
 rule_decided a_module = refl
 rule_decided a_header_parameter = refl
-rule_decided told_ports = refl
+rule_decided directed_ports = refl
 rule_decided net_ports = refl
 rule_decided variable_ports = refl
 rule_decided port_names = refl
@@ -103,9 +103,6 @@ rule_decided a_target = refl
 rule_decided an_expr = refl
 rule_decided (a_level zero) = refl
 rule_decided (a_level (suc n)) = row_passes (λ k ops. decided (operands (a_level k) ops)) (λ k. refl) levels refl n
-
-and_true : (a b : Bool) → a ≡ true → (a && b) ≡ false → b ≡ false
-and_true a b p h = ap (λ u. u && b) (sym p) ∙ h
 
 -- a tree without tokens stands only where the grammar allows none
 plain_null : {g : Grammar} {x : Tree} {m : List Symbol} → IsPlain g x m → tokens x ≡ [] → null g ≡ true

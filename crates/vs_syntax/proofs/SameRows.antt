@@ -3,7 +3,7 @@ use Rattle.std.specs.Prelude.{◌≡◌, List, [], ◌∷◌, map}
 use Rattle.vs_lexer.specs.declared.token.Mark.TheVariants as m
 use Rattle.vs_syntax.specs.Symbols.{a_mark}
 use Rattle.vs_syntax.specs.Derivation.{Tree, leaf, both}
-use Rattle.vs_syntax.specs.Views.{row_of, listed_tree}
+use Rattle.vs_syntax.specs.Views.{row_of, comma_list_tree}
 use Rattle.vs_syntax.specs.Same.{Pairwise, no_pair, pair_more}
 
 pub pairs : {A : Type 0} (R : A → A → Type 0) (tree : A → Tree) → ((x x' : A) → tree x ≡ tree x' → R x x') → (xs xs' : List A) → row_of (map tree xs) ≡ row_of (map tree xs') → Pairwise R xs xs'
@@ -19,7 +19,7 @@ comma_pairs R tree f [] (x' ∷ xs') h = cc
 comma_pairs R tree f (x ∷ xs) [] h = cc
 comma_pairs R tree f (x ∷ xs) (x' ∷ xs') h = pair_more x x' xs xs' (f x x' (cc)) (comma_pairs R tree f xs xs' (cc))
 
-pub listed_pairs : {A : Type 0} (R : A → A → Type 0) (tree : A → Tree) → ((x x' : A) → tree x ≡ tree x' → R x x') → (xs xs' : List A) → listed_tree (map tree xs) ≡ listed_tree (map tree xs') → Pairwise R xs xs'
+pub listed_pairs : {A : Type 0} (R : A → A → Type 0) (tree : A → Tree) → ((x x' : A) → tree x ≡ tree x' → R x x') → (xs xs' : List A) → comma_list_tree (map tree xs) ≡ comma_list_tree (map tree xs') → Pairwise R xs xs'
 listed_pairs R tree f [] [] h = no_pair
 listed_pairs R tree f [] (x' ∷ xs') h = cc
 listed_pairs R tree f (x ∷ xs) [] h = cc

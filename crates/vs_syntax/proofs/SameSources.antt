@@ -39,14 +39,14 @@ use Rattle.vs_lexer.specs.declared.token.Word.TheVariants as w
 use Rattle.vs_syntax.specs.Symbols.{Symbol, a_word, a_name}
 use Rattle.vs_syntax.specs.Derivation.{Tree, empty, leaf, both, down, tokens}
 use Rattle.vs_syntax.specs.Derives.{Derives}
-use Rattle.vs_syntax.specs.Views.{value_tree, told_tree, declarator_tree, form_tree, net_assignment_tree, parameter_form_tree, constant_tree, parameter_word_tree, header_parameter_tree, header_parameters_tree, direction_word, kind_tree, port_form_tree, port_tree, more_ports_tree, ports_tree, header_ports_tree, end_tree, connection_tree, connections_tree, overrides_tree, instance_tree, bare_name_tree, name_tree, item_symbol, item_tree, loop_tree, block_name_tree, else_tree, row_of, module_item_step, module_item_tree, module_tree, directive_tree, directed_trees, source_tree}
+use Rattle.vs_syntax.specs.Views.{value_tree, declarator_rest_tree, declarator_tree, form_tree, net_assignment_tree, parameter_form_tree, constant_tree, parameter_word_tree, header_parameter_tree, header_parameters_tree, direction_word, kind_tree, port_form_tree, port_tree, more_ports_tree, ports_tree, header_ports_tree, end_tree, connection_tree, connections_tree, overrides_tree, instance_tree, bare_name_tree, name_tree, item_symbol, item_tree, loop_tree, block_name_tree, else_tree, row_of, module_item_step, module_item_tree, module_tree, directive_tree, directed_trees, source_tree}
 use Rattle.vs_syntax.specs.Same.{Pairwise, no_pair, pair_more, SameValue, same_no_value, same_value, SameDeclarator, SameRange, same_no_range, SameOption, both_absent, both_there, SameParameterForm, same_integer_word, same_vector, SameConstant, SameHeaderParameter, SamePortForm, SamePort, SamePorts, SameConnection, SameConnections, same_ordered, same_named, SameInstance, SameAssignment, SameName, SameItem, same_port_item, same_genvars, SameLoopHeader, SameModuleItem, same_plain, same_region, same_generate_loop, same_generate_if, same_no_content, same_generate_block, SameOther, same_no_other, same_other, SameModuleItems, same_no_module_item, same_more_module_items, same_wire, same_reg, same_integer, same_parameters, same_localparams, same_instances, same_assigns, same_initial, same_always, SameModule, SameSource}
 use Rattle.vs_syntax.proofs.Unique.{unique}
-use Rattle.vs_syntax.proofs.Sameness.{same_expr, expr_there, expr_alone}
+use Rattle.vs_syntax.proofs.Sameness.{same_expr, expr_there, expr_alone, two}
 use Rattle.vs_syntax.proofs.SameLefts.{same_left}
 use Rattle.vs_syntax.proofs.SameRows.{comma_pairs, listed_pairs}
 use Rattle.vs_syntax.proofs.SameForms.{same_ranges, same_form}
-use Rattle.vs_syntax.proofs.SameStmts.{same_stmt}
+use Rattle.vs_syntax.proofs.SameStmts.{same_stmt, headed}
 
 same_option : (v v' : Option Expr) → value_tree v ≡ value_tree v' → SameValue v v'
 same_option None None h = same_no_value
@@ -54,7 +54,7 @@ same_option None (Some x') h = cc
 same_option (Some x) None h = cc
 same_option (Some x) (Some x') h = same_value x x' (same_expr x x' (cc))
 
-same_told : (w w' : Option Range) (v v' : Option Expr) → told_tree w v ≡ told_tree w' v' → SameRange w w' × SameValue v v'
+same_told : (w w' : Option Range) (v v' : Option Expr) → declarator_rest_tree w v ≡ declarator_rest_tree w' v' → SameRange w w' × SameValue v v'
 same_told None None v v' h = (same_no_range, same_option v v' h)
 same_told (Some r) (Some r') None None h = (same_ranges (Some r) (Some r') h, same_no_value)
 same_told (Some r) (Some r') (Some x) (Some x') h = (same_ranges (Some r) (Some r') (cc), same_value x x' (same_expr x x' (cc)))
@@ -377,13 +377,6 @@ plain_form (i.Always x) = omega arith
 
 not_plain : {A : Type 0} (x : Item) (n : ℕ) → 11 ≤ n → item_form x ≡ n → A
 not_plain x n h e = let p : item_form x < 11 = plain_form x in let none : ⊥ = omega (arith, p, h, e) in absurd none
-
--- the parts of one tree
-two : (x x' y y' : Tree) → both x y ≡ both x' y' → (x ≡ x') × (y ≡ y')
-two x x' y y' h = (cc, cc)
-
-headed : (s s' : Symbol) (x x' : Tree) → down (both (leaf s) x) ≡ down (both (leaf s') x') → (s ≡ s') × (x ≡ x')
-headed s s' x x' h = (cc, cc)
 
 -- one layer each
 same_layers : (z : ModuleItem-F Inner) (x' : ModuleItem-F ModuleItem) → layer (bare z) ≡ layer x' → SameModuleItem (roll-ModuleItem (bare z)) (roll-ModuleItem x')

@@ -35,7 +35,7 @@ use Rattle.vs_syntax.specs.Symbols.{Symbol, a_mark, a_word, a_print, a_finish, a
 use Rattle.vs_syntax.specs.Derivation.{Tree, empty, leaf, both, down}
 use Rattle.vs_syntax.specs.Views.{row_of, some_tree, commas_tree, expr_tree, left_tree, case_word, colon_tree, labelled_tree, case_item_tree, guarded_tree, edge_tree, event_expr_tree, separator_tree, other_event_tree, event_tree, else_tree, local_declaration_tree, stmt_step, stmt_tree}
 use Rattle.vs_syntax.specs.Same.{SameExpr, SameExprs, same_no_expr, same_more_exprs, SameEventExpr, SameOtherEvent, SameEvent, same_star, same_grouped_star, same_event_name, same_terms, SameLabel, same_expressions, same_default, SameStmt, same_null, same_assign, same_later, same_block, SameLocals, same_named_block, same_if, same_case, same_for, same_while, same_repeated, same_forever, same_delay, same_event, SamePrint, same_print, same_finish, SameOption, SameDump, same_dump, SameStmts, same_no_stmt, same_more_stmts, SameElse, same_no_else, same_else, SameCaseItems, same_no_item, same_more_items}
-use Rattle.vs_syntax.proofs.Sameness.{same_expr, expr_no_word}
+use Rattle.vs_syntax.proofs.Sameness.{same_expr, expr_no_word, two}
 use Rattle.vs_syntax.proofs.SameLefts.{same_left, same_selects, left_down}
 use Rattle.vs_syntax.proofs.SameRows.{pairs}
 use Rattle.vs_syntax.proofs.SameForms.{same_locals}
@@ -227,11 +227,7 @@ form_of _ = refl
 one_form : (x x' : Stmt-F Stmt) → layer x ≡ layer x' → form x ≡ form x'
 one_form x x' h = sym (form_of x) ∙ ap form_of_tree h ∙ form_of x'
 
--- the parts of one tree
-two : (x x' y y' : Tree) → both x y ≡ both x' y' → (x ≡ x') × (y ≡ y')
-two x x' y y' h = (cc, cc)
-
-headed : (s s' : Symbol) (x x' : Tree) → down (both (leaf s) x) ≡ down (both (leaf s') x') → (s ≡ s') × (x ≡ x')
+pub headed : (s s' : Symbol) (x x' : Tree) → down (both (leaf s) x) ≡ down (both (leaf s') x') → (s ≡ s') × (x ≡ x')
 headed s s' x x' h = (cc, cc)
 
 guarded : (s s' : Symbol) (x x' y y' : Tree) → down (both (leaf s) (guarded_tree x y)) ≡ down (both (leaf s') (guarded_tree x' y')) → (s ≡ s') × (x ≡ x') × (y ≡ y')

@@ -172,12 +172,12 @@ selects_form [] = refl
 selects_form (x ∷ xs) = refl
 
 -- operands behind an expression
-behind_choice : (ps : List (Tree × Tree)) (x y : Tree) → form_of_tree (down (both (choice_tree ps x) y)) ≡ form_of_row y
-behind_choice [] x y = refl
-behind_choice (p ∷ ps) x y = refl
+after_choice : (ps : List (Tree × Tree)) (x y : Tree) → form_of_tree (down (both (choice_tree ps x) y)) ≡ form_of_row y
+after_choice [] x y = refl
+after_choice (p ∷ ps) x y = refl
 
 behind_layer : (x : Expr-F Expr) (y : Tree) → form_of_tree (down (both (layer x) y)) ≡ form_of_row y
-behind_layer (f.Choice ps x) y = behind_choice (map (λ p. (expr_tree p.0, expr_tree p.1)) ps.items) (expr_tree x.value) y
+behind_layer (f.Choice ps x) y = after_choice (map (λ p. (expr_tree p.0, expr_tree p.1)) ps.items) (expr_tree x.value) y
 behind_layer (f.Number l) y = refl
 behind_layer _ y = refl
 
@@ -209,7 +209,7 @@ one_form : (x x' : Expr-F Expr) → layer x ≡ layer x' → form x ≡ form x'
 one_form x x' h = sym (form_of x) ∙ ap form_of_tree h ∙ form_of x'
 
 -- the parts of one tree
-two : (x x' y y' : Tree) → both x y ≡ both x' y' → (x ≡ x') × (y ≡ y')
+pub two : (x x' y y' : Tree) → both x y ≡ both x' y' → (x ≡ x') × (y ≡ y')
 two x x' y y' h = (cc, cc)
 
 below : (x x' y y' : Tree) → down (both x y) ≡ down (both x' y') → (x ≡ x') × (y ≡ y')

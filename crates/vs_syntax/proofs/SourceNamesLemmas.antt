@@ -34,7 +34,7 @@ use Rattle.vs_syntax.specs.declared.tree.Module.{Module}
 use Rattle.vs_lexer.specs.declared.token.Word.TheVariants as w
 use Rattle.vs_syntax.specs.Symbols.{Symbol, a_mark, a_name, a_word}
 use Rattle.vs_syntax.specs.Derivation.{Tree, leaf, both, down, tokens}
-use Rattle.vs_syntax.specs.Views.{row_of, name_tree, commas_tree, listed_tree, expr_tree, connections_tree, told_tree, declarator_tree, form_tree, declared_tree, parameter_form_tree, valued_tree, constant_tree, parameter_word_tree, header_parameter_tree, header_parameters_tree, direction_word, kind_tree, port_form_tree, port_tree, more_ports_tree, ports_tree, header_ports_tree, overrides_tree, instance_tree, constants_tree, item_tree, value_tree, bare_name_tree, range_tree, local_tree, local_declaration_tree, labelled_tree, case_item_tree, some_tree, else_tree, stmt_step, stmt_tree, block_name_tree, module_item_step, module_item_tree, module_tree, directive_tree, directed_trees}
+use Rattle.vs_syntax.specs.Views.{row_of, name_tree, commas_tree, comma_list_tree, expr_tree, connections_tree, declarator_rest_tree, declarator_tree, form_tree, declared_tree, parameter_form_tree, valued_tree, constant_tree, parameter_word_tree, header_parameter_tree, header_parameters_tree, direction_word, kind_tree, port_form_tree, port_tree, more_ports_tree, ports_tree, header_ports_tree, overrides_tree, instance_tree, constants_tree, item_tree, value_tree, bare_name_tree, range_tree, local_tree, local_declaration_tree, labelled_tree, case_item_tree, some_tree, else_tree, stmt_step, stmt_tree, block_name_tree, module_item_step, module_item_tree, module_tree, directive_tree, directed_trees}
 use Rattle.vs_syntax.specs.SourceNames.{NamesAreTokens, declarator_names, constant_names, instance_names, header_parameter_names, port_names, bare_names, local_names, else_names, stmt_names_step, stmt_names, item_names, block_names, module_item_names_step, module_item_names, module_names, declared_names}
 use Rattle.std.proofs.lemmas.Bool.{and_from as and_of}
 use Rattle.vs_logic4.proofs.Basics.{and_left as first_of, and_right as second_of}
@@ -70,7 +70,7 @@ row_holds p tree name f x xs end h =
     (f x (left p (tree x) (both others end) h))
     (rest_holds p tree name f xs (left p others end (right p (tree x) (both others end) h)))
 
-listed_holds : {A : Type 0} (p : Symbol → Bool) (tree : A → Tree) (name : A → List ℕ) → ((x : A) → holds p (tree x) ≡ true → p (a_name (name x)) ≡ true) → (xs : List A) → holds p (listed_tree (map tree xs)) ≡ true → named p (map name xs) ≡ true
+listed_holds : {A : Type 0} (p : Symbol → Bool) (tree : A → Tree) (name : A → List ℕ) → ((x : A) → holds p (tree x) ≡ true → p (a_name (name x)) ≡ true) → (xs : List A) → holds p (comma_list_tree (map tree xs)) ≡ true → named p (map name xs) ≡ true
 listed_holds p tree name f [] h = refl
 listed_holds p tree name f (x ∷ xs) h = row_holds p tree name f x xs (leaf (a_mark m.Semicolon)) h
 
@@ -78,19 +78,19 @@ listed_holds p tree name f (x ∷ xs) h = row_holds p tree name f x xs (leaf (a_
 name_holds : (p : Symbol → Bool) (n : List ℕ) (x : Tree) → holds p (both (name_tree n) x) ≡ true → p (a_name n) ≡ true
 name_holds p n x h = first_of (p (a_name n)) true (left p (name_tree n) x h)
 
-declarators_hold : (p : Symbol → Bool) (ds : List Declarator) → holds p (listed_tree (map declarator_tree ds)) ≡ true → named p (declarator_names ds) ≡ true
-declarators_hold p ds h = listed_holds p declarator_tree (λ d. d.name.items) (λ d i. name_holds p d.name.items (told_tree d.words d.value) i) ds h
+declarators_hold : (p : Symbol → Bool) (ds : List Declarator) → holds p (comma_list_tree (map declarator_tree ds)) ≡ true → named p (declarator_names ds) ≡ true
+declarators_hold p ds h = listed_holds p declarator_tree (λ d. d.name.items) (λ d i. name_holds p d.name.items (declarator_rest_tree d.words d.value) i) ds h
 
 constants_hold : (p : Symbol → Bool) (f : ParameterForm) (xs : List Constant) → holds p (constants_tree f xs) ≡ true → named p (constant_names xs) ≡ true
 constants_hold p f xs h =
     listed_holds p constant_tree (λ x. x.name.items) (λ x i. name_holds p x.name.items (both (leaf (a_mark m.Assign)) (expr_tree x.value)) i) xs
-    (right p (parameter_form_tree f) (listed_tree (map constant_tree xs)) h)
+    (right p (parameter_form_tree f) (comma_list_tree (map constant_tree xs)) h)
 
-instances_hold : (p : Symbol → Bool) (o : Option Connections) (xs : List Instance) → holds p (both (overrides_tree o) (listed_tree (map instance_tree xs))) ≡ true → named p (instance_names xs) ≡ true
+instances_hold : (p : Symbol → Bool) (o : Option Connections) (xs : List Instance) → holds p (both (overrides_tree o) (comma_list_tree (map instance_tree xs))) ≡ true → named p (instance_names xs) ≡ true
 instances_hold p o xs h =
     listed_holds p instance_tree (λ x. x.name.items)
     (λ x i. name_holds p x.name.items (both (leaf (a_mark m.Open)) (both (connections_tree x.ports) (leaf (a_mark m.Close)))) i) xs
-    (right p (overrides_tree o) (listed_tree (map instance_tree xs)) h)
+    (right p (overrides_tree o) (comma_list_tree (map instance_tree xs)) h)
 
 header_parameters_hold : (p : Symbol → Bool) (xs : List HeaderParameter) → holds p (header_parameters_tree (map header_parameter_tree xs)) ≡ true → named p (header_parameter_names xs) ≡ true
 header_parameters_hold p [] h = refl
@@ -126,10 +126,10 @@ port_list_holds p (x ∷ xs) h =
     and_of (p (a_name x.name.items)) (named p (map (λ (y : Port). y.name.items) xs)) k.0 (more_ports_hold p xs k.1)
 
 -- the ports of a module, where it has a list of them, as a tree
-abbrev listed_ports : Option (Vec Port Global) → Tree
-listed_ports o = header_ports_tree (option_map (λ (ps : Vec Port Global). ps.items) o)
+abbrev ports_of_header : Option (Vec Port Global) → Tree
+ports_of_header o = header_ports_tree (option_map (λ (ps : Vec Port Global). ps.items) o)
 
-ports_hold : (p : Symbol → Bool) (o : Option (Vec Port Global)) → holds p (listed_ports o) ≡ true → named p (port_names o) ≡ true
+ports_hold : (p : Symbol → Bool) (o : Option (Vec Port Global)) → holds p (ports_of_header o) ≡ true → named p (port_names o) ≡ true
 ports_hold p None h = refl
 ports_hold p (Some xs) h =
     let inside = ports_tree xs.items in
@@ -137,7 +137,7 @@ ports_hold p (Some xs) h =
     port_list_holds p xs.items (left p inside close (right p (leaf (a_mark m.Open)) (both inside close) h))
 
 declared_holds : (p : Symbol → Bool) (f : Form) (ds : List Declarator) → holds p (declared_tree f ds) ≡ true → named p (declarator_names ds) ≡ true
-declared_holds p f ds h = declarators_hold p ds (right p (form_tree f) (listed_tree (map declarator_tree ds)) h)
+declared_holds p f ds h = declarators_hold p ds (right p (form_tree f) (comma_list_tree (map declarator_tree ds)) h)
 
 -- two lists of names, one behind the other
 both_named : (p : Symbol → Bool) (ms ns : List (List ℕ)) → named p ms ≡ true → named p ns ≡ true → named p (ms ++ ns) ≡ true
@@ -162,7 +162,7 @@ within (in_down w) h = within w (record { is = h.is })
 
 -- ---- statements
 
-locals_hold : (p : Symbol → Bool) (xs : List Local) → Fine p (listed_tree (map local_tree xs)) → named p (map (λ (x : Local). x.name.items) xs) ≡ true
+locals_hold : (p : Symbol → Bool) (xs : List Local) → Fine p (comma_list_tree (map local_tree xs)) → named p (map (λ (x : Local). x.name.items) xs) ≡ true
 locals_hold p xs h = listed_holds p local_tree (λ (x : Local). x.name.items) (λ x i. name_holds p x.name.items (range_tree x.words) i) xs h.is
 
 declaration_holds : (p : Symbol → Bool) (x : LocalDeclaration) → Fine p (local_declaration_tree x) → named p (local_names x) ≡ true
@@ -263,7 +263,7 @@ stmt_holds p = ind-Stmt (Held p) (held p)
 
 -- ---- items
 
-bare_names_hold : (p : Symbol → Bool) (ns : List (Vec ℕ Global)) → Fine p (listed_tree (map bare_name_tree ns)) → named p (bare_names ns) ≡ true
+bare_names_hold : (p : Symbol → Bool) (ns : List (Vec ℕ Global)) → Fine p (comma_list_tree (map bare_name_tree ns)) → named p (bare_names ns) ≡ true
 bare_names_hold p ns h = listed_holds p bare_name_tree (λ (n : Vec ℕ Global). n.items) (λ n i. first_of (p (a_name n.items)) true i) ns h.is
 
 item_holds : (p : Symbol → Bool) (x : Item) → Fine p (item_tree x) → named p (item_names x) ≡ true
@@ -345,7 +345,7 @@ module_holds p x h =
     let inside = row_of (map module_item_tree x.items.items) in
     let body = both (leaf (a_mark m.Semicolon)) (both inside end) in
     let parameters = header_parameters_tree (map header_parameter_tree x.parameters.items) in
-    let ports = listed_ports x.ports in
+    let ports = ports_of_header x.ports in
     let header = both parameters (both ports body) in
     let own = name_tree x.name.items in
     let behind = right p (leaf (a_word w.Module)) (both own header) h in

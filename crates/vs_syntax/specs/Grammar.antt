@@ -14,7 +14,7 @@ pub data Nonterminal : Type 0 where
   -- a parameter in the header of a module, with the word or without (clauses A.1.3 and A.2.4)
   a_header_parameter : Nonterminal
   -- ports in the header of a module, the first with its direction (clause A.1.3)
-  told_ports : Nonterminal
+  directed_ports : Nonterminal
   -- a port that is a net, by its name, with those behind it (clause A.1.3)
   net_ports : Nonterminal
   -- a port that is a variable, by its name, with a declaration assignment or without, with those behind it (clauses A.1.3 and A.2.4)
@@ -107,8 +107,8 @@ abbrev pub one_or_more : Grammar → Grammar
 one_or_more a = a · many a
 
 -- one or more, with commas between, and the semicolon behind them
-abbrev pub listed : Nonterminal → Grammar
-listed p = part p · many (mark m.Comma · part p) · mark m.Semicolon
+abbrev pub comma_list : Nonterminal → Grammar
+comma_list p = part p · many (mark m.Comma · part p) · mark m.Semicolon
 
 -- one of these marks
 abbrev pub one_mark : Mark → List Mark → Grammar
@@ -233,11 +233,11 @@ may_value = mark m.Assign · part an_expr or nothing
 
 -- the ports behind one: the next one with its direction, or its name alone, of which the same is said; or no more (clause A.1.3)
 abbrev pub more_ports : Nonterminal → Grammar
-more_ports p = mark m.Comma · (part told_ports or part p) or nothing
+more_ports p = mark m.Comma · (part directed_ports or part p) or nothing
 
 -- the ports in the header of a module: the first with its direction, or all by their names alone (clause A.1.3; profile)
 abbrev pub header_ports : Grammar
-header_ports = mark m.Open · (part told_ports or part port_names or nothing) · mark m.Close
+header_ports = mark m.Open · (part directed_ports or part port_names or nothing) · mark m.Close
 
 -- an expression, or nothing
 abbrev pub an_end : Grammar
@@ -249,7 +249,7 @@ connections = part a_connection · many (mark m.Comma · part a_connection) or a
 
 -- instances of a module, behind its name (clause A.4.1)
 abbrev pub instances : Grammar
-instances = (mark m.Hash · mark m.Open · connections · mark m.Close or nothing) · listed an_instance
+instances = (mark m.Hash · mark m.Open · connections · mark m.Close or nothing) · comma_list an_instance
 
 -- an expression in parentheses that are no node, and what stands behind them
 abbrev pub guarded : Grammar → Grammar
@@ -273,7 +273,7 @@ block_name = mark m.Colon · name or nothing
 
 -- a declaration of a named block (clause A.2.8)
 abbrev pub local_declaration : Grammar
-local_declaration = word w.Reg · form · listed a_local or word w.Integer · listed a_local
+local_declaration = word w.Reg · form · comma_list a_local or word w.Integer · comma_list a_local
 
 -- the name of a block with its declarations, or nothing (clause A.6.3)
 abbrev pub block_head : Grammar
@@ -281,18 +281,18 @@ block_head = mark m.Colon · name · many local_declaration or nothing
 
 -- the items of a module that begin with a word, each by it (clause A.1.4; profile)
 abbrev pub items : List (Class × Grammar)
-items = (the_word w.Input, port_kind · form · listed a_bare_name)
-    ∷ (the_word w.Output, port_kind · form · listed a_bare_name)
-    ∷ (the_word w.Genvar, listed a_bare_name)
+items = (the_word w.Input, port_kind · form · comma_list a_bare_name)
+    ∷ (the_word w.Output, port_kind · form · comma_list a_bare_name)
+    ∷ (the_word w.Genvar, comma_list a_bare_name)
     ∷ (the_word w.Generate, many (part an_item) · word w.Endgenerate)
     ∷ (the_word w.For, generate_loop)
     ∷ (the_word w.If, guarded generate_branches)
-    ∷ (the_word w.Wire, form · listed a_net)
-    ∷ (the_word w.Reg, form · listed a_variable)
-    ∷ (the_word w.Integer, listed a_variable)
-    ∷ (the_word w.Parameter, parameter_form · listed a_constant)
-    ∷ (the_word w.Localparam, parameter_form · listed a_constant)
-    ∷ (the_word w.Assign, listed an_assignment)
+    ∷ (the_word w.Wire, form · comma_list a_net)
+    ∷ (the_word w.Reg, form · comma_list a_variable)
+    ∷ (the_word w.Integer, comma_list a_variable)
+    ∷ (the_word w.Parameter, parameter_form · comma_list a_constant)
+    ∷ (the_word w.Localparam, parameter_form · comma_list a_constant)
+    ∷ (the_word w.Assign, comma_list an_assignment)
     ∷ (the_word w.Initial, part a_stmt)
     ∷ (the_word w.Always, part a_stmt)
     ∷ []
@@ -367,7 +367,7 @@ rule a_source = many (part a_module or token the_directive)
 rule a_module = word w.Module · name · (header_parameters or nothing) · (header_ports or nothing) · mark m.Semicolon
     · many (part an_item) · word w.Endmodule
 rule a_header_parameter = (word w.Parameter · parameter_form or nothing) · part a_constant
-rule told_ports = direction · (variable_kind · form · part variable_ports or net_kind · form · part net_ports)
+rule directed_ports = direction · (variable_kind · form · part variable_ports or net_kind · form · part net_ports)
 rule net_ports = name · nothing · more_ports net_ports
 rule variable_ports = name · may_value · more_ports variable_ports
 rule port_names = name · nothing · (mark m.Comma · part port_names or nothing)

@@ -4,7 +4,7 @@ use Rattle.vs_lexer.specs.declared.token.Mark.{Mark}
 use Rattle.vs_lexer.specs.declared.token.Mark.TheVariants as m
 use Rattle.vs_lexer.specs.declared.token.Word.TheVariants as w
 use Rattle.vs_syntax.specs.Symbols.{Symbol, Class, the_mark, the_word, any_name, any_number, the_cast, any_text, the_print, the_finish, the_dump, the_time, the_directive, same_class, first}
-use Rattle.vs_syntax.specs.Grammar.{Nonterminal, a_source, a_module, a_header_parameter, told_ports, net_ports, variable_ports, port_names, a_bare_name, a_generate_block, a_local, an_item, a_constant, an_instance, a_connection, a_net, a_variable, an_assignment, a_stmt, an_argument, a_dump_argument, a_case_item, an_event_expr, a_target, an_expr, a_level, Grammar, nothing, token, seq, either, many, part, node, chain, optional, prefixes}
+use Rattle.vs_syntax.specs.Grammar.{Nonterminal, a_source, a_module, a_header_parameter, directed_ports, net_ports, variable_ports, port_names, a_bare_name, a_generate_block, a_local, an_item, a_constant, an_instance, a_connection, a_net, a_variable, an_assignment, a_stmt, an_argument, a_dump_argument, a_case_item, an_event_expr, a_target, an_expr, a_level, Grammar, nothing, token, seq, either, many, part, node, chain, optional, prefixes}
 
 -- a class that can begin a part, and the least nesting of a part that it begins
 pub record Front : Type 0 where
@@ -25,7 +25,7 @@ abbrev pub low_of : Nonterminal → ℕ
 low_of a_source = 0
 low_of a_module = 0
 low_of a_header_parameter = 0
-low_of told_ports = 0
+low_of directed_ports = 0
 low_of net_ports = 0
 low_of variable_ports = 0
 low_of port_names = 0
@@ -88,7 +88,7 @@ abbrev pub fronts_of : Nonterminal → List Front
 fronts_of a_source = at_least (the_word w.Module) 0 ∷ at_least the_directive 0 ∷ []
 fronts_of a_module = at_least (the_word w.Module) 0 ∷ []
 fronts_of a_header_parameter = at_least (the_word w.Parameter) 0 ∷ at_least any_name 0 ∷ []
-fronts_of told_ports = at_least (the_word w.Input) 0 ∷ at_least (the_word w.Output) 0 ∷ []
+fronts_of directed_ports = at_least (the_word w.Input) 0 ∷ at_least (the_word w.Output) 0 ∷ []
 fronts_of net_ports = at_least any_name 0 ∷ []
 fronts_of variable_ports = at_least any_name 0 ∷ []
 fronts_of port_names = at_least any_name 0 ∷ []

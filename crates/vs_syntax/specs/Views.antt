@@ -87,9 +87,9 @@ abbrev pub commas_tree : List Tree → Tree
 commas_tree xs = row_of (map (both (leaf (a_mark m.Comma))) xs)
 
 -- parts with commas between, and the semicolon behind them; without a part no tree of the grammar
-abbrev pub listed_tree : List Tree → Tree
-listed_tree [] = empty
-listed_tree (x ∷ xs) = both x (both (commas_tree xs) (leaf (a_mark m.Semicolon)))
+abbrev pub comma_list_tree : List Tree → Tree
+comma_list_tree [] = empty
+comma_list_tree (x ∷ xs) = both x (both (commas_tree xs) (leaf (a_mark m.Semicolon)))
 
 -- the mark of an operator of one operand (clause 5.1)
 abbrev pub unary_mark : Unary → Mark
@@ -232,14 +232,14 @@ range_tree (Some r) = both (leaf (a_mark m.OpenBracket)) (both (expr_tree r.left
     (both (leaf (a_mark m.Colon)) (both (expr_tree r.right) (leaf (a_mark m.CloseBracket)))))
 
 -- what stands behind a name of a declaration: the range of its words, or a declaration assignment; with both no tree of the grammar
-abbrev pub told_tree : Option Range → Option Expr → Tree
-told_tree None v = value_tree v
-told_tree (Some r) None = range_tree (Some r)
-told_tree (Some r) (Some x) = down (both (range_tree (Some r)) (value_tree (Some x)))
+abbrev pub declarator_rest_tree : Option Range → Option Expr → Tree
+declarator_rest_tree None v = value_tree v
+declarator_rest_tree (Some r) None = range_tree (Some r)
+declarator_rest_tree (Some r) (Some x) = down (both (range_tree (Some r)) (value_tree (Some x)))
 
 -- a name of a declaration
 abbrev pub declarator_tree : Declarator → Tree
-declarator_tree d = both (name_tree d.name.items) (told_tree d.words d.value)
+declarator_tree d = both (name_tree d.name.items) (declarator_rest_tree d.words d.value)
 
 -- the word `signed`, where it is there
 abbrev pub signed_tree : Bool → Tree
@@ -252,7 +252,7 @@ form_tree f = both (signed_tree f.signed) (range_tree f.range)
 
 -- names of a declaration behind what it says of them
 abbrev pub declared_tree : Form → List Declarator → Tree
-declared_tree f ds = both (form_tree f) (listed_tree (map declarator_tree ds))
+declared_tree f ds = both (form_tree f) (comma_list_tree (map declarator_tree ds))
 
 -- an assignment of an `assign` item
 abbrev pub net_assignment_tree : NetAssignment → Tree
@@ -387,8 +387,8 @@ local_tree x = both (name_tree x.name.items) (range_tree x.words)
 
 -- a declaration of a named block
 abbrev pub local_declaration_tree : LocalDeclaration → Tree
-local_declaration_tree (ld.Reg f xs) = both (leaf (a_word w.Reg)) (both (form_tree f) (listed_tree (map local_tree xs.items)))
-local_declaration_tree (ld.Integer xs) = both (leaf (a_word w.Integer)) (listed_tree (map local_tree xs.items))
+local_declaration_tree (ld.Reg f xs) = both (leaf (a_word w.Reg)) (both (form_tree f) (comma_list_tree (map local_tree xs.items)))
+local_declaration_tree (ld.Integer xs) = both (leaf (a_word w.Integer)) (comma_list_tree (map local_tree xs.items))
 
 -- the name of a block, and its declarations
 abbrev pub block_head_tree : List ℕ → List LocalDeclaration → Tree
@@ -527,7 +527,7 @@ item_symbol (i.Always x) = a_word w.Always
 
 -- names of a declaration of parameters behind their type
 abbrev pub constants_tree : ParameterForm → List Constant → Tree
-constants_tree f xs = both (parameter_form_tree f) (listed_tree (map constant_tree xs))
+constants_tree f xs = both (parameter_form_tree f) (comma_list_tree (map constant_tree xs))
 
 -- names alone
 abbrev pub bare_name_tree : Vec ℕ Global → Tree
@@ -535,15 +535,15 @@ bare_name_tree n = name_tree n.items
 
 -- what stands behind the first symbol of an item
 abbrev pub body_tree : Item → Tree
-body_tree (i.Port f ns) = both (kind_tree f.kind) (both (form_tree f.form) (listed_tree (map bare_name_tree ns.items)))
-body_tree (i.Genvar ns) = listed_tree (map bare_name_tree ns.items)
+body_tree (i.Port f ns) = both (kind_tree f.kind) (both (form_tree f.form) (comma_list_tree (map bare_name_tree ns.items)))
+body_tree (i.Genvar ns) = comma_list_tree (map bare_name_tree ns.items)
 body_tree (i.Wire f ds) = declared_tree f ds.items
 body_tree (i.Reg f ds) = declared_tree f ds.items
-body_tree (i.Integer ds) = listed_tree (map declarator_tree ds.items)
+body_tree (i.Integer ds) = comma_list_tree (map declarator_tree ds.items)
 body_tree (i.Parameter f xs) = constants_tree f xs.items
 body_tree (i.Localparam f xs) = constants_tree f xs.items
-body_tree (i.Instances n o xs) = both (overrides_tree o) (listed_tree (map instance_tree xs.items))
-body_tree (i.Assign xs) = listed_tree (map net_assignment_tree xs.items)
+body_tree (i.Instances n o xs) = both (overrides_tree o) (comma_list_tree (map instance_tree xs.items))
+body_tree (i.Assign xs) = comma_list_tree (map net_assignment_tree xs.items)
 body_tree (i.Initial x) = stmt_tree x
 body_tree (i.Always x) = stmt_tree x
 

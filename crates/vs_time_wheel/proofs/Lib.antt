@@ -1,6 +1,6 @@
 pub mod Bags
 pub mod Fronts
-pub mod Listed
+pub mod ShortList
 pub mod Replayed
 pub mod Flags
 pub mod Slots

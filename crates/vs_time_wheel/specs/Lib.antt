@@ -5,6 +5,6 @@ pub mod Busy
 pub mod Rotation
 pub mod Window
 pub mod Front
-pub mod Listed
+pub mod ShortList
 pub mod Links
 pub mod Ownership

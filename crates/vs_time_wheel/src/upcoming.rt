@@ -3,7 +3,7 @@ ghost use Rattle.std.specs.Prelude.{◌≡◌, ◌↔◌, ◌≢◌, ◌≤◌, 
 ghost use Rattle.std.specs.Option.{ForSome};
 ghost use Rattle.vs_time_wheel.specs.Bag.{SameBag, least_time, oldest_at, sooner, without_oldest};
 ghost use Rattle.vs_time_wheel.specs.Front.{IsAhead};
-ghost use Rattle.vs_time_wheel.specs.Listed.{AreInOrder, IsListed, IsNextDue, next_in_order};
+ghost use Rattle.vs_time_wheel.specs.ShortList.{AreInOrder, IsShortList, IsNextDue, next_in_order};
 ghost use Rattle.vs_time_wheel.specs.Queue.{Queue};
 
 use crate::calendar::Calendar;
@@ -34,7 +34,7 @@ impl<E> Model for Upcoming<E> {
 
     ghost view = { λ u. record { bag = reverse u.list.items ++ u.calendar.bag; clock = u.calendar.clock } };
 
-    ghost invariant = { λ u. IsListed u.list.items u.least u.calendar u.next };
+    ghost invariant = { λ u. IsShortList u.list.items u.least u.calendar u.next };
 }
 
 // Whether a time is before the least time of a bag.

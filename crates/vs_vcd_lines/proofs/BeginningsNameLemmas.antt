@@ -3,11 +3,11 @@ use Rattle.std.proofs.Common.{◌≡◌, inl, inr, ℕ, suc, ◌-◌, ◌<◌, �
 use Rattle.std.specs.Prelude.{◌==◌}
 use Rattle.std.proofs.Math.Seq.{drop-cons}
 use Rattle.std.specs.List.{list_all}
-use Rattle.std.proofs.lemmas.Bool.{and_from, cases_lt, false≢true}
+use Rattle.std.proofs.lemmas.Bool.{and_from, cases_lt, false≢true, and_parts as and_true}
 use Rattle.std.proofs.lemmas.List.{append-nil, get_or-take, take-append-drop}
 use Rattle.vs_vcd_lines.specs.Cuts.{lacks, IsCut}
 use Rattle.vs_vcd_lines.specs.Names.{is_between, is_body, is_first, is_further, is_printable, is_simple, IsName}
-use Rattle.vs_vcd_lines.proofs.CutLemmas.{and_true, cut_once, lacks_of_all}
+use Rattle.vs_vcd_lines.proofs.CutLemmas.{cut_once, lacks_of_all}
 use Rattle.vs_vcd_lines.specs.Beginnings.{Begins}
 use Rattle.vs_vcd_lines.specs.BeginningsParts.{BeginsSome, IsAfterName, IsBody, IsEscapedRest, IsFixed, IsFurtherCut, IsTail, IsWithinName}
 use Rattle.vs_vcd_lines.proofs.PartLemmas.{AllLack}

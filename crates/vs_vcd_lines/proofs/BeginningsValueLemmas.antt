@@ -7,13 +7,8 @@ use Rattle.vs_vcd_lines.specs.vs_vcd_writing.specs.Shown.{extended}
 use Rattle.vs_vcd_lines.specs.vs_vcd_writing.specs.Values.{digit_character, shortened}
 use Rattle.vs_vcd_lines.specs.vs_vcd_writing.proofs.ExtendLemmas.{extended-shortened}
 use Rattle.vs_vcd_lines.specs.Cuts.{lacks}
-use Rattle.vs_vcd_lines.proofs.ValueLemmas.{spelled_once}
 
-pub character_once : (d e : Digit) → digit_character d ≡ digit_character e → d ≡ e
-character_once d e h =
-    let same = spelled_once (d ∷ []) (e ∷ []) (ap (λ x. x ∷ []) h) in cc
-
-character_lacks : (d : Digit) (bs : List ℕ) → lacks 32 bs ≡ true → lacks 32 (digit_character d ∷ bs) ≡ true
+pub character_lacks : (d : Digit) (bs : List ℕ) → lacks 32 bs ≡ true → lacks 32 (digit_character d ∷ bs) ≡ true
 character_lacks Zero bs h = h
 character_lacks One bs h = h
 character_lacks X bs h = h

@@ -12,9 +12,9 @@ use Rattle.vs_vcd_lines.specs.Cuts.{lacks, IsCut}
 use Rattle.vs_vcd_lines.specs.Lines.{IsValue}
 use Rattle.vs_vcd_lines.proofs.ChangeLemmas.{wide_text}
 use Rattle.vs_vcd_lines.proofs.CutLemmas.{cut_once}
-use Rattle.vs_vcd_lines.proofs.ValueLemmas.{spelled_once, value_short}
+use Rattle.vs_vcd_lines.proofs.ValueLemmas.{spelled_once, value_short, character_once}
 use Rattle.vs_vcd_lines.specs.Beginnings.{Begins, BeginsChange, BeginsDigits, IsOther}
-use Rattle.vs_vcd_lines.proofs.BeginningsValueLemmas.{character_once, characters_lack, values_once}
+use Rattle.vs_vcd_lines.proofs.BeginningsValueLemmas.{characters_lack, values_once}
 use Rattle.vs_vcd_lines.proofs.TextLemmas.{begins_before, begins_more, begins_nil, Tells}
 
 -- ---- some other value

@@ -3,18 +3,18 @@ use Rattle.std.proofs.Common.{◌≡◌, true, ◌&&◌, ℕ, zero, suc, ◌<◌
 use Rattle.std.proofs.lemmas.List.{append_cancel_left}
 use Rattle.std.proofs.lemmas.Option.{get_or_from_slice_get, slice_get-get_or, slice_get_within}
 use Rattle.vs_design.specs.vs_logic4.specs.declared.digit.Digit.{Digit}
-use Rattle.vs_design.specs.vs_logic4.specs.declared.digit.Digit.TheVariants.{Zero, One, X, Z}
 use Rattle.std.specs.Prelude.{nat_lt}
-use Rattle.std.proofs.lemmas.Bool.{cases_lt}
+use Rattle.std.proofs.lemmas.Bool.{cases_lt, and_parts as and_true}
 use Rattle.std.proofs.lemmas.Bool.Decides.{Decides-ltb}
 use Rattle.vs_vcd_writing.specs.Codes.{code}
 use Rattle.vs_vcd_writing.proofs.CodeLemmas.{code-injective}
 use Rattle.vs_vcd_writing.specs.Values.{digit_character, shortened, value_change}
 use Rattle.vs_vcd_lines.specs.declared.dump.ValueChange.{ValueChange}
-use Rattle.vs_vcd_lines.specs.Cuts.{lacks, IsCut}
+use Rattle.vs_vcd_lines.specs.Cuts.{IsCut}
 use Rattle.vs_vcd_lines.specs.Lines.{change_line, are_sizes, IsSized, IsValue}
-use Rattle.vs_vcd_lines.proofs.CutLemmas.{cut_once, and_true}
+use Rattle.vs_vcd_lines.proofs.CutLemmas.{cut_once}
 use Rattle.vs_vcd_lines.proofs.CodeLemmas.{parts_of, rest_of}
+use Rattle.vs_vcd_lines.proofs.BeginningsValueLemmas.{characters_lack}
 
 -- ---- one bit
 
@@ -55,16 +55,6 @@ wide_text (d ∷ []) c h = absurd (omega (arith, h))
 wide_text (d ∷ e ∷ ds) c h =
     let digits = map digit_character (shortened (reverse (d ∷ e ∷ ds))) in
     append_assoc (codes "b" ++ digits) (codes " ") c ∙ append_assoc (codes "b") digits (32 ∷ c)
-
-character_lacks : (d : Digit) (bs : List ℕ) → lacks 32 bs ≡ true → lacks 32 (digit_character d ∷ bs) ≡ true
-character_lacks Zero bs h = h
-character_lacks One bs h = h
-character_lacks X bs h = h
-character_lacks Z bs h = h
-
-characters_lack : (ds : List Digit) → lacks 32 (map digit_character ds) ≡ true
-characters_lack [] = refl
-characters_lack (d ∷ ds) = character_lacks d (map digit_character ds) (characters_lack ds)
 
 pub wide_rest : (line rest : List ℕ) (c : ValueChange) → line ≡ codes "b" ++ rest → 2 ≤ length c.value → line ≡ change_line c
     → rest ≡ map digit_character (shortened (reverse c.value)) ++ (32 ∷ code c.number)

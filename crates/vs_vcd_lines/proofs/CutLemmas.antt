@@ -1,6 +1,6 @@
 -- Texts cut at a byte.
-use Rattle.std.proofs.Common.{◌≡◌, ℕ, suc, ◌+◌, ◌-◌, ◌<◌, ◌≤◌, Bool, true, false, eqb, ◌&&◌, List, [], ◌∷◌, ◌++◌, length, get_or, take, drop, refl, sym, ap, ◌∙◌, arith, inl, inr}
-use Rattle.std.proofs.lemmas.Bool.{false≢true, cond-true, cond-false, cases_Bool}
+use Rattle.std.proofs.Common.{◌≡◌, ℕ, suc, ◌+◌, ◌-◌, ◌<◌, ◌≤◌, Bool, true, false, eqb, List, [], ◌∷◌, ◌++◌, length, get_or, take, drop, refl, sym, ap, ◌∙◌, arith, inl, inr}
+use Rattle.std.proofs.lemmas.Bool.{false≢true, cond-true, cond-false, cases_Bool, and_parts}
 use Rattle.std.proofs.lemmas.Bool.Decides.{Decides-eqb}
 use Rattle.std.proofs.lemmas.List.{take-append-drop, get_or-take, get_or-drop}
 use Rattle.std.proofs.Math.Seq.{drop-cons, get_or-append_seam}
@@ -96,16 +96,11 @@ cut_last_at byte text k within at none =
           none (k + 1 + j) (omega arith) (omega (arith, below, size)) (sym (get_or-drop (k + 1) text j 0) ∙ e));
     }
 
-pub and_true : (a b : Bool) → (a && b) ≡ true → (a ≡ true) × (b ≡ true)
-and_true true true h = (refl, refl)
-and_true true false h = absurd (false≢true h)
-and_true false b h = absurd (false≢true h)
-
 -- what all bytes of a text pass and a byte doesn't, the text lacks it
 pub lacks_of_all : (p : ℕ → Bool) (byte : ℕ) (bs : List ℕ) → p byte ≡ false → list_all p bs ≡ true → lacks byte bs ≡ true
 lacks_of_all p byte [] fails h = refl
 lacks_of_all p byte (b ∷ bs) fails h =
-    let parts = and_true (p b) (list_all p bs) h in
+    let parts = and_parts (p b) (list_all p bs) h in
     lacks_more byte b bs (λ e. false≢true (sym fails ∙ ap p (sym e) ∙ parts.0)) (lacks_of_all p byte bs fails parts.1)
 
 pub lacks-append : (byte : ℕ) (cs bs : List ℕ) → lacks byte cs ≡ true → lacks byte bs ≡ true → lacks byte (cs ++ bs) ≡ true

@@ -2,7 +2,7 @@
 use Rattle.std.proofs.Common.{◌≡◌, ℕ, ℤ, ◌<◌, ◌≤◌, ◌^◌, Bool, true, false, cond, eqb, Option, Some, None, List, [], ◌∷◌, ◌++◌, codes, decimal, reverse, subst, refl, sym, ap, ◌∙◌, append_assoc, arith, inl, inr}
 use Rattle.std.specs.List.{list_all}
 use Rattle.std.specs.Fmt.{signed_decimal}
-use Rattle.std.proofs.lemmas.Bool.{false≢true}
+use Rattle.std.proofs.lemmas.Bool.{false≢true, and_parts as and_true}
 use Rattle.std.proofs.lemmas.Fmt.{decimal_injective, signed_decimal_injective}
 use Rattle.std.proofs.lemmas.List.{append_cancel_right, append-nil, reverse-append}
 use Rattle.vs_design.specs.declared.signal.Bounds.{Bounds}
@@ -17,7 +17,7 @@ use Rattle.vs_vcd_lines.specs.Names.{is_first, is_further, is_simple, IsEscaped,
 use Rattle.vs_vcd_lines.specs.Lines.{variable_line, IsRange, IsVariable}
 use Rattle.vs_vcd_lines.specs.Laws.{AreAlike, VariableLinesAreOne}
 use Rattle.vs_vcd_lines.specs.Parts.{IsRanged}
-use Rattle.vs_vcd_lines.proofs.CutLemmas.{and_true, cut_once, cut_last_once, lacks_head, lacks_more, lacks_of_all}
+use Rattle.vs_vcd_lines.proofs.CutLemmas.{cut_once, cut_last_once, lacks_head, lacks_more, lacks_of_all}
 use Rattle.vs_vcd_lines.proofs.NameLemmas.{end_once, lacks-signed_decimal}
 use Rattle.vs_vcd_lines.proofs.NumberLemmas.{mag_short}
 use Rattle.vs_vcd_lines.proofs.VariableLemmas.{declared_rest, no_colon, opened, range_lacks, ranged_whole, shape_parts, shape_three, variable_shape}

@@ -10,6 +10,7 @@ use Rattle.vs_vcd_lines.specs.Cuts.{lacks, IsCut}
 use Rattle.vs_vcd_lines.proofs.CutLemmas.{cut_once, eqb_gives}
 use Rattle.vs_vcd_lines.specs.Beginnings.{is_multiple, Begins, BeginsSpan, BeginsUnit, IsCount}
 use Rattle.vs_vcd_lines.proofs.TextLemmas.{begins_before, begins_more, begins_nil, Tells}
+use Rattle.vs_vcd_lines.proofs.WordLemmas.{magnitude_lacks}
 
 -- ---- units
 
@@ -87,11 +88,6 @@ span_is One u = refl
 span_is Ten u = refl
 span_is Hundred u = refl
 
-word_lacks : (m : Magnitude) → lacks 32 (magnitude_word m) ≡ true
-word_lacks One = refl
-word_lacks Ten = refl
-word_lacks Hundred = refl
-
 word_begins : (m : Magnitude) → Begins (magnitude_word m) (codes "100")
 word_begins One = (codes "00", refl)
 word_begins Ten = (codes "0", refl)
@@ -123,7 +119,7 @@ span_cut part count unit b cut counts tells = (
   λ h.
       let m = h.0.magnitude in
       let u = h.0.unit in
-      let once = cut_once 32 (magnitude_word m) count (unit_word u ++ codes " $end") (unit ++ h.1.0) (word_lacks m) cut.first
+      let once = cut_once 32 (magnitude_word m) count (unit_word u ++ codes " $end") (unit ++ h.1.0) (magnitude_lacks m) cut.first
       (sym (span_is m u) ∙ h.1.1 ∙ ap (λ l. l ++ h.1.0) cut.is ∙ append_assoc count (32 ∷ unit) h.1.0) in
       tells.1 (u, (h.1.0, once.1)),
 )
@@ -134,7 +130,7 @@ span_uncounted part count unit cut none = (
   λ h.
       let m = h.0.magnitude in
       let u = h.0.unit in
-      let once = cut_once 32 (magnitude_word m) count (unit_word u ++ codes " $end") (unit ++ h.1.0) (word_lacks m) cut.first
+      let once = cut_once 32 (magnitude_word m) count (unit_word u ++ codes " $end") (unit ++ h.1.0) (magnitude_lacks m) cut.first
       (sym (span_is m u) ∙ h.1.1 ∙ ap (λ l. l ++ h.1.0) cut.is ∙ append_assoc count (32 ∷ unit) h.1.0) in
       absurd (none (m, sym once.0)),
 )

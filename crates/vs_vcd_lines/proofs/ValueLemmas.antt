@@ -12,6 +12,7 @@ use Rattle.vs_vcd_writing.specs.Values.{digit_character, is_extension, shortened
 use Rattle.vs_vcd_lines.specs.Lines.{IsValue}
 use Rattle.vs_vcd_lines.specs.Parts.{IsSpelled}
 use Rattle.vs_vcd_lines.proofs.CodeLemmas.{parts_of, rest_of}
+use Rattle.vs_vcd_lines.proofs.TextLemmas.{nil_of}
 
 -- ---- characters
 
@@ -32,15 +33,11 @@ spelled_rest text some more none (d ∷ e ∷ es) s =
     let tails : rest_of text ≡ map digit_character (e ∷ es) = cc in
     none (e ∷ es) (record { some = omega arith; is = tails })
 
-empty_is : (l : List ℕ) → length l ≡ 0 → l ≡ []
-empty_is [] h = refl
-empty_is (b ∷ bs) h = absurd (omega (arith, h))
-
 pub spelled_one : (text : List ℕ) (d : Digit) (v : List Digit) → 1 ≤ length text → length text ≡ 1 → get_or text 0 0 ≡ digit_character d → v ≡ d ∷ []
     → (length v ≡ length text) × IsSpelled text (reverse v)
 spelled_one text d v some one first is =
     let size = ap length (parts_of text some) in
-    let none : rest_of text ≡ [] = empty_is (rest_of text) (omega (arith, size, one)) in
+    let none : rest_of text ≡ [] = nil_of (rest_of text) (omega (arith, size, one)) in
     let whole : text ≡ map digit_character (d ∷ []) = parts_of text some ∙ ap (λ l. get_or text 0 0 ∷ l) none ∙ ap (λ b. b ∷ []) first in
     (ap length is ∙ sym one, subst (λ w. IsSpelled text (reverse w)) (sym is) (record { some = omega arith; is = whole }))
 
@@ -64,7 +61,7 @@ abbrev some_or : Digit → Option Digit → Digit
 some_or d None = d
 some_or d (Some e) = e
 
-character_once : (a b : Digit) → digit_character a ≡ digit_character b → a ≡ b
+pub character_once : (a b : Digit) → digit_character a ≡ digit_character b → a ≡ b
 character_once a b e = ap (some_or Zero) (sym (digit_of-digit_character a) ∙ ap digit_of e ∙ digit_of-digit_character b)
 
 -- characters stand for digits in one way

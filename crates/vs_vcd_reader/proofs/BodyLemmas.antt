@@ -23,9 +23,9 @@ use Rattle.vs_vcd_reader.specs.Bodies.{IsUnexpected as u}
 use Rattle.vs_vcd_reader.specs.Faults.{IsOfTime}
 use Rattle.vs_vcd_reader.specs.Steps.{Item, Place, Step, Steps, Follows, IsLast, change_items, later_items, line_of, text_from}
 use Rattle.vs_vcd_reader.specs.Steps.{Item as i, Place as p, Step as s, Steps as t}
-use Rattle.vs_vcd_reader.specs.Stops.{GoesOn, IsBodyKind, IsKindAt, IsToldAt, IsUnended}
+use Rattle.vs_vcd_reader.specs.Stops.{GoesOn, IsBodyKind, IsKindAt, IsReportedAt, IsUnended}
 use Rattle.vs_vcd_reader.proofs.FaultLemmas.{told_bad, told_end, told_later}
-use Rattle.vs_vcd_reader.proofs.FollowLemmas.{steps_append, steps_more, text_from-append, text_more}
+use Rattle.vs_vcd_reader.proofs.FollowLemmas.{steps_append, steps_more, text_from-append, text_more, ended_some}
 use Rattle.vs_vcd_reader.proofs.OnceLemmas.{change_begins}
 
 -- ---- lines that have to stand
@@ -62,7 +62,7 @@ unexpected_end wanted count text true fault one tells cut kind = subst (IsUnexpe
 unexpected_end wanted count text false fault one tells cut kind = u.unended fault one (λ h. false≢true (tells.1 h)) (kind refl)
 
 pub unexpected : (here : Place) (wanted : List ℕ) (count : ℕ) (text : List ℕ) (fault : VcdFault) → Follows here wanted → ((line : List ℕ) → Follows here line → line ≡ wanted)
-    → ((line : List ℕ) (g : VcdFault) → IsBodyKind count line g → IsKindAt here line g) → (IsLast here → ⊥) → IsUnexpected wanted count text fault → IsToldAt here text fault
+    → ((line : List ℕ) (g : VcdFault) → IsBodyKind count line g → IsKindAt here line g) → (IsLast here → ⊥) → IsUnexpected wanted count text fault → IsReportedAt here text fault
 unexpected here wanted count text _ stands only kinds no_end (u.bad line rest fault cut other kind) =
     told_bad here text line rest fault cut (λ follows. other (only line follows)) (kinds line fault kind)
 unexpected here wanted count text _ stands only kinds no_end (u.unended fault one other kind) =
@@ -138,17 +138,13 @@ pub change_refuses : (ws : List ℕ) (vs : List (List Digit)) (last from : ℕ) 
     → ((c : ValueChange) → from ≤ c.number → IsChange ws vs c → line ≡ change_line c → ⊥) → (IsOfTime line → ⊥) → Follows (p.Later ws vs last from bare) line → ⊥
 change_refuses ws vs last from bare line none no_time h = change_by ws vs last from bare line h.item h.next none no_time h.step h.is
 
-never_none : (line rest : List ℕ) → line ++ 10 ∷ rest ≡ [] → ⊥
-never_none [] rest e = absurd cc
-never_none (b ∷ bs) rest e = absurd cc
-
 time_first : (line rest tail : List ℕ) → line ++ 10 ∷ rest ≡ 35 ∷ tail → IsOfTime line
 time_first [] rest tail e = let h : 10 ≡ 35 = ap (λ l. get_or l 0 0) e in absurd (omega (arith, h))
 time_first (b ∷ bs) rest tail e = let h : b ≡ 35 = ap (λ l. get_or l 0 0) e in (bs, ap (λ x. x ∷ bs) h)
 
 -- a text at a time begins with a line of a time
 pub at_time_line : (text line rest : List ℕ) → IsAtTime text → text ≡ line ++ 10 ∷ rest → IsOfTime line
-at_time_line text line rest (inl none) cut = absurd (never_none line rest (sym cut ∙ none))
+at_time_line text line rest (inl none) cut = absurd (ended_some line rest (sym cut ∙ none))
 at_time_line text line rest (inr h) cut = time_first line rest h.0 (sym cut ∙ h.1)
 
 away_from : (ws : List ℕ) (from : ℕ) (text line rest : List ℕ) → (from ≡ length ws) ⊎ IsAtTime text → text ≡ line ++ 10 ∷ rest → (from ≡ length ws) ⊎ IsOfTime line
@@ -188,27 +184,27 @@ word_steps : (ws : List ℕ) → Steps (p.First ws) (i.Values ∷ []) (p.Values 
 word_steps ws = t.go (p.First ws) i.Values (p.Values ws []) [] (p.Values ws []) (s.values ws) (t.stay (p.Values ws []))
 
 -- why the text is none is told of the place before
-pub zero_told : (ws text : List ℕ) (fault : VcdFault) → IsUnexpected (codes "#0") (length ws) text fault → IsToldAt (p.Zero ws) text fault
+pub zero_told : (ws text : List ℕ) (fault : VcdFault) → IsUnexpected (codes "#0") (length ws) text fault → IsReportedAt (p.Zero ws) text fault
 zero_told ws text fault h = unexpected (p.Zero ws) (codes "#0") (length ws) text fault (zero_stands ws) (zero_wanted ws) (λ line g k. k) (λ e. e) h
 
-pub after_zero : (ws text rest : List ℕ) (fault : VcdFault) → text ≡ codes "#0" ++ 10 ∷ rest → IsToldAt (p.First ws) rest fault → IsToldAt (p.Zero ws) text fault
+pub after_zero : (ws text rest : List ℕ) (fault : VcdFault) → text ≡ codes "#0" ++ 10 ∷ rest → IsReportedAt (p.First ws) rest fault → IsReportedAt (p.Zero ws) text fault
 after_zero ws text rest fault cut h = told_later (p.Zero ws) (p.First ws) text rest (i.Time 0 ∷ []) fault (zero_steps ws) (zero_text text rest cut) h
 
-pub first_told : (ws text : List ℕ) (fault : VcdFault) → IsUnexpected (codes "$dumpvars") (length ws) text fault → IsToldAt (p.First ws) text fault
-first_told ws text fault h = unexpected (p.First ws) (codes "$dumpvars") (length ws) text fault (first_stands ws) (first_wanted ws) (λ line g k. k) (λ e. e) h
+pub first_net : (ws text : List ℕ) (fault : VcdFault) → IsUnexpected (codes "$dumpvars") (length ws) text fault → IsReportedAt (p.First ws) text fault
+first_net ws text fault h = unexpected (p.First ws) (codes "$dumpvars") (length ws) text fault (first_stands ws) (first_wanted ws) (λ line g k. k) (λ e. e) h
 
-pub after_first : (ws text rest : List ℕ) (fault : VcdFault) → text ≡ codes "$dumpvars" ++ 10 ∷ rest → IsToldAt (p.Values ws []) rest fault → IsToldAt (p.First ws) text fault
+pub after_first : (ws text rest : List ℕ) (fault : VcdFault) → text ≡ codes "$dumpvars" ++ 10 ∷ rest → IsReportedAt (p.Values ws []) rest fault → IsReportedAt (p.First ws) text fault
 after_first ws text rest fault cut h = told_later (p.First ws) (p.Values ws []) text rest (i.Values ∷ []) fault (word_steps ws) (word_text text rest cut) h
 
 pub end_told : (ws text : List ℕ) (cs : List ValueChange) (fault : VcdFault) → length cs ≡ length ws → IsUnexpected (codes "$end") (length ws) text fault
-    → IsToldAt (p.Values ws (values_of cs)) text fault
+    → IsReportedAt (p.Values ws (values_of cs)) text fault
 end_told ws text cs fault full h =
     unexpected (p.Values ws (values_of cs)) (codes "$end") (length ws) text fault
     (end_stands ws (values_of cs) (length-map cs (λ (c : ValueChange). c.value) ∙ full))
     (λ line. end_wanted ws (values_of cs) line (length-map cs (λ (c : ValueChange). c.value) ∙ full)) (λ line g k. k) (λ e. e) h
 
-pub after_values : (ws text rest : List ℕ) (cs : List ValueChange) (fault : VcdFault) → AreBegun ws text cs rest → IsToldAt (p.Values ws (values_of cs)) rest fault
-    → IsToldAt (p.Values ws []) text fault
+pub after_values : (ws text rest : List ℕ) (cs : List ValueChange) (fault : VcdFault) → AreBegun ws text cs rest → IsReportedAt (p.Values ws (values_of cs)) rest fault
+    → IsReportedAt (p.Values ws []) text fault
 after_values ws text rest cs fault h told = told_later (p.Values ws []) (p.Values ws (values_of cs)) text rest (change_items cs) fault h.steps h.is told
 
 -- one more value
@@ -230,7 +226,7 @@ value_more ws text rest line after cs ds c h cut is more =
     subst (λ l. AreBegun ws text l after) (sym more) whole
 
 pub value_bad : (ws text rest line after : List ℕ) (cs : List ValueChange) (fault : VcdFault) → AreBegun ws text cs rest → IsCut 10 rest line after → length cs < length ws
-    → IsNoValue ws (length cs) line fault → IsToldAt (p.Values ws []) text fault
+    → IsNoValue ws (length cs) line fault → IsReportedAt (p.Values ws []) text fault
 value_bad ws text rest line after cs fault h cut less none =
     let size = length-map cs (λ (c : ValueChange). c.value) in
     after_values ws text rest cs fault h
@@ -238,7 +234,7 @@ value_bad ws text rest line after cs fault h cut less none =
     (value_refuses ws (values_of cs) line (omega (arith, size, less)) (λ c numbered. none.none c (numbered ∙ size))) none.kind)
 
 pub values_end : (ws text rest : List ℕ) (cs : List ValueChange) (fault : VcdFault) → AreBegun ws text cs rest → lacks 10 rest ≡ true
-    → IsUnended (p.Values ws (values_of cs)) rest fault → IsToldAt (p.Values ws []) text fault
+    → IsUnended (p.Values ws (values_of cs)) rest fault → IsReportedAt (p.Values ws []) text fault
 values_end ws text rest cs fault h one told = after_values ws text rest cs fault h (told_end (p.Values ws (values_of cs)) rest fault one (λ _ e. e) told)
 
 -- all values and their ends
@@ -289,19 +285,19 @@ change_more ws text rest line after old vs new cs ds from c h cut is now more =
     (subst (λ v. AreSome ws text old v (cs ++ c ∷ []) (c.number + 1) after) (sym now) whole)
 
 after_changes : (ws text rest : List ℕ) (old vs : List (List Digit)) (cs : List ValueChange) (from last : ℕ) (fault : VcdFault) → AreSome ws text old vs cs from rest
-    → IsToldAt (p.Later ws vs last from (is_bare cs)) rest fault → IsToldAt (p.Later ws old last 0 true) text fault
+    → IsReportedAt (p.Later ws vs last from (is_bare cs)) rest fault → IsReportedAt (p.Later ws old last 0 true) text fault
 after_changes ws text rest old vs cs from last fault h told =
     told_later (p.Later ws old last 0 true) (p.Later ws vs last from (is_bare cs)) text rest (change_items cs) fault (h.steps last) h.is told
 
 pub change_bad : (ws text rest line after : List ℕ) (old vs : List (List Digit)) (cs : List ValueChange) (from last : ℕ) (fault : VcdFault) → AreSome ws text old vs cs from rest
-    → IsCut 10 rest line after → (IsAtTime rest → ⊥) → IsNoChange ws vs from line fault → IsToldAt (p.Later ws old last 0 true) text fault
+    → IsCut 10 rest line after → (IsAtTime rest → ⊥) → IsNoChange ws vs from line fault → IsReportedAt (p.Later ws old last 0 true) text fault
 change_bad ws text rest line after old vs cs from last fault h cut away none =
     after_changes ws text rest old vs cs from last fault h
     (told_bad (p.Later ws vs last from (is_bare cs)) rest line after fault cut
     (change_refuses ws vs last from (is_bare cs) line none.none (λ timed. away (inr (timed.0 ++ 10 ∷ after, cut.is ∙ ap (λ l. l ++ 10 ∷ after) timed.1)))) none.kind)
 
 pub changes_end : (ws text rest : List ℕ) (old vs : List (List Digit)) (cs : List ValueChange) (from last : ℕ) (fault : VcdFault) → AreSome ws text old vs cs from rest
-    → lacks 10 rest ≡ true → (IsAtTime rest → ⊥) → IsUnended (p.Later ws vs last from (is_bare cs)) rest fault → IsToldAt (p.Later ws old last 0 true) text fault
+    → lacks 10 rest ≡ true → (IsAtTime rest → ⊥) → IsUnended (p.Later ws vs last from (is_bare cs)) rest fault → IsReportedAt (p.Later ws old last 0 true) text fault
 changes_end ws text rest old vs cs from last fault h one away told =
     after_changes ws text rest old vs cs from last fault h
     (told_end (p.Later ws vs last from (is_bare cs)) rest fault one (λ none _. away (inl none)) told)
@@ -311,7 +307,7 @@ changes_end ws text rest old vs cs from last fault h one away told =
 pub time_bad : (ws text rest line after : List ℕ) (old vs : List (List Digit)) (last : ℕ) (bare : Bool) (ms ns : List Moment) (fault : VcdFault)
     → AreLast ws text old vs last bare ms ns rest → IsCut 10 rest line after
     → ((t : ℕ) → bare ≡ false → last < t → t < 2 ^ 64 → line ≡ time_line t → ⊥) × IsBodyKind (length ws) line fault
-    → IsToldAt (p.Later ws old 0 (length ws) false) text fault
+    → IsReportedAt (p.Later ws old 0 (length ws) false) text fault
 time_bad ws text rest line after old vs last bare ms ns fault h cut none =
     told_later (p.Later ws old 0 (length ws) false) (p.Later ws vs last h.from bare) text rest (later_items (map plain_moment h.moments)) fault h.steps h.is
     (told_bad (p.Later ws vs last h.from bare) rest line after fault cut
@@ -319,7 +315,7 @@ time_bad ws text rest line after old vs last bare ms ns fault h cut none =
 
 pub later_told : (ws text rest : List ℕ) (old vs : List (List Digit)) (last : ℕ) (bare : Bool) (ms ns : List Moment) (fault : VcdFault)
     → (h : AreLast ws text old vs last bare ms ns rest) → lacks 10 rest ≡ true → (rest ≡ [] → ⊥) → IsUnended (p.Later ws vs last h.from bare) rest fault
-    → IsToldAt (p.Later ws old 0 (length ws) false) text fault
+    → IsReportedAt (p.Later ws old 0 (length ws) false) text fault
 later_told ws text rest old vs last bare ms ns fault h one some told =
     told_later (p.Later ws old 0 (length ws) false) (p.Later ws vs last h.from bare) text rest (later_items (map plain_moment h.moments)) fault h.steps h.is
     (told_end (p.Later ws vs last h.from bare) rest fault one (λ none _. some none) told)
@@ -333,7 +329,7 @@ time_steps ws old vs last from time bare items some after small steps =
 
 pub changes_told : (ws text rest line after : List ℕ) (old vs : List (List Digit)) (last time : ℕ) (bare : Bool) (ms ns : List Moment) (fault : VcdFault)
     → AreLast ws text old vs last bare ms ns rest → rest ≡ line ++ 10 ∷ after → (bare ≡ false) × (last < time) × (time < 2 ^ 64) × (line ≡ time_line time)
-    → IsToldAt (p.Later ws vs time 0 true) after fault → IsToldAt (p.Later ws old 0 (length ws) false) text fault
+    → IsReportedAt (p.Later ws vs time 0 true) after fault → IsReportedAt (p.Later ws old 0 (length ws) false) text fault
 changes_told ws text rest line after old vs last time bare ms ns fault h cut is told =
     let items = later_items (map plain_moment h.moments) in
     told_later (p.Later ws old 0 (length ws) false) (p.Later ws vs time 0 true) text after (items ++ i.Time time ∷ []) fault

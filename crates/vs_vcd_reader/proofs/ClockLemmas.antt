@@ -3,18 +3,16 @@ use Rattle.std.proofs.Common.{◌≡◌, ℕ, ◌≤◌, Bool, true, false, Opti
 use Rattle.std.proofs.lemmas.Bool.{ltb-false, or_parts}
 use Rattle.std.proofs.lemmas.List.{append-nil}
 use Rattle.std.specs.Prelude.{nat_lt}
-use Rattle.vs_design.specs.vs_logic4.specs.declared.digit.Digit.{Digit}
 use Rattle.vs_design.specs.Parts.{Parts}
 use Rattle.vs_design.specs.Traces.{Slot}
-use Rattle.vs_process.specs.Places.{Place, todo_of}
-use Rattle.vs_process.specs.Steps.{step}
 use Rattle.vs_process.specs.declared.moves.Grain.{Grain}
 use Rattle.vs_process.specs.declared.moves.Move.{Move}
 use Rattle.vs_process.specs.declared.moves.Move.TheVariants.{Step, Evaluate, Propagate, Make, Rouse, Activate, EndSlot}
-use Rattle.vs_process.specs.Executions.{after, apply, ended_slot, ends, is_enabled, Legal, next_time, slot_behind, slots, time_at}
-use Rattle.vs_process.specs.States.{AssignState, State, Update, evaluate, make, propagate, propagate_value, stepped}
-use Rattle.vs_process.proofs.Times.{Above, Each, Timed, behind_time, enabled_of, next_above, timed}
+use Rattle.vs_process.specs.Executions.{after, apply, ended_slot, ends, is_enabled, Legal, next_time, after_slot, slots, time_at}
+use Rattle.vs_process.specs.States.{State}
+use Rattle.vs_process.proofs.Times.{Above, Each, Timed, enabled_of, next_above, timed, stepped_time}
 use Rattle.vs_kernel.specs.Runs.{StopsAt}
+use Rattle.vs_kernel.specs.vs_run_steps.proofs.MoveLemmas.{evaluated_time, propagated_time, make_time}
 
 -- the first slot ends at 0; where there is none, this is the time
 abbrev pub BeginsAtZero : ℕ → List Slot → Type 0
@@ -54,35 +52,15 @@ time_up true o time h = omega arith
 time_up false None time h = omega arith
 time_up false (Some t) time h = omega (arith, h)
 
-step_time : (s : State) (i : ℕ) (o : Option Place) → (stepped s i o).time ≡ s.time
-step_time s i None = refl
-step_time s i (Some x) = behind_time s (step (todo_of x) s.store s.time).write
-
-evaluate_time : (s : State) (j : ℕ) (o : Option AssignState) → (evaluate s j o).time ≡ s.time
-evaluate_time s j None = refl
-evaluate_time s j (Some x) = refl
-
-value_time : (s : State) (j : ℕ) (x : AssignState) (o : Option (List Digit)) → (propagate_value s j x o).time ≡ s.time
-value_time s j x None = refl
-value_time s j x (Some v) = refl
-
-propagate_time : (s : State) (j : ℕ) (o : Option AssignState) → (propagate s j o).time ≡ s.time
-propagate_time s j None = refl
-propagate_time s j (Some x) = value_time s j x x.pending
-
-make_time : (s : State) (i : ℕ) (o : Option Update) → (make s i o).time ≡ s.time
-make_time s i None = refl
-make_time s i (Some u) = refl
-
 clocked_applied : (xs : List Slot) (m : Move) (s : State) → is_enabled s m ≡ true → Timed s → IsClocked xs s.time → IsClocked (xs ++ ended_slot m s) (apply m s).time
-clocked_applied xs (Step i) s e h k = same_clock xs s.time (apply (Step i) s).time (step_time s i (slice_get s.places i)) k
-clocked_applied xs (Evaluate j) s e h k = same_clock xs s.time (apply (Evaluate j) s).time (evaluate_time s j (slice_get s.assigns j)) k
-clocked_applied xs (Propagate j) s e h k = same_clock xs s.time (apply (Propagate j) s).time (propagate_time s j (slice_get s.assigns j)) k
+clocked_applied xs (Step i) s e h k = same_clock xs s.time (apply (Step i) s).time (stepped_time s i (slice_get s.places i)) k
+clocked_applied xs (Evaluate j) s e h k = same_clock xs s.time (apply (Evaluate j) s).time (evaluated_time s j (slice_get s.assigns j)) k
+clocked_applied xs (Propagate j) s e h k = same_clock xs s.time (apply (Propagate j) s).time (propagated_time s j (slice_get s.assigns j)) k
 clocked_applied xs (Make i) s e h k = same_clock xs s.time (apply (Make i) s).time (make_time s i (slice_get s.updates i)) k
 clocked_applied xs Rouse s e h k = same_clock xs s.time s.time refl k
 clocked_applied xs Activate s e h k = same_clock xs s.time s.time refl k
 clocked_applied xs EndSlot s e h k =
-    end_clock xs _ s.time (slot_behind s).time refl (time_up (ends s) (next_time s) s.time (next_above s e h)) k
+    end_clock xs _ s.time (after_slot s).time refl (time_up (ends s) (next_time s) s.time (next_above s e h)) k
 
 pub clocked : (grain : Grain) (d : Parts) (moves : List Move) → Legal grain d moves → IsClocked (slots d moves) (after d moves).time
 clocked grain d [] h = record { begins = refl; passed = tt }

@@ -1,6 +1,6 @@
 -- What the lines of an outline say.
-use Rattle.std.proofs.Common.{◌≡◌, ℕ, zero, suc, ◌+◌, ◌<◌, Bool, true, false, Option, Some, None, List, [], ◌∷◌, ◌++◌, codes, decimal, length, map, drop, refl, sym, ap, ◌∙◌, append_assoc, arith, eqb}
-use Rattle.std.proofs.lemmas.Bool.{cond-true, cond-false, cond_both, eq-eqb, ne_eqb}
+use Rattle.std.proofs.Common.{◌≡◌, ℕ, zero, suc, ◌+◌, Bool, true, false, Option, Some, None, List, [], ◌∷◌, ◌++◌, codes, decimal, length, map, drop, refl, sym, ap, ◌∙◌, append_assoc, arith, eqb}
+use Rattle.std.proofs.lemmas.Bool.{cond-true, cond-false, eq-eqb, ne_eqb, and_parts as and_true}
 use Rattle.std.specs.Prelude.{◌==◌, slice_get, if◌then◌else◌}
 use Rattle.std.specs.List.{flat_map}
 use Rattle.vs_design.specs.declared.signal.Signal.{Signal}
@@ -10,7 +10,8 @@ use Rattle.vs_design.specs.Parts.{Parts}
 use Rattle.vs_design.specs.WellFormed.{counts_from, declared_in, width_at}
 use Rattle.vs_vcd_writing.specs.Codes.{code, is_array, shown, shown_from, place_from}
 use Rattle.vs_vcd_writing.specs.Text.{kind_word, range_text, declaration, declared, scope_line, outline_lines}
-use Rattle.vs_vcd_reader.specs.vs_vcd_lines.proofs.CutLemmas.{and_true, eqb_gives}
+use Rattle.vs_vcd_writing.proofs.CodeTableLemmas.{place_below}
+use Rattle.vs_vcd_reader.specs.vs_vcd_lines.proofs.CutLemmas.{eqb_gives}
 use Rattle.vs_vcd_reader.specs.Plain.{PlainDeclaration}
 use Rattle.vs_vcd_reader.specs.Plain.{PlainDeclaration as p}
 use Rattle.vs_vcd_reader.specs.Layout.{variable_text, declaration_lines, widths_of}
@@ -33,14 +34,6 @@ line_is s number =
     ap (λ l. l ++ codes " " ++ code number ++ codes " " ++ s.name.items ++ range_text s.range ++ codes " $end")
     (sym (append_assoc start (kind ++ codes " ") width) ∙ ap (λ l. l ++ width) (sym (append_assoc start kind (codes " "))))
 
-below : (f q n : ℕ) (ss : List Signal) → n < f → place_from q (shown_from f ss) n ≡ None
-below f q n [] h = refl
-below f q n (s ∷ ss) h =
-    cond_both (is_array s) (shown_from (suc f) ss) (f ∷ shown_from (suc f) ss) (λ l. place_from q l n ≡ None)
-    (λ e. below (suc f) q n ss (omega (arith, h)))
-    (λ e. cond-false (f == n) (Some q) (place_from (suc q) (shown_from (suc f) ss) n) (ne_eqb f n (λ x. omega (arith, x, h)))
-    ∙ below (suc f) (suc q) n ss (omega (arith, h)))
-
 -- the first of some signals
 place_first : (b : Bool) (f q n m : ℕ) (s : Signal) (rest : List ℕ) → n ≡ f → m ≡ q → place_from q rest n ≡ None
     → declared (Some s) (place_from q (if b then rest else f ∷ rest) n) ≡ declaration_lines m (if b then [] else p.Variable (variable_of s) ∷ [])
@@ -62,7 +55,7 @@ place_is : (f q n i m : ℕ) (ss : List Signal) → n ≡ f + i → m ≡ q + co
     → declared (slice_get ss i) (place_from q (shown_from f ss) n) ≡ declaration_lines m (said_of (slice_get ss i))
 place_is f q n i m [] at is = refl
 place_is f q n zero m (s ∷ ss) at is =
-    place_first (is_array s) f q n m s (shown_from (suc f) ss) (omega (arith, at)) (omega (arith, is)) (below (suc f) q n ss (omega (arith, at)))
+    place_first (is_array s) f q n m s (shown_from (suc f) ss) (omega (arith, at)) (omega (arith, is)) (place_below (suc f) q n ss (omega (arith, at)))
 place_is f q n (suc i) m (s ∷ ss) at is =
     place_later (is_array s) f q n m (count_before i ss) (slice_get ss i) (shown_from (suc f) ss) (λ e. omega (arith, at, e)) is
     (λ r e. place_is (suc f) r n i m ss (omega (arith, at)) e)

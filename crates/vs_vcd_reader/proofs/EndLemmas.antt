@@ -12,13 +12,13 @@ use Rattle.vs_process.specs.Steps.{step}
 use Rattle.vs_process.specs.declared.moves.Move.{Move}
 use Rattle.vs_process.specs.declared.moves.Move.TheVariants.{Step, Evaluate, Propagate, Make, Rouse, Activate, EndSlot}
 use Rattle.vs_process.specs.Executions.{after, apply, ended_slot, slots}
-use Rattle.vs_process.specs.States.{AssignState, State, Update, evaluate, make, propagate, propagate_value, stepped, written_behind}
+use Rattle.vs_process.specs.States.{AssignState, State, Update, evaluate, make, propagate, propagate_value, stepped, written_after}
 use Rattle.vs_vcd_reader.specs.ReadBack.{CompleteRunsEndSlots}
 use Rattle.vs_vcd_reader.proofs.ClockLemmas.{BeginsAtZero, clocked}
 
 -- ---- what other moves leave
 
-behind_over : (s : State) (o : Option Write) → (written_behind s o).over ≡ s.over
+behind_over : (s : State) (o : Option Write) → (written_after s o).over ≡ s.over
 behind_over s None = refl
 behind_over s (Some w) = refl
 

@@ -14,7 +14,7 @@ use Rattle.vs_vcd_reader.specs.Faults.{IsBadInBody, IsBadInHeader, IsBadLine, Is
 use Rattle.vs_vcd_reader.specs.Faults.{IsLineEnd as z}
 use Rattle.vs_vcd_reader.specs.Steps.{Item, Place, Step, Steps, Follows, IsLast, body_items, change_items, declared_items, items_of, later_items, line_of, text_from}
 use Rattle.vs_vcd_reader.specs.Steps.{Item as i, Place as p, Step as s, Steps as t}
-use Rattle.vs_vcd_reader.specs.Stops.{GoesOn, IsBodyKind, IsKindAt, IsOfOtherCode, IsStop, IsStopped, IsToldAt, IsUnended}
+use Rattle.vs_vcd_reader.specs.Stops.{GoesOn, IsBodyKind, IsKindAt, IsOfOtherCode, IsStop, IsStopped, IsReportedAt, IsUnended}
 use Rattle.vs_vcd_reader.specs.Stops.{IsStop as stop}
 use Rattle.vs_vcd_reader.proofs.BeginLemmas.{begun, place_widths}
 use Rattle.vs_vcd_reader.proofs.DumpLemmas.{dump_text_is, no_begun_part, no_dump_cut, no_dump_ended}
@@ -348,7 +348,7 @@ stop_is text items place rest _ steps is (stop.cut one more none) = record {
 stopped_is : (text : List ℕ) (fault : VcdFault) → IsStopped p.Start text fault → IsFault text fault
 stopped_is text fault h = stop_is text h.items h.next h.rest fault h.steps h.is h.stop
 
-pub fault_is : (text : List ℕ) (fault : VcdFault) → IsToldAt p.Start text fault → IsFault text fault
+pub fault_is : (text : List ℕ) (fault : VcdFault) → IsReportedAt p.Start text fault → IsFault text fault
 fault_is text f.Memory h = tt
 fault_is text f.Header h = stopped_is text f.Header h
 fault_is text f.Line h = stopped_is text f.Line h
@@ -372,7 +372,7 @@ stopped_later here next text rest items fault steps is h = record {
 }
 
 pub told_later : (here next : Place) (text rest : List ℕ) (items : List Item) (fault : VcdFault) → Steps here items next → text ≡ text_from items ++ rest
-    → IsToldAt next rest fault → IsToldAt here text fault
+    → IsReportedAt next rest fault → IsReportedAt here text fault
 told_later here next text rest items f.Memory steps is h = tt
 told_later here next text rest items f.Header steps is h = stopped_later here next text rest items f.Header steps is h
 told_later here next text rest items f.Line steps is h = stopped_later here next text rest items f.Line steps is h
@@ -380,7 +380,7 @@ told_later here next text rest items f.Code steps is h = stopped_later here next
 told_later here next text rest items f.Time steps is h = stopped_later here next text rest items f.Time steps is h
 told_later here next text rest items f.Cut steps is h = stopped_later here next text rest items f.Cut steps is h
 
-told : (here : Place) (text : List ℕ) (fault : VcdFault) → IsStopped here text fault → IsToldAt here text fault
+told : (here : Place) (text : List ℕ) (fault : VcdFault) → IsStopped here text fault → IsReportedAt here text fault
 told here text f.Memory h = tt
 told here text f.Header h = h
 told here text f.Line h = h
@@ -388,11 +388,11 @@ told here text f.Code h = h
 told here text f.Time h = h
 told here text f.Cut h = h
 
-pub told_here : (here : Place) (text : List ℕ) (fault : VcdFault) → IsStop here text fault → IsToldAt here text fault
+pub told_here : (here : Place) (text : List ℕ) (fault : VcdFault) → IsStop here text fault → IsReportedAt here text fault
 told_here here text fault h = told here text fault (record { items = []; next = here; rest = text; steps = t.stay here; is = refl; stop = h })
 
 -- the text has no ended line at this place
-pub told_end : (here : Place) (text : List ℕ) (fault : VcdFault) → lacks 10 text ≡ true → (text ≡ [] → IsLast here → ⊥) → IsUnended here text fault → IsToldAt here text fault
+pub told_end : (here : Place) (text : List ℕ) (fault : VcdFault) → lacks 10 text ≡ true → (text ≡ [] → IsLast here → ⊥) → IsUnended here text fault → IsReportedAt here text fault
 told_end here text f.Memory one none h = tt
 told_end here text f.Cut one none h = told_here here text f.Cut (stop.cut one h none)
 told_end here text f.Header one none h = told_here here text f.Header (stop.unended f.Header one h.0 h.1)
@@ -402,5 +402,5 @@ told_end here text f.Time one none h = told_here here text f.Time (stop.unended 
 
 -- its first line is bad
 pub told_bad : (here : Place) (text line rest : List ℕ) (fault : VcdFault) → IsCut 10 text line rest → (Follows here line → ⊥) → IsKindAt here line fault
-    → IsToldAt here text fault
+    → IsReportedAt here text fault
 told_bad here text line rest fault cut bad kind = told_here here text fault (stop.bad line rest fault cut bad kind)

@@ -43,7 +43,7 @@ all_lines here there _ (t.go _ x next xs _ step more) =
 
 -- ---- what comes next
 
-ended_some : (line rest : List ℕ) → line ++ 10 ∷ rest ≡ [] → ⊥
+pub ended_some : (line rest : List ℕ) → line ++ 10 ∷ rest ≡ [] → ⊥
 ended_some [] rest e = absurd cc
 ended_some (b ∷ bs) rest e = absurd cc
 

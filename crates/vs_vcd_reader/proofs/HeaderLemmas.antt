@@ -22,10 +22,10 @@ use Rattle.vs_vcd_reader.specs.declared.header.Header.{Header}
 use Rattle.vs_vcd_reader.specs.Plain.{plain_declaration, plain_variable, PlainDeclaration, PlainVariable}
 use Rattle.vs_vcd_reader.specs.Plain.{PlainDeclaration as d}
 use Rattle.vs_vcd_reader.specs.Layout.{variable_text, widths_of, IsPlainVariable}
-use Rattle.vs_vcd_reader.specs.Headers.{declared, depth_with, header_items, header_place, item_for, own_with, Goes, IsBegun, IsClosed, IsHeader, IsHeaderFault, IsTaken, MayStand}
+use Rattle.vs_vcd_reader.specs.Headers.{declared, depth_with, header_items, header_place, item_for, own_with, Goes, IsBegun, IsClosed, IsHeader, IsHeaderFault, IsTaken, MayOccur}
 use Rattle.vs_vcd_reader.specs.Steps.{Item, Place, Step, Steps, Follows, declared_items, line_of, text_from}
 use Rattle.vs_vcd_reader.specs.Steps.{Item as i, Place as p, Step as s, Steps as t}
-use Rattle.vs_vcd_reader.specs.Stops.{GoesOn, IsKindAt, IsToldAt, IsUnended}
+use Rattle.vs_vcd_reader.specs.Stops.{GoesOn, IsKindAt, IsReportedAt, IsUnended}
 use Rattle.vs_vcd_lines.specs.Beginnings.{Begins}
 use Rattle.vs_vcd_reader.proofs.BodyLemmas.{begins_by, begins_on}
 use Rattle.vs_vcd_reader.proofs.FaultLemmas.{told_bad, told_end, told_later}
@@ -219,11 +219,11 @@ goes_on text rest line after old new b cut g = record {
   is = text_more text (header_items old) g.item rest line after b.is cut g.is ∙ ap (λ l. text_from l ++ after) (sym g.items);
 }
 
-header_told : (text rest : List ℕ) (h : Header) (fault : VcdFault) → IsBegun text h rest → IsToldAt (header_place h) rest fault → IsToldAt p.Top text fault
+header_told : (text rest : List ℕ) (h : Header) (fault : VcdFault) → IsBegun text h rest → IsReportedAt (header_place h) rest fault → IsReportedAt p.Top text fault
 header_told text rest h fault b told = told_later p.Top (header_place h) text rest (header_items h) fault b.kept.steps b.is told
 
 pub header_end : (text rest : List ℕ) (h : Header) (fault : VcdFault) → IsBegun text h rest → lacks 10 rest ≡ true → IsUnended (header_place h) rest fault
-    → IsToldAt p.Top text fault
+    → IsReportedAt p.Top text fault
 header_end text rest h fault b one told = header_told text rest h fault b (told_end (header_place h) rest fault one (λ _ e. e) told)
 
 -- what is told of a last line of the header, by a test
@@ -256,7 +256,7 @@ end_goes_on h part b closed tells = (
 )
 
 pub header_bad : (text rest line after : List ℕ) (h : Header) (fault : VcdFault) → IsBegun text h rest → IsCut 10 rest line after → IsHeaderFault h line fault
-    → IsToldAt p.Top text fault
+    → IsReportedAt p.Top text fault
 header_bad text rest line after h f.Memory b cut bad = tt
 header_bad text rest line after h f.Header b cut bad = header_told text rest h f.Header b (told_bad (header_place h) rest line after f.Header cut bad refl)
 header_bad text rest line after h f.Line b cut bad = absurd bad
@@ -265,7 +265,7 @@ header_bad text rest line after h f.Time b cut bad = absurd bad
 header_bad text rest line after h f.Cut b cut bad = absurd bad
 
 pub end_bad : (text rest line after : List ℕ) (h : Header) → IsBegun text h rest → IsCut 10 rest line after → h.depth ≡ 0 → (line ≡ codes "$enddefinitions $end" → ⊥)
-    → IsToldAt p.Top text f.Header
+    → IsReportedAt p.Top text f.Header
 end_bad text rest line after h b cut closed other =
     header_told text rest h f.Header b
     (told_bad (header_place h) rest line after f.Header cut (end_refuses h.widths.items h.depth h.own line closed other) refl)
@@ -283,7 +283,7 @@ closed_made text rest line after h b cut closed is =
 
 -- ---- one more declaration of any kind
 
-pub taken_all : (old new : Header) (x : Declaration) → IsHeader old → 0 < old.depth → MayStand old.own x → IsDeclaration x
+pub taken_all : (old new : Header) (x : Declaration) → IsHeader old → 0 < old.depth → MayOccur old.own x → IsDeclaration x
     → new.declarations.items ≡ old.declarations.items ++ x ∷ [] → new.widths.items ≡ old.widths.items ++ widths_of (plain_declaration x ∷ [])
     → new.depth ≡ depth_with old.depth x → new.own ≡ own_with old.own x → IsTaken old x new
 taken_all old new (v.Scope kind name) kept deep may good pushed sizes depth own =
@@ -313,7 +313,7 @@ some_at o y line m n h is same =
     (λ q. MatchOption q ((x : Declaration) → IsDeclaration x → line ≡ declaration_line x m → ⊥) (λ x. IsDeclaration x × (line ≡ declaration_line x m))) is h)
 
 pub not_fitting : (ws : List ℕ) (depth : ℕ) (own : Bool) (line : List ℕ) (x : Declaration) → 0 < depth → IsDeclaration x × (line ≡ declaration_line x (length ws))
-    → (MayStand own x → ⊥) → Follows (p.Header ws depth own) line → ⊥
+    → (MayOccur own x → ⊥) → Follows (p.Header ws depth own) line → ⊥
 not_fitting ws depth own line (v.Scope kind name) deep is none = absurd (none tt)
 not_fitting ws depth own line v.Upscope deep is none = absurd (none tt)
 not_fitting ws depth true line (v.Variable x) deep is none = absurd (none refl)

@@ -2,7 +2,7 @@
 use Rattle.std.proofs.Common.{◌≡◌, ◌⊎◌, inl, inr, ℕ, zero, suc, ◌+◌, ◌*◌, ◌-◌, ◌/◌, ◌%◌, ◌<◌, ◌≤◌, Bool, true, false, Option, Some, None, MatchOption, List, [], ◌∷◌, ◌++◌, get_or, length, map, refl, sym, ap, subst, ◌∙◌, arith}
 use Rattle.std.specs.Prelude.{nat_lt, not, is_some, take, drop, IsTrue, ◌↔◌}
 use Rattle.std.specs.List.{list_all}
-use Rattle.std.proofs.lemmas.Bool.{and_from, cases_lt, cond_both, false≢true}
+use Rattle.std.proofs.lemmas.Bool.{and_from, cases_lt, cond_both, false≢true, and_parts as and_true}
 use Rattle.std.proofs.lemmas.List.{length-map}
 use Rattle.std.proofs.Math.Seq.{take-length}
 use Rattle.std.proofs.lemmas.Bool.Decides.{Decides-ltb, eqb_tells}
@@ -13,7 +13,7 @@ use Rattle.vs_vcd_lines.specs.vs_vcd_writing.specs.Values.{digit_character}
 use Rattle.vs_vcd_lines.specs.vs_vcd_writing.proofs.CodeLemmas.{code-short, code-injective}
 use Rattle.vs_vcd_lines.specs.Cuts.{lacks, IsCut}
 use Rattle.vs_vcd_lines.proofs.CodeLemmas.{code_above}
-use Rattle.vs_vcd_lines.proofs.CutLemmas.{and_true, cut_once, lacks_head}
+use Rattle.vs_vcd_lines.proofs.CutLemmas.{cut_once, lacks_head}
 use Rattle.vs_vcd_lines.proofs.BeginningsValueLemmas.{characters_lack}
 use Rattle.vs_vcd_reader.specs.Faults.{IsShaped}
 use Rattle.vs_vcd_reader.specs.Faults.{IsShaped as sh}

@@ -22,7 +22,7 @@ pub mod ChangeLemmas
 pub mod MomentLemmas
 pub mod TextLemmas
 pub mod LawTimeLemmas
-pub mod LawLawLemmas
+pub mod WrittenLawLemmas
 pub mod OneFaultLemmas
 pub mod ClockLemmas
 pub mod EndLemmas

@@ -12,8 +12,8 @@ use Rattle.vs_design.specs.declared.signal.Signal.{Signal}
 use Rattle.vs_design.specs.Parts.{Parts}
 use Rattle.vs_elaborate.specs.vs_scopes.specs.Generate.{Inner}
 use Rattle.vs_elaborate.specs.vs_scopes.specs.Printed.{printed_part}
-use Rattle.vs_elaborate.specs.vs_scopes.specs.Scopes.{Scope, Before, behind, declarations_of, has_no_values, inner_of, listed, nowhere, opened, opened_top, scopes_within, top_scope, within_first}
-use Rattle.vs_elab_listed.specs.Outlines.{Line, declare, enter, leave, declare_from, outline_around, outline_below, outline_within}
+use Rattle.vs_elaborate.specs.vs_scopes.specs.Scopes.{Scope, Before, before_following, declarations_of, has_no_values, inner_of, of_opened, nowhere, opened, opened_top, scopes_within, top_scope, within_first}
+use Rattle.vs_elab_signals.specs.Outlines.{Line, declare, enter, leave, declare_from, outline_around, outline_below, outline_within}
 use Rattle.vs_vcd_lines.specs.Names.{IsScopeName}
 use Rattle.vs_vcd_lines.specs.vs_vcd_writing.specs.Codes.{is_array}
 use Rattle.vs_vcd_reader.specs.Plain.{PlainDeclaration}
@@ -95,7 +95,7 @@ around_nested d s ls good h inside =
 -- ---- the scopes that instances and blocks open
 
 module _ (d : Parts) (ms : List Module) (f : Scope → List Scope) (g : Scope → List Line) (inside : (t : Scope) → AreNamed (g t) → IsOneScope t.kind (said d (g t))) (s : Scope) where
-  one_more : (o : Option Scope) (ds : List PlainDeclaration) → AreNamed (listed g o) → AreScopes ds → AreScopes (said d (listed g o) ++ ds)
+  one_more : (o : Option Scope) (ds : List PlainDeclaration) → AreNamed (of_opened g o) → AreScopes ds → AreScopes (said d (of_opened g o) ++ ds)
   one_more None ds h more = more
   one_more (Some t) ds h more =
       let one = inside t h in
@@ -107,10 +107,10 @@ module _ (d : Parts) (ms : List Module) (f : Scope → List Scope) (g : Scope �
   below_nested at [] h = z.none
   below_nested at (x ∷ xs) h =
       let o = opened ms s at x in
-      let next = behind at (listed f o) in
+      let next = before_following at (of_opened f o) in
       let lines = outline_below ms f g s next xs in
-      let parts = named_parts (listed g o) lines h in
-      subst AreScopes (sym (flat_map-append (said_line d) (listed g o) lines)) (one_more o (said d lines) parts.0 (below_nested next xs parts.1))
+      let parts = named_parts (of_opened g o) lines h in
+      subst AreScopes (sym (flat_map-append (said_line d) (of_opened g o) lines)) (one_more o (said d lines) parts.0 (below_nested next xs parts.1))
 
 pub within_nested : (d : Parts) (n : ℕ) (ms : List Module) (s : Scope) → AreGood d → AreNamed (outline_within n ms s) → IsOneScope s.kind (said d (outline_within n ms s))
 within_nested d zero ms s good h = around_nested d s [] good h z.none
@@ -135,7 +135,7 @@ one_is_declared kind ds e h =
     record { name = one.name; own = one.own; inner = one.inner; named = one.named; variables = one.variables; scopes = one.scopes; are = one.are }
 
 pub top_declared : (d : Parts) (n : ℕ) (ms : List Module) (nets : Bool) (o : Option Module) (t : Option Scope) → opened_top nets o ≡ t → AreGood d
-    → AreNamed (listed (outline_within n ms) t) → (t ≡ None → ⊥) → AreDeclared (said d (listed (outline_within n ms) t))
+    → AreNamed (of_opened (outline_within n ms) t) → (t ≡ None → ⊥) → AreDeclared (said d (of_opened (outline_within n ms) t))
 top_declared d n ms nets o None e good h some = absurd (some refl)
 top_declared d n ms nets o (Some t) e good h some =
     one_is_declared t.kind (said d (outline_within n ms t)) (opened_kind nets o t e) (within_nested d n ms t good h)

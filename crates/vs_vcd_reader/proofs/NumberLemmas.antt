@@ -2,16 +2,17 @@
 use Rattle.std.proofs.Common.{◌≡◌, ℕ, zero, suc, ◌+◌, Bool, true, Option, Some, None, List, [], ◌∷◌, ◌++◌, length, refl, sym, ap, ◌∙◌, append-nil, arith}
 use Rattle.std.proofs.lemmas.Bool.{and_from}
 use Rattle.std.proofs.lemmas.Grind.{flat_map-append}
-use Rattle.std.proofs.lemmas.List.{length-append, length-map}
+use Rattle.std.proofs.lemmas.List.{length-append}
 use Rattle.std.specs.Prelude.{◌==◌}
 use Rattle.std.specs.List.{flat_map}
 use Rattle.vs_syntax.specs.declared.tree.Module.{Module}
 use Rattle.vs_design.specs.WellFormed.{counts_from}
 use Rattle.vs_elaborate.specs.vs_scopes.specs.Nets.{permits_nets}
 use Rattle.vs_elaborate.specs.vs_scopes.specs.Generate.{Inner}
-use Rattle.vs_elaborate.specs.vs_scopes.specs.Scopes.{Scope, Before, behind, below, declarations_of, deepest, inner_of, listed, module_named, opened, opened_top, scopes_of, scopes_within, signal_count, within_first}
-use Rattle.vs_elab_listed.specs.Outlines.{Line, declare, enter, leave, declare_from, outline_around, outline_below, outline_of, outline_within, signal_of, signals_of}
+use Rattle.vs_elaborate.specs.vs_scopes.specs.Scopes.{Scope, Before, before_following, below, declarations_of, deepest, inner_of, of_opened, module_named, opened, opened_top, scopes_of, scopes_within, signal_count, within_first}
+use Rattle.vs_elab_signals.specs.Outlines.{Line, declare, enter, leave, declare_from, outline_around, outline_below, outline_of, outline_within}
 use Rattle.vs_elaborate.specs.vs_elab_hierarchy.proofs.PathsOpened.{what_is_opened, what_is_opened_top}
+use Rattle.vs_elaborate.specs.vs_elab_hierarchy.proofs.AddLemmas.{signals_append}
 use Rattle.vs_vcd_lines.proofs.CutLemmas.{eqb_is}
 
 -- the signal that a line declares
@@ -44,9 +45,6 @@ pub length-count_up : (a k : ℕ) → length (count_up a k) ≡ k
 length-count_up a zero = refl
 length-count_up a (suc k) = ap suc (length-count_up (suc a) k)
 
-signals_append : (xs ys : List Scope) → signal_count (xs ++ ys) ≡ signal_count xs + signal_count ys
-signals_append xs ys = ap length (flat_map-append declarations_of xs ys) ∙ length-append (flat_map declarations_of xs) (flat_map declarations_of ys)
-
 -- ---- one scope
 
 declare_counts : {A : Type 0} (base : ℕ) (xs : List A) → numbers_of (declare_from base xs) ≡ count_up base (length xs)
@@ -70,7 +68,7 @@ around_whole s ls ss b start inside =
 -- ---- the scopes that instances and blocks open
 
 module _ (ms : List Module) (f : Scope → List Scope) (g : Scope → List Line) (inside : (t : Scope) → numbers_of (g t) ≡ count_up t.base (signal_count (f t))) (s : Scope) where
-  opened_counts : (at : Before) (x : Inner) (o : Option Scope) → opened ms s at x ≡ o → numbers_of (listed g o) ≡ count_up at.signals (signal_count (listed f o))
+  opened_counts : (at : Before) (x : Inner) (o : Option Scope) → opened ms s at x ≡ o → numbers_of (of_opened g o) ≡ count_up at.signals (signal_count (of_opened f o))
   opened_counts at x None e = refl
   opened_counts at x (Some t) e =
       inside t ∙ ap (λ b. count_up b (signal_count (f t))) (ap (λ (b : Before). b.signals) (what_is_opened ms s at x t e).before)
@@ -79,12 +77,12 @@ module _ (ms : List Module) (f : Scope → List Scope) (g : Scope → List Line)
   below_counts at [] = refl
   below_counts at (x ∷ xs) =
       let o = opened ms s at x in
-      let inner = listed f o in
-      let rest = below ms f s (behind at inner) xs in
-      let lines = outline_below ms f g s (behind at inner) xs in
-      flat_map-append number_of (listed g o) lines ∙ ap (λ l. l ++ numbers_of lines) (opened_counts at x o refl)
-      ∙ ap (λ l. count_up at.signals (signal_count inner) ++ l) (below_counts (behind at inner) xs)
-      ∙ sym (count_append at.signals (signal_count inner) (signal_count rest) (signal_count (inner ++ rest)) (behind at inner).signals (signals_append inner rest) refl)
+      let inner = of_opened f o in
+      let rest = below ms f s (before_following at inner) xs in
+      let lines = outline_below ms f g s (before_following at inner) xs in
+      flat_map-append number_of (of_opened g o) lines ∙ ap (λ l. l ++ numbers_of lines) (opened_counts at x o refl)
+      ∙ ap (λ l. count_up at.signals (signal_count inner) ++ l) (below_counts (before_following at inner) xs)
+      ∙ sym (count_append at.signals (signal_count inner) (signal_count rest) (signal_count (inner ++ rest)) (before_following at inner).signals (signals_append inner rest) refl)
 
 first_start : (s : Scope) → (within_first s).signals ≡ s.base + length (declarations_of s)
 first_start s = ap (λ l. s.base + length l) (append-nil (declarations_of s))
@@ -98,7 +96,7 @@ within_counts (suc n) ms s =
     (below_counts ms (scopes_within n ms) (outline_within n ms) (within_counts n ms) s (within_first s) (inner_of s))
 
 top_counts : (n : ℕ) (ms : List Module) (nets : Bool) (o : Option Module) (t : Option Scope) → opened_top nets o ≡ t
-    → numbers_of (listed (outline_within n ms) t) ≡ count_up 0 (signal_count (listed (scopes_within n ms) t))
+    → numbers_of (of_opened (outline_within n ms) t) ≡ count_up 0 (signal_count (of_opened (scopes_within n ms) t))
 top_counts n ms nets o None e = refl
 top_counts n ms nets o (Some s) e =
     within_counts n ms s ∙ ap (λ b. count_up b (signal_count (scopes_within n ms s))) (ap (λ (b : Before). b.signals) (what_is_opened_top nets o s e).1.before)
@@ -107,12 +105,3 @@ top_counts n ms nets o (Some s) e =
 pub outline_counts : (ms : List Module) (top : List ℕ) → numbers_of (outline_of ms top) ≡ count_up 0 (signal_count (scopes_of ms top))
 outline_counts ms top =
     top_counts deepest ms (permits_nets ms top) (module_named ms top) (opened_top (permits_nets ms top) (module_named ms top)) refl
-
--- how many signals scopes have
-pub signals_counted : (ss : List Scope) → length (flat_map signals_of ss) ≡ signal_count ss
-signals_counted [] = refl
-signals_counted (s ∷ ss) =
-    length-append (signals_of s) (flat_map signals_of ss)
-    ∙ ap (λ n. n + length (flat_map signals_of ss)) (length-map (declarations_of s) (signal_of s))
-    ∙ ap (λ n. length (declarations_of s) + n) (signals_counted ss)
-    ∙ sym (length-append (declarations_of s) (flat_map declarations_of ss))

@@ -25,10 +25,10 @@ use Rattle.vs_vcd_lines.proofs.ChangeLemmas.{wide_text}
 use Rattle.vs_vcd_lines.proofs.CutLemmas.{cut_once}
 use Rattle.vs_vcd_lines.proofs.LawLemmas.{kind_once, named_once}
 use Rattle.vs_vcd_lines.proofs.LineLemmas.{scope_assoc}
-use Rattle.vs_vcd_lines.proofs.ValueLemmas.{spelled_once}
+use Rattle.vs_vcd_lines.proofs.ValueLemmas.{spelled_once, character_once}
 use Rattle.vs_vcd_lines.proofs.VariableLemmas.{line_assoc, shape_parts, shape_three}
 use Rattle.vs_vcd_lines.proofs.WordLemmas.{scope_lacks, magnitude_lacks}
-use Rattle.vs_vcd_lines.proofs.BeginningsValueLemmas.{character_once, characters_lack, values_once}
+use Rattle.vs_vcd_lines.proofs.BeginningsValueLemmas.{characters_lack, values_once}
 use Rattle.vs_vcd_reader.specs.Plain.{PlainVariable}
 use Rattle.vs_vcd_reader.specs.Layout.{variable_text, with_change, IsPlainVariable}
 use Rattle.vs_vcd_reader.specs.Steps.{Item, Place, Step, line_of}

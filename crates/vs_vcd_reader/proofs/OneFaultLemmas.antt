@@ -4,10 +4,11 @@ use Rattle.std.proofs.lemmas.List.{append-nil}
 use Rattle.vs_design.specs.vs_logic4.specs.declared.digit.Digit.{Digit}
 use Rattle.vs_design.specs.vs_logic4.specs.declared.digit.Digit.TheVariants.{Zero, One, X, Z}
 use Rattle.std.specs.List.{list_all}
+use Rattle.std.proofs.lemmas.Bool.{and_parts as and_true}
 use Rattle.vs_vcd_writing.specs.Text.{text_of}
 use Rattle.vs_vcd_writing.specs.Values.{digit_character}
 use Rattle.vs_vcd_reader.specs.vs_vcd_lines.specs.Cuts.{lacks}
-use Rattle.vs_vcd_reader.specs.vs_vcd_lines.proofs.CutLemmas.{and_true, cut_once}
+use Rattle.vs_vcd_reader.specs.vs_vcd_lines.proofs.CutLemmas.{cut_once}
 use Rattle.vs_vcd_reader.specs.declared.fault.VcdFault.{VcdFault}
 use Rattle.vs_vcd_reader.specs.declared.fault.VcdFault.TheVariants as f
 use Rattle.vs_vcd_reader.specs.Layout.{IsLayout}

@@ -1,6 +1,6 @@
 -- The lines of the layout hold no line feed.
 use Rattle.std.proofs.Common.{◌≡◌, ℕ, zero, suc, ◌+◌, ◌-◌, ◌/◌, ◌%◌, ◌<◌, ◌^◌, true, inl, inr, Option, Some, None, List, [], ◌∷◌, ◌++◌, codes, decimal, length, map, reverse, refl, sym, ap, ◌∙◌, arith}
-use Rattle.std.proofs.lemmas.Bool.{cases_lt, lt-ltb, le-ltb, cond-true, cond-false, false≢true}
+use Rattle.std.proofs.lemmas.Bool.{cases_lt, lt-ltb, le-ltb, cond-true, cond-false, false≢true, and_parts as and_true}
 use Rattle.std.specs.Prelude.{nat_lt}
 use Rattle.std.specs.Fmt.{signed_decimal}
 use Rattle.std.specs.Int.{IsInRange}
@@ -23,7 +23,7 @@ use Rattle.vs_vcd_lines.specs.vs_vcd_writing.specs.Values.{digit_character, shor
 use Rattle.vs_vcd_lines.specs.Cuts.{lacks}
 use Rattle.vs_vcd_lines.specs.Lines.{span_line, IsRange}
 use Rattle.vs_vcd_lines.specs.Names.{is_first, is_further, is_printable, is_simple, is_body, IsName, IsScopeName, IsTurn}
-use Rattle.vs_vcd_lines.proofs.CutLemmas.{and_true, lacks_more, lacks_of_all, lacks-append}
+use Rattle.vs_vcd_lines.proofs.CutLemmas.{lacks_more, lacks_of_all, lacks-append}
 use Rattle.vs_vcd_lines.proofs.NameLemmas.{lacks-decimal, lacks-signed_decimal}
 use Rattle.vs_vcd_reader.specs.Plain.{PlainVariable}
 use Rattle.vs_vcd_reader.specs.Layout.{variable_text, IsPlainVariable}

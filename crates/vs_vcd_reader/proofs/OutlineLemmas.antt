@@ -12,15 +12,16 @@ use Rattle.vs_design.specs.Parts.{Parts}
 use Rattle.vs_design.specs.WellFormed.{counts_from, declared_in}
 use Rattle.vs_elaborate.specs.vs_scopes.specs.Nets.{permits_nets}
 use Rattle.vs_elaborate.specs.vs_scopes.specs.Scopes.{deepest, module_named, opened_top, scopes_of, signal_count}
-use Rattle.vs_elab_listed.specs.Outlines.{Line, declare, declared, enter, leave, outline_of, IsEntry}
+use Rattle.vs_elab_signals.specs.Outlines.{Line, declare, declared, enter, leave, outline_of, IsEntry}
 use Rattle.vs_elaborate.specs.DesignOf.{Represents}
+use Rattle.vs_elaborate.specs.vs_elab_hierarchy.proofs.AddLemmas.{signals_shown as signals_counted}
 use Rattle.vs_vcd_reader.specs.Conditions.{IsOutlined}
 use Rattle.vs_vcd_reader.specs.Said.{said_by}
 use Rattle.vs_vcd_lines.specs.Names.{IsScopeName}
 use Rattle.vs_vcd_reader.specs.Layout.{AreDeclared}
 use Rattle.vs_vcd_reader.specs.Plain.{PlainDeclaration as q}
 use Rattle.vs_vcd_reader.specs.Outlined.{HasPrintedNames, IsPrintedEntry, IsPrintedSignal, OutlinesAreInOrder}
-use Rattle.vs_vcd_reader.proofs.NumberLemmas.{count_up, counts_up, length-count_up, numbers_of, outline_counts, signals_counted}
+use Rattle.vs_vcd_reader.proofs.NumberLemmas.{count_up, counts_up, length-count_up, numbers_of, outline_counts}
 use Rattle.vs_vcd_reader.proofs.NestLemmas.{AreGood, AreNamed, said, top_declared}
 use Rattle.vs_vcd_reader.proofs.TopLemmas.{top_opened}
 

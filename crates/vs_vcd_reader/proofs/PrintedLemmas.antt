@@ -1,8 +1,7 @@
 -- Names that can be printed are names of dumps, as they are printed.
-use Rattle.std.proofs.Common.{◌≡◌, ◌⊎◌, inl, inr, ℕ, zero, suc, ◌+◌, ◌<◌, ◌^◌, ◌==◌, ℤ, pos, negsuc, true, false, List, [], ◌∷◌, ◌++◌, Option, Some, None, refl, sym, ap, ap₂, subst, ◌∙◌, append-nil, append_assoc, arith}
+use Rattle.std.proofs.Common.{◌≡◌, ◌⊎◌, inl, inr, ℕ, zero, suc, ◌+◌, ◌<◌, ◌==◌, ℤ, true, false, List, [], ◌∷◌, ◌++◌, Option, Some, None, refl, sym, ap, ap₂, subst, ◌∙◌, append-nil, append_assoc, arith}
 use Rattle.std.specs.Prelude.{◌/◌, ◌%◌, nat_lt, nat_eq, codes, decimal, replicate}
 use Rattle.std.specs.Fmt.{digits, digits_onto, digit_glyph, signed_decimal}
-use Rattle.std.specs.Int.Signed.{mag}
 use Rattle.std.specs.List.{list_all, flat_map}
 use Rattle.std.proofs.Math.Nat.{mod-lt}
 use Rattle.std.proofs.lemmas.Bool.{and_parts, and_from, cond_both, ne_eqb}
@@ -20,10 +19,11 @@ use Rattle.vs_elaborate.specs.vs_scopes.specs.Printed.{PathName, is_simple, esca
 use Rattle.vs_elaborate.specs.vs_elab_hierarchy.specs.Laws.{FitsTurn}
 use Rattle.vs_elaborate.specs.Named.{HasName, HasNames, IsNamedEntry, IsTurnOf}
 use Rattle.vs_vcd_lines.specs.Lines.{IsRange}
-use Rattle.vs_vcd_lines.specs.Names.{is_printable, IsEscaped, IsName, IsScopeName, IsShort, IsTurn}
+use Rattle.vs_vcd_lines.specs.Names.{is_printable, IsEscaped, IsName, IsScopeName, IsTurn}
 use Rattle.vs_vcd_lines.specs.Names as dump
-use Rattle.vs_vcd_lines.specs.Names.IsShort.{short, negative}
+use Rattle.vs_vcd_lines.specs.Names.IsShort.{short}
 use Rattle.vs_vcd_reader.specs.Outlined.{HasPrintedNames, HasShortRanges, IsPrintedEntry, IsPrintedSignal}
+use Rattle.vs_vcd_reader.proofs.RangeLemmas.{short_number}
 
 -- ---- bytes
 
@@ -69,10 +69,6 @@ name_printed n h =
 
 -- ---- names of scopes
 
-short_turn : (v : ℤ) → mag v < 2 ^ 63 → IsShort v
-short_turn (pos n) h = short n h
-short_turn (negsuc n) h = negative n h
-
 -- a number in brackets after a name
 brackets : (name number : List ℕ) → name ++ (91 ∷ number ++ 93 ∷ []) ≡ name ++ codes "[" ++ number ++ codes "]"
 brackets name number = sym (append_assoc name (91 ∷ number) (93 ∷ [])) ∙ ap (λ l. l ++ codes "]") (sym (append_assoc name (codes "[") number))
@@ -84,7 +80,7 @@ scope_printed Begin p h turn = by p.turn turn
   where
     by : (o : Option ℤ) → FitsTurn o → IsName (printed_name p.name ++ printed_turn o) ⊎ IsTurn (printed_name p.name ++ printed_turn o)
     by None f = inl (subst IsName (sym (append-nil (printed_name p.name))) (name_printed p.name h))
-    by (Some v) f = inr (record { name = printed_name p.name; value = v; named = name_printed p.name h; short = short_turn v f; is = brackets (printed_name p.name) (signed_decimal v) })
+    by (Some v) f = inr (record { name = printed_name p.name; value = v; named = name_printed p.name h; short = short_number v f; is = brackets (printed_name p.name) (signed_decimal v) })
 
 -- ---- names of unnamed blocks
 

@@ -16,7 +16,7 @@ use Rattle.vs_vcd_reader.specs.Bodies.{AreAllLater, IsFirst}
 use Rattle.vs_vcd_reader.specs.Headers.{header_items, IsClosed}
 use Rattle.vs_vcd_reader.specs.Steps.{Item, Place, Steps, body_items, change_items, declared_items, items_of, later_items, text_from}
 use Rattle.vs_vcd_reader.specs.Steps.{Item as i, Place as p, Step as s, Steps as t}
-use Rattle.vs_vcd_reader.specs.Stops.{IsToldAt}
+use Rattle.vs_vcd_reader.specs.Stops.{IsReportedAt}
 use Rattle.vs_vcd_reader.proofs.BeginLemmas.{steps_sizes}
 use Rattle.vs_vcd_reader.proofs.DumpLemmas.{dump_made}
 use Rattle.vs_vcd_reader.proofs.FaultLemmas.{fault_is, told_later}
@@ -101,17 +101,17 @@ values_sized text rest xs ws cs ds values first valued all_are same =
 
 -- ---- why a text is none
 
-pub after_tick : (text a : List ℕ) (tick : TimeSpan) (fault : VcdFault) → text ≡ text_from (tick_items tick) ++ a → IsToldAt p.Top a fault → IsFault text fault
+pub after_tick : (text a : List ℕ) (tick : TimeSpan) (fault : VcdFault) → text ≡ text_from (tick_items tick) ++ a → IsReportedAt p.Top a fault → IsFault text fault
 after_tick text a tick fault is told = fault_is text fault (told_later p.Start p.Top text a (tick_items tick) fault (tick_steps tick) is told)
 
-pub after_header : (text rest : List ℕ) (h : Header) (ws : List ℕ) (fault : VcdFault) → IsClosed text h rest → ws ≡ h.widths.items → IsToldAt (p.Zero ws) rest fault
-    → IsToldAt p.Top text fault
+pub after_header : (text rest : List ℕ) (h : Header) (ws : List ℕ) (fault : VcdFault) → IsClosed text h rest → ws ≡ h.widths.items → IsReportedAt (p.Zero ws) rest fault
+    → IsReportedAt p.Top text fault
 after_header text rest h ws fault closed same told =
-    told_later p.Top (p.Zero h.widths.items) text rest (closed_items h) fault closed.steps closed.is (subst (λ w. IsToldAt (p.Zero w) rest fault) same told)
+    told_later p.Top (p.Zero h.widths.items) text rest (closed_items h) fault closed.steps closed.is (subst (λ w. IsReportedAt (p.Zero w) rest fault) same told)
 
 pub after_end : (text rest xs ws : List ℕ) (cs ds : List ValueChange) (values : List (List Digit)) (fault : VcdFault) → IsFirst xs text cs rest → values ≡ values_of ds
-    → ds ≡ cs → ws ≡ xs → IsToldAt (p.Later ws values 0 (length ws) false) rest fault → IsToldAt (p.Zero xs) text fault
+    → ds ≡ cs → ws ≡ xs → IsReportedAt (p.Later ws values 0 (length ws) false) rest fault → IsReportedAt (p.Zero xs) text fault
 after_end text rest xs ws cs ds values fault first valued all_are same told =
     told_later (p.Zero xs) (p.Later xs (values_of cs) 0 (length xs) false) text rest (first_items cs) fault first.steps first.is
-    (subst (λ w. IsToldAt (p.Later w (values_of cs) 0 (length w) false) rest fault) same
-    (subst (λ v. IsToldAt (p.Later ws v 0 (length ws) false) rest fault) (valued ∙ ap values_of all_are) told))
+    (subst (λ w. IsReportedAt (p.Later w (values_of cs) 0 (length w) false) rest fault) same
+    (subst (λ v. IsReportedAt (p.Later ws v 0 (length ws) false) rest fault) (valued ∙ ap values_of all_are) told))

@@ -1,17 +1,12 @@
 -- Declarations that close what they open are those of a dump, and no others.
-use Rattle.std.proofs.Common.{◌≡◌, ℕ, zero, suc, ◌<◌, ◌≤◌, Bool, true, false, ◌&&◌, List, [], ◌∷◌, ◌++◌, length, refl, sym, ap, subst, ◌∙◌, append_assoc, arith}
-use Rattle.std.proofs.lemmas.Bool.{false≢true}
+use Rattle.std.proofs.Common.{◌≡◌, ℕ, zero, suc, ◌<◌, ◌≤◌, Bool, true, false, List, [], ◌∷◌, ◌++◌, length, refl, sym, ap, subst, ◌∙◌, append_assoc, arith}
+use Rattle.std.proofs.lemmas.Bool.{false≢true, and_parts}
 use Rattle.vs_design.specs.declared.design.ScopeKind.TheVariants.{Module}
 use Rattle.vs_vcd_reader.specs.Plain.{PlainDeclaration}
 use Rattle.vs_vcd_reader.specs.Plain.{PlainDeclaration as d}
 use Rattle.vs_vcd_reader.specs.Layout.{AreVariables, AreScopes, AreDeclared}
 use Rattle.vs_vcd_reader.specs.Layout.{AreVariables as v, AreScopes as s}
 use Rattle.vs_vcd_reader.specs.Walks.{closes, AreGood}
-
-pub both_true : (a b : Bool) → (a && b) ≡ true → (a ≡ true) × (b ≡ true)
-both_true true true h = (refl, refl)
-both_true true false h = absurd (false≢true h)
-both_true false b h = absurd (false≢true h)
 
 -- ---- those of a dump close
 
@@ -65,7 +60,7 @@ walked (suc n) depth own (d.Upscope ∷ ds) size good h = record {
   shorter = omega arith;
 }
 walked (suc n) depth own (d.Variable x ∷ ds) size good h =
-    let both = both_true own (closes (suc depth) true ds) h in
+    let both = and_parts own (closes (suc depth) true ds) h in
     let w = walked n depth true ds (omega (arith, size)) good.1 both.1 in
     let less = w.shorter in
     record {

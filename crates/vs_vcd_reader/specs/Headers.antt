@@ -26,10 +26,10 @@ pub record IsHeader (h : Header) : Type 0 where
   pub deep : h.depth ≤ length h.declarations.items
 
 -- a declaration may stand where a variable may or may not
-abbrev pub MayStand : Bool → Declaration → Type 0
-MayStand own (v.Scope kind name) = Unit {0}
-MayStand own (v.Variable x) = own ≡ true
-MayStand own v.Upscope = Unit {0}
+abbrev pub MayOccur : Bool → Declaration → Type 0
+MayOccur own (v.Scope kind name) = Unit {0}
+MayOccur own (v.Variable x) = own ≡ true
+MayOccur own v.Upscope = Unit {0}
 
 -- how many scopes are open after a declaration
 abbrev pub depth_with : ℕ → Declaration → ℕ

@@ -66,10 +66,10 @@ pub record IsStopped (here : Place) (text : List ℕ) (fault : VcdFault) : Type 
   pub stop : IsStop next rest fault
 
 -- the same, where want of memory is told of any text
-abbrev pub IsToldAt : Place → List ℕ → VcdFault → Type 0
-IsToldAt here text f.Memory = Unit {0}
-IsToldAt here text f.Header = IsStopped here text f.Header
-IsToldAt here text f.Line = IsStopped here text f.Line
-IsToldAt here text f.Code = IsStopped here text f.Code
-IsToldAt here text f.Time = IsStopped here text f.Time
-IsToldAt here text f.Cut = IsStopped here text f.Cut
+abbrev pub IsReportedAt : Place → List ℕ → VcdFault → Type 0
+IsReportedAt here text f.Memory = Unit {0}
+IsReportedAt here text f.Header = IsStopped here text f.Header
+IsReportedAt here text f.Line = IsStopped here text f.Line
+IsReportedAt here text f.Code = IsStopped here text f.Code
+IsReportedAt here text f.Time = IsStopped here text f.Time
+IsReportedAt here text f.Cut = IsStopped here text f.Cut

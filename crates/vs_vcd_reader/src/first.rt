@@ -3,7 +3,7 @@ ghost use Rattle.std.specs.Prelude.{◌≡◌, ◌∷◌, ◌++◌, [], length, 
 ghost use Rattle.vs_vcd_lines.specs.Lines.{change_line, are_sizes, IsSized};
 ghost use Rattle.vs_vcd_reader.specs.Bodies.{AreBegun, IsFirst, IsNoValue, IsUnexpected};
 ghost use Rattle.vs_vcd_reader.specs.Steps.{Place as p};
-ghost use Rattle.vs_vcd_reader.specs.Stops.{IsToldAt};
+ghost use Rattle.vs_vcd_reader.specs.Stops.{IsReportedAt};
 
 use crate::fault::VcdFault;
 use crate::kinds::{body_end, body_fault};
@@ -51,7 +51,7 @@ fn read_values<'t>(
 ) -> Result<(Vec<ValueChange>, &'t [u8]), VcdFault>
     requires { IsTrue (are_sizes widths.now) }
     ensures { MatchResult result (λ r. AreBegun widths.now text.now r.0.items r.1.now × (length r.0.items ≡ length widths.now))
-        (λ f. IsToldAt (p.Values widths.now []) text.now f) }
+        (λ f. IsReportedAt (p.Values widths.now []) text.now f) }
 {
     let mut changes = Vec::new(alloc);
     let mut rest = text;
@@ -74,7 +74,7 @@ pub(crate) fn read_first<'t>(
     widths: &[u32],
 ) -> Result<(Vec<ValueChange>, &'t [u8]), VcdFault>
     requires { IsTrue (are_sizes widths.now) }
-    ensures { MatchResult result (λ r. IsFirst widths.now text.now r.0.items r.1.now) (λ f. IsToldAt (p.Zero widths.now) text.now f) }
+    ensures { MatchResult result (λ r. IsFirst widths.now text.now r.0.items r.1.now) (λ f. IsReportedAt (p.Zero widths.now) text.now f) }
 {
     let count = widths.len();
     let after_time = expected(text, b"#0", count)?;

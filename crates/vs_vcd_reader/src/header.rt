@@ -4,9 +4,9 @@ ghost use Rattle.vs_vcd_lines.specs.Lines.{IsDeclaration};
 ghost use Rattle.vs_vcd_reader.specs.declared.fault.VcdFault.TheVariants.{Cut, Header as HeaderFault, Memory};
 ghost use Rattle.vs_vcd_reader.specs.Plain.{plain_declaration};
 ghost use Rattle.vs_vcd_reader.specs.Layout.{widths_of};
-ghost use Rattle.vs_vcd_reader.specs.Headers.{depth_with, own_with, Goes, IsBegun, IsClosed, IsHeader, IsHeaderFault, IsTaken, MayStand};
+ghost use Rattle.vs_vcd_reader.specs.Headers.{depth_with, own_with, Goes, IsBegun, IsClosed, IsHeader, IsHeaderFault, IsTaken, MayOccur};
 ghost use Rattle.vs_vcd_reader.specs.Steps.{Item as i, Place as p, text_from};
-ghost use Rattle.vs_vcd_reader.specs.Stops.{IsToldAt};
+ghost use Rattle.vs_vcd_reader.specs.Stops.{IsReportedAt};
 
 use crate::fault::VcdFault;
 use crate::parts::{declaration_goes_on, top_goes_on};
@@ -17,8 +17,8 @@ use vs_design::{ScopeKind, TimeSpan};
 use vs_vcd_lines::{Declaration, begins, declaration_of, is_same, scope_of, span_of};
 
 /// Whether a declaration may stand where a variable may or may not.
-fn may_stand(own: bool, declaration: &Declaration) -> bool
-    ensures { IsTrue result ↔ MayStand own declaration.now }
+fn may_occur(own: bool, declaration: &Declaration) -> bool
+    ensures { IsTrue result ↔ MayOccur own declaration.now }
 {
     match declaration {
         Declaration::Variable(_) => own,
@@ -81,7 +81,7 @@ impl Header {
     /// Takes the next declaration.
     fn take(&mut self, declaration: Declaration) -> Result<(), VcdFault>
         requires deep { 0 < self.old.depth }
-        requires fits { MayStand self.old.own declaration }
+        requires fits { MayOccur self.old.own declaration }
         requires good { IsDeclaration declaration }
         requires kept { IsHeader self.old }
         ensures { MatchResult result (λ _. IsTaken self.old declaration self.new) (λ f. f ≡ Memory) }
@@ -103,7 +103,7 @@ impl Header {
         let Some(declaration) = declaration_of(alloc, line, number)? else {
             return Err(VcdFault::Header);
         };
-        let fits = may_stand(self.own, &declaration);
+        let fits = may_occur(self.own, &declaration);
         if !fits {
             return Err(VcdFault::Header);
         }
@@ -125,7 +125,7 @@ fn header_end(goes_on: bool) -> VcdFault
 
 /// What a tick stands for, by the first line of a text, and what stands after that line.
 pub(crate) fn read_tick(text: &[u8]) -> Result<(TimeSpan, &[u8]), VcdFault>
-    ensures { MatchResult result (λ r. text.now ≡ text_from (i.Tick r.0 ∷ []) ++ r.1.now) (λ f. IsToldAt p.Start text.now f) }
+    ensures { MatchResult result (λ r. text.now ≡ text_from (i.Tick r.0 ∷ []) ++ r.1.now) (λ f. IsReportedAt p.Start text.now f) }
 {
     let Some((line, rest)) = first_line(text) else {
         let goes_on = tick_goes_on(text);
@@ -139,7 +139,7 @@ pub(crate) fn read_tick(text: &[u8]) -> Result<(TimeSpan, &[u8]), VcdFault>
 
 /// The line of the top module, and what stands after it.
 fn read_top(alloc: Global, text: &[u8]) -> Result<(Header, &[u8]), VcdFault>
-    ensures { MatchResult result (λ r. IsBegun text.now r.0 r.1.now) (λ f. IsToldAt p.Top text.now f) }
+    ensures { MatchResult result (λ r. IsBegun text.now r.0 r.1.now) (λ f. IsReportedAt p.Top text.now f) }
 {
     let Some((line, rest)) = first_line(text) else {
         let goes_on = top_goes_on(text);
@@ -168,7 +168,7 @@ fn read_top(alloc: Global, text: &[u8]) -> Result<(Header, &[u8]), VcdFault>
 
 /// The lines of the declarations and the one that ends the header, and what stands after them.
 pub(crate) fn read_header(alloc: Global, text: &[u8]) -> Result<(Header, &[u8]), VcdFault>
-    ensures { MatchResult result (λ r. IsClosed text.now r.0 r.1.now) (λ f. IsToldAt p.Top text.now f) }
+    ensures { MatchResult result (λ r. IsClosed text.now r.0 r.1.now) (λ f. IsReportedAt p.Top text.now f) }
 {
     let (mut header, mut rest) = read_top(alloc, text)?;
     while header.depth > 0 {

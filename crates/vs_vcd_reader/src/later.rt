@@ -5,7 +5,7 @@ ghost use Rattle.vs_vcd_lines.specs.Lines.{change_line, are_sizes};
 ghost use Rattle.vs_vcd_reader.specs.Layout.{with_change, IsChange};
 ghost use Rattle.vs_vcd_reader.specs.Bodies.{AreAllLater, AreTimed, IsAtTime, IsNoChange};
 ghost use Rattle.vs_vcd_reader.specs.Steps.{Place as p};
-ghost use Rattle.vs_vcd_reader.specs.Stops.{IsBodyKind, IsToldAt};
+ghost use Rattle.vs_vcd_reader.specs.Stops.{IsBodyKind, IsReportedAt};
 
 use crate::dump::Moment;
 use crate::fault::VcdFault;
@@ -86,7 +86,7 @@ fn read_changes<'t>(
     requires values { length values.old ≡ length widths.now }
     ensures { MatchResult result
         (λ r. AreTimed widths.now text.now values.old values.new r.0.items r.1.now × (length values.new ≡ length widths.now))
-        (λ f. (last : ℕ) → IsToldAt (p.Later widths.now values.old last 0 true) text.now f) }
+        (λ f. (last : ℕ) → IsReportedAt (p.Later widths.now values.old last 0 true) text.now f) }
 {
     let mut changes = Vec::new(alloc);
     let mut rest = text;
@@ -116,7 +116,7 @@ pub(crate) fn read_later(
     requires sizes { IsTrue (are_sizes widths.now) }
     requires values { length values.items ≡ length widths.now }
     ensures { MatchResult result (λ _. AreAllLater widths.now text.now values.items moments.old.items moments.new.items)
-        (λ f. IsToldAt (p.Later widths.now values.items 0 (length widths.now) false) text.now f) }
+        (λ f. IsReportedAt (p.Later widths.now values.items 0 (length widths.now) false) text.now f) }
 {
     let mut rest = text;
     let mut last = 0;

@@ -61,7 +61,7 @@ none_declared o table n known is = ap (λ t. declared o (option_flatten t)) (sli
 
 -- ---- the table tells the place among the shown signals
 
-place_below : (f p n : ℕ) (ss : List Signal) → n < f → place_from p (shown_from f ss) n ≡ None
+pub place_below : (f p n : ℕ) (ss : List Signal) → n < f → place_from p (shown_from f ss) n ≡ None
 place_below f p n [] h = refl
 place_below f p n (s ∷ ss) h =
     cond_both (is_array s) (shown_from (suc f) ss) (f ∷ shown_from (suc f) ss) (λ l. place_from p l n ≡ None)

@@ -15,7 +15,7 @@ use Rattle.vs_vcd_writing.specs.declared.kept.DumpChange.{DumpChange}
 use Rattle.vs_vcd_writing.specs.declared.marks.BlockRange.{BlockRange}
 use Rattle.vs_vcd_writing.specs.Values.{shown_value}
 use Rattle.vs_vcd_writing.specs.Marks.{is_marked, IsBlock, IsNextMark}
-use Rattle.vs_vcd_writing.specs.Kept.{codes_of, with_value, kept_behind, kept_changes, change_to, first_by, first_change, later_by, later_change, AreLater, is_chosen, chosen_change, next_changes, time_kept}
+use Rattle.vs_vcd_writing.specs.Kept.{codes_of, with_value, kept_after, kept_changes, change_to, first_by, first_change, later_by, later_change, AreLater, is_chosen, chosen_change, next_changes, time_kept}
 use Rattle.vs_vcd_writing.specs.Progress.{Progress, Follows}
 use Rattle.vs_vcd_writing.proofs.MarkLemmas.{marked_in, unmarked_before, unmarked_all}
 
@@ -125,21 +125,21 @@ length-with_value (x ∷ xs) zero value = refl
 length-with_value (x ∷ xs) (suc i) value = ap suc (length-with_value xs i value)
 
 -- changes leave the number of signals
-pub length-behind : (xs : List Kept) (cs : List DumpChange) → length (kept_behind xs cs) ≡ length xs
+pub length-behind : (xs : List Kept) (cs : List DumpChange) → length (kept_after xs cs) ≡ length xs
 length-behind xs [] = refl
 length-behind xs (c ∷ cs) = length-behind (with_value xs c.signal c.value) cs ∙ length-with_value xs c.signal c.value
 
 -- changes leave the codes
-codes_of-behind : (xs : List Kept) (cs : List DumpChange) → codes_of (kept_behind xs cs) ≡ codes_of xs
+codes_of-behind : (xs : List Kept) (cs : List DumpChange) → codes_of (kept_after xs cs) ≡ codes_of xs
 codes_of-behind xs [] = refl
 codes_of-behind xs (c ∷ cs) = codes_of-behind (with_value xs c.signal c.value) cs ∙ codes_of-with_value xs c.signal c.value
 
 -- one change more is kept
 pub keep_more : (first xs : List Kept) (cs : List DumpChange) (i : ℕ) (c d : DumpChange) → i < length cs → c ≡ get_or cs i d
-    → kept_behind xs (drop i cs) ≡ kept_behind first cs → kept_behind (with_value xs c.signal c.value) (drop (i + 1) cs) ≡ kept_behind first cs
+    → kept_after xs (drop i cs) ≡ kept_after first cs → kept_after (with_value xs c.signal c.value) (drop (i + 1) cs) ≡ kept_after first cs
 keep_more first xs cs i c d lt at so_far =
-    ap (λ (x : DumpChange). kept_behind (with_value xs x.signal x.value) (drop (i + 1) cs)) at
-    ∙ sym (ap (kept_behind xs) (drop_more cs i d lt)) ∙ so_far
+    ap (λ (x : DumpChange). kept_after (with_value xs x.signal x.value) (drop (i + 1) cs)) at
+    ∙ sym (ap (kept_after xs) (drop_more cs i d lt)) ∙ so_far
 
 -- ---- what is kept behind the changes of a slot
 
@@ -183,18 +183,18 @@ with_value-append (f ∷ fs) x xs zero value e = absurd (omega (arith, e))
 with_value-append (f ∷ fs) x xs (suc n) value e = ap (λ l. f ∷ l) (with_value-append fs x xs n value (omega (arith, e)))
 
 step_each : (cs : List DumpChange) (front : List Kept) (x : Kept) (xs : List Kept) (rest : List DumpChange) (n : ℕ) → n ≡ length front → AreOwn n cs
-    → kept_behind (front ++ x ∷ xs) (cs ++ rest) ≡ kept_behind (front ++ after cs x ∷ xs) rest
+    → kept_after (front ++ x ∷ xs) (cs ++ rest) ≡ kept_after (front ++ after cs x ∷ xs) rest
 step_each [] front x xs rest n e own = refl
-step_each (c ∷ []) front x xs rest n e own = ap (λ l. kept_behind l rest) (with_value-append front x xs c.signal c.value (own ∙ e))
+step_each (c ∷ []) front x xs rest n e own = ap (λ l. kept_after l rest) (with_value-append front x xs c.signal c.value (own ∙ e))
 step_each (c ∷ d ∷ cs) front x xs rest n e own = absurd own
 
-kept_each : (by : By) → OwnEach by → (front xs : List Kept) (n : ℕ) → n ≡ length front → kept_behind (front ++ xs) (kept_changes by n xs) ≡ front ++ each_behind by n xs
+kept_each : (by : By) → OwnEach by → (front xs : List Kept) (n : ℕ) → n ≡ length front → kept_after (front ++ xs) (kept_changes by n xs) ≡ front ++ each_behind by n xs
 kept_each by own front [] n e = refl
 kept_each by own front (x ∷ xs) n e =
     let y = after (by n x) x in
     let long : suc n ≡ length (front ++ y ∷ []) = omega (arith, e, length-append front (y ∷ [])) in
     step_each (by n x) front x xs (kept_changes by (suc n) xs) n e (own n x)
-    ∙ ap (λ l. kept_behind l (kept_changes by (suc n) xs)) (sym (append_assoc front (y ∷ []) xs))
+    ∙ ap (λ l. kept_after l (kept_changes by (suc n) xs)) (sym (append_assoc front (y ∷ []) xs))
     ∙ kept_each by own (front ++ y ∷ []) xs (suc n) long ∙ append_assoc front (y ∷ []) (each_behind by (suc n) xs)
 
 each_got : (by : By) (n i j : ℕ) (xs : List Kept) (k : Kept) → j ≡ n + i → slice_get (each_behind by n xs) i ≡ Some k
@@ -226,26 +226,26 @@ value_chosen store i n true x k o get h has = inl (value_later store i n x.code 
 value_chosen store i n false x k o get h has = inr (refl, get ∙ ap Some h)
 
 -- the values that are kept behind a slot
-values_behind : (kept : List Kept) (last : Option ℕ) (all : Bool) (marks : List ℕ) (store : Store) (i n : ℕ) (k : Kept)
-    → slice_get (kept_behind kept (next_changes kept last all marks store)) i ≡ Some k → k.code ≡ Some n
+option_values : (kept : List Kept) (last : Option ℕ) (all : Bool) (marks : List ℕ) (store : Store) (i n : ℕ) (k : Kept)
+    → slice_get (kept_after kept (next_changes kept last all marks store)) i ≡ Some k → k.code ≡ Some n
     → (k.value ≡ shown_value store i) ⊎ ((is_chosen all marks i ≡ false) × (slice_get kept i ≡ Some k))
-values_behind kept None all marks store i n k get has =
+option_values kept None all marks store i n k get has =
     let by = first_change store in
     let is = each_got by 0 i i kept k (omega arith) (sym (ap (λ l. slice_get l i) (kept_each by (λ n k. own_first store n k.code) [] kept 0 refl)) ∙ get) in
     inl (value_first store i n is.0.code is.0 k refl is.1.1 has)
-values_behind kept (Some t) all marks store i n k get has =
+option_values kept (Some t) all marks store i n k get has =
     let by = chosen_change all marks store in
     let is = each_got by 0 i i kept k (omega arith) (sym (ap (λ l. slice_get l i) (kept_each by (own_chosen all marks store) [] kept 0 refl)) ∙ get) in
     value_chosen store i n (is_chosen all marks i) is.0 k (slice_get kept i) is.1.0 is.1.1 has
 
 -- a writer that keeps the changes of a slot follows
 pub follows : (old new : Progress) (all : Bool) (marks : List ℕ) (t : ℕ) (store : Store) (cs : List DumpChange) → cs ≡ next_changes old.kept old.last all marks store
-    → new.kept ≡ kept_behind old.kept cs → new.last ≡ Some (time_kept old.kept old.last all marks t store) → Follows old new all marks t store
+    → new.kept ≡ kept_after old.kept cs → new.last ≡ Some (time_kept old.kept old.last all marks t store) → Follows old new all marks t store
 follows old new all marks t store cs listed kept time =
-    let is = kept ∙ ap (kept_behind old.kept) listed in record {
+    let is = kept ∙ ap (kept_after old.kept) listed in record {
       codes = ap codes_of is ∙ codes_of-behind old.kept (next_changes old.kept old.last all marks store);
       last = time;
-      values = λ i n k get has. values_behind old.kept old.last all marks store i n k (sym (ap (λ l. slice_get l i) is) ∙ get) has;
+      values = λ i n k get has. option_values old.kept old.last all marks store i n k (sym (ap (λ l. slice_get l i) is) ∙ get) has;
     }
 
 -- ---- the signals of changes

@@ -16,11 +16,6 @@ use Rattle.vs_vcd_writing.specs.Planes.{words_of, AreWords, are_same}
 
 -- ---- lists
 
-pub get_set_same : {A : Type 0} (xs : List A) (i : ℕ) (x : A) → i < length xs → slice_get (slice_set xs i x) i ≡ Some x
-get_set_same [] i x h = absurd (omega arith)
-get_set_same (y ∷ ys) zero x h = refl
-get_set_same (y ∷ ys) (suc i) x h = get_set_same ys i x (omega arith)
-
 pub get_set_other : {A : Type 0} (xs : List A) (i k : ℕ) (x : A) → (i ≡ k → ⊥) → slice_get (slice_set xs i x) k ≡ slice_get xs k
 get_set_other [] i k x h = refl
 get_set_other (y ∷ ys) zero zero x h = absurd (h refl)

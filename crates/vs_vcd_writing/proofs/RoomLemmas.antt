@@ -4,8 +4,9 @@ use Rattle.std.specs.Prelude.{Result, Ok, Err, OnOk, slice_set}
 use Rattle.std.proofs.lemmas.Bool.{cases_lt}
 use Rattle.vs_design.specs.vs_logic4.specs.declared.digit.Digit.{Digit}
 use Rattle.vs_design.specs.Stores.{Store}
+use Rattle.vs_design.specs.vs_logic4.proofs.Basics.{set_here as get_set_same}
 use Rattle.vs_vcd_writing.specs.Values.{shown_value}
-use Rattle.vs_vcd_writing.proofs.PlanesLemmas.{get_set_same, get_set_other}
+use Rattle.vs_vcd_writing.proofs.PlanesLemmas.{get_set_other}
 
 -- the word of one signal more
 pub gather_more : (old new : List (List Digit)) (store : Store) (from i : ℕ) (w : List Digit) → i < length old → new ≡ slice_set old i w → w ≡ shown_value store i

@@ -22,9 +22,9 @@ with_value (k ∷ ks) zero value = record { code = k.code; value = value } ∷ k
 with_value (k ∷ ks) (suc signal) value = k ∷ with_value ks signal value
 
 -- what is kept behind changes
-abbrev pub kept_behind : List Kept → List DumpChange → List Kept
-kept_behind kept [] = kept
-kept_behind kept (c ∷ cs) = kept_behind (with_value kept c.signal c.value) cs
+abbrev pub kept_after : List Kept → List DumpChange → List Kept
+kept_after kept [] = kept
+kept_after kept (c ∷ cs) = kept_after (with_value kept c.signal c.value) cs
 
 -- ---- changes
 

@@ -1,7 +1,7 @@
 //! What the writer keeps of each signal.
 ghost use Rattle.std.specs.Prelude.{◌≡◌, ◌<◌, ◌≤◌, IfOk, Some, length, slice_get};
 ghost use Rattle.std.specs.List.{All};
-ghost use Rattle.vs_vcd_writing.specs.Kept.{codes_of, kept_behind};
+ghost use Rattle.vs_vcd_writing.specs.Kept.{codes_of, kept_after};
 ghost use Rattle.vs_vcd_writing.specs.Rooms.{IsRoom, AreCompared};
 
 use crate::planes::Planes;
@@ -97,7 +97,7 @@ impl Written {
     /// Keeps the values of changes. It looks at these alone.
     pub fn keep(&mut self, changes: &[DumpChange])
         requires { All (λ c. c.signal < length self.old) changes.now }
-        ensures { self.new ≡ kept_behind self.old changes.now }
+        ensures { self.new ≡ kept_after self.old changes.now }
     {
         for change in changes {
             self.words.set(change.signal, change.value);

@@ -16,6 +16,7 @@ use Rattle.vs_design.specs.declared.write.Part.{Part}
 use Rattle.vs_design.specs.Selects.{place_of, word_place}
 use Rattle.vs_design.specs.Uses.{all_words, aim_range}
 use Rattle.vs_design.specs.WellFormed.{aim_width, size_of}
+use Rattle.vs_syntax.proofs.Deeper.{or_nil}
 use Rattle.vs_widths.specs.declared.shape.Shape.{Shape}
 use Rattle.vs_widths.specs.Each.{Each, each_none, each_more}
 use Rattle.vs_widths.specs.Senses.{sense, IsFitted}
@@ -28,10 +29,10 @@ use Rattle.vs_widths.specs.declared.faults.WidthFault.{WidthFault}
 use Rattle.vs_widths.specs.declared.faults.WidthFault.TheVariants.{Memory, Refused}
 use Rattle.vs_widths.specs.declared.places.ChosenBits.{ChosenBits}
 use Rattle.vs_widths.specs.Environment.{Environment}
-use Rattle.vs_widths.specs.Findings.{Finding, Has, Lacks, stands, unknown, wrong_kind, not_constant, together, alone, second, Refuses}
+use Rattle.vs_widths.specs.Findings.{Finding, Has, Lacks, has_width_fault, unknown, wrong_kind, not_constant, together, alone, second, Refuses}
 use Rattle.vs_widths.specs.Meants.{Meant, own}
 use Rattle.vs_widths.specs.Constants.{where_none, constant_finding}
-use Rattle.vs_widths.specs.Selects.{Select, Named, named, of_words, span_of, stands_in}
+use Rattle.vs_widths.specs.Selects.{Select, Named, named, of_words, span_of, select_has_fault}
 use Rattle.vs_widths.specs.select_passes.Measures.{meaning}
 use Rattle.vs_widths.specs.select_passes.Places.{IsPlaced, IsFixed}
 use Rattle.vs_widths.proofs.FixingLemmas.{fixed_range, fixed_reads, chosen_range, both_empty}
@@ -46,9 +47,9 @@ use Rattle.vs_widths.proofs.PlaceLemmas.{refused_by}
 
 -- ---- faults
 
-stands_wanted : (faults : WidthReason → Bool) (b : Bool) (x : Finding) (r : WidthReason) → stands r x ≡ true → stands r (wanted faults b x) ≡ true
+stands_wanted : (faults : WidthReason → Bool) (b : Bool) (x : Finding) (r : WidthReason) → has_width_fault r x ≡ true → has_width_fault r (wanted faults b x) ≡ true
 stands_wanted faults true x r h = h
-stands_wanted faults false x r h = or_right (faults r) (stands r x) h
+stands_wanted faults false x r h = or_right (faults r) (has_width_fault r x) h
 
 -- a fault of what is named is one of the target
 pub name_refused : (how : AssignmentKind) (b : Option Binding) (ss : List Select) (d : WidthFault) → Refuses (named b ss).finding d → Refuses (name_aimed how b ss).finding d
@@ -60,55 +61,51 @@ either : (P : Type 0) (x y : Bool) → (x || y) ≡ true → (x ≡ true → P) 
 either P true y h f g = f refl
 either P false y h f g = g h
 
-stands_alone : (g : ℕ → Bool → Finding) (x : Finding) (r : WidthReason) → stands r x ≡ true → stands r (alone g x) ≡ true
+pub stands_alone : (g : ℕ → Bool → Finding) (x : Finding) (r : WidthReason) → has_width_fault r x ≡ true → has_width_fault r (alone g x) ≡ true
 stands_alone g (Has w s) r h = cc
 stands_alone g (Lacks q) r h = h
 
-pub stands_left : (g : ℕ → Bool → ℕ → Bool → Finding) (x y : Finding) (r : WidthReason) → stands r x ≡ true → stands r (together g x y) ≡ true
+pub stands_left : (g : ℕ → Bool → ℕ → Bool → Finding) (x y : Finding) (r : WidthReason) → has_width_fault r x ≡ true → has_width_fault r (together g x y) ≡ true
 stands_left g (Has w s) y r h = cc
 stands_left g (Lacks q) (Has v t) r h = h
 stands_left g (Lacks q) (Lacks p) r h = rw h refl
 
-pub stands_right : (g : ℕ → Bool → ℕ → Bool → Finding) (x y : Finding) (r : WidthReason) → stands r y ≡ true → stands r (together g x y) ≡ true
+pub stands_right : (g : ℕ → Bool → ℕ → Bool → Finding) (x y : Finding) (r : WidthReason) → has_width_fault r y ≡ true → has_width_fault r (together g x y) ≡ true
 stands_right g x (Has v t) r h = cc
 stands_right g (Has w s) (Lacks p) r h = h
 stands_right g (Lacks q) (Lacks p) r h = or_right (q r) (p r) h
 
-or_none : (x : Bool) → (x || false) ≡ true → x ≡ true
-or_none true h = refl
-or_none false h = h
-
 module _ (r : WidthReason) where
-  constant_stands : (m : Meant) → stands r m.finding ≡ true → stands r (constant_finding m) ≡ true
+  constant_stands : (m : Meant) → has_width_fault r m.finding ≡ true → has_width_fault r (constant_finding m) ≡ true
   constant_stands m h = stands_alone (where_none m.reads) m.finding r h
 
-  base_stands : (f : ℕ → Bool → ℕ → Bool → Finding) (i m : Meant) → ((stands r i.finding || stands r m.finding) || false) ≡ true → stands r (together f i.finding (constant_finding m)) ≡ true
+  base_stands : (f : ℕ → Bool → ℕ → Bool → Finding) (i m : Meant) → ((has_width_fault r i.finding || has_width_fault r m.finding) || false) ≡ true → has_width_fault r (together f i.finding (constant_finding m)) ≡ true
   base_stands f i m h =
-      either _ (stands r i.finding) (stands r m.finding) (or_none _ h) (λ z. stands_left f i.finding (constant_finding m) r z) (λ z. stands_right f i.finding (constant_finding m) r (constant_stands m z))
+      either _ (has_width_fault r i.finding) (has_width_fault r m.finding) (or_nil _ h) (λ z. stands_left f i.finding (constant_finding m) r z) (λ z. stands_right f i.finding (constant_finding m) r (constant_stands m z))
 
-  bounds_stand : (f : ℕ → Bool → ℕ → Bool → Finding) (i m : Meant) → ((stands r i.finding || stands r m.finding) || false) ≡ true → stands r (together f (constant_finding i) (constant_finding m)) ≡ true
+  bounds_stand : (f : ℕ → Bool → ℕ → Bool → Finding) (i m : Meant) → ((has_width_fault r i.finding || has_width_fault r m.finding) || false) ≡ true → has_width_fault r (together f (constant_finding i) (constant_finding m)) ≡ true
   bounds_stand f i m h =
-      either _ (stands r i.finding) (stands r m.finding) (or_none _ h) (λ z. stands_left f (constant_finding i) (constant_finding m) r (constant_stands i z))
+      either _ (has_width_fault r i.finding) (has_width_fault r m.finding) (or_nil _ h) (λ z. stands_left f (constant_finding i) (constant_finding m) r (constant_stands i z))
       (λ z. stands_right f (constant_finding i) (constant_finding m) r (constant_stands m z))
 
-  span_stands : (b : Option Bounds) (s : Shape) (ss : List Select) → list_any (stands_in r) ss ≡ true → stands r (span_of b s ss).finding ≡ true
+  span_stands : (b : Option Bounds) (s : Shape) (ss : List Select) → list_any (select_has_fault r) ss ≡ true → has_width_fault r (span_of b s ss).finding ≡ true
   span_stands b s [] h = h
   span_stands None s (x ∷ xs) h = or_right (wrong_kind r) _ h
-  span_stands (Some b) s ((i, None) ∷ []) h = stands_alone (λ width signed. Has 1 false) i.finding r (or_none _ h)
+  span_stands (Some b) s ((i, None) ∷ []) h = stands_alone (λ width signed. Has 1 false) i.finding r (or_nil _ h)
   span_stands (Some b) s ((i, Some (k.Bounds, m)) ∷ []) h = bounds_stand _ i m h
   span_stands (Some b) s ((i, Some (k.Upward, m)) ∷ []) h = base_stands _ i m h
   span_stands (Some b) s ((i, Some (k.Downward, m)) ∷ []) h = base_stands _ i m h
   span_stands (Some b) s (x ∷ y ∷ xs) h = or_right (wrong_kind r) _ h
 
-  words_stand : (w : Option Bounds) (m : Meaning) (k : ℕ) (ss : List Select) → list_any (stands_in r) ss ≡ true → stands r (of_words w m k ss).finding ≡ true
+  words_stand : (w : Option Bounds) (m : Meaning) (k : ℕ) (ss : List Select) → list_any (select_has_fault r) ss ≡ true → has_width_fault r (of_words w m k ss).finding ≡ true
   words_stand None m k ss h = span_stands m.bits m.shape ss h
   words_stand (Some w) m k [] h = or_right (wrong_kind r) _ h
   words_stand (Some w) m k ((i, Some n) ∷ ss) h = or_right (wrong_kind r) _ h
   words_stand (Some w) m k ((i, None) ∷ ss) h =
       let rest = (span_of m.bits m.shape ss).finding in
-      either _ (stands r i.finding) (list_any (stands_in r) ss) h (λ z. stands_left second i.finding rest r z) (λ z. stands_right second i.finding rest r (span_stands m.bits m.shape ss z))
+      either _ (has_width_fault r i.finding) (list_any (select_has_fault r) ss) h (λ z. stands_left second i.finding rest r z) (λ z. stands_right second i.finding rest r (span_stands m.bits m.shape ss z))
 
-  any_stands : (b : Option Binding) (ss : List Select) → list_any (stands_in r) ss ≡ true → stands r (named b ss).finding ≡ true
+  any_stands : (b : Option Binding) (ss : List Select) → list_any (select_has_fault r) ss ≡ true → has_width_fault r (named b ss).finding ≡ true
   any_stands None ss h = or_right (unknown r) _ h
   any_stands (Some (Signal m k)) ss h = words_stand m.words m k ss h
   any_stands (Some (Constant c)) ss h = or_right (wrong_kind r) _ h
@@ -117,14 +114,14 @@ module _ (r : WidthReason) where
   any_stands (Some Genvar) ss h = or_right (wrong_kind r) _ h
 
 -- a fault of an expression of a select is one of the target
-pub selects_refused : (how : AssignmentKind) (b : Option Binding) (ss : List Select) (d : WidthFault) → Refuses (Lacks (λ r. list_any (stands_in r) ss)) d → Refuses (name_aimed how b ss).finding d
-selects_refused how b ss d h = name_refused how b ss d (refused_by (Lacks (λ r. list_any (stands_in r) ss)) (named b ss).finding d (λ r s. any_stands r b ss s) h)
+pub selects_refused : (how : AssignmentKind) (b : Option Binding) (ss : List Select) (d : WidthFault) → Refuses (Lacks (λ r. list_any (select_has_fault r) ss)) d → Refuses (name_aimed how b ss).finding d
+selects_refused how b ss d h = name_refused how b ss d (refused_by (Lacks (λ r. list_any (select_has_fault r) ss)) (named b ss).finding d (λ r s. any_stands r b ss s) h)
 
-unwanted : (faults : WidthReason → Bool) (x : Finding) (r : WidthReason) (b : Bool) → b ≡ false → faults r ≡ true → stands r (wanted faults b x) ≡ true
+unwanted : (faults : WidthReason → Bool) (x : Finding) (r : WidthReason) (b : Bool) → b ≡ false → faults r ≡ true → has_width_fault r (wanted faults b x) ≡ true
 unwanted faults x r true h k = cc
 unwanted faults x r false h k = rw k refl
 
-pub kind_refused : (how : AssignmentKind) (b : Binding) (ss : List Select) → takes_bound how (Some b) ≡ false → stands WrongKind (name_aimed how (Some b) ss).finding ≡ true
+pub kind_refused : (how : AssignmentKind) (b : Binding) (ss : List Select) → takes_bound how (Some b) ≡ false → has_width_fault WrongKind (name_aimed how (Some b) ss).finding ≡ true
 kind_refused how b ss h = unwanted wrong_kind (wanted not_constant (takes_reads how (named (Some b) ss).reads) (named (Some b) ss).finding) WrongKind (takes_bound how (Some b)) h refl
 
 reads_out : (how : AssignmentKind) (x : Aim) (rs : List BitRange) → is_fixed x ≡ is_none_read rs → takes_aim how x ≡ false → takes_reads how rs ≡ false
@@ -135,12 +132,12 @@ reads_out Continuous (a.Chosen s word low) (r ∷ rs) e h = refl
 reads_out Event (a.Chosen s word low) [] e h = sym e
 reads_out Event (a.Chosen s word low) (r ∷ rs) e h = refl
 
-pub reads_refused : (how : AssignmentKind) (b : Binding) (ss : List Select) (x : Aim) → IsAim (named (Some b) ss) x → takes_aim how x ≡ false → stands NotConstant (name_aimed how (Some b) ss).finding ≡ true
+pub reads_refused : (how : AssignmentKind) (b : Binding) (ss : List Select) (x : Aim) → IsAim (named (Some b) ss) x → takes_aim how x ≡ false → has_width_fault NotConstant (name_aimed how (Some b) ss).finding ≡ true
 reads_refused how b ss x p h =
     let none : takes_reads how (named (Some b) ss).reads ≡ false = reads_out how x (named (Some b) ss).reads p.fixed h in
     stands_wanted wrong_kind (takes_bound how (Some b)) _ NotConstant (unwanted not_constant (named (Some b) ss).finding NotConstant (takes_reads how (named (Some b) ss).reads) none refl)
 
-pub unknown_refused : (how : AssignmentKind) (ss : List Select) → stands Unknown (name_aimed how None ss).finding ≡ true
+pub unknown_refused : (how : AssignmentKind) (ss : List Select) → has_width_fault Unknown (name_aimed how None ss).finding ≡ true
 unknown_refused Procedural ss = refl
 unknown_refused Continuous ss = refl
 unknown_refused Event ss = refl

@@ -1,5 +1,5 @@
 -- Values that no store changes.
-use Rattle.std.proofs.Common.{◌≡◌, ℕ, ◌-◌, ◌==◌, Bool, true, false, List, [], ◌∷◌, Option, Some, None, length, refl, ap, sym, ◌∙◌, arith}
+use Rattle.std.proofs.Common.{◌≡◌, ℕ, ◌-◌, ◌==◌, Bool, true, false, List, [], ◌∷◌, Option, Some, None, length, refl, ap, sym, ◌∙◌}
 use Rattle.std.specs.List.{slice_get, list_any}
 use Rattle.std.proofs.lemmas.Option.{get_or_from_slice_get}
 use denote.Enum.Bare.{sameb}
@@ -10,6 +10,7 @@ use Rattle.vs_design.specs.vs_logic4.specs.Vectors.{same_digit, top_digit}
 use Rattle.vs_widths.specs.Constants.{natural_number, where_none}
 use Rattle.std.proofs.lemmas.Bool.{eqb-true, eqb-false}
 use Rattle.std.proofs.Math.Path.{fun_ext}
+use Rattle.std.proofs.lemmas.List.{nil_from_length}
 use Rattle.vs_design.specs.vs_logic4.specs.declared.digit.Digit.{Digit}
 use Rattle.vs_design.specs.declared.expression.Typed.{Typed, Typed-F, fold-Typed}
 use Rattle.vs_design.specs.declared.expression.Typed.TheOpen as t
@@ -20,7 +21,7 @@ use Rattle.vs_eval.specs.Values.{value_of, value_step}
 use Rattle.vs_eval.specs.Laws.{ReadsHold, SizesHold}
 use Rattle.vs_widths.specs.declared.faults.WidthReason.TheVariants.{NotConstant}
 use Rattle.vs_widths.specs.declared.shape.Shape.{Shape}
-use Rattle.vs_widths.specs.Findings.{stands}
+use Rattle.vs_widths.specs.Findings.{has_width_fault}
 use Rattle.vs_widths.specs.declared.forms.Sizable.{Sizable}
 use Rattle.vs_widths.specs.declared.forms.Measured.{Measured}
 use Rattle.vs_widths.specs.Senses.{sense, IsFitted}
@@ -48,27 +49,23 @@ natural_known ds true n d r h k e l = rw (top_is ds n d h k, ← same_as_one d, 
 
 -- ---- values that no store changes
 
-is_nil : {A : Type 0} (xs : List A) → length xs ≡ 0 → xs ≡ []
-is_nil [] h = refl
-is_nil (x ∷ xs) h = absurd (omega arith)
-
 -- a value that no store changes
 pub is_known : (x : Sizable) (s : Shape) (y : Typed) (v : List Digit) → (sense x).size s.width ≡ Some s.width → IsFitted (sense x) s.width s.signed y → (length (reads y) == 0) ≡ true → ReadsHold → SizesHold →
     v ≡ value_of y [] 0 → IsKnown x s v
 is_known x s y v h p n same sizes e =
-    let none : reads y ≡ [] = is_nil (reads y) (eqb-true (length (reads y)) 0 n) in
+    let none : reads y ≡ [] = nil_from_length (reads y) (eqb-true (length (reads y)) 0 n) in
     record {
       ranges = sym p.ranges ∙ none;
       value = λ store. sym (p.value store 0) ∙ same y store [] 0 (ap (list_any (is_changed store [])) none) ∙ sym e;
       length_is = ap length e ∙ sizes y s.width [] 0 (p.size ∙ h);
     }
 
-some_read : (rs : List BitRange) (width : ℕ) (signed : Bool) → (length rs == 0) ≡ false → stands NotConstant (where_none rs width signed) ≡ true
+some_read : (rs : List BitRange) (width : ℕ) (signed : Bool) → (length rs == 0) ≡ false → has_width_fault NotConstant (where_none rs width signed) ≡ true
 some_read [] width signed h = cc
 some_read (r ∷ rs) width signed h = refl
 
 -- the fault of a value that reads something
-pub not_known : (x : Sizable) (s : Shape) (y : Typed) → IsFitted (sense x) s.width s.signed y → (length (reads y) == 0) ≡ false → stands NotConstant (where_none (sense x).reads s.width s.signed) ≡ true
+pub not_known : (x : Sizable) (s : Shape) (y : Typed) → IsFitted (sense x) s.width s.signed y → (length (reads y) == 0) ≡ false → has_width_fault NotConstant (where_none (sense x).reads s.width s.signed) ≡ true
 not_known x s y p n = some_read (sense x).reads s.width s.signed (ap (λ z. length z == 0) (sym p.ranges) ∙ n)
 
 step_time : (store : Store) (time : ℕ) (x : Typed-F (List Digit)) → value_step store time x ≡ value_step store 0 x
@@ -91,7 +88,7 @@ value_time e store time = ap (λ (g : Typed-F (List Digit) → List Digit). fold
 -- the value of an index that reads nothing
 pub stands_alone : (x : Measured) (y : Typed) (v : List Digit) → IsFitted (sense x.form) x.shape.width x.shape.signed y → (length (reads y) == 0) ≡ true → ReadsHold → v ≡ value_of y [] 0 → IsAlone x v
 stands_alone x y v p n same e =
-    let none : reads y ≡ [] = is_nil (reads y) (eqb-true (length (reads y)) 0 n) in
+    let none : reads y ≡ [] = nil_from_length (reads y) (eqb-true (length (reads y)) 0 n) in
     record {
       ranges = sym p.ranges ∙ none;
       value = λ store time. sym (p.value store time) ∙ value_time y store time ∙ same y store [] 0 (ap (list_any (is_changed store [])) none) ∙ sym e;

@@ -22,8 +22,8 @@ use Rattle.vs_widths.specs.Each.{Each, each_none, each_more}
 use Rattle.vs_widths.specs.declared.faults.WidthReason.{WidthReason}
 use Rattle.vs_widths.specs.declared.faults.WidthFault.{WidthFault}
 use Rattle.vs_widths.specs.Environment.{Environment}
-use Rattle.vs_widths.specs.Findings.{Finding, Has, Lacks, stands, together, unsigned, beside, Refuses}
-use Rattle.vs_widths.specs.Selects.{Select, Named, named_range, stands_in}
+use Rattle.vs_widths.specs.Findings.{Finding, Has, Lacks, has_width_fault, together, unsigned, beside, Refuses}
+use Rattle.vs_widths.specs.Selects.{Select, Named, named_range, select_has_fault}
 use Rattle.vs_widths.specs.Expressions.{meant_selects}
 use Rattle.vs_widths.specs.declared.kinds.AssignmentKind.{AssignmentKind}
 use Rattle.vs_widths.specs.Lefts.{Aimed, name_aimed, sum_found, from_last, concat_aimed, aimed_step, aimed}
@@ -36,7 +36,7 @@ use Rattle.vs_design.specs.vs_logic4.proofs.Basics.{take_push as split_at}
 
 -- ---- faults of parts
 
-stands_sum : (a : Finding) (bs : List Finding) (r : WidthReason) → stands r a ≡ true → stands r (sum_found a bs) ≡ true
+stands_sum : (a : Finding) (bs : List Finding) (r : WidthReason) → has_width_fault r a ≡ true → has_width_fault r (sum_found a bs) ≡ true
 stands_sum a [] r h = h
 stands_sum a (b ∷ bs) r h = stands_sum (together beside a b) bs r (stands_left beside a b r h)
 
@@ -95,10 +95,10 @@ selects_within env ((e, Some (how, m)) ∷ es) test h =
     ap₂ (λ p q. p && q) (ap₂ (λ p q. p && q) (reads_within env test h e) (reads_within env test h m)) (selects_within env es test h)
 
 pub name_selects_refused : (how : AssignmentKind) (env : Environment) (m : Aimed) (name : List ℕ) (ss es : List (Expr × Option (PartSelect × Expr))) (d : WidthFault) → m ≡ name_aimed how (env name) (meant_selects env ss) → es ≡ ss →
-    Refuses (Lacks (λ r. list_any (stands_in r) (meant_selects env es))) d → Refuses m.finding d
+    Refuses (Lacks (λ r. list_any (select_has_fault r) (meant_selects env es))) d → Refuses m.finding d
 name_selects_refused how env m name ss es d e k h =
     refuses_as _ _ d (ap (λ z. z.finding) e)
-    (selects_refused how (env name) (meant_selects env ss) d (subst (λ z. Refuses (Lacks (λ r. list_any (stands_in r) (meant_selects env z))) d) k h))
+    (selects_refused how (env name) (meant_selects env ss) d (subst (λ z. Refuses (Lacks (λ r. list_any (select_has_fault r) (meant_selects env z))) d) k h))
 
 pub name_aims : (how : AssignmentKind) (env : Environment) (m : Aimed) (name n : List ℕ) (ss qs : List Select) (r : Result Target WidthFault) → m ≡ name_aimed how (env name) ss → n ≡ name → qs ≡ ss →
     Aims how env (name_aimed how (env n) qs) r → Aims how env m r

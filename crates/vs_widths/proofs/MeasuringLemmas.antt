@@ -31,7 +31,7 @@ use Rattle.vs_widths.specs.declared.forms.Sizable.TheVariants as v
 use Rattle.vs_widths.specs.declared.forms.Sizable.TheOpen as f
 use Rattle.vs_widths.specs.declared.forms.Measured.{Measured}
 use Rattle.vs_widths.specs.Environment.{Environment}
-use Rattle.vs_widths.specs.Findings.{Finding, Has, Lacks, stands, together, alone, alike, linked_shape, second, unsigned, beside, repeated, too_wide, Refuses}
+use Rattle.vs_widths.specs.Findings.{Finding, Has, Lacks, has_width_fault, together, alone, alike, linked_shape, second, unsigned, beside, repeated, too_wide, Refuses}
 use Rattle.vs_widths.specs.Layers.{brought}
 use Rattle.vs_widths.specs.Selects.{size_found}
 use Rattle.vs_widths.specs.Meants.{Meant, own}
@@ -43,40 +43,26 @@ use Rattle.vs_widths.specs.passes.Forms.{links_meant, pairs_meant, IsChoicePair,
 use Rattle.vs_widths.specs.Each.{Each, each_none, each_more}
 use Rattle.vs_widths.proofs.FittingLemmas.{layer, pairs_sensed}
 use Rattle.vs_widths.proofs.FixingLemmas.{meant_same}
-use Rattle.std.proofs.lemmas.Bool.{or_right}
 use Rattle.vs_design.specs.vs_logic4.proofs.Basics.{front_of}
 use Rattle.vs_widths.proofs.PlaceLemmas.{refused_by}
+use Rattle.vs_widths.proofs.AimLemmas.{stands_left, stands_right, stands_alone}
 
 -- ---- faults
 
-pub stands_alone : (g : ℕ → Bool → Finding) (a : Finding) (r : WidthReason) → stands r a ≡ true → stands r (alone g a) ≡ true
-stands_alone g (Has w s) r h = cc
-stands_alone g (Lacks q) r h = h
-
-pub stands_left : (g : ℕ → Bool → ℕ → Bool → Finding) (a b : Finding) (r : WidthReason) → stands r a ≡ true → stands r (together g a b) ≡ true
-stands_left g (Has w s) b r h = cc
-stands_left g (Lacks q) (Has v t) r h = h
-stands_left g (Lacks q) (Lacks p) r h = rw h refl
-
-pub stands_right : (g : ℕ → Bool → ℕ → Bool → Finding) (a b : Finding) (r : WidthReason) → stands r b ≡ true → stands r (together g a b) ≡ true
-stands_right g a (Has v t) r h = cc
-stands_right g (Has w s) (Lacks p) r h = h
-stands_right g (Lacks q) (Lacks p) r h = or_right (q r) (p r) h
-
-pub stands_unary : (b : Bool) (a : Finding) (r : WidthReason) → stands r a ≡ true → stands r (unary_finding b a) ≡ true
+pub stands_unary : (b : Bool) (a : Finding) (r : WidthReason) → has_width_fault r a ≡ true → has_width_fault r (unary_finding b a) ≡ true
 stands_unary true a r h = stands_alone (λ width signed. Has 1 false) a r h
 stands_unary false a r h = h
 
-pub stands_chain : (a : Meant) (ls : List (Binary × Meant)) (r : WidthReason) → stands r a.finding ≡ true → stands r (chain_meant a ls).finding ≡ true
+pub stands_chain : (a : Meant) (ls : List (Binary × Meant)) (r : WidthReason) → has_width_fault r a.finding ≡ true → has_width_fault r (chain_meant a ls).finding ≡ true
 stands_chain a [] r h = h
 stands_chain a (l ∷ ls) r h = stands_chain (linked_meant a l) ls r (stands_left (linked_shape (sizing_of l.0)) a.finding l.1.finding r h)
 
-pub stands_choice : (a : Finding) (ps : List (Meant × Meant)) (r : WidthReason) → stands r a ≡ true → stands r (choice_finding a ps) ≡ true
+pub stands_choice : (a : Finding) (ps : List (Meant × Meant)) (r : WidthReason) → has_width_fault r a ≡ true → has_width_fault r (choice_finding a ps) ≡ true
 stands_choice a [] r h = h
 stands_choice a (p ∷ ps) r h =
     stands_choice (together second p.0.finding (together alike a p.1.finding)) ps r (stands_right second p.0.finding (together alike a p.1.finding) r (stands_left alike a p.1.finding r h))
 
-pub stands_sum : (a : Finding) (ms : List Meant) (r : WidthReason) → stands r a ≡ true → stands r (sum_finding a ms) ≡ true
+pub stands_sum : (a : Finding) (ms : List Meant) (r : WidthReason) → has_width_fault r a ≡ true → has_width_fault r (sum_finding a ms) ≡ true
 stands_sum a [] r h = h
 stands_sum a (m ∷ ms) r h = stands_sum (together beside a m.finding) ms r (stands_left beside a m.finding r h)
 
@@ -328,9 +314,9 @@ module _ (env : Environment) where
       part_stands old s es i m d h k whole (refused_by (meant env m).finding (together beside (Has old false) (meant env m).finding) d (λ r t. stands_right beside (Has old false) (meant env m).finding r t) bad)
 
   pub part_too_wide : (old s : ℕ) (es : List Expr) (i : ℕ) (m : Expr) (c : Measured) → i < length es → m ≡ get_or es i m → IsMeasured (meant env m) c → 64 < old + c.shape.width → sum_from old (drop i es) ≡ sum_from s es →
-      stands TooWide (sum_from s es) ≡ true
+      has_width_fault TooWide (sum_from s es) ≡ true
   part_too_wide old s es i m c h k p wide whole =
-      part_stands old s es i m (Refused TooWide) h k whole (ap (λ z. stands TooWide (together beside (Has old false) z.finding)) p.means ∙ ap (stands TooWide) (unsigned_wide (old + c.shape.width) wide))
+      part_stands old s es i m (Refused TooWide) h k whole (ap (λ z. has_width_fault TooWide (together beside (Has old false) z.finding)) p.means ∙ ap (has_width_fault TooWide) (unsigned_wide (old + c.shape.width) wide))
 
   parts_reads : (es : List Expr) (xs : List Sizable) → Each (IsPartOf env) es xs → joined (map (λ (s : Sense). s.reads) (map sense xs)) ≡ joined (map (λ (m : Meant). m.reads) (map (meant env) es))
   parts_reads _ _ each_none = refl

@@ -24,14 +24,14 @@ use Rattle.vs_widths.specs.declared.faults.WidthFault.TheVariants.{Memory, Refus
 use Rattle.vs_widths.specs.declared.bindings.Meaning.{Meaning}
 use Rattle.vs_widths.specs.declared.places.Extent.{Extent}
 use Rattle.vs_widths.specs.declared.places.ChosenBits.{ChosenBits}
-use Rattle.vs_widths.specs.Findings.{Finding, Has, Lacks, stands, together, alone, second, Refuses}
+use Rattle.vs_widths.specs.Findings.{Finding, Has, Lacks, has_width_fault, together, alone, second, Refuses}
 use Rattle.vs_widths.specs.Meants.{own}
 use Rattle.vs_widths.specs.Constants.{where_none, where_some, whole_of, natural_of, positive, constant_finding, whole_finding, count_finding}
 use Rattle.vs_widths.specs.Selects.{below_base, base_span, Select, Span, lowest_of, lowest_at, between, bounds_finding, bounds_span, is_reversed, counted, base_finding, all_bits, span_of, in_signal, in_word, in_array, of_words}
 use Rattle.vs_widths.specs.select_passes.Measures.{meaning, IsFlexible, IsCount, IsWhole}
 use Rattle.vs_widths.specs.select_passes.Places.{select_meaning, selects_meaning, IsFlexibleSelect, IsZero, IsAxis, IsExtent, IsPlaced}
 
-pub refused_by : (a b : Finding) (d : WidthFault) → ((r : WidthReason) → stands r a ≡ true → stands r b ≡ true) → Refuses a d → Refuses b d
+pub refused_by : (a b : Finding) (d : WidthFault) → ((r : WidthReason) → has_width_fault r a ≡ true → has_width_fault r b ≡ true) → Refuses a d → Refuses b d
 refused_by a b Memory h k = tt
 refused_by a b (Refused r) h k = h r k
 
@@ -67,22 +67,22 @@ lowest_same b size width below a x h k store time =
 
 -- ---- faults of part-selects
 
-left_fault : (b : Bounds) (n m : Option ℤ) (c : Finding) (rs : List BitRange) (w : ℕ) (s : Bool) (r : WidthReason) → stands r (alone (where_some n) c) ≡ true →
-    stands r (together (λ width signed size sign. between b n m) c (where_none rs w s)) ≡ true
+left_fault : (b : Bounds) (n m : Option ℤ) (c : Finding) (rs : List BitRange) (w : ℕ) (s : Bool) (r : WidthReason) → has_width_fault r (alone (where_some n) c) ≡ true →
+    has_width_fault r (together (λ width signed size sign. between b n m) c (where_none rs w s)) ≡ true
 left_fault b None m (Has v t) [] w s r h = h
 left_fault b None m (Has v t) (q ∷ qs) w s r h = h
 left_fault b (Some n) m (Has v t) rs w s r h = cc
 left_fault b n m (Lacks p) [] w s r h = h
 left_fault b n m (Lacks p) (q ∷ qs) w s r h = rw h refl
 
-right_fault : (b : Bounds) (n : ℤ) (m : Option ℤ) (v : ℕ) (t : Bool) (c : Finding) (r : WidthReason) → stands r (alone (where_some m) c) ≡ true →
-    stands r (together (λ width signed size sign. between b (Some n) m) (Has v t) c) ≡ true
+right_fault : (b : Bounds) (n : ℤ) (m : Option ℤ) (v : ℕ) (t : Bool) (c : Finding) (r : WidthReason) → has_width_fault r (alone (where_some m) c) ≡ true →
+    has_width_fault r (together (λ width signed size sign. between b (Some n) m) (Has v t) c) ≡ true
 right_fault b n None v t (Has w s) r h = h
 right_fault b n (Some m) v t (Has w s) r h = cc
 right_fault b n m v t (Lacks p) r h = h
 
-count_fault : (n : Option ℕ) (v : ℕ) (t : Bool) (c : Finding) (r : WidthReason) → stands r (alone (where_some n) c) ≡ true →
-    stands r (together (λ width signed size sign. counted n) (Has v t) c) ≡ true
+count_fault : (n : Option ℕ) (v : ℕ) (t : Bool) (c : Finding) (r : WidthReason) → has_width_fault r (alone (where_some n) c) ≡ true →
+    has_width_fault r (together (λ width signed size sign. counted n) (Has v t) c) ≡ true
 count_fault None v t (Has w s) r h = h
 count_fault (Some n) v t (Has w s) r h = cc
 count_fault n v t (Lacks p) r h = h
@@ -122,11 +122,11 @@ bounds_extent b size x y n m s a p q h k w g i j l =
 
 -- ---- selects of a word
 
-pub no_range : (s : Shape) (xs : List (Measured × Option (PartSelect × Measured))) → (length xs ≡ 0 → ⊥) → stands WrongKind (span_of None s (selects_meaning xs)).finding ≡ true
+pub no_range : (s : Shape) (xs : List (Measured × Option (PartSelect × Measured))) → (length xs ≡ 0 → ⊥) → has_width_fault WrongKind (span_of None s (selects_meaning xs)).finding ≡ true
 no_range s [] h = absurd (h refl)
 no_range s (x ∷ xs) h = refl
 
-pub too_many : (b : Bounds) (s : Shape) (xs : List (Measured × Option (PartSelect × Measured))) → 1 < length xs → stands WrongKind (span_of (Some b) s (selects_meaning xs)).finding ≡ true
+pub too_many : (b : Bounds) (s : Shape) (xs : List (Measured × Option (PartSelect × Measured))) → 1 < length xs → has_width_fault WrongKind (span_of (Some b) s (selects_meaning xs)).finding ≡ true
 too_many b s [] h = absurd (omega arith)
 too_many b s (x ∷ []) h = absurd (omega arith)
 too_many b s (x ∷ y ∷ xs) h = refl
@@ -180,17 +180,17 @@ words_placed o m signal ss p h q = rw h q
 -- ---- faults of arrays
 
 -- selects of which the first chooses no word
-pub no_word : (b : Bounds) (x : Meaning) (signal : ℕ) (xs : List (Measured × Option (PartSelect × Measured))) → length xs ≡ 0 → stands WrongKind (in_array b x signal (selects_meaning xs)).finding ≡ true
+pub no_word : (b : Bounds) (x : Meaning) (signal : ℕ) (xs : List (Measured × Option (PartSelect × Measured))) → length xs ≡ 0 → has_width_fault WrongKind (in_array b x signal (selects_meaning xs)).finding ≡ true
 no_word b x signal [] h = refl
 no_word b x signal (y ∷ ys) h = absurd (omega arith)
 
 pub words_refused : (b : Bounds) (x : Meaning) (signal : ℕ) (xs : List (Measured × Option (PartSelect × Measured))) (i : Measured) (o : Option (PartSelect × Measured)) → (i, o) ≡ slice_index_or xs 0 (i, o) → is_some o ≡ true →
-    stands WrongKind (in_array b x signal (selects_meaning xs)).finding ≡ true
+    has_width_fault WrongKind (in_array b x signal (selects_meaning xs)).finding ≡ true
 words_refused b x signal [] i o h k = refl
 words_refused b x signal (y ∷ ys) i None h k = cc
 words_refused b x signal (y ∷ ys) i (Some (how, m)) h k = rw (← h) refl
 
-behind_first : (width : ℕ) (signed : Bool) (f : Finding) (r : WidthReason) → stands r f ≡ true → stands r (together second (Has width signed) f) ≡ true
+behind_first : (width : ℕ) (signed : Bool) (f : Finding) (r : WidthReason) → has_width_fault r f ≡ true → has_width_fault r (together second (Has width signed) f) ≡ true
 behind_first width signed (Has w s) r h = h
 behind_first width signed (Lacks p) r h = h
 
@@ -216,7 +216,7 @@ rest_flexible xs rest e h = subst (All IsFlexibleSelect) (sym e) (All-drop IsFle
 count_found : (x y : Measured) (n : ℕ) → IsCount (meaning y) n → n ≤ 64 → base_finding (meaning x) (meaning y) ≡ Has n false
 count_found x y n p k = rw (p.ranges, p.times, le-leb n 64 k) refl
 
-pub count_too_wide : (x y : Measured) (n : ℕ) → IsCount (meaning y) n → 64 < n → stands TooWide (base_finding (meaning x) (meaning y)) ≡ true
+pub count_too_wide : (x y : Measured) (n : ℕ) → IsCount (meaning y) n → 64 < n → has_width_fault TooWide (base_finding (meaning x) (meaning y)) ≡ true
 count_too_wide x y n p k = rw (p.ranges, p.times, lt-leb n 64 k) refl
 
 pub base_extent : (how : PartSelect) (b : Bounds) (size : ℕ) (x y : Measured) (n : ℕ) (s : Shape) (a : Axis) → IsCount (meaning y) n → n ≤ 64 → s.width ≡ n → s.signed ≡ false → IsAxis b size (below_base how b n) a →

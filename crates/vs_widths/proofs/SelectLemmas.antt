@@ -13,6 +13,7 @@ use Rattle.vs_syntax.specs.declared.tree.Expr.TheShapes.{former-Expr-Select-1, f
 use Rattle.vs_syntax.specs.declared.tree.PartSelect.{PartSelect}
 use Rattle.vs_syntax.specs.declared.tree.PartSelect.TheVariants as p
 use Rattle.vs_design.specs.declared.signal.Bounds.{Bounds}
+use Rattle.vs_syntax.proofs.Deeper.{or_nil}
 use Rattle.vs_widths.specs.declared.shape.Shape.{Shape}
 use Rattle.vs_widths.specs.declared.forms.Measured.{Measured}
 use Rattle.vs_widths.specs.declared.bindings.Meaning.{Meaning}
@@ -22,77 +23,74 @@ use Rattle.vs_widths.specs.declared.constants.Const.{Const}
 use Rattle.vs_widths.specs.declared.faults.WidthReason.{WidthReason}
 use Rattle.vs_widths.specs.declared.faults.WidthFault.{WidthFault}
 use Rattle.vs_widths.specs.Environment.{Environment}
-use Rattle.vs_widths.specs.Findings.{Has, Lacks, stands, second, wrong_kind, unknown, not_constant, Refuses}
+use Rattle.vs_widths.specs.Findings.{Has, Lacks, has_width_fault, second, wrong_kind, unknown, not_constant, Refuses}
 use Rattle.vs_widths.specs.Meants.{Meant}
 use Rattle.vs_widths.specs.Constants.{where_none, constant_finding, natural_of, whole_of, positive}
-use Rattle.vs_widths.specs.Selects.{Select, stands_in, between, counted, select_span, span_of, constant_span, in_array, of_words, named, select_meant}
+use Rattle.vs_widths.specs.Selects.{Select, select_has_fault, between, counted, select_span, span_of, constant_span, in_array, of_words, named, select_meant}
 use Rattle.vs_widths.specs.select_passes.Measures.{IsMeasured, Measures}
 use Rattle.vs_widths.specs.select_passes.Places.{select_meaning, selects_meaning, IsFlexibleSelect}
 use Rattle.vs_widths.specs.Expressions.{meant, meant_select, meant_selects}
 use Rattle.vs_widths.specs.passes.Selects.{AreMeasured}
-use Rattle.vs_widths.proofs.MeasuringLemmas.{stands_alone, stands_left, stands_right, form}
+use Rattle.vs_widths.proofs.MeasuringLemmas.{form}
 use Rattle.std.proofs.lemmas.Bool.{or_right}
 use Rattle.vs_widths.proofs.PlaceLemmas.{refused_by}
+use Rattle.vs_widths.proofs.AimLemmas.{stands_left, stands_right, stands_alone}
 use Rattle.vs_design.specs.vs_logic4.proofs.Basics.{or_parts}
 
 -- ---- faults
 
-or_none : (a : Bool) → (a || false) ≡ true → a ≡ true
-or_none true h = refl
-or_none false h = h
-
-constant_stands : (m : Meant) (r : WidthReason) → stands r m.finding ≡ true → stands r (constant_finding m) ≡ true
+constant_stands : (m : Meant) (r : WidthReason) → has_width_fault r m.finding ≡ true → has_width_fault r (constant_finding m) ≡ true
 constant_stands m r h = stands_alone (where_none m.reads) m.finding r h
 
-select_stands : (b : Bounds) (size : ℕ) (s : Select) (r : WidthReason) → stands_in r s ≡ true → stands r (select_span b size s).finding ≡ true
+select_stands : (b : Bounds) (size : ℕ) (s : Select) (r : WidthReason) → select_has_fault r s ≡ true → has_width_fault r (select_span b size s).finding ≡ true
 select_stands b size (i, None) r h = stands_alone (λ width signed. Has 1 false) i.finding r h
 select_stands b size (i, Some (p.Bounds, m)) r h =
     let f = λ (width : ℕ) (signed : Bool) (size : ℕ) (sign : Bool). between b (whole_of i) (whole_of m) in
     ⊎_elim (λ k. stands_left f (constant_finding i) (constant_finding m) r (constant_stands i r k)) (λ k. stands_right f (constant_finding i) (constant_finding m) r (constant_stands m r k))
-    (or_parts (stands r i.finding) (stands r m.finding) h)
+    (or_parts (has_width_fault r i.finding) (has_width_fault r m.finding) h)
 select_stands b size (i, Some (p.Upward, m)) r h =
     let f = λ (n : ℕ) (signed : Bool) (size : ℕ) (sign : Bool). counted (positive (natural_of m)) in
     ⊎_elim (λ k. stands_left f i.finding (constant_finding m) r k) (λ k. stands_right f i.finding (constant_finding m) r (constant_stands m r k))
-    (or_parts (stands r i.finding) (stands r m.finding) h)
+    (or_parts (has_width_fault r i.finding) (has_width_fault r m.finding) h)
 select_stands b size (i, Some (p.Downward, m)) r h =
     let f = λ (n : ℕ) (signed : Bool) (size : ℕ) (sign : Bool). counted (positive (natural_of m)) in
     ⊎_elim (λ k. stands_left f i.finding (constant_finding m) r k) (λ k. stands_right f i.finding (constant_finding m) r (constant_stands m r k))
-    (or_parts (stands r i.finding) (stands r m.finding) h)
+    (or_parts (has_width_fault r i.finding) (has_width_fault r m.finding) h)
 
-span_stands : (o : Option Bounds) (s : Shape) (ss : List Select) (r : WidthReason) → list_any (stands_in r) ss ≡ true → stands r (span_of o s ss).finding ≡ true
+span_stands : (o : Option Bounds) (s : Shape) (ss : List Select) (r : WidthReason) → list_any (select_has_fault r) ss ≡ true → has_width_fault r (span_of o s ss).finding ≡ true
 span_stands o s [] r h = cc
-span_stands None s (a ∷ ss) r h = or_right (wrong_kind r) (list_any (stands_in r) (a ∷ ss)) h
-span_stands (Some b) s (a ∷ []) r h = select_stands b s.width a r (or_none (stands_in r a) h)
-span_stands (Some b) s (a ∷ c ∷ ss) r h = or_right (wrong_kind r) (list_any (stands_in r) (a ∷ c ∷ ss)) h
+span_stands None s (a ∷ ss) r h = or_right (wrong_kind r) (list_any (select_has_fault r) (a ∷ ss)) h
+span_stands (Some b) s (a ∷ []) r h = select_stands b s.width a r (or_nil (select_has_fault r a) h)
+span_stands (Some b) s (a ∷ c ∷ ss) r h = or_right (wrong_kind r) (list_any (select_has_fault r) (a ∷ c ∷ ss)) h
 
-array_stands : (b : Bounds) (y : Meaning) (signal : ℕ) (ss : List Select) (r : WidthReason) → list_any (stands_in r) ss ≡ true → stands r (in_array b y signal ss).finding ≡ true
+array_stands : (b : Bounds) (y : Meaning) (signal : ℕ) (ss : List Select) (r : WidthReason) → list_any (select_has_fault r) ss ≡ true → has_width_fault r (in_array b y signal ss).finding ≡ true
 array_stands b y signal [] r h = cc
 array_stands b y signal ((i, None) ∷ ss) r h =
     let rest = (span_of y.bits y.shape ss).finding in
     ⊎_elim (λ k. stands_left second i.finding rest r k) (λ k. stands_right second i.finding rest r (span_stands y.bits y.shape ss r k))
-    (or_parts (stands r i.finding) (list_any (stands_in r) ss) h)
-array_stands b y signal ((i, Some m) ∷ ss) r h = or_right (wrong_kind r) (list_any (stands_in r) ((i, Some m) ∷ ss)) h
+    (or_parts (has_width_fault r i.finding) (list_any (select_has_fault r) ss) h)
+array_stands b y signal ((i, Some m) ∷ ss) r h = or_right (wrong_kind r) (list_any (select_has_fault r) ((i, Some m) ∷ ss)) h
 
-words_stand : (o : Option Bounds) (y : Meaning) (signal : ℕ) (ss : List Select) (r : WidthReason) → list_any (stands_in r) ss ≡ true → stands r (of_words o y signal ss).finding ≡ true
+words_stand : (o : Option Bounds) (y : Meaning) (signal : ℕ) (ss : List Select) (r : WidthReason) → list_any (select_has_fault r) ss ≡ true → has_width_fault r (of_words o y signal ss).finding ≡ true
 words_stand None y signal ss r h = span_stands y.bits y.shape ss r h
 words_stand (Some b) y signal ss r h = array_stands b y signal ss r h
 
 -- a fault of an expression of a select is one of the whole
-pub named_stands : (o : Option Binding) (ss : List Select) (r : WidthReason) → list_any (stands_in r) ss ≡ true → stands r (named o ss).finding ≡ true
-named_stands None ss r h = or_right (unknown r) (list_any (stands_in r) ss) h
+pub named_stands : (o : Option Binding) (ss : List Select) (r : WidthReason) → list_any (select_has_fault r) ss ≡ true → has_width_fault r (named o ss).finding ≡ true
+named_stands None ss r h = or_right (unknown r) (list_any (select_has_fault r) ss) h
 named_stands (Some (Signal y signal)) ss r h = words_stand y.words y signal ss r h
-named_stands (Some (Constant c)) ss r h = or_right (wrong_kind r) (list_any (stands_in r) ss) h
-named_stands (Some Pending) ss r h = or_right (not_constant r) (list_any (stands_in r) ss) h
-named_stands (Some Other) ss r h = or_right (wrong_kind r) (list_any (stands_in r) ss) h
-named_stands (Some Genvar) ss r h = or_right (wrong_kind r) (list_any (stands_in r) ss) h
+named_stands (Some (Constant c)) ss r h = or_right (wrong_kind r) (list_any (select_has_fault r) ss) h
+named_stands (Some Pending) ss r h = or_right (not_constant r) (list_any (select_has_fault r) ss) h
+named_stands (Some Other) ss r h = or_right (wrong_kind r) (list_any (select_has_fault r) ss) h
+named_stands (Some Genvar) ss r h = or_right (wrong_kind r) (list_any (select_has_fault r) ss) h
 
-excerpt_stands : (c : Const) (ss : List Select) (r : WidthReason) → list_any (stands_in r) ss ≡ true → stands r (constant_span c ss).finding ≡ true
+excerpt_stands : (c : Const) (ss : List Select) (r : WidthReason) → list_any (select_has_fault r) ss ≡ true → has_width_fault r (constant_span c ss).finding ≡ true
 excerpt_stands c [] r h = cc
-excerpt_stands c (a ∷ []) r h = select_stands c.bits (length c.value) a r (or_none (stands_in r a) h)
-excerpt_stands c (a ∷ b ∷ ss) r h = or_right (wrong_kind r) (list_any (stands_in r) (a ∷ b ∷ ss)) h
+excerpt_stands c (a ∷ []) r h = select_stands c.bits (length c.value) a r (or_nil (select_has_fault r a) h)
+excerpt_stands c (a ∷ b ∷ ss) r h = or_right (wrong_kind r) (list_any (select_has_fault r) (a ∷ b ∷ ss)) h
 
 -- a fault of an expression of a select is one of the operand
-pub operand_stands : (o : Option Binding) (ss : List Select) (r : WidthReason) → list_any (stands_in r) ss ≡ true → stands r (select_meant o ss).finding ≡ true
+pub operand_stands : (o : Option Binding) (ss : List Select) (r : WidthReason) → list_any (select_has_fault r) ss ≡ true → has_width_fault r (select_meant o ss).finding ≡ true
 operand_stands None ss r h = named_stands None ss r h
 operand_stands (Some (Constant c)) ss r h = excerpt_stands c ss r h
 operand_stands (Some (Signal y signal)) ss r h = named_stands (Some (Signal y signal)) ss r h
@@ -126,10 +124,10 @@ module _ (env : Environment) where
 
   -- a fault of an expression of a select
   pub select_refused : (n : Vec ℕ Global) (ss : Vec (Expr × Option (PartSelect × Expr)) Global) (xs : List (Expr × Option (PartSelect × Expr))) (d : WidthFault) → xs ≡ ss.items →
-      Refuses (Lacks (λ r. list_any (stands_in r) (meant_selects env xs))) d → Refuses (meant env (e.Select n ss)).finding d
+      Refuses (Lacks (λ r. list_any (select_has_fault r) (meant_selects env xs))) d → Refuses (meant env (e.Select n ss)).finding d
   select_refused n ss xs d h k =
-      rw meant_Select (refused_by (Lacks (λ r. list_any (stands_in r) (meant_selects env ss.items))) (select_meant (env n.items) (meant_selects env ss.items)).finding d
-      (operand_stands (env n.items) (meant_selects env ss.items)) (subst (λ z. Refuses (Lacks (λ r. list_any (stands_in r) (meant_selects env z))) d) h k))
+      rw meant_Select (refused_by (Lacks (λ r. list_any (select_has_fault r) (meant_selects env ss.items))) (select_meant (env n.items) (meant_selects env ss.items)).finding d
+      (operand_stands (env n.items) (meant_selects env ss.items)) (subst (λ z. Refuses (Lacks (λ r. list_any (select_has_fault r) (meant_selects env z))) d) h k))
 
   -- the whole
   pub place_measures : (n : Vec ℕ Global) (ss : Vec (Expr × Option (PartSelect × Expr)) Global) (o : Option Binding) (name : List ℕ) (xs : List (Expr × Option (PartSelect × Expr))) (ms : List (Measured × Option (PartSelect × Measured))) (r : Result Measured WidthFault) →
@@ -167,17 +165,17 @@ module _ (env : Environment) where
 
   -- a fault of an expression of a select, among them
   pub index_refused : (xs : List (Expr × Option (PartSelect × Expr))) (i : ℕ) (a : Expr × Option (PartSelect × Expr)) (d : WidthFault) → i < length xs → a ≡ get_or xs i a → Refuses (meant env a.0).finding d →
-      Refuses (Lacks (λ r. list_any (stands_in r) (meant_selects env xs))) d
+      Refuses (Lacks (λ r. list_any (select_has_fault r) (meant_selects env xs))) d
   index_refused xs i a d h k q =
-      refused_by (meant env a.0).finding (Lacks (λ r. list_any (stands_in r) (meant_selects env xs))) d (λ r l. any_in (meant_select env) (stands_in r) xs i a h k (index_stands a r l)) q where
-        index_stands : (a : Expr × Option (PartSelect × Expr)) (r : WidthReason) → stands r (meant env a.0).finding ≡ true → stands_in r (meant_select env a) ≡ true
+      refused_by (meant env a.0).finding (Lacks (λ r. list_any (select_has_fault r) (meant_selects env xs))) d (λ r l. any_in (meant_select env) (select_has_fault r) xs i a h k (index_stands a r l)) q where
+        index_stands : (a : Expr × Option (PartSelect × Expr)) (r : WidthReason) → has_width_fault r (meant env a.0).finding ≡ true → select_has_fault r (meant_select env a) ≡ true
         index_stands (i, None) r h = h
         index_stands (i, Some (how, m)) r h = rw h refl
 
   pub other_refused : (xs : List (Expr × Option (PartSelect × Expr))) (i : ℕ) (a : Expr × Option (PartSelect × Expr)) (how : PartSelect) (m : Expr) (d : WidthFault) → i < length xs → a ≡ get_or xs i a → a.1 ≡ Some (how, m) → Refuses (meant env m).finding d →
-      Refuses (Lacks (λ r. list_any (stands_in r) (meant_selects env xs))) d
+      Refuses (Lacks (λ r. list_any (select_has_fault r) (meant_selects env xs))) d
   other_refused xs i a how m d h k e q =
-      refused_by (meant env m).finding (Lacks (λ r. list_any (stands_in r) (meant_selects env xs))) d (λ r l. any_in (meant_select env) (stands_in r) xs i a h k (other_stands a e r l)) q where
-        other_stands : (a : Expr × Option (PartSelect × Expr)) → a.1 ≡ Some (how, m) → (r : WidthReason) → stands r (meant env m).finding ≡ true → stands_in r (meant_select env a) ≡ true
+      refused_by (meant env m).finding (Lacks (λ r. list_any (select_has_fault r) (meant_selects env xs))) d (λ r l. any_in (meant_select env) (select_has_fault r) xs i a h k (other_stands a e r l)) q where
+        other_stands : (a : Expr × Option (PartSelect × Expr)) → a.1 ≡ Some (how, m) → (r : WidthReason) → has_width_fault r (meant env m).finding ≡ true → select_has_fault r (meant_select env a) ≡ true
         other_stands (i, None) e r h = cc
-        other_stands (i, Some (how', m')) e r h = subst (λ (z : PartSelect × Expr). (stands r (meant env i).finding || stands r (meant env z.1).finding) ≡ true) (sym (same_Some _ _ e)) (or_right (stands r (meant env i).finding) (stands r (meant env m).finding) h)
+        other_stands (i, Some (how', m')) e r h = subst (λ (z : PartSelect × Expr). (has_width_fault r (meant env i).finding || has_width_fault r (meant env z.1).finding) ≡ true) (sym (same_Some _ _ e)) (or_right (has_width_fault r (meant env i).finding) (has_width_fault r (meant env m).finding) h)

@@ -11,22 +11,23 @@ use Rattle.vs_widths.specs.declared.bindings.Binding.{Binding}
 use Rattle.vs_widths.specs.declared.bindings.Binding.TheVariants.{Pending}
 use Rattle.vs_widths.specs.declared.faults.WidthReason.TheVariants.{NotConstant}
 use Rattle.vs_widths.specs.Environment.{Environment}
-use Rattle.vs_widths.specs.Findings.{Finding, Has, stands, together, alone, alike, linked_shape, second, beside, repeated}
+use Rattle.vs_widths.specs.Findings.{Finding, Has, has_width_fault, together, alone, alike, linked_shape, second, beside, repeated}
 use Rattle.vs_widths.specs.Meants.{Meant}
 use Rattle.vs_widths.specs.Constants.{where_none, where_some, constant_finding, count_finding, natural_of, positive}
-use Rattle.vs_widths.specs.Selects.{Select, stands_in, select_meant}
+use Rattle.vs_widths.specs.Selects.{Select, select_has_fault, select_meant}
 use Rattle.vs_widths.specs.Expressions.{meant, meant_step, name_meant, unary_meant, linked_meant, chain_meant, choice_finding, choice_meant, sum_finding, concat_meant, repeat_meant, cast_meant}
-use Rattle.vs_widths.proofs.MeasuringLemmas.{stands_alone, stands_left, stands_right, stands_unary, stands_choice, stands_sum}
+use Rattle.vs_widths.proofs.MeasuringLemmas.{stands_unary, stands_choice, stands_sum}
 use Rattle.std.proofs.lemmas.Bool.{or_right}
 use Rattle.vs_widths.proofs.SelectLemmas.{operand_stands}
+use Rattle.vs_widths.proofs.AimLemmas.{stands_left, stands_right, stands_alone}
 
 -- an expression that names what has no value yet
 abbrev Waits : Meant → Type 0
-Waits m = stands NotConstant m.finding ≡ true
+Waits m = has_width_fault NotConstant m.finding ≡ true
 
 -- two meanings that are one, or the first names what has no value yet
 abbrev pub Settles : Meant → Meant → Type 0
-Settles m n = (m ≡ n) ⊎ (stands NotConstant m.finding ≡ true)
+Settles m n = (m ≡ n) ⊎ (has_width_fault NotConstant m.finding ≡ true)
 
 one_settles : (g : Meant → Meant) (m n : Meant) → (Waits m → Waits (g m)) → Settles m n → Settles (g m) (g n)
 one_settles g m n w (inl e) = inl (ap g e)
@@ -46,7 +47,7 @@ with_list g m n xs ys w p q (inr h) k = inr (p h)
 with_list g m n xs ys w p q (inl e) (inr k) = inr (q k)
 with_list g m n xs ys w p q (inl e) (inl k) = inl (ap₂ g e k)
 
-count_waits : (m : Meant) → Waits m → stands NotConstant (count_finding m) ≡ true
+count_waits : (m : Meant) → Waits m → has_width_fault NotConstant (count_finding m) ≡ true
 count_waits m h =
     stands_alone (where_some (positive (natural_of m))) (constant_finding m) NotConstant (stands_alone (where_none m.reads) m.finding NotConstant h)
 
@@ -79,7 +80,7 @@ module _ (a b : Environment) (below : (n : List ℕ) → (a n ≡ b n) ⊎ (a n 
   bare e = e.0
 
   name_settles : (n : List ℕ) → Settles (name_meant (a n)) (name_meant (b n))
-  name_settles n = ⊎_elim (λ e. inl (ap name_meant e)) (λ e. inr (ap (λ z. stands NotConstant (name_meant z).finding) e)) (below n)
+  name_settles n = ⊎_elim (λ e. inl (ap name_meant e)) (λ e. inr (ap (λ z. has_width_fault NotConstant (name_meant z).finding) e)) (below n)
 
   abbrev links_at : Environment → List (Binary × Child) → List (Binary × Meant)
   links_at env ls = map (λ (l : Binary × Expr). (l.0, meant env l.1)) (map (λ (l : Binary × Child). (l.0, l.1.0)) ls)
@@ -94,7 +95,7 @@ module _ (a b : Environment) (below : (n : List ℕ) → (a n ≡ b n) ⊎ (a n 
 
   -- a fault of operands behind conditions, whatever the last operand is
   abbrev ChoiceWaits : List (Child × Child) → Type 0
-  ChoiceWaits ps = (found : Finding) → stands NotConstant (choice_finding found (pairs_at a ps)) ≡ true
+  ChoiceWaits ps = (found : Finding) → has_width_fault NotConstant (choice_finding found (pairs_at a ps)) ≡ true
 
   pairs_settle : (ps : List (Child × Child)) → AllSettle (pairs_at a ps) (pairs_at b ps) (ChoiceWaits ps)
   pairs_settle [] = inl refl
@@ -120,7 +121,7 @@ module _ (a b : Environment) (below : (n : List ℕ) → (a n ≡ b n) ⊎ (a n 
 
   -- a fault of parts behind others, whatever those are
   abbrev SumWaits : List Child → Type 0
-  SumWaits xs = (found : Finding) → stands NotConstant (sum_finding found (parts_at a xs)) ≡ true
+  SumWaits xs = (found : Finding) → has_width_fault NotConstant (sum_finding found (parts_at a xs)) ≡ true
 
   parts_settle : (xs : List Child) → AllSettle (parts_at a xs) (parts_at b xs) (SumWaits xs)
   parts_settle [] = inl refl
@@ -137,32 +138,32 @@ module _ (a b : Environment) (below : (n : List ℕ) → (a n ≡ b n) ⊎ (a n 
   abbrev selects_at : Environment → List Selected → List Select
   selects_at env xs = map (λ x. former-Expr-Select-1-at-5.map Expr Meant (meant env) x) (map (λ x. former-Expr-Select-1-at-5.map Child Expr bare x) xs)
 
-  selects_settle : (xs : List Selected) → AllSettle (selects_at a xs) (selects_at b xs) (list_any (stands_in NotConstant) (selects_at a xs) ≡ true)
+  selects_settle : (xs : List Selected) → AllSettle (selects_at a xs) (selects_at b xs) (list_any (select_has_fault NotConstant) (selects_at a xs) ≡ true)
   selects_settle [] = inl refl
   selects_settle ((i, None) ∷ xs) = by i.1 (selects_settle xs)
     where
-      by : Settles (meant a i.0) (meant b i.0) → AllSettle (selects_at a xs) (selects_at b xs) (list_any (stands_in NotConstant) (selects_at a xs) ≡ true) →
-          AllSettle (selects_at a ((i, None) ∷ xs)) (selects_at b ((i, None) ∷ xs)) (list_any (stands_in NotConstant) (selects_at a ((i, None) ∷ xs)) ≡ true)
-      by (inr h) r = inr (ap (λ t. t || list_any (stands_in NotConstant) (selects_at a xs)) h)
-      by (inl e) (inr r) = inr (or_right (stands NotConstant (meant a i.0).finding) (list_any (stands_in NotConstant) (selects_at a xs)) r)
+      by : Settles (meant a i.0) (meant b i.0) → AllSettle (selects_at a xs) (selects_at b xs) (list_any (select_has_fault NotConstant) (selects_at a xs) ≡ true) →
+          AllSettle (selects_at a ((i, None) ∷ xs)) (selects_at b ((i, None) ∷ xs)) (list_any (select_has_fault NotConstant) (selects_at a ((i, None) ∷ xs)) ≡ true)
+      by (inr h) r = inr (ap (λ t. t || list_any (select_has_fault NotConstant) (selects_at a xs)) h)
+      by (inl e) (inr r) = inr (or_right (has_width_fault NotConstant (meant a i.0).finding) (list_any (select_has_fault NotConstant) (selects_at a xs)) r)
       by (inl e) (inl r) = inl (ap₂ (λ y ys. y ∷ ys) (ap (λ y. (y, None)) e) r)
   selects_settle ((i, Some (how, m)) ∷ xs) = by i.1 m.1 (selects_settle xs)
     where
       rest : Bool
-      rest = list_any (stands_in NotConstant) (selects_at a xs)
+      rest = list_any (select_has_fault NotConstant) (selects_at a xs)
 
-      by : Settles (meant a i.0) (meant b i.0) → Settles (meant a m.0) (meant b m.0) → AllSettle (selects_at a xs) (selects_at b xs) (list_any (stands_in NotConstant) (selects_at a xs) ≡ true) →
-          AllSettle (selects_at a ((i, Some (how, m)) ∷ xs)) (selects_at b ((i, Some (how, m)) ∷ xs)) (list_any (stands_in NotConstant) (selects_at a ((i, Some (how, m)) ∷ xs)) ≡ true)
-      by (inr h) v r = inr (ap (λ t. (t || stands NotConstant (meant a m.0).finding) || rest) h)
-      by (inl e) (inr h) r = inr (ap (λ t. t || rest) (or_right (stands NotConstant (meant a i.0).finding) (stands NotConstant (meant a m.0).finding) h))
-      by (inl e) (inl h) (inr r) = inr (or_right (stands NotConstant (meant a i.0).finding || stands NotConstant (meant a m.0).finding) rest r)
+      by : Settles (meant a i.0) (meant b i.0) → Settles (meant a m.0) (meant b m.0) → AllSettle (selects_at a xs) (selects_at b xs) (list_any (select_has_fault NotConstant) (selects_at a xs) ≡ true) →
+          AllSettle (selects_at a ((i, Some (how, m)) ∷ xs)) (selects_at b ((i, Some (how, m)) ∷ xs)) (list_any (select_has_fault NotConstant) (selects_at a ((i, Some (how, m)) ∷ xs)) ≡ true)
+      by (inr h) v r = inr (ap (λ t. (t || has_width_fault NotConstant (meant a m.0).finding) || rest) h)
+      by (inl e) (inr h) r = inr (ap (λ t. t || rest) (or_right (has_width_fault NotConstant (meant a i.0).finding) (has_width_fault NotConstant (meant a m.0).finding) h))
+      by (inl e) (inl h) (inr r) = inr (or_right (has_width_fault NotConstant (meant a i.0).finding || has_width_fault NotConstant (meant a m.0).finding) rest r)
       by (inl e) (inl h) (inl r) = inl (ap₂ (λ y ys. y ∷ ys) (ap₂ (λ x y. (x, Some (how, y))) e h) r)
 
   select_settles : (n : List ℕ) (xs : List Selected) → Settles (select_meant (a n) (selects_at a xs)) (select_meant (b n) (selects_at b xs))
   select_settles n xs = by (below n) (selects_settle xs)
     where
-      by : (a n ≡ b n) ⊎ (a n ≡ Some Pending) → AllSettle (selects_at a xs) (selects_at b xs) (list_any (stands_in NotConstant) (selects_at a xs) ≡ true) → Settles (select_meant (a n) (selects_at a xs)) (select_meant (b n) (selects_at b xs))
-      by (inr h) r = inr (ap (λ (z : Option Binding). stands NotConstant (select_meant z (selects_at a xs)).finding) h)
+      by : (a n ≡ b n) ⊎ (a n ≡ Some Pending) → AllSettle (selects_at a xs) (selects_at b xs) (list_any (select_has_fault NotConstant) (selects_at a xs) ≡ true) → Settles (select_meant (a n) (selects_at a xs)) (select_meant (b n) (selects_at b xs))
+      by (inr h) r = inr (ap (λ (z : Option Binding). has_width_fault NotConstant (select_meant z (selects_at a xs)).finding) h)
       by (inl e) (inr r) = inr (operand_stands (a n) (selects_at a xs) NotConstant r)
       by (inl e) (inl r) = inl (ap₂ select_meant e r)
 

@@ -14,9 +14,9 @@ pub data Finding : Type 0 where
   Lacks : (WidthReason → Bool) → Finding
 
 -- whether a fault stands
-abbrev pub stands : WidthReason → Finding → Bool
-stands r (Has width signed) = false
-stands r (Lacks faults) = faults r
+abbrev pub has_width_fault : WidthReason → Finding → Bool
+has_width_fault r (Has width signed) = false
+has_width_fault r (Lacks faults) = faults r
 
 -- the fault that a size is above 64 bits (profile)
 abbrev pub too_wide : WidthReason → Bool
@@ -87,4 +87,4 @@ at_found (Lacks faults) f = []
 -- a fault that stands, or want of memory
 abbrev pub Refuses : Finding → WidthFault → Type 0
 Refuses found Memory = Unit {0}
-Refuses found (Refused r) = stands r found ≡ true
+Refuses found (Refused r) = has_width_fault r found ≡ true

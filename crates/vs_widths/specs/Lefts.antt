@@ -17,7 +17,7 @@ use Rattle.vs_widths.specs.declared.bindings.Binding.{Binding}
 use Rattle.vs_widths.specs.declared.bindings.Binding.TheVariants.{Signal, Constant, Pending, Other, Genvar}
 use Rattle.vs_widths.specs.declared.faults.WidthReason.{WidthReason}
 use Rattle.vs_widths.specs.Environment.{Environment}
-use Rattle.vs_widths.specs.Findings.{Finding, Lacks, stands, wrong_kind, not_constant, together, beside}
+use Rattle.vs_widths.specs.Findings.{Finding, Lacks, has_width_fault, wrong_kind, not_constant, together, beside}
 use Rattle.vs_widths.specs.Selects.{Select, Named, named}
 use Rattle.vs_widths.specs.Expressions.{meant_selects}
 use Rattle.vs_widths.specs.declared.kinds.AssignmentKind.{AssignmentKind}
@@ -31,7 +31,7 @@ pub record Aimed : Type 0 where
 -- a size and sign where a test holds; otherwise a fault, beside those that stand
 abbrev pub wanted : (WidthReason → Bool) → Bool → Finding → Finding
 wanted faults true found = found
-wanted faults false found = Lacks (λ r. faults r || stands r found)
+wanted faults false found = Lacks (λ r. faults r || has_width_fault r found)
 
 -- whether an assignment of this kind may assign to a signal of that kind: procedural to variables, continuous to nets; an event control
 -- waits for any (clauses 6.1, 9.2 and 9.7.2)

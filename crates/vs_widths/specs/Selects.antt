@@ -17,7 +17,7 @@ use Rattle.vs_widths.specs.declared.bindings.Binding.{Binding}
 use Rattle.vs_widths.specs.declared.bindings.Binding.TheVariants.{Signal, Constant, Pending, Other, Genvar}
 use Rattle.vs_widths.specs.declared.constants.Const.{Const}
 use Rattle.vs_widths.specs.declared.faults.WidthReason.{WidthReason}
-use Rattle.vs_widths.specs.Findings.{Finding, Has, Lacks, stands, unknown, wrong_kind, not_constant, together, alone, second, unsigned, at_found}
+use Rattle.vs_widths.specs.Findings.{Finding, Has, Lacks, has_width_fault, unknown, wrong_kind, not_constant, together, alone, second, unsigned, at_found}
 use Rattle.vs_widths.specs.Layers.{FixedBits, other, selected_layer}
 use Rattle.vs_widths.specs.Meants.{Meant, own}
 use Rattle.vs_widths.specs.Constants.{constant_finding, index_at, natural_of, whole_of, positive}
@@ -53,13 +53,13 @@ lowest_at b length width below i store time = lowest_of b length width below (in
 -- ---- faults
 
 -- whether a fault stands in an expression of a select
-abbrev pub stands_in : WidthReason → Select → Bool
-stands_in r (i, None) = stands r i.finding
-stands_in r (i, Some (how, m)) = stands r i.finding || stands r m.finding
+abbrev pub select_has_fault : WidthReason → Select → Bool
+select_has_fault r (i, None) = has_width_fault r i.finding
+select_has_fault r (i, Some (how, m)) = has_width_fault r i.finding || has_width_fault r m.finding
 
 -- a fault of a name with its selects, beside those of their expressions
 abbrev pub refused : (WidthReason → Bool) → List Select → Finding
-refused faults ss = Lacks (λ r. faults r || list_any (stands_in r) ss)
+refused faults ss = Lacks (λ r. faults r || list_any (select_has_fault r) ss)
 
 -- how many bits were found
 abbrev pub size_found : Finding → ℕ

@@ -14,7 +14,7 @@ use Rattle.vs_widths.specs.declared.bindings.Binding.TheVariants.{Signal}
 use Rattle.vs_widths.specs.declared.faults.WidthReason.{WidthReason}
 use Rattle.vs_widths.specs.declared.constants.Const.{Const}
 use Rattle.vs_widths.specs.Environment.{Environment}
-use Rattle.vs_widths.specs.Findings.{Has, stands}
+use Rattle.vs_widths.specs.Findings.{Has, has_width_fault}
 use Rattle.vs_widths.specs.Layers.{layer_of}
 use Rattle.vs_widths.specs.Meants.{Meant, own}
 use Rattle.vs_widths.specs.Constants.{constant_finding, plain_range}
@@ -23,7 +23,7 @@ use Rattle.vs_widths.specs.Expressions.{meant}
 -- The expression of a design that means this at a size and a sign: no fault stands, and it has this size and this value in each store, reads
 -- this (clauses 5.4 and 5.5), and this is outermost in it: it is a name alone, or `~` or `!` of one, exactly where the expression of the source is.
 pub record IsTypedAs (m : Meant) (width : ℕ) (signed : Bool) (y : Typed) : Type 0 where
-  pub sound : (r : WidthReason) → stands r m.finding ≡ false
+  pub sound : (r : WidthReason) → has_width_fault r m.finding ≡ false
   pub size : size_of y ≡ Some width
   pub value : (store : Store) (time : ℕ) → value_of y store time ≡ m.at store time width signed
   pub ranges : reads y ≡ m.reads
@@ -42,7 +42,7 @@ pub record IsConstant (env : Environment) (e : Expr) (c : Const) : Type 0 where
 
 -- The value that an expression of a source has in each store at a size and a sign, where it names no signal (clauses 5.4.1 and 5.5.2).
 pub record IsConstantAt (env : Environment) (e : Expr) (width : ℕ) (signed : Bool) (v : List Digit) : Type 0 where
-  pub sound : (r : WidthReason) → stands r (constant_finding (meant env e)) ≡ false
+  pub sound : (r : WidthReason) → has_width_fault r (constant_finding (meant env e)) ≡ false
   pub value : (store : Store) → (meant env e).at store 0 width signed ≡ v
   pub length_is : length v ≡ width
 

@@ -2,7 +2,7 @@
 ghost use Rattle.std.specs.Prelude.{◌≡◌, IfOk};
 ghost use Rattle.vs_widths.specs.Selects.{Named, Span, operand_meant, excerpt_meant};
 ghost use Rattle.vs_widths.specs.select_passes.Measures.{IsMeasured, IsOwnPart};
-ghost use Rattle.vs_widths.specs.select_passes.Places.{Fixes, IsExtent, IsPlaced, IsChosen, IsExcerpt, StandsAlone};
+ghost use Rattle.vs_widths.specs.select_passes.Places.{Fixes, IsExtent, IsPlaced, IsChosen, IsExcerpt, HasConstantValue};
 
 use crate::constants::{reads_nothing, value_alone};
 use crate::fitting::fitted;
@@ -15,7 +15,7 @@ use vs_eval::{place_of, reads_hold, word_place};
 
 /// The value of an index, where it reads nothing.
 fn alone(alloc: Global, x: &Measured) -> Result<Option<Vec4>, AllocError>
-    ensures { IfOk result (λ v. StandsAlone x.now v) }
+    ensures { IfOk result (λ v. HasConstantValue x.now v) }
 {
     let y = fitted(alloc, &x.form, x.shape)?;
     let is_constant = reads_nothing(alloc, &y)?;

@@ -35,9 +35,9 @@ abbrev pub next_value : Environment → LoopHeader → Option Const
 next_value inner h = if holds inner h.condition then Some (genvar_value inner h.step) else None
 
 -- turns behind those of these values
-abbrev pub behind : List Const → Turns → Turns
-behind [] t = t
-behind (c ∷ cs) t = one_more c (behind cs t)
+abbrev pub with_turns : List Const → Turns → Turns
+with_turns [] t = t
+with_turns (c ∷ cs) t = one_more c (with_turns cs t)
 
 -- whether a size was found
 abbrev pub is_found : Finding → Bool

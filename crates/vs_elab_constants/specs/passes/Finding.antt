@@ -107,10 +107,10 @@ pub record IsNext (around env : Environment) (gs : List Given) (vs : List (Optio
   pub given : (g : Given) → slice_get gs k ≡ Some g → IsGiven around env g c
 
 -- the fault that is told of parameters, with one more that has a fault: another one than that it is no constant, where there is one
-abbrev pub told_of : Option WidthReason → WidthReason → WidthReason
-told_of None w = w
-told_of (Some NotConstant) w = w
-told_of (Some o) w = o
+abbrev pub reported_fault : Option WidthReason → WidthReason → WidthReason
+reported_fault None w = w
+reported_fault (Some NotConstant) w = w
+reported_fault (Some o) w = o
 
 -- where parameters are told to be no constants, each of the first ones whose values aren't found is none
 abbrev pub AreWaiting : Environment → List Given → List (Option Const) → WidthReason → ℕ → Type 0

@@ -6,12 +6,12 @@ use Rattle.vs_scopes.specs.Pieces.{Piece}
 use Rattle.vs_scopes.specs.vs_widths.specs.declared.constants.Const.{Const}
 use Rattle.vs_scopes.specs.vs_widths.specs.declared.faults.WidthReason.{WidthReason}
 use Rattle.vs_scopes.specs.vs_widths.specs.Environment.{Environment}
-use Rattle.vs_scopes.specs.vs_widths.specs.Findings.{stands}
+use Rattle.vs_scopes.specs.vs_widths.specs.Findings.{has_width_fault}
 use Rattle.vs_scopes.specs.vs_widths.specs.Meants.{Meant}
 use Rattle.vs_scopes.specs.vs_widths.specs.Selects.{size_found}
 use Rattle.vs_scopes.specs.vs_widths.specs.Constants.{constant_finding, constant_in}
 use Rattle.vs_widths.specs.Names.{meaning_of, by_bytes}
-use Rattle.vs_scopes.specs.Parameters.{parameters_among, Given, the_size, Takes, takes_fault, constant_by, sign_found, is_override_mismatch, given_to, constant_given, own_fault, outer_fault, own_faults, outer_faults, constants_of, known_behind}
+use Rattle.vs_scopes.specs.Parameters.{parameters_among, Given, the_size, Takes, takes_fault, constant_by, sign_found, is_override_mismatch, given_to, constant_given, own_fault, outer_fault, own_faults, outer_faults, constants_of, known_in_module}
 use Rattle.vs_scopes.specs.Declarations.{Bindings, valueless_of, early_names}
 use Rattle.vs_scopes.specs.Scopes.{nowhere, outward, early, block_given, with_constants}
 use Rattle.vs_scopes.specs.declared.faults.ParameterRefusal.{ParameterRefusal}
@@ -33,7 +33,7 @@ pub record IsTaking (t : Takes) (x : Taking) : Type 0 where
 
 -- a constant without faults
 pub record IsGivenBy (x : Taking) (m : Meant) (c : Const) : Type 0 where
-  pub sound : (w : WidthReason) → stands w (constant_finding m) ≡ false
+  pub sound : (w : WidthReason) → has_width_fault w (constant_finding m) ≡ false
   pub value : c ≡ constant_as x m
 
 -- a refusal that stands: overrides that don't fit, a fault in the scope around, one in the module; or want of memory
@@ -54,7 +54,7 @@ pub record AddsConstants (around : Environment) (outward : Bindings) (gs : List 
   pub outer : (w : WidthReason) → outer_faults w around gs ≡ false
   pub own : (w : WidthReason) → own_faults w around (meaning_of (old.known ++ outward)) gs ≡ false
   pub constants : by_bytes new.constants.items ≡ by_bytes old.constants.items ++ constants_of around (meaning_of (old.known ++ outward)) gs
-  pub known : (n : List ℕ) → meaning_of (new.known ++ outward) n ≡ known_behind around (meaning_of (old.known ++ outward)) gs n
+  pub known : (n : List ℕ) → meaning_of (new.known ++ outward) n ≡ known_in_module around (meaning_of (old.known ++ outward)) gs n
 
 -- constants that are known behind those before, and what names are bound to behind them
 pub record BindsConstants (cs : List (List ℕ × Const)) (old new : ParameterValues) : Type 0 where
@@ -67,7 +67,7 @@ pub record AreValues (around : Environment) (c : Option Connections) (m : Module
   pub outer : (w : WidthReason) → outer_faults w around (given_to c m) ≡ false
   pub own : (w : WidthReason) → own_faults w around (early m) (given_to c m) ≡ false
   pub constants : by_bytes v.constants.items ≡ constants_of around (early m) (given_to c m)
-  pub known : (n : List ℕ) → meaning_of v.known n ≡ known_behind around (early m) (given_to c m) n
+  pub known : (n : List ℕ) → meaning_of v.known n ≡ known_in_module around (early m) (given_to c m) n
 
 -- why the parameters of a module have no values
 abbrev pub AreNoValues : Environment → Option Connections → Module → ParameterRefusal → Type 0
@@ -88,4 +88,4 @@ block_faults outer cs ps w = own_faults w nowhere (early_inside outer cs ps) (bl
 pub record AreBlockValues (outer : Bindings) (cs : List (List ℕ × Const)) (ps : List Piece) (v : ParameterValues) : Type 0 where
   pub own : (w : WidthReason) → block_faults outer cs ps w ≡ false
   pub constants : by_bytes v.constants.items ≡ cs ++ constants_of nowhere (early_inside outer cs ps) (block_given ps)
-  pub known : (n : List ℕ) → meaning_of (v.known ++ outer) n ≡ known_behind nowhere (early_inside outer cs ps) (block_given ps) n
+  pub known : (n : List ℕ) → meaning_of (v.known ++ outer) n ≡ known_in_module nowhere (early_inside outer cs ps) (block_given ps) n

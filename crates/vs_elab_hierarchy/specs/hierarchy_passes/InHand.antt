@@ -3,10 +3,10 @@ use Rattle.std.specs.Prelude.{◌≡◌, ◌<◌, ℕ, ◌-◌, List, [], ◌∷
 use Rattle.vs_syntax.specs.declared.tree.Module.{Module}
 use Rattle.vs_scopes.specs.declared.faults.ElabFault.{ElabFault}
 use Rattle.vs_scopes.specs.Scopes.{Scope}
-use Rattle.vs_scopes.specs.scopes_passes.Answers.{Told}
-use Rattle.vs_elab_listed.specs.vs_elab_constants.specs.Reads.{read_inner}
-use Rattle.vs_elab_listed.specs.declared.opened.ListedScope.{ListedScope as FoundScope}
-use Rattle.vs_elab_listed.specs.declared.opened.Numbering.{Numbering}
+use Rattle.vs_scopes.specs.scopes_passes.Answers.{IsReported}
+use Rattle.vs_elab_signals.specs.vs_elab_constants.specs.Reads.{read_inner}
+use Rattle.vs_elab_signals.specs.declared.opened.ElabScope.{ElabScope as FoundScope}
+use Rattle.vs_elab_signals.specs.declared.opened.Numbering.{Numbering}
 use Rattle.vs_elab_hierarchy.specs.declared.entering.NamedModule.{NamedModule}
 use Rattle.vs_elab_hierarchy.specs.declared.opening.Opening.{Opening}
 use Rattle.vs_elab_hierarchy.specs.hierarchy_passes.Opens.{HasInner, HoldsInner, IsReady, OpensInside, OpensInsideNot}
@@ -28,7 +28,7 @@ IsOpenedWhole a list new = OpensInside a.depth_left a.ms a.ss a.s a.place a.star
 
 -- it has a fault inside
 abbrev pub HasFault : Asked → ElabFault → Type 0
-HasFault a = Told (OpensInsideNot a.depth_left a.ms a.s)
+HasFault a = IsReported (OpensInsideNot a.depth_left a.ms a.s)
 
 -- a scope whose inner ones are opened in turn is this one
 pub record IsFor (a : Asked) (modules : List (List ℕ × NamedModule)) (o : Opening) : Type 0 where

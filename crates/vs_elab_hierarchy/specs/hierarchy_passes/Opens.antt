@@ -9,12 +9,12 @@ use Rattle.vs_scopes.specs.declared.faults.Reason.TheVariants.{Width}
 use Rattle.vs_scopes.specs.Printed.{plainly, Path}
 use Rattle.vs_scopes.specs.Generate.{Inner, constructs_fault}
 use Rattle.vs_scopes.specs.Scopes.{Scope, environment, text_names, inner_of, is_named_as_net, module_named, top_scope, within_first, below, scopes_within, scopes_of}
-use Rattle.vs_elab_listed.specs.declared.opened.ListedScope.{ListedScope as FoundScope}
-use Rattle.vs_elab_listed.specs.declared.opened.Numbering.{Numbering}
-use Rattle.vs_elab_listed.specs.Outlines.{Line, leave, outline_within, outline_below, outline_of, IsEntry}
-use Rattle.vs_elab_listed.specs.ScopeFaults.{HasConstructFault, HoldsOpeningIn, top_fault}
-use Rattle.vs_elab_listed.specs.Opened.{IsEntered}
-use Rattle.vs_elab_hierarchy.specs.vs_elab_listed.specs.nets_passes.Nets.{IsNamedAsNet}
+use Rattle.vs_elab_signals.specs.declared.opened.ElabScope.{ElabScope as FoundScope}
+use Rattle.vs_elab_signals.specs.declared.opened.Numbering.{Numbering}
+use Rattle.vs_elab_signals.specs.Outlines.{Line, leave, outline_within, outline_below, outline_of, IsEntry}
+use Rattle.vs_elab_signals.specs.ScopeFaults.{HasConstructFault, HoldsOpeningIn, top_fault}
+use Rattle.vs_elab_signals.specs.Opened.{IsScopeOf}
+use Rattle.vs_elab_hierarchy.specs.vs_elab_signals.specs.nets_passes.Nets.{IsNamedAsNet}
 use Rattle.vs_elab_hierarchy.specs.declared.entering.NamedModule.{NamedModule}
 use Rattle.vs_elab_hierarchy.specs.passes.Blocks.{HasEachNamed, AreNamed, Extends}
 use Rattle.vs_elab_hierarchy.specs.passes.Entering.{Lists, before_next, IsSoundInner, module_names}
@@ -88,7 +88,7 @@ OpensInsideNot depth_left ms s r p = HoldsOpeningIn ms (scopes_within depth_left
 
 -- the scope of the top, which may have implicit nets or not
 pub record IsTop (nets : Bool) (m : Module) (o : FoundScope) : Type 0 where
-  pub entered : IsEntered (top_scope nets m ∷ []) o (top_scope nets m)
+  pub entered : IsScopeOf (top_scope nets m ∷ []) o (top_scope nets m)
   pub blocks : o.blocks ≡ []
   pub parameters : (w : WidthReason) → top_fault w m ≡ false
 

@@ -2,13 +2,13 @@
 use Rattle.std.specs.Prelude.{◌≡◌, ℕ, suc, ℤ, ◌+◌, ◌<◌, Option, Some, None, List, [], ◌++◌, length, slice_get}
 use Rattle.vs_elab_constants.specs.vs_widths.specs.Names.{meaning_of}
 use Rattle.vs_scopes.specs.Pieces.{NamedBlock}
-use Rattle.vs_elab_listed.specs.vs_scopes.specs.Generate.{Inner, instance, generated}
-use Rattle.vs_elab_listed.specs.vs_scopes.specs.Generate as g
-use Rattle.vs_elab_listed.specs.vs_scopes.specs.Scopes.{Scope, inner_of}
-use Rattle.vs_elab_listed.specs.vs_scopes.specs.declared.printed.PartName.{PartName as FoundPart}
-use Rattle.vs_elab_listed.specs.vs_scopes.specs.declared.printed.PartName.TheVariants as p
-use Rattle.vs_elab_listed.specs.vs_scopes.specs.declared.printed.PathName.{PathName as FoundName}
-use Rattle.vs_elab_listed.specs.declared.opened.ListedScope.{ListedScope as FoundScope}
+use Rattle.vs_elab_signals.specs.vs_scopes.specs.Generate.{Inner, instance, generated}
+use Rattle.vs_elab_signals.specs.vs_scopes.specs.Generate as g
+use Rattle.vs_elab_signals.specs.vs_scopes.specs.Scopes.{Scope, inner_of}
+use Rattle.vs_elab_signals.specs.vs_scopes.specs.declared.printed.PartName.{PartName as FoundPart}
+use Rattle.vs_elab_signals.specs.vs_scopes.specs.declared.printed.PartName.TheVariants as p
+use Rattle.vs_elab_signals.specs.vs_scopes.specs.declared.printed.PathName.{PathName as FoundName}
+use Rattle.vs_elab_signals.specs.declared.opened.ElabScope.{ElabScope as FoundScope}
 
 -- a name of the text
 abbrev pub text_of : FoundPart → Option (List ℕ)

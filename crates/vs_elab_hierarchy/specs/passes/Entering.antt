@@ -10,28 +10,28 @@ use Rattle.vs_widths.specs.declared.faults.WidthFault.{WidthFault}
 use Rattle.vs_widths.specs.declared.faults.WidthFault.TheVariants as width
 use Rattle.vs_elab_constants.specs.vs_widths.specs.Names.{meaning_of}
 use Rattle.vs_scopes.specs.Pieces.{Piece, pieces_of, block_pieces}
-use Rattle.vs_elab_listed.specs.vs_scopes.specs.declared.faults.Reason.{Reason}
-use Rattle.vs_elab_listed.specs.vs_scopes.specs.declared.faults.Reason.TheVariants.{NoModule, Inside, PortMismatch, ParameterMismatch, DeclaredTwice, Width}
-use Rattle.vs_elab_listed.specs.vs_scopes.specs.declared.faults.ElabFault.{ElabFault}
-use Rattle.vs_elab_listed.specs.vs_scopes.specs.declared.faults.ElabFault.TheVariants.{Memory}
-use Rattle.vs_elab_listed.specs.vs_scopes.specs.declared.faults.ParameterRefusal.{ParameterRefusal}
-use Rattle.vs_elab_listed.specs.vs_scopes.specs.declared.faults.ParameterRefusal.TheVariants as refusal
-use Rattle.vs_elab_listed.specs.vs_scopes.specs.Printed.{PathName, Path}
-use Rattle.vs_elab_listed.specs.vs_scopes.specs.Parameters.{is_override_mismatch}
-use Rattle.vs_elab_listed.specs.vs_scopes.specs.Declarations.{Use}
-use Rattle.vs_elab_listed.specs.vs_scopes.specs.Nets.{permits_nets}
-use Rattle.vs_elab_listed.specs.vs_scopes.specs.Generate.{Inner, instance, generated}
-use Rattle.vs_elab_listed.specs.vs_scopes.specs.Generate as g
-use Rattle.vs_elab_listed.specs.vs_scopes.specs.Scopes.{Scope, Before, instance_scope, block_scope, block_fault, opened, module_named, named, named_at, is_inside, is_port_mismatch, levels}
-use Rattle.vs_elab_listed.specs.vs_scopes.specs.scopes_passes.Answers.{IsFaultAt}
-use Rattle.vs_elab_listed.specs.vs_scopes.specs.scopes_passes.Names.{read_title}
-use Rattle.vs_elab_listed.specs.vs_scopes.specs.declared.printed.PathName.{PathName as FoundName}
-use Rattle.vs_elab_listed.specs.declared.opened.ListedScope.{ListedScope as FoundScope}
-use Rattle.vs_elab_listed.specs.declared.opened.Numbering.{Numbering}
-use Rattle.vs_elab_listed.specs.Opened.{IsEntered}
+use Rattle.vs_elab_signals.specs.vs_scopes.specs.declared.faults.Reason.{Reason}
+use Rattle.vs_elab_signals.specs.vs_scopes.specs.declared.faults.Reason.TheVariants.{NoModule, Inside, PortMismatch, ParameterMismatch, DeclaredTwice, Width}
+use Rattle.vs_elab_signals.specs.vs_scopes.specs.declared.faults.ElabFault.{ElabFault}
+use Rattle.vs_elab_signals.specs.vs_scopes.specs.declared.faults.ElabFault.TheVariants.{Memory}
+use Rattle.vs_elab_signals.specs.vs_scopes.specs.declared.faults.ParameterRefusal.{ParameterRefusal}
+use Rattle.vs_elab_signals.specs.vs_scopes.specs.declared.faults.ParameterRefusal.TheVariants as refusal
+use Rattle.vs_elab_signals.specs.vs_scopes.specs.Printed.{PathName, Path}
+use Rattle.vs_elab_signals.specs.vs_scopes.specs.Parameters.{is_override_mismatch}
+use Rattle.vs_elab_signals.specs.vs_scopes.specs.Declarations.{Use}
+use Rattle.vs_elab_signals.specs.vs_scopes.specs.Nets.{permits_nets}
+use Rattle.vs_elab_signals.specs.vs_scopes.specs.Generate.{Inner, instance, generated}
+use Rattle.vs_elab_signals.specs.vs_scopes.specs.Generate as g
+use Rattle.vs_elab_signals.specs.vs_scopes.specs.Scopes.{Scope, Before, instance_scope, block_scope, block_fault, opened, module_named, named, named_at, is_inside, is_port_mismatch, levels}
+use Rattle.vs_elab_signals.specs.vs_scopes.specs.scopes_passes.Answers.{IsFaultAt}
+use Rattle.vs_elab_signals.specs.vs_scopes.specs.scopes_passes.Names.{read_title}
+use Rattle.vs_elab_signals.specs.vs_scopes.specs.declared.printed.PathName.{PathName as FoundName}
+use Rattle.vs_elab_signals.specs.declared.opened.ElabScope.{ElabScope as FoundScope}
+use Rattle.vs_elab_signals.specs.declared.opened.Numbering.{Numbering}
+use Rattle.vs_elab_signals.specs.Opened.{IsScopeOf}
 use Rattle.vs_elab_hierarchy.specs.declared.entering.NamedModule.{NamedModule}
 use Rattle.vs_elab_hierarchy.specs.passes.Blocks.{IsTitled}
-use Rattle.vs_elab_listed.specs.ScopeFaults.{of_module, parameter_fault, override_fault, NamesTwice}
+use Rattle.vs_elab_signals.specs.ScopeFaults.{of_module, parameter_fault, override_fault, NamesTwice}
 
 -- ---- modules
 
@@ -86,7 +86,7 @@ IsParameterFault s n (refusal.Own w) e = IsFaultAt (Width w) (named s n) e
 
 -- the scope of an instance of this module in the scope at a place, among these, with so much before it
 pub record EntersInstance (nets : Bool) (ss : List Scope) (s : Scope) (place : ℕ) (at : Before) (u : Use) (m : Module) (o : FoundScope) : Type 0 where
-  pub entered : IsEntered (ss ++ instance_scope nets s at u m ∷ []) o (instance_scope nets s at u m)
+  pub entered : IsScopeOf (ss ++ instance_scope nets s at u m ∷ []) o (instance_scope nets s at u m)
   pub around : o.around ≡ Some place
   pub blocks : o.blocks ≡ []
   pub fits : is_override_mismatch u.overrides m ≡ false
@@ -122,7 +122,7 @@ IsBlockRefusal s n (width.Refused w) e = IsFaultAt (Width w) (named_at s n) e
 
 -- the scope of a block of this name before a piece of the scope at a place, among these, with so much before it
 pub record EntersBlock (piece : ℕ) (ss : List Scope) (s : Scope) (place : ℕ) (at : Before) (n : FoundName) (cs : List (List ℕ × Const)) (ps : List Piece) (o : FoundScope) : Type 0 where
-  pub entered : IsEntered (ss ++ block_scope piece s at (read_title n) cs ps ∷ []) o (block_scope piece s at (read_title n) cs ps)
+  pub entered : IsScopeOf (ss ++ block_scope piece s at (read_title n) cs ps ∷ []) o (block_scope piece s at (read_title n) cs ps)
   pub around : o.around ≡ Some place
   pub title : o.title ≡ n
   pub blocks : o.blocks ≡ []
@@ -146,7 +146,7 @@ pub record Enters (ms : List Module) (ss : List Scope) (s : Scope) (place : ℕ)
   pub sound : IsSoundInner ms s x
   pub inner : Scope
   pub opens : opened ms s at x ≡ Some inner
-  pub entered : IsEntered (ss ++ inner ∷ []) o inner
+  pub entered : IsScopeOf (ss ++ inner ∷ []) o inner
   pub around : o.around ≡ Some place
   pub title : IsTitled x o.title
   pub blocks : o.blocks ≡ []

@@ -8,10 +8,10 @@ use Rattle.vs_scopes.specs.Printed.{Path}
 use Rattle.vs_scopes.specs.Declarations.{Bindings}
 use Rattle.vs_scopes.specs.Generate.{Inner}
 use Rattle.vs_scopes.specs.Scopes.{Scope, Before, instance_count, turn_count, is_instance, opened, within_first}
-use Rattle.vs_elab_listed.specs.declared.opened.ListedScope.{ListedScope as FoundScope}
-use Rattle.vs_elab_listed.specs.declared.opened.Numbering.{Numbering}
-use Rattle.vs_elab_listed.specs.Outlines.{declared, signals_of}
-use Rattle.vs_elab_listed.specs.Opened.{AreOpened, AreSeated}
+use Rattle.vs_elab_signals.specs.declared.opened.ElabScope.{ElabScope as FoundScope}
+use Rattle.vs_elab_signals.specs.declared.opened.Numbering.{Numbering}
+use Rattle.vs_elab_signals.specs.Outlines.{declared, signals_of}
+use Rattle.vs_elab_signals.specs.Opened.{AreOpened, AreSeated}
 use Rattle.vs_elab_hierarchy.specs.declared.entering.NamedModule.{NamedModule}
 use Rattle.vs_elab_hierarchy.specs.passes.Blocks.{IsTitled}
 use Rattle.vs_elab_hierarchy.specs.passes.Entering.{Lists, before_next, EntersNot, IsSoundInner}

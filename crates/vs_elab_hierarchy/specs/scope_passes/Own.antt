@@ -5,21 +5,21 @@ use Rattle.std.specs.Str.{bytes_eq}
 use Rattle.vs_design.specs.declared.design.ScopeKind.{ScopeKind}
 use Rattle.vs_design.specs.declared.design.Entry.{Entry}
 use Rattle.vs_widths.specs.Names.{meaning_of}
-use Rattle.vs_elab_listed.specs.vs_scopes.specs.Pieces.{Piece}
+use Rattle.vs_elab_signals.specs.vs_scopes.specs.Pieces.{Piece}
 use Rattle.vs_scopes.specs.declared.faults.Reason.{Reason}
 use Rattle.vs_scopes.specs.declared.faults.Reason.TheVariants.{PortMismatch, ParameterMismatch, DeclaredTwice, Limit, Width}
 use Rattle.vs_scopes.specs.Printed.{printed_part, plainly, Path}
 use Rattle.vs_scopes.specs.Ports.{ModulePort, is_wrong_port, has_stray_port, ports_again}
 use Rattle.vs_scopes.specs.Declarations.{Bindings, DeclaredName, declaration_fault, declared_by_port, declared_among, is_unlike}
 use Rattle.vs_scopes.specs.Scopes.{Scope, bindings_of, keys, all_names_of, declarations_of, named, late_nets, turns_in, instance_count, turn_count, levels, is_instance, is_parameter, has_block_parameter}
-use Rattle.vs_elab_listed.specs.declared.opened.ListedScope.{ListedScope as FoundScope}
-use Rattle.vs_elab_listed.specs.declared.opened.Numbering.{Numbering}
-use Rattle.vs_elab_listed.specs.Outlines.{declared, signals_of, Line, enter, declare_from, IsEntry}
-use Rattle.vs_elab_listed.specs.ScopeFaults.{Repeated, DeclaresTwice, HasWrongPort, HasUnlikePort, HasStrayPort, HasBlockParameter, HasLateNet, HasRangeFault, PassesLimit, PassesTurns}
-use Rattle.vs_elab_listed.specs.Opened.{IsEntered}
-use Rattle.vs_elab_listed.specs.listed_passes.Sites.{passes_limit}
-use Rattle.vs_elab_listed.specs.listed_passes.Naming.{Bound}
-use Rattle.vs_elab_listed.specs.listed_passes.Declaring.{SameCounts, Keeps}
+use Rattle.vs_elab_signals.specs.declared.opened.ElabScope.{ElabScope as FoundScope}
+use Rattle.vs_elab_signals.specs.declared.opened.Numbering.{Numbering}
+use Rattle.vs_elab_signals.specs.Outlines.{declared, signals_of, Line, enter, declare_from, IsEntry}
+use Rattle.vs_elab_signals.specs.ScopeFaults.{Repeated, DeclaresTwice, HasWrongPort, HasUnlikePort, HasStrayPort, HasBlockParameter, HasLateNet, HasRangeFault, PassesLimit, PassesTurns}
+use Rattle.vs_elab_signals.specs.Opened.{IsScopeOf}
+use Rattle.vs_elab_signals.specs.signal_passes.Sites.{passes_limit}
+use Rattle.vs_elab_signals.specs.signal_passes.Naming.{Bound}
+use Rattle.vs_elab_signals.specs.signal_passes.Declaring.{SameCounts, Keeps}
 
 -- the names that a scope declares, one that declares a port once more among them
 abbrev pub all_declared : Scope → List DeclaredName
@@ -138,7 +138,7 @@ pub record OpensOwn (s : Scope) (names : Bindings) (old new : Numbering) : Type 
 
 -- the scope that is to follow these, with all of them before it
 pub record EntersLast (ss : List Scope) (o : FoundScope) (s : Scope) : Type 0 where
-  pub entered : IsEntered (ss ++ s ∷ []) o s
+  pub entered : IsScopeOf (ss ++ s ∷ []) o s
   pub number : s.number ≡ length ss
   pub instances : s.instances ≡ instance_count ss
   pub turns : s.turns ≡ turn_count ss

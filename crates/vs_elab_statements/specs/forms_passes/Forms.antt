@@ -27,8 +27,8 @@ abbrev pub IsBegun : (Path → Surroundings) → Path → ℕ → Left → Expr 
 IsBegun envs p first l e k t x next = IsFree envs p (numbered_burden (envs p) first l e) × IsNumbered (envs p) first l e k t x next
 
 -- a number, and a statement without a fault that has the numbers behind it
-abbrev pub IsBehind : (Path → Surroundings) → Path → ℕ → Stmt → ℕ → Statement → ℕ → Type 0
-IsBehind envs p first x k y next = IsFree envs p (statement_burden (envs p) (first + 1) x) × ((k ≡ first) × MeansStatement envs p (first + 1) x y next)
+abbrev pub IsNumberedBody : (Path → Surroundings) → Path → ℕ → Stmt → ℕ → Statement → ℕ → Type 0
+IsNumberedBody envs p first x k y next = IsFree envs p (statement_burden (envs p) (first + 1) x) × ((k ≡ first) × MeansStatement envs p (first + 1) x y next)
 
 -- what stands behind `else`, without a fault
 abbrev pub IsOtherwise : (Path → Surroundings) → Path → ℕ → Option (Box Stmt Global) → Statement → ℕ → Type 0

@@ -21,7 +21,7 @@ use Rattle.vs_scopes.specs.vs_strobe.specs.Pieces.{format_fault}
 use Rattle.vs_scopes.specs.vs_widths.specs.declared.shape.Shape.{Shape}
 use Rattle.vs_scopes.specs.vs_widths.specs.declared.constants.Const.{Const}
 use Rattle.vs_scopes.specs.vs_widths.specs.declared.faults.WidthFault.{WidthFault}
-use Rattle.vs_scopes.specs.vs_widths.specs.Findings.{Finding, Has, Refuses, stands}
+use Rattle.vs_scopes.specs.vs_widths.specs.Findings.{Finding, Has, Refuses, has_width_fault}
 use Rattle.vs_scopes.specs.vs_widths.specs.Meants.{Meant, own}
 use Rattle.vs_scopes.specs.vs_widths.specs.Constants.{constant_finding}
 use Rattle.vs_widths.specs.Lefts.{Aimed}
@@ -37,8 +37,8 @@ use Rattle.vs_scopes.specs.vs_widths.specs.Environment.{Environment}
 use Rattle.vs_scopes.specs.declared.faults.Reason.{Reason}
 use Rattle.vs_scopes.specs.declared.faults.Reason.TheVariants.{Limit, Width, Format}
 use Rattle.vs_scopes.specs.Printed.{plainly, Path, printed}
-use Rattle.vs_elab_listed.specs.vs_scopes.specs.Pieces.{NamedBlock, blocks_in, blocks_among}
-use Rattle.vs_elab_listed.specs.declared.opened.ListedScope.{ListedScope as FoundScope}
+use Rattle.vs_elab_signals.specs.vs_scopes.specs.Pieces.{NamedBlock, blocks_in, blocks_among}
+use Rattle.vs_elab_signals.specs.declared.opened.ElabScope.{ElabScope as FoundScope}
 use Rattle.vs_elab_statements.specs.declared.faults.StatementFault.{StatementFault}
 use Rattle.vs_elab_statements.specs.declared.faults.StatementFault.TheVariants.{Memory, Overfull, Refused, Inside}
 use Rattle.vs_elab_statements.specs.Surroundings.{Surroundings}
@@ -125,7 +125,7 @@ IsAlone t = (place : Slice) × (t.parts.items ≡ Fixed place ∷ [])
 
 -- a fault of terms of an event control
 abbrev pub terms_fault : Environment → List EventExpr → Reason → Bool
-terms_fault env ts = width_faults (λ w. list_any (λ (a : Aimed). stands w a.finding) (map (event_aimed env) ts))
+terms_fault env ts = width_faults (λ w. list_any (λ (a : Aimed). has_width_fault w a.finding) (map (event_aimed env) ts))
 
 -- a size and a sign that were found, or a fault
 abbrev pub Shapes : Finding → Result Shape WidthFault → Type 0

@@ -4,8 +4,8 @@ use Rattle.std.specs.List.{AllZip}
 use Rattle.vs_widths.specs.Names.{meaning_of}
 use Rattle.vs_scopes.specs.Printed.{Path}
 use Rattle.vs_scopes.specs.Scopes.{Scope, environment}
-use Rattle.vs_elab_listed.specs.declared.opened.ListedScope.{ListedScope as FoundScope}
-use Rattle.vs_elab_listed.specs.Opened.{AreOpened, AreSeated, HasBlocks}
+use Rattle.vs_elab_signals.specs.declared.opened.ElabScope.{ElabScope as FoundScope}
+use Rattle.vs_elab_signals.specs.Opened.{AreOpened, AreSeated, HasBlocks}
 use Rattle.vs_elab_statements.specs.Surroundings.{Surroundings}
 use Rattle.vs_elab_statements.specs.declared.views.View.{View}
 

@@ -16,10 +16,10 @@ use Rattle.vs_elab_hierarchy.specs.vs_scopes.specs.declared.scope.ScopePiece.{Sc
 use Rattle.vs_elab_statements.specs.vs_scopes.specs.Ports.{ModulePort}
 use Rattle.vs_elab_statements.specs.vs_scopes.specs.Printed.{Path}
 use Rattle.vs_elab_statements.specs.vs_scopes.specs.Scopes.{Scope, environment, is_wrong_end, has_wrong_end}
-use Rattle.vs_elab_statements.specs.vs_scopes.specs.scopes_passes.Answers.{IsFaultAt, Told}
+use Rattle.vs_elab_statements.specs.vs_scopes.specs.scopes_passes.Answers.{IsFaultAt, IsReported}
 use Rattle.vs_elab_statements.specs.vs_scopes.specs.scopes_passes.Names.{read_path}
 use Rattle.vs_elab_statements.specs.vs_scopes.specs.scopes_passes.Parts.{read_port, read_ends}
-use Rattle.vs_elab_statements.specs.vs_elab_listed.specs.declared.opened.ListedScope.{ListedScope as FoundScope}
+use Rattle.vs_elab_statements.specs.vs_elab_signals.specs.declared.opened.ElabScope.{ElabScope as FoundScope}
 use Rattle.vs_elaborate.specs.declared.contents.Contents.{Contents}
 use Rattle.vs_elab_statements.specs.declared.faults.StatementFault.{StatementFault}
 use Rattle.vs_elab_statements.specs.Members.{Assignment, PortDriver, Driver, of_text, Behavior, drivers_of, port_drivers_of}
@@ -49,7 +49,7 @@ IsFaultIn envs list place r e = (at : Path) → IsSite list envs place at → Is
 
 -- a fault of a process of a scope stands where it is told
 abbrev pub RunFails : (Path → Surroundings) → Frame → Scope → Behavior → StatementFault → ElabFault → Type 0
-RunFails envs f s b fault e = BodyFails f.view.list.now envs s.path b fault → Told (λ r at. HasBehaviorFault envs r at s.path b) e
+RunFails envs f s b fault e = BodyFails f.view.list.now envs s.path b fault → IsReported (λ r at. HasBehaviorFault envs r at s.path b) e
 
 -- ---- parts of a scope
 

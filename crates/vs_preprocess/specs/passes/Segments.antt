@@ -24,9 +24,9 @@ pub record IsJoined (last : Segment) (n : ℕ) (spot : Spot) (s : Segment) : Typ
   pub place : last.spot.place + last.size ≡ spot.place
 
 -- the first segment, if there is one, begins behind an offset
-abbrev pub BeginsBehind : ℕ → List Segment → Type 0
-BeginsBehind offset [] = Unit {0}
-BeginsBehind offset (s ∷ ss) = offset < s.offset
+abbrev pub BeginsAfter : ℕ → List Segment → Type 0
+BeginsAfter offset [] = Unit {0}
+BeginsAfter offset (s ∷ ss) = offset < s.offset
 
 -- segments stand one behind another, from an offset on
 abbrev pub AreInLine : ℕ → List Segment → Type 0

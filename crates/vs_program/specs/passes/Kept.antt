@@ -1,8 +1,8 @@
 -- How a call ends with bytes that were read, for private clauses.
 use Rattle.std.specs.Prelude.{ℕ, ◌≡◌, ◌≤◌, ◌⊎◌, Bool, true, false, Option, List, [], length}
 use Rattle.std.specs.Io.KnownBytes.{Keeps, append_known}
-use Rattle.vs_certified.specs.Certified.{is_before_run}
-use Rattle.vs_certified.specs.declared.fault.CertifiedFault.{CertifiedFault}
+use Rattle.vs_sign_off.specs.Certified.{is_before_run}
+use Rattle.vs_sign_off.specs.declared.fault.CertifiedFault.{CertifiedFault}
 use Rattle.vs_program_words.specs.Targets.{Fails, IsMeant}
 use Rattle.vs_program_words.specs.declared.target.TargetFault.{TargetFault}
 use Rattle.vs_program.specs.Statuses.{proposal_status, refusal_status, target_status}
@@ -10,7 +10,7 @@ use Rattle.vs_program.specs.Texts.{ReadsBack, proposal_line}
 use Rattle.vs_program.specs.passes.Proposing.{WroteLine}
 use Rattle.vs_program_words.specs.vs_certificate.specs.declared.members.ClaimedGrain.{ClaimedGrain}
 use Rattle.vs_program_words.specs.vs_certificate.specs.declared.members.Rules.{Rules}
-use Rattle.vs_race.specs.vs_propose.specs.declared.proposal.Proposal.{Proposal}
+use Rattle.vs_sign_off.specs.vs_propose.specs.declared.proposal.Proposal.{Proposal}
 use Rattle.vs_preprocess.specs.Limits.{text_limit}
 use Rattle.vs_program.specs.Ends.{CallFails, EndsWith, HasBegunWriting, HasWritten, Held, IsOpen, IsProposed, KeepsAll, MakingFails}
 use Rattle.vs_program.specs.Ends.{done_status}

@@ -6,8 +6,8 @@ use Rattle.vs_program_words.specs.vs_certificate.specs.JsonValue.{value_of}
 use Rattle.vs_program_words.specs.vs_certificate.specs.Reading.{max_len}
 use Rattle.vs_program_words.specs.vs_certificate.specs.declared.members.ClaimedGrain.{ClaimedGrain}
 use Rattle.vs_program_words.specs.vs_certificate.specs.declared.members.Rules.{Rules}
-use Rattle.vs_race.specs.vs_propose.specs.declared.proposal.Proposal.{Proposal}
-use Rattle.vs_race.specs.vs_propose.specs.declared.proposal.Proposal.TheVariants.{Made, NotMade}
+use Rattle.vs_sign_off.specs.vs_propose.specs.declared.proposal.Proposal.{Proposal}
+use Rattle.vs_sign_off.specs.vs_propose.specs.declared.proposal.Proposal.TheVariants.{Made, NotMade}
 use Rattle.vs_program.specs.Ends.{Held, IsProposed}
 use Rattle.vs_program.specs.Texts.{ReadsBack, proposal_line}
 use Rattle.vs_program.specs.declared.certifying.ProposalLine.{ProposalLine}

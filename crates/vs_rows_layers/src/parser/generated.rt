@@ -1,6 +1,6 @@
 //! Sources as text: directives, items and generate constructs.
 use crate::parser::trees::{
-    form_shown, item_shown, name_shown, range_shown, shown_behind, shown_between,
+    form_shown, item_shown, name_shown, put_headed, range_shown, shown_between,
 };
 use vs_row_files::Text;
 use vs_syntax::vs_lexer::{Directive, ImplicitNet};
@@ -35,10 +35,10 @@ pub(crate) fn locals_shown(locals: &[LocalDeclaration], text: &mut Text) {
 /// The header of a generate loop.
 fn header_shown(header: &LoopHeader, text: &mut Text) {
     text.put(&header.name);
-    shown_behind(b" = ", &header.first, text);
+    put_headed(b" = ", &header.first, text);
     shown_between(b"; ", &header.condition, b"; ", text);
     text.put(&header.next);
-    shown_behind(b" = ", &header.step, text);
+    put_headed(b" = ", &header.step, text);
 }
 
 /// An item in one line, a block in parentheses, each generate construct in brackets.

@@ -1,5 +1,5 @@
 //! Headers and instances as text.
-use crate::parser::trees::{form_shown, name_shown, shown, shown_behind, value_shown};
+use crate::parser::trees::{form_shown, name_shown, put_headed, shown, value_shown};
 use vs_row_files::Text;
 use vs_syntax::{
     Connection, Connections, Constant, Direction, Expr, HeaderParameter, Instance, Module,
@@ -25,7 +25,7 @@ pub(crate) fn constants_shown(
     parameter_form_shown(form, text);
     for constant in constants {
         name_shown(&constant.name, text);
-        shown_behind(b" = ", &constant.value, text);
+        put_headed(b" = ", &constant.value, text);
     }
 }
 
@@ -91,7 +91,7 @@ fn header_parameter_shown(parameter: &HeaderParameter, text: &mut Text) {
         text.put(b" ");
     }
     text.put(&parameter.name);
-    shown_behind(b" = ", &parameter.value, text);
+    put_headed(b" = ", &parameter.value, text);
 }
 
 /// What stands before the names of ports.

@@ -2,7 +2,7 @@
 use crate::parser::generated::locals_shown;
 use crate::parser::tasks::{later_sign, task_shown};
 use crate::parser::trees::{
-    left_shown, list_shown, selected_shown, shown, shown_behind, shown_between, sides_shown,
+    left_shown, list_shown, put_headed, selected_shown, shown, shown_between, sides_shown,
 };
 use vs_row_files::Text;
 use vs_syntax::vs_logic4::{CaseKind, Edge};
@@ -144,7 +144,7 @@ pub(crate) fn statement_shown(s: &Stmt, text: &mut Text) {
             text.put(b"]");
         }
         Stmt::Case(kind, subject, items) => {
-            shown_behind(kind_shown(*kind), subject, text);
+            put_headed(kind_shown(*kind), subject, text);
             for (label, inner) in items {
                 text.put(b" (");
                 label_shown(label, text);

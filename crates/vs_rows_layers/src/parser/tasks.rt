@@ -1,6 +1,6 @@
 //! System tasks and delays of nonblocking assignments as text.
 use crate::parser::statements::delay_shown;
-use crate::parser::trees::{shown, shown_behind};
+use crate::parser::trees::{put_headed, shown};
 use vs_row_files::Text;
 use vs_syntax::{Argument, DelayValue, DumpArgument, DumpTask, PrintArguments, PrintTask, Stmt};
 
@@ -31,7 +31,7 @@ fn print_arguments_shown(arguments: &PrintArguments, text: &mut Text) {
             quoted(format, text);
             for other in others {
                 match other {
-                    Argument::Value(value) => shown_behind(b" ", value, text),
+                    Argument::Value(value) => put_headed(b" ", value, text),
                     Argument::Time => text.put(b" $time"),
                 }
             }

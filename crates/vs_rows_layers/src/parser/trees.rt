@@ -14,8 +14,8 @@ pub(crate) fn shown(e: &Expr, text: &mut Text) {
 }
 
 /// An expression behind a word.
-pub(crate) fn shown_behind(word: &[u8], e: &Expr, text: &mut Text) {
-    behind_within(DEPTH, word, e, text);
+pub(crate) fn put_headed(word: &[u8], e: &Expr, text: &mut Text) {
+    put_headed_within(DEPTH, word, e, text);
 }
 
 /// An expression between two words.
@@ -54,9 +54,9 @@ fn shown_within(depth: u32, e: &Expr, text: &mut Text) {
         }
         Expr::Cast(signed, inner) => between_within(room, conversion(*signed), inner, b")", text),
         Expr::Chain(first, links) => {
-            behind_within(room, b"[", first, text);
+            put_headed_within(room, b"[", first, text);
             for (operator, operand) in links {
-                behind_within(room, infix(*operator), operand, text);
+                put_headed_within(room, infix(*operator), operand, text);
             }
             text.put(b"]");
         }
@@ -81,7 +81,7 @@ fn shown_within(depth: u32, e: &Expr, text: &mut Text) {
 }
 
 #[cycle(shown)]
-fn behind_within(depth: u32, word: &[u8], e: &Expr, text: &mut Text) {
+fn put_headed_within(depth: u32, word: &[u8], e: &Expr, text: &mut Text) {
     text.put(word);
     shown_within(depth, e, text);
 }
@@ -97,7 +97,7 @@ fn between_within(depth: u32, before: &[u8], e: &Expr, behind: &[u8], text: &mut
 fn list_within(depth: u32, first: &Expr, others: &[Expr], behind: &[u8], text: &mut Text) {
     shown_within(depth, first, text);
     for other in others {
-        behind_within(depth, b", ", other, text);
+        put_headed_within(depth, b", ", other, text);
     }
     text.put(behind);
 }
@@ -111,9 +111,9 @@ fn selected_within(
 ) {
     text.put(name);
     for (index, second) in selects {
-        behind_within(depth, b"|", index, text);
+        put_headed_within(depth, b"|", index, text);
         if let Some((kind, other)) = second {
-            behind_within(depth, middle(*kind), other, text);
+            put_headed_within(depth, middle(*kind), other, text);
         }
     }
 }
@@ -205,15 +205,15 @@ fn bare_names_shown(names: &[Vec<u8>], text: &mut Text) {
 /// A range, where there is one.
 pub(crate) fn range_shown(range: &Option<Range>, text: &mut Text) {
     if let Some(range) = range {
-        shown_behind(b" from ", &range.left, text);
-        shown_behind(b" to ", &range.right, text);
+        put_headed(b" from ", &range.left, text);
+        put_headed(b" to ", &range.right, text);
     }
 }
 
 /// The value that a name is given, where there is one.
 pub(crate) fn value_shown(value: &Option<Expr>, text: &mut Text) {
     if let Some(value) = value {
-        shown_behind(b" = ", value, text);
+        put_headed(b" = ", value, text);
     }
 }
 
@@ -244,7 +244,7 @@ fn declaration_shown(word: &[u8], form: &Form, names: &[Declarator], text: &mut 
 /// Both sides of an assignment in one line.
 pub(crate) fn sides_shown(left: &Left, value: &Expr, text: &mut Text) {
     left_shown(left, text);
-    shown_behind(b" = ", value, text);
+    put_headed(b" = ", value, text);
 }
 
 /// The assignments of an `assign` item in one line.

@@ -133,7 +133,7 @@ fn named_of(
 }
 
 /// The files of a question as a library has them.
-fn listed_of<'f>(
+fn library_files<'f>(
     alloc: Global,
     files: &'f [(Vec<u8>, Vec<u8>)],
 ) -> Result<Vec<(&'f [u8], &'f [u8])>, AllocError> {
@@ -165,7 +165,7 @@ fn made_of_files(
     words: &Words<'_>,
     files: &[(Vec<u8>, Vec<u8>)],
 ) -> Result<Preprocessed, Failure> {
-    let listed = listed_of(alloc, files)?;
+    let listed = library_files(alloc, files)?;
     made_of(alloc, words, &listed)
 }
 

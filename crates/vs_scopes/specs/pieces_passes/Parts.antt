@@ -14,9 +14,9 @@ use Rattle.vs_scopes.specs.Pieces.{NamedBlock, blocks_in}
 use Rattle.vs_scopes.specs.Uses.{Bytes, expr_names, select_expr_names, left_names}
 
 -- the outermost named blocks of the statement behind `else`, where there is one
-abbrev pub blocks_behind : Option (Box Stmt Global) → List NamedBlock
-blocks_behind None = []
-blocks_behind (Some s) = blocks_in s.value
+abbrev pub blocks_of_else : Option (Box Stmt Global) → List NamedBlock
+blocks_of_else None = []
+blocks_of_else (Some s) = blocks_in s.value
 
 -- the outermost named blocks of the items of a `case`
 abbrev pub blocks_in_items : List (CaseLabel × Stmt) → List NamedBlock

@@ -27,9 +27,9 @@ Elaborates stands P (Ok x) = ((r : Reason) → stands r ≡ false) × P x
 Elaborates stands P (Err e) = Refuses stands e
 
 -- a fault that stands at its path, which is printed, or want of memory
-abbrev pub Told : (Reason → Path → Type 0) → ElabFault → Type 0
-Told Stands Memory = Unit {0}
-Told Stands (At r bytes) = (p : Path) × (bytes.items ≡ printed p) × Stands r p
+abbrev pub IsReported : (Reason → Path → Type 0) → ElabFault → Type 0
+IsReported Stands Memory = Unit {0}
+IsReported Stands (At r bytes) = (p : Path) × (bytes.items ≡ printed p) × Stands r p
 
 -- a fault of this reason under this path, or want of memory
 abbrev pub IsFaultAt : Reason → Path → ElabFault → Type 0
@@ -45,4 +45,4 @@ IsRefusal p (b.Refused r) e = IsFaultAt r p e
 -- them all
 abbrev pub Grows : {A B C : Type 0} → (C → List A → Type 0) → (C → List A → Type 0) → (C → List A → Reason → Path → Type 0) → List A → Result B ElabFault → Type 0
 Grows {A} {B} {C} Old New Stands xs r =
-    (start : C) (done : List A) → Old start done → MatchResult r (λ _. New start (done ++ xs)) (Told (Stands start (done ++ xs)))
+    (start : C) (done : List A) → Old start done → MatchResult r (λ _. New start (done ++ xs)) (IsReported (Stands start (done ++ xs)))

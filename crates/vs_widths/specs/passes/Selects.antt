@@ -7,7 +7,7 @@ use Rattle.vs_syntax.specs.declared.tree.PartSelect.{PartSelect}
 use Rattle.vs_widths.specs.declared.forms.Measured.{Measured}
 use Rattle.vs_widths.specs.declared.faults.WidthFault.{WidthFault}
 use Rattle.vs_widths.specs.Findings.{Lacks, Refuses}
-use Rattle.vs_widths.specs.Selects.{Select, stands_in}
+use Rattle.vs_widths.specs.Selects.{Select, select_has_fault}
 use Rattle.vs_widths.specs.select_passes.Places.{selects_meaning, IsFlexibleSelect}
 
 -- measured selects are those that mean this
@@ -18,4 +18,4 @@ pub record AreMeasured (ss : List Select) (xs : List (Measured × Option (PartSe
 -- what measuring answers of selects that mean this
 abbrev pub MeasuresSelects : List Select → Result (Vec (Measured × Option (PartSelect × Measured)) Global) WidthFault → Type 0
 MeasuresSelects ss (Ok xs) = AreMeasured ss xs.items
-MeasuresSelects ss (Err e) = Refuses (Lacks (λ r. list_any (stands_in r) ss)) e
+MeasuresSelects ss (Err e) = Refuses (Lacks (λ r. list_any (select_has_fault r) ss)) e

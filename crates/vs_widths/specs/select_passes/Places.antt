@@ -82,9 +82,9 @@ pub record IsAlone (x : Measured) (v : List Digit) : Type 0 where
   pub value : (store : Store) (time : ℕ) → own (meaning x) store time ≡ v
 
 -- the value of an index in each store, where it reads nothing
-abbrev pub StandsAlone : Measured → Option (List Digit) → Type 0
-StandsAlone x (Some v) = IsAlone x v
-StandsAlone x None = (sense x.form).reads ≡ [] → ⊥
+abbrev pub HasConstantValue : Measured → Option (List Digit) → Type 0
+HasConstantValue x (Some v) = IsAlone x v
+HasConstantValue x None = (sense x.form).reads ≡ [] → ⊥
 
 -- bits at places that no store changes
 pub record IsFixed (p : ChosenBits) (s : Slice) : Type 0 where

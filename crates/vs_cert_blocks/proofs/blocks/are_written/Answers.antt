@@ -1,7 +1,7 @@
 use Rattle.std.proofs.Common.{sym, ◌∙◌}
 use Rattle.std.proofs.lemmas.Bool.{false≢true}
+use Rattle.vs_design.specs.vs_logic4.proofs.Basics.{all_do, one_not}
 use Rattle.vs_cert_blocks.specs.Blocks.{IsSignalFirst}
-use Rattle.vs_cert_blocks.proofs.BlockLemmas.{all_do, one_not}
 use Rattle.vs_cert_blocks.proofs.blocks.are_written.Goals as goal
 
 pub returns-then-not-branch : goal.returns-then-not-branch

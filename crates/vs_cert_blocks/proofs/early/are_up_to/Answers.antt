@@ -1,5 +1,5 @@
 use Rattle.std.proofs.Common.{ℕ, ◌≤◌, arith}
-use Rattle.vs_cert_blocks.proofs.BlockLemmas.{all_do, one_not}
+use Rattle.vs_design.specs.vs_logic4.proofs.Basics.{all_do, one_not}
 use Rattle.vs_cert_blocks.proofs.early.are_up_to.Goals as goal
 
 pub returns-then-x-most : goal.returns-then-x-most

@@ -4,11 +4,11 @@ use Rattle.vs_rules_of_processes.specs.vs_drivers.specs.Wires.{IsWiringOf}
 use Rattle.vs_cert_check.proofs.Wired.{wired}
 use Rattle.vs_cert_check.proofs.judging.by_entries.Goals as goal
 
-pub new-requires-2-clause-wiring : goal.new-requires-2-clause-wiring
-new-requires-2-clause-wiring c =
+pub new-requires-2 : goal.new-requires-2
+new-requires-2 c =
     let d = c.args.facts.now.design in
     let n = c.args.facts.now.claims in
-    subst (IsWiringOf d n) (sym c.requires.cones) (wired d n)
+    record { wiring = subst (IsWiringOf d n) (sym c.requires.cones) (wired d n) }
 
 pub of-requires-2 : goal.of-requires-2
 of-requires-2 c =

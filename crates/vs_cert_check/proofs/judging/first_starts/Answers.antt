@@ -1,7 +1,7 @@
 use Rattle.std.proofs.Common.{sym, subst, arith}
 use Rattle.vs_rules_of_processes.specs.vs_drivers.specs.Wires.{IsWiringOf}
 use Rattle.vs_cert_check.proofs.Wired.{wired}
-use Rattle.vs_law_rules.proofs.Keeps.{assigns_named, blocks_kept, order_kept}
+use Rattle.vs_independence.proofs.Keeps.{assigns_named, blocks_kept, order_kept}
 use Rattle.vs_cert_check.proofs.Judged.{kept_all}
 use Rattle.vs_cert_check.proofs.judging.first_starts.Goals as goal
 

@@ -5,7 +5,7 @@ use Rattle.std.specs.Global.{Global}
 use Rattle.vs_cert_check.specs.declared.verdict.Broken.{Broken}
 use Rattle.vs_rules_of_signals.specs.vs_graph.specs.Verdicts.{IsLeast}
 use Rattle.vs_rules_of_starts.specs.vs_rules.specs.Verdict.{subjects}
-use Rattle.vs_cert_check.specs.Broken.{AreListed, IsListed}
+use Rattle.vs_cert_check.specs.Broken.{AreFirstBroken, IsBrokenList}
 use Rattle.vs_cert_check.specs.Verdicts.{KeepsAt, AllKeptBelow}
 use Rattle.vs_cert_check.proofs.BrokenLemmas.{none_told}
 use Rattle.vs_cert_check.proofs.Judged.{as_many, kept_of_all}
@@ -16,7 +16,7 @@ returns-in-None c =
     let d = c.args.sheet.now.facts.now.design in
     let n = c.args.sheet.now.facts.now.claims in
     let least = subst (IsLeast (KeepsAt d n) 11 (length c.args.all.now)) c.in-None.is c.requires.least in
-    subst (λ (l : List Broken). IsListed d n c.args.most l) (sym c.new.ensures.items)
+    subst (λ (l : List Broken). IsBrokenList d n c.args.most l) (sym c.new.ensures.items)
     (inl (none_told d n 11 c.args.most (kept_of_all d n c.args.all.now 11 c.requires.are least)))
 
 pub broken_from-requires-clause-kept : goal.broken_from-requires-clause-kept
@@ -40,12 +40,12 @@ returns-then-rule-lt-BEFORE c =
     let least = subst (IsLeast (KeepsAt d n) 11 (length c.args.all.now)) c.in-Some.is c.requires.least in
     let within : c.in-Some.field-0-1 < length (subjects d n) = subst (λ (m : ℕ). c.in-Some.field-0-1 < m) (as_many d n c.args.all.now c.requires.are) least.2.0 in
     let broken : AllKeptBelow d n 10 → ⊥ = λ kept. least.2.1 (kept c.in-Some.rule c.if-rule-lt-BEFORE.true c.in-Some.field-0-1 within) in
-    IfOk-weaker c.broken_from.result (λ (l : Vec Broken Global). AreListed d n 10 c.args.most l.items) (λ (l : Vec Broken Global). IsListed d n c.args.most l.items)
+    IfOk-weaker c.broken_from.result (λ (l : Vec Broken Global). AreFirstBroken d n 10 c.args.most l.items) (λ (l : Vec Broken Global). IsBrokenList d n c.args.most l.items)
     (λ l listed. inr (broken, listed)) c.broken_from.ensures
 
 pub returns-else-rule-lt-BEFORE : goal.returns-else-rule-lt-BEFORE
 returns-else-rule-lt-BEFORE c =
     let d = c.args.sheet.now.facts.now.design in
     let n = c.args.sheet.now.facts.now.claims in
-    IfOk-weaker c.broken_starts.result (λ (l : Vec Broken Global). AreListed d n 11 c.args.most l.items) (λ (l : Vec Broken Global). IsListed d n c.args.most l.items)
+    IfOk-weaker c.broken_starts.result (λ (l : Vec Broken Global). AreFirstBroken d n 11 c.args.most l.items) (λ (l : Vec Broken Global). IsBrokenList d n c.args.most l.items)
     (λ l listed. inl listed) c.broken_starts.ensures

@@ -1,6 +1,7 @@
 use Rattle.std.proofs.Common.{ℕ, IsTrue, arith, rules}
+use Rattle.vs_design.specs.vs_logic4.proofs.Basics.{all_do}
 use Rattle.vs_cert_roots.specs.Roots.{IsRight}
-use Rattle.vs_rules_of_signals.proofs.ListLemmas.{further, all_do}
+use Rattle.vs_rules_of_signals.proofs.ListLemmas.{further}
 use Rattle.vs_cert_roots.proofs.roots.are_right.Goals as goal
 
 pub loop-root-preserved : goal.loop-root-preserved

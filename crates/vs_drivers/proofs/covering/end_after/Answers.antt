@@ -1,5 +1,5 @@
 use Rattle.std.proofs.Common.{sym, ◌∙◌}
-use Rattle.vs_drivers.proofs.Listed.{ends, none_more, none_has}
+use Rattle.vs_drivers.proofs.RangeBits.{ends, none_more, none_has}
 use Rattle.vs_drivers.proofs.covering.end_after.Goals as goal
 
 pub returns-then-has : goal.returns-then-has

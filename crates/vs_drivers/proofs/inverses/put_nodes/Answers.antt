@@ -1,5 +1,5 @@
 use Rattle.std.proofs.Common.{get_or}
-use Rattle.vs_drivers.proofs.ListLemmas.{contains_at}
+use Rattle.vs_maps.specs.vs_graph.proofs.Sets.{contains_at}
 use Rattle.vs_drivers.proofs.inverses.put_nodes.Goals as goal
 
 pub node-requires-clause-within : goal.node-requires-clause-within

@@ -18,7 +18,7 @@ loop-number-preserved c =
     elim c.if-is_none.branch [
       | then-is_none+in_ok-constant+in-Not w ↦
           let x = w.index-list-number.result in
-          subst (λ z. IsSearched env gs vs z (n + 1)) (ap (λ z. Some z) (sym w.told_of.ensures) ∙ sym w.fault-is) (searched_faulty env gs vs n (read_given x) w.in-Not.reason (get_map read_given c.args.list.now n x c.loop-number-test.true w.index-list-number.is)
+          subst (λ z. IsSearched env gs vs z (n + 1)) (ap (λ z. Some z) (sym w.reported_fault.ensures) ∙ sym w.fault-is) (searched_faulty env gs vs n (read_given x) w.in-Not.reason (get_map read_given c.args.list.now n x c.loop-number-test.true w.index-list-number.is)
           (subst (IsTried (meaning_of c.args.around.now) env (read_given x)) w.in-Not.is w.in_ok-constant.ensures.ok) c.loop-number.fault c.loop-number.invariant)
       | else-is_none w ↦
           let found = found_at vs n c.index-values-number.result c.is_none.result (omega (arith, c.requires.all, c.loop-number-test.true)) c.index-values-number.is c.is_none.ensures w.if-is_none.false in

@@ -2,7 +2,7 @@ use Rattle.std.proofs.Common.{◌≡◌, map, arith}
 use Rattle.std.proofs.lemmas.Result.{err_from_is_err_and}
 use Rattle.vs_widths.specs.Names.{meaning_of}
 use Rattle.vs_scopes.specs.Reads.{read_piece}
-use Rattle.vs_scopes.specs.Generate.{behind_piece, constructs_fault, inner_from}
+use Rattle.vs_scopes.specs.Generate.{after_piece, constructs_fault, inner_from}
 use Rattle.vs_elab_constants.specs.Reads.{read_inners}
 use Rattle.vs_elab_constants.proofs.OpeningLemmas.{construct_next, plain_next, fault_on, inner_on, fault_at}
 use Rattle.vs_elab_constants.proofs.opening.inners.Goals as goal
@@ -23,7 +23,7 @@ loop-place-preserved c =
     let l = c.loop-place in
     let xs = c.args.pieces.now in
     let x = c.index-pieces-place.result in
-    let next : c.if-is_construct.number ≡ behind_piece l.number (read_piece x) =
+    let next : c.if-is_construct.number ≡ after_piece l.number (read_piece x) =
     elim c.if-is_construct.branch [
       | then-is_construct w ↦ construct_next l.number c.if-is_construct.number c.is_construct.result (read_piece x) c.is_construct.ensures w.number-is w.if-is_construct.true
       | else-is_construct w ↦ plain_next l.number c.if-is_construct.number c.is_construct.result (read_piece x) c.is_construct.ensures w.number-is w.if-is_construct.false

@@ -1,7 +1,7 @@
 use Rattle.std.proofs.Common.{◌≡◌, ◌<◌, length, sym, subst, arith}
 use Rattle.std.proofs.lemmas.Result.{err_from_is_err_and}
-use Rattle.vs_elab_listed.specs.vs_elab_constants.specs.Reads.{read_inner}
-use Rattle.vs_elab_listed.specs.Opened.{AreOpened, AreSeated}
+use Rattle.vs_elab_signals.specs.vs_elab_constants.specs.Reads.{read_inner}
+use Rattle.vs_elab_signals.specs.Opened.{AreOpened, AreSeated}
 use Rattle.vs_elab_hierarchy.specs.passes.Entering.{before_next, IsShallow, Enters}
 use Rattle.vs_elab_hierarchy.proofs.SeatLemmas.{opened_many, opened_place}
 use Rattle.vs_elab_hierarchy.proofs.AddLemmas.{enters_next, adds_inner, shallow, enters_told, added_told}

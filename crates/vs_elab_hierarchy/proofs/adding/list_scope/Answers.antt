@@ -1,7 +1,7 @@
 use Rattle.std.proofs.Common.{◌≡◌, [], ◌∷◌, ◌++◌, length, ap, sym, subst, ◌∙◌, arith}
 use Rattle.std.proofs.lemmas.Result.{err_from_is_err_and}
 use Rattle.vs_scopes.specs.scopes_passes.Names.{read_path}
-use Rattle.vs_elab_listed.specs.Opened.{AreOpened}
+use Rattle.vs_elab_signals.specs.Opened.{AreOpened}
 use Rattle.vs_elab_hierarchy.specs.scope_passes.Adding.{AddsScope}
 use Rattle.vs_elab_hierarchy.proofs.SeatLemmas.{opened_many, around_front, entered_around}
 use Rattle.vs_elab_hierarchy.proofs.AddLemmas.{turns_before, adds_scope}

@@ -1,8 +1,8 @@
 use Rattle.std.proofs.Common.{◌≡◌, refl, ap, sym, subst, ◌∙◌}
-use Rattle.vs_elab_listed.specs.vs_scopes.specs.declared.faults.Reason.TheVariants.{Width}
-use Rattle.vs_elab_listed.specs.vs_scopes.specs.Scopes.{named_at}
-use Rattle.vs_elab_listed.specs.vs_scopes.specs.scopes_passes.Answers.{IsFaultAt}
-use Rattle.vs_elab_listed.specs.vs_scopes.specs.scopes_passes.Names.{read_title, read_path}
+use Rattle.vs_elab_signals.specs.vs_scopes.specs.declared.faults.Reason.TheVariants.{Width}
+use Rattle.vs_elab_signals.specs.vs_scopes.specs.Scopes.{named_at}
+use Rattle.vs_elab_signals.specs.vs_scopes.specs.scopes_passes.Answers.{IsFaultAt}
+use Rattle.vs_elab_signals.specs.vs_scopes.specs.scopes_passes.Names.{read_title, read_path}
 use Rattle.vs_elab_hierarchy.specs.passes.Entering.{IsBlockRefusal}
 use Rattle.vs_elab_hierarchy.proofs.EnteringLemmas.{inside, stands_inside}
 use Rattle.vs_elab_hierarchy.proofs.entering.block_refusal.Goals as goal

@@ -3,10 +3,10 @@ use Rattle.std.proofs.lemmas.Option.{slice_get-get_or}
 use Rattle.vs_widths.specs.Findings.{Lacks, Refuses}
 use Rattle.vs_elab_constants.specs.vs_widths.specs.Names.{by_bytes, nested_names}
 use Rattle.vs_scopes.specs.Reads.{read_piece}
-use Rattle.vs_elab_listed.specs.vs_elab_constants.specs.passes.Values.{AreBlockValues, block_faults}
-use Rattle.vs_elab_listed.specs.vs_scopes.specs.Scopes.{block_scope, block_text, sight_in}
-use Rattle.vs_elab_listed.specs.nets_passes.Nets.{AreMembers}
-use Rattle.vs_elab_listed.specs.vs_scopes.specs.scopes_passes.Names.{read_title}
+use Rattle.vs_elab_signals.specs.vs_elab_constants.specs.passes.Values.{AreBlockValues, block_faults}
+use Rattle.vs_elab_signals.specs.vs_scopes.specs.Scopes.{block_scope, block_text, sight_in}
+use Rattle.vs_elab_signals.specs.nets_passes.Nets.{AreMembers}
+use Rattle.vs_elab_signals.specs.vs_scopes.specs.scopes_passes.Names.{read_title}
 use Rattle.vs_elab_hierarchy.proofs.SeatLemmas.{opened_many}
 use Rattle.vs_elab_hierarchy.proofs.EnterLemmas.{entered_block, block_told}
 use Rattle.vs_elab_hierarchy.proofs.EnteringLemmas.{entered_here}

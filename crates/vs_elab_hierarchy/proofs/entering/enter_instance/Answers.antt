@@ -3,11 +3,11 @@ use Rattle.std.specs.List.{list_any}
 use Rattle.std.specs.Str.{bytes_eq}
 use Rattle.std.proofs.lemmas.Option.{slice_get-get_or}
 use Rattle.vs_elab_constants.specs.Reads.{read_use}
-use Rattle.vs_elab_listed.specs.vs_scopes.specs.Nets.{permits_nets}
-use Rattle.vs_elab_listed.specs.vs_scopes.specs.Scopes.{module_named, is_inside}
-use Rattle.vs_elab_listed.specs.vs_scopes.specs.scopes_passes.Answers.{borrowed}
+use Rattle.vs_elab_signals.specs.vs_scopes.specs.Nets.{permits_nets}
+use Rattle.vs_elab_signals.specs.vs_scopes.specs.Scopes.{module_named, is_inside}
+use Rattle.vs_elab_signals.specs.vs_scopes.specs.scopes_passes.Answers.{borrowed}
 use Rattle.vs_elab_hierarchy.specs.passes.Entering.{before_next}
-use Rattle.vs_elab_hierarchy.proofs.EnterLemmas.{home_modules, found_some, inside_told}
+use Rattle.vs_elab_hierarchy.proofs.EnterLemmas.{home_modules, found_some, inside_by_flags}
 use Rattle.vs_elab_hierarchy.proofs.EnteringLemmas.{home_below, instance_entered}
 use Rattle.vs_elab_hierarchy.proofs.entering.enter_instance.Goals as goal
 
@@ -25,7 +25,7 @@ returns-then-is_among c = λ ms ss s l a h.
     let found : module_named ms u.of ≡ Some m = found_some ms u.of c.args.modules.now c.in-Some.listed l (sym c.in-Some.is ∙ c.find.ensures) in
     let same : c.is_among.result ≡ is_inside s m = c.is_among.ensures ∙ ap (λ z. list_any (bytes_eq z) (borrowed c.deref.result.now)) c.deref-2.ensures.value ∙ ap (λ z. list_any (bytes_eq m.name.items) (borrowed z)) c.deref.ensures.value ∙
     ap (list_any (bytes_eq m.name.items)) (home_modules list ss c.args.place s one top a h here there) in
-    inside_told ms s u m c.named_fault-then-is_among.result found (sym same ∙ c.if-is_among.true) (c.named_fault-then-is_among.ensures ss s a h))
+    inside_by_flags ms s u m c.named_fault-then-is_among.result found (sym same ∙ c.if-is_among.true) (c.named_fault-then-is_among.ensures ss s a h))
 
 pub returns : goal.returns
 returns c = λ ms ss s l a h.

@@ -1,10 +1,10 @@
 use Rattle.std.proofs.Common.{◌≡◌, ℕ, List, [], ◌++◌, IfOk, IfErr, ap, subst, ◌∙◌}
 use Rattle.std.proofs.Math.Path.{fun_ext}
 use Rattle.vs_elab_constants.specs.vs_widths.specs.Names.{meaning_of, nested_names}
-use Rattle.vs_elab_listed.specs.vs_scopes.specs.Declarations.{Bindings}
-use Rattle.vs_elab_listed.specs.vs_scopes.specs.Scopes.{environment}
-use Rattle.vs_elab_listed.specs.vs_scopes.specs.scopes_passes.Parts.{read_end}
-use Rattle.vs_elab_listed.specs.vs_elab_constants.specs.passes.Values.{AreValues, AreNoValues}
+use Rattle.vs_elab_signals.specs.vs_scopes.specs.Declarations.{Bindings}
+use Rattle.vs_elab_signals.specs.vs_scopes.specs.Scopes.{environment}
+use Rattle.vs_elab_signals.specs.vs_scopes.specs.scopes_passes.Parts.{read_end}
+use Rattle.vs_elab_signals.specs.vs_elab_constants.specs.passes.Values.{AreValues, AreNoValues}
 use Rattle.vs_elab_hierarchy.proofs.entering.instance_values.Goals as goal
 
 pub returns-clause-ok : goal.returns-clause-ok

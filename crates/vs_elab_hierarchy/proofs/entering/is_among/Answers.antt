@@ -1,5 +1,5 @@
 use Rattle.std.proofs.Common.{sym, arith}
-use Rattle.vs_elab_listed.proofs.ConnectLemmas.{none_named, one_named}
+use Rattle.vs_elab_signals.proofs.ConnectLemmas.{none_named, one_named}
 use Rattle.vs_elab_hierarchy.proofs.entering.is_among.Goals as goal
 
 pub returns-then-eq : goal.returns-then-eq

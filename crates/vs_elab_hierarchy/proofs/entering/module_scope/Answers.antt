@@ -3,11 +3,11 @@ use Rattle.std.proofs.lemmas.Option.{slice_get-get_or}
 use Rattle.vs_scopes.specs.Reads.{read_piece}
 use Rattle.vs_scopes.specs.Pieces.{pieces_of}
 use Rattle.vs_elab_constants.specs.Reads.{read_use}
-use Rattle.vs_elab_listed.specs.vs_scopes.specs.Ports.{ports_of, listed_ports}
-use Rattle.vs_elab_listed.specs.vs_scopes.specs.Scopes.{instance_scope}
-use Rattle.vs_elab_listed.specs.vs_scopes.specs.scopes_passes.Answers.{borrowed}
-use Rattle.vs_elab_listed.specs.vs_scopes.specs.scopes_passes.Parts.{read_port}
-use Rattle.vs_elab_listed.specs.listed_passes.Connecting.{ConnectsTo}
+use Rattle.vs_elab_signals.specs.vs_scopes.specs.Ports.{ports_of, ports_of_header}
+use Rattle.vs_elab_signals.specs.vs_scopes.specs.Scopes.{instance_scope}
+use Rattle.vs_elab_signals.specs.vs_scopes.specs.scopes_passes.Answers.{borrowed}
+use Rattle.vs_elab_signals.specs.vs_scopes.specs.scopes_passes.Parts.{read_port}
+use Rattle.vs_elab_signals.specs.signal_passes.Connecting.{ConnectsTo}
 use Rattle.vs_elab_hierarchy.specs.passes.Entering.{before_next}
 use Rattle.vs_elab_hierarchy.proofs.SeatLemmas.{opened_many}
 use Rattle.vs_elab_hierarchy.proofs.EnterLemmas.{entered_instance, parameters_told, ports_told, home_modules}
@@ -23,7 +23,7 @@ returns-in_default c = λ ss s a h.
     (let u = read_use c.args.one.now in
     let m = c.args.listed.«module».now in
     let pieces : map read_piece c.in_ok-pieces.pieces.items ≡ pieces_of m.items.items = c.in_ok-pieces.ensures ∙ ap pieces_of c.deref.ensures.value in
-    let ports : map read_port c.in_ok-ports.ports.items ≡ ports_of m = c.in_ok-ports.ensures ∙ ap (λ z. listed_ports (map read_piece z) m.ports) c.deref-2.ensures.value ∙ ap (λ z. listed_ports z m.ports) pieces in
+    let ports : map read_port c.in_ok-ports.ports.items ≡ ports_of m = c.in_ok-ports.ensures ∙ ap (λ z. ports_of_header (map read_piece z) m.ports) c.deref-2.ensures.value ∙ ap (λ z. ports_of_header z m.ports) pieces in
     let given : ConnectsTo u (map read_port c.deref-5.result.now) None = subst (ConnectsTo u (map read_port c.deref-5.result.now)) c.in_default.is c.in_ok-ends.ensures in
     ports_told s u m c.named_fault.result (subst (λ z. ConnectsTo u z None) (ap (map read_port) c.deref-5.ensures.value ∙ ports) given) (c.named_fault.ensures ss s a h))
 
@@ -66,7 +66,7 @@ returns c = λ ss s a h.
     let deep : two.depth ≡ s.depth = (entered_here list c.args.place two below (slice_get-get_or list c.args.place c.index-list-place-2.result below) ss s a h).depth in
     let deeper : two.depth + 1 ≡ suc s.depth = omega (arith, deep) in
     let pieces : map read_piece c.in_ok-pieces.pieces.items ≡ pieces_of m.items.items = c.in_ok-pieces.ensures ∙ ap pieces_of c.deref.ensures.value in
-    let ports : map read_port c.in_ok-ports.ports.items ≡ ports_of m = c.in_ok-ports.ensures ∙ ap (λ z. listed_ports (map read_piece z) m.ports) c.deref-2.ensures.value ∙ ap (λ z. listed_ports z m.ports) pieces in
+    let ports : map read_port c.in_ok-ports.ports.items ≡ ports_of m = c.in_ok-ports.ensures ∙ ap (λ z. ports_of_header (map read_piece z) m.ports) c.deref-2.ensures.value ∙ ap (λ z. ports_of_header z m.ports) pieces in
     let given : ConnectsTo u (map read_port c.deref-5.result.now) (Some c.in-Some.ends) = subst (ConnectsTo u (map read_port c.deref-5.result.now)) c.in-Some.is c.in_ok-ends.ensures in
     let ends : ConnectsTo u (ports_of m) (Some c.in-Some.ends) = subst (λ z. ConnectsTo u z (Some c.in-Some.ends)) (ap (map read_port) c.deref-5.ensures.value ∙ ports) given in
     let within : borrowed c.in_ok-within.within.items ≡ m.name.items ∷ s.within =

@@ -1,11 +1,11 @@
 use Rattle.std.proofs.Common.{◌≡◌, ◌++◌, Some, map, ap, ◌∙◌}
 use Rattle.std.specs.List.{slice_get}
 use Rattle.vs_elab_constants.specs.vs_widths.specs.Names.{meaning_of, nested_names}
-use Rattle.vs_elab_listed.specs.vs_scopes.specs.Reads.{read_piece}
-use Rattle.vs_elab_listed.specs.vs_elab_constants.specs.Reads.{read_inner}
+use Rattle.vs_elab_signals.specs.vs_scopes.specs.Reads.{read_piece}
+use Rattle.vs_elab_signals.specs.vs_elab_constants.specs.Reads.{read_inner}
 use Rattle.vs_scopes.specs.Declarations.{Bindings}
 use Rattle.vs_scopes.specs.Scopes.{environment, text_names}
-use Rattle.vs_elab_hierarchy.proofs.EnterLemmas.{got}
+use Rattle.vs_design.specs.vs_logic4.proofs.Basics.{got}
 use Rattle.vs_elab_hierarchy.proofs.SeatLemmas.{opened_here}
 use Rattle.vs_elab_hierarchy.proofs.InsideLemmas.{names_are, names_mean, inner_found, fault_found}
 use Rattle.vs_elab_hierarchy.proofs.opening.found_at.Goals as goal

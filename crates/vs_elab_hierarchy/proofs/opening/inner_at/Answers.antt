@@ -1,12 +1,12 @@
 use Rattle.std.proofs.Common.{◌≡◌, false, inl, inr, map, ap, subst, ◌∙◌}
 use Rattle.std.specs.List.{list_any}
 use Rattle.std.proofs.lemmas.Result.{err_from_is_err_and}
-use Rattle.vs_elab_listed.specs.vs_elab_constants.specs.Reads.{read_inner}
+use Rattle.vs_elab_signals.specs.vs_elab_constants.specs.Reads.{read_inner}
 use Rattle.vs_scopes.specs.Scopes.{inner_of, is_named_as_net}
-use Rattle.vs_scopes.specs.scopes_passes.Answers.{Told}
+use Rattle.vs_scopes.specs.scopes_passes.Answers.{IsReported}
 use Rattle.vs_scopes.proofs.AnswerLemmas.{told_by}
-use Rattle.vs_elab_listed.specs.ScopeFaults.{HasConstructFault}
-use Rattle.vs_elab_hierarchy.specs.vs_elab_listed.specs.nets_passes.Nets.{IsNamedAsNet}
+use Rattle.vs_elab_signals.specs.ScopeFaults.{HasConstructFault}
+use Rattle.vs_elab_hierarchy.specs.vs_elab_signals.specs.nets_passes.Nets.{IsNamedAsNet}
 use Rattle.vs_elab_hierarchy.specs.hierarchy_passes.Opens.{HasInnerNot}
 use Rattle.vs_elab_hierarchy.proofs.opening.inner_at.Goals as goal
 
@@ -20,7 +20,7 @@ returns-in_err-check_blocks c = λ ss s a e.
     (let p = err_from_is_err_and c.from_residual-in_err-check_blocks.result c.from_residual-in_err-check_blocks.ensures.1 in
     let f = c.in_err-check_blocks.field-0.0 in
     let inner : map read_inner c.deref.result.now ≡ inner_of s = ap (map read_inner) c.deref.ensures.value ∙ (c.in_ok-inner.ensures ss s a e).same in
-    let told : Told (IsNamedAsNet s (inner_of s)) f = subst (λ z. Told (IsNamedAsNet s z) f) inner (c.in_err-check_blocks.ensures ss s a e) in
+    let told : IsReported (IsNamedAsNet s (inner_of s)) f = subst (λ z. IsReported (IsNamedAsNet s z) f) inner (c.in_err-check_blocks.ensures ss s a e) in
     rw (p.1, p.2) (told_by (IsNamedAsNet s (inner_of s)) (HasInnerNot s) f (λ r q h. inr h) told))
 
 pub returns : goal.returns

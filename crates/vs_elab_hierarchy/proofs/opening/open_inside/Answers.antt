@@ -1,6 +1,6 @@
 use Rattle.std.proofs.Common.{◌∷◌, ◌++◌, [], length, refl, sym, subst, ap, ◌∙◌, arith, length-append}
 use Rattle.std.proofs.lemmas.Result.{err_from_is_err_and}
-use Rattle.vs_elab_listed.specs.Opened.{AreOpened}
+use Rattle.vs_elab_signals.specs.Opened.{AreOpened}
 use Rattle.vs_elab_hierarchy.specs.declared.opening.Opening.{Opening}
 use Rattle.vs_elab_hierarchy.specs.hierarchy_passes.InHand.{InHand}
 use Rattle.vs_elab_hierarchy.proofs.FaultLemmas.{inner_not_told}

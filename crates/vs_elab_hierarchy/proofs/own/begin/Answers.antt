@@ -3,12 +3,12 @@ use Rattle.std.specs.List.{flat_map}
 use Rattle.std.proofs.lemmas.Result.{err_from_is_err_and}
 use Rattle.vs_design.specs.declared.design.Entry.TheVariants.{Enter}
 use Rattle.vs_scopes.specs.vs_widths.specs.declared.bindings.Binding.TheVariants as b
-use Rattle.vs_elab_listed.specs.vs_scopes.specs.Reads.{read_piece}
+use Rattle.vs_elab_signals.specs.vs_scopes.specs.Reads.{read_piece}
 use Rattle.vs_scopes.specs.Printed.{printed_part}
 use Rattle.vs_scopes.specs.Declarations.{bound_to, genvars_in, inner_names_among}
 use Rattle.vs_scopes.specs.scopes_passes.Answers.{borrowed}
 use Rattle.vs_scopes.specs.scopes_passes.Names.{read_path}
-use Rattle.vs_elab_listed.specs.declared.opened.Numbering.{Numbering}
+use Rattle.vs_elab_signals.specs.declared.opened.Numbering.{Numbering}
 use Rattle.vs_elab_hierarchy.proofs.OwnLemmas.{front_names, genvars_told, others_told, binds}
 use Rattle.vs_elab_hierarchy.proofs.own.begin.Goals as goal
 

@@ -1,6 +1,6 @@
 use Rattle.std.proofs.Common.{map, sym, ◌∙◌, arith}
 use Rattle.vs_widths.specs.Names.{meaning_of}
-use Rattle.vs_elab_listed.specs.vs_scopes.specs.Reads.{read_piece}
+use Rattle.vs_elab_signals.specs.vs_scopes.specs.Reads.{read_piece}
 use Rattle.vs_scopes.specs.scopes_passes.Names.{read_path}
 use Rattle.vs_elab_hierarchy.proofs.OwnLemmas.{alike_more, alike_all, unlike_told}
 use Rattle.vs_elab_hierarchy.proofs.own.check_alike.Goals as goal

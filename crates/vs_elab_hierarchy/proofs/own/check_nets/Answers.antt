@@ -1,16 +1,16 @@
 use Rattle.std.proofs.Common.{[], Result, Ok, Err, map, ap, ◌∙◌, ◌≡◌}
 use Rattle.std.specs.Prelude.{MatchResult}
-use Rattle.vs_elab_listed.specs.vs_scopes.specs.Reads.{read_piece}
+use Rattle.vs_elab_signals.specs.vs_scopes.specs.Reads.{read_piece}
 use Rattle.vs_scopes.specs.declared.faults.ElabFault.{ElabFault}
 use Rattle.vs_scopes.specs.Scopes.{Scope, late_nets}
-use Rattle.vs_scopes.specs.scopes_passes.Answers.{Told}
-use Rattle.vs_elab_hierarchy.specs.vs_elab_listed.specs.nets_passes.Nets.{IsLate}
+use Rattle.vs_scopes.specs.scopes_passes.Answers.{IsReported}
+use Rattle.vs_elab_hierarchy.specs.vs_elab_signals.specs.nets_passes.Nets.{IsLate}
 use Rattle.vs_elab_hierarchy.specs.scope_passes.Own.{HoldsOwn, HasTimelyNets}
 use Rattle.vs_elab_hierarchy.proofs.SeatLemmas.{sight_front}
 use Rattle.vs_elab_hierarchy.proofs.OwnLemmas.{nets_told}
 use Rattle.vs_elab_hierarchy.proofs.own.check_nets.Goals as goal
 
-timely : (s : Scope) (r : Result (Unit {0}) ElabFault) → MatchResult r (λ u. late_nets s ≡ []) (Told (IsLate (late_nets s))) → MatchResult r (λ u. HasTimelyNets s) (Told (HoldsOwn s))
+timely : (s : Scope) (r : Result (Unit {0}) ElabFault) → MatchResult r (λ u. late_nets s ≡ []) (IsReported (IsLate (late_nets s))) → MatchResult r (λ u. HasTimelyNets s) (IsReported (HoldsOwn s))
 timely s (Ok u) h = h
 timely s (Err e) h = nets_told s e h
 

@@ -1,14 +1,14 @@
 use Rattle.std.proofs.Common.{◌≡◌, [], ◌∷◌, ◌++◌, Some, None, map, ap, subst, ◌∙◌}
 use Rattle.vs_scopes.specs.vs_widths.specs.Environment.{Environment}
 use Rattle.vs_widths.specs.Names.{meaning_of, nested_names}
-use Rattle.vs_elab_listed.specs.vs_scopes.specs.Reads.{read_piece}
+use Rattle.vs_elab_signals.specs.vs_scopes.specs.Reads.{read_piece}
 use Rattle.vs_scopes.specs.Declarations.{Bindings}
 use Rattle.vs_scopes.specs.Generate.{turns_among}
 use Rattle.vs_scopes.specs.Scopes.{Scope, environment, seen_from}
 use Rattle.vs_scopes.specs.Parameters.{said}
 use Rattle.vs_scopes.specs.declared.faults.Reason.TheVariants.{Limit}
 use Rattle.vs_scopes.specs.scopes_passes.Answers.{IsFaultAt}
-use Rattle.vs_elab_listed.specs.vs_elab_constants.specs.generate_passes.Turns.{CountsTurns}
+use Rattle.vs_elab_signals.specs.vs_elab_constants.specs.generate_passes.Turns.{CountsTurns}
 use Rattle.vs_elab_hierarchy.proofs.SeatLemmas.{around_front}
 use Rattle.vs_elab_hierarchy.proofs.EnterLemmas.{known_levels}
 use Rattle.vs_elab_hierarchy.proofs.OwnLemmas.{turns_counted, turns_told}

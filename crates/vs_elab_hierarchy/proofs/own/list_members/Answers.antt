@@ -3,9 +3,9 @@ use Rattle.std.specs.Prelude.{MatchResult}
 use Rattle.vs_widths.specs.Names.{meaning_of, nested_names}
 use Rattle.vs_scopes.specs.Declarations.{Bindings}
 use Rattle.vs_scopes.specs.Scopes.{seen_from}
-use Rattle.vs_scopes.specs.scopes_passes.Answers.{Told}
+use Rattle.vs_scopes.specs.scopes_passes.Answers.{IsReported}
 use Rattle.vs_scopes.specs.scopes_passes.Names.{read_path}
-use Rattle.vs_elab_listed.specs.listed_passes.Sites.{IsSite}
+use Rattle.vs_elab_signals.specs.signal_passes.Sites.{IsSite}
 use Rattle.vs_elab_hierarchy.specs.scope_passes.Own.{HoldsOwn, OpensNames, OpensOwn}
 use Rattle.vs_elab_hierarchy.proofs.SeatLemmas.{around_front}
 use Rattle.vs_elab_hierarchy.proofs.EnterLemmas.{known_levels}
@@ -29,5 +29,5 @@ returns c = λ ss s a e q base.
       path_is = q;
       known_is = ap (λ (z : Bindings). meaning_of z) known ∙ known_levels o.known (nested_names c.in_ok-outer.outer.items) (seen_from s.kind s.outer) s.known outer e.entered.known;
     } in
-    mapped (λ names. OpensNames s names c.args.plan.now c.open_names.new.plan) (λ names. OpensOwn s names c.args.plan.now c.open_names.new.plan) (Told (HoldsOwn s)) c.open_names.result
+    mapped (λ names. OpensNames s names c.args.plan.now c.open_names.new.plan) (λ names. OpensOwn s names c.args.plan.now c.open_names.new.plan) (IsReported (HoldsOwn s)) c.open_names.result
     (λ names h. opens_names s names c.args.plan.now c.open_names.new.plan base fits pieces nets h) (c.open_names.ensures whole s e.entered site pieces base))

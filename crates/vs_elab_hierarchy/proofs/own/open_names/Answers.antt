@@ -1,7 +1,7 @@
 use Rattle.std.proofs.Common.{◌≡◌, map, ap, subst, ◌∙◌}
 use Rattle.std.proofs.lemmas.Result.{err_from_is_err_and}
-use Rattle.vs_elab_listed.specs.vs_scopes.specs.Reads.{read_piece}
-use Rattle.vs_scopes.specs.scopes_passes.Answers.{Told}
+use Rattle.vs_elab_signals.specs.vs_scopes.specs.Reads.{read_piece}
+use Rattle.vs_scopes.specs.scopes_passes.Answers.{IsReported}
 use Rattle.vs_scopes.specs.scopes_passes.Names.{read_path}
 use Rattle.vs_scopes.specs.scopes_passes.Parts.{read_port}
 use Rattle.vs_elab_hierarchy.specs.scope_passes.Own.{IsAgainNot}
@@ -25,6 +25,6 @@ returns-in_err-check_again c = λ ss s e at pieces base.
     let f = c.in_err-check_again.field-0.0 in
     let ports : map read_port c.deref-3.result.now ≡ s.ports = ap (map read_port) c.deref-3.ensures.value ∙ e.ports in
     let parts : map read_piece c.deref-4.result.now ≡ s.pieces = ap (map read_piece) c.deref-4.ensures.value ∙ e.pieces in
-    let told : Told (IsAgainNot here s.ports s.pieces) f =
-    subst (λ z. Told (IsAgainNot here s.ports z) f) parts (subst (λ z. Told (IsAgainNot here z (map read_piece c.deref-4.result.now)) f) ports c.in_err-check_again.ensures) in
+    let told : IsReported (IsAgainNot here s.ports s.pieces) f =
+    subst (λ z. IsReported (IsAgainNot here s.ports z) f) parts (subst (λ z. IsReported (IsAgainNot here z (map read_piece c.deref-4.result.now)) f) ports c.in_err-check_again.ensures) in
     rw (p.1, p.2) (again_told s here f at.path_is pieces.stray told))

@@ -1,6 +1,6 @@
 use Rattle.std.proofs.Common.{◌<◌, ℕ, List, Option, length, ap, sym, ◌∙◌, arith}
 use Rattle.std.specs.Borrow.{Bor}
-use Rattle.vs_elab_listed.specs.vs_scopes.specs.Reads.{referred}
+use Rattle.vs_elab_signals.specs.vs_scopes.specs.Reads.{referred}
 use Rattle.vs_elab_hierarchy.proofs.TopLemmas.{index_below, adds_outermost, adds_unnamed, adds_named}
 use Rattle.vs_elab_hierarchy.proofs.source.index_one.Goals as goal
 

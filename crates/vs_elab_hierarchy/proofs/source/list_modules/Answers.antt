@@ -1,5 +1,5 @@
 use Rattle.std.proofs.Common.{◌≡◌, true, take, refl, ap, ◌∙◌, arith}
-use Rattle.vs_scopes.specs.Nets.{permits_behind}
+use Rattle.vs_scopes.specs.Nets.{permits_after}
 use Rattle.vs_elab_hierarchy.proofs.SourceLemmas.{permits_all, permits_more, lists_none, lists_more, listed_twice}
 use Rattle.vs_elab_hierarchy.proofs.source.list_modules.Goals as goal
 
@@ -15,9 +15,9 @@ loop-module-preserved c =
     let ms = c.args.modules.now in
     let l = c.loop-module in
     let m = c.module-item.result in
-    let behind : c.permits_behind-nets.result ≡ permits_behind (permits_all true (take l.module-index ms)) m.directives.items =
-    c.permits_behind-nets.ensures ∙ ap (permits_behind l.nets) c.deref.ensures.value ∙ ap (λ z. permits_behind z m.directives.items) l.invariant.nets in
-    let nets = permits_more ms l.module-index m c.permits_behind-nets.result (omega arith) c.module-item.is behind in
+    let behind : c.permits_after-nets.result ≡ permits_after (permits_all true (take l.module-index ms)) m.directives.items =
+    c.permits_after-nets.ensures ∙ ap (permits_after l.nets) c.deref.ensures.value ∙ ap (λ z. permits_after z m.directives.items) l.invariant.nets in
+    let nets = permits_more ms l.module-index m c.permits_after-nets.result (omega arith) c.module-item.is behind in
     record {
       lists = lists_more ms l.module-index m _ _ l.names _ (omega arith) c.module-item.is c.deref-in-loop-module.ensures.value refl nets l.invariant.lists (rw c.if-not-branch.false at c.in_ok-declare.ensures);
       nets = nets;

@@ -1,7 +1,7 @@
 use Rattle.std.proofs.Common.{◌≡◌, All, refl, sym, subst, ◌∙◌}
 use Rattle.std.specs.Vec.{with_items}
 use Rattle.std.proofs.lemmas.List.{with_items_is}
-use Rattle.vs_elab_listed.specs.Opened.{AreSeated}
+use Rattle.vs_elab_signals.specs.Opened.{AreSeated}
 use Rattle.vs_elab_hierarchy.specs.passes.Blocks.{HasNoBlocks, AreIndexed}
 use Rattle.vs_elab_hierarchy.specs.hierarchy_passes.Opens.{Made}
 use Rattle.vs_elab_hierarchy.proofs.SourceLemmas.{planned_none}

@@ -1,9 +1,9 @@
 use Rattle.std.proofs.Common.{[], ◌∷◌, ◌++◌, map, refl, ap, ◌∙◌}
 use Rattle.std.proofs.lemmas.Result.{err_from_is_err_and}
-use Rattle.vs_elab_listed.specs.vs_scopes.specs.Pieces.{pieces_of}
-use Rattle.vs_elab_listed.specs.vs_scopes.specs.Reads.{read_piece}
+use Rattle.vs_elab_signals.specs.vs_scopes.specs.Pieces.{pieces_of}
+use Rattle.vs_elab_signals.specs.vs_scopes.specs.Reads.{read_piece}
 use Rattle.vs_scopes.specs.Printed.{plainly}
-use Rattle.vs_scopes.specs.Ports.{listed_ports}
+use Rattle.vs_scopes.specs.Ports.{ports_of_header}
 use Rattle.vs_scopes.specs.scopes_passes.Answers.{borrowed}
 use Rattle.vs_scopes.specs.Scopes.{top_scope}
 use Rattle.vs_elab_hierarchy.proofs.SourceLemmas.{opened_none, entered_top}
@@ -18,7 +18,7 @@ pub returns : goal.returns
 returns c =
     let m = c.args.listed.«module».now in
     let pieces = c.in_ok-pieces.ensures ∙ ap pieces_of c.deref.ensures.value in
-    let ports = c.in_ok-ports.ensures ∙ ap (λ z. listed_ports z m.ports) (ap (map read_piece) c.deref-2.ensures.value ∙ pieces) in
+    let ports = c.in_ok-ports.ensures ∙ ap (λ z. ports_of_header z m.ports) (ap (map read_piece) c.deref-2.ensures.value ∙ pieces) in
     let within = ap borrowed (c.in_ok-push.ensures.items ∙ ap (λ l. l ++ c.as_slice.result ∷ []) c.new-within.ensures.items) ∙ ap (λ z. z ∷ []) c.as_slice.ensures.value in
     let nets = c.args.listed.nets in
     let members = c.in_ok-members.ensures [] (top_scope nets m) (record { opened = opened_none; sight = refl; kind = refl }) in

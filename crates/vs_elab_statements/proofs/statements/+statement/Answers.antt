@@ -5,8 +5,9 @@ use Rattle.vs_scopes.specs.Pieces.{NamedBlock, blocks_in}
 use Rattle.vs_syntax.specs.declared.tree.CaseLabel.{CaseLabel}
 use Rattle.vs_syntax.specs.declared.tree.Stmt.{Stmt, size-Stmt, the_lemmas}
 use Rattle.vs_syntax.specs.declared.tree.Stmt.TheVariants as s
+use Rattle.vs_design.specs.vs_logic4.proofs.Basics.{got}
 use Rattle.vs_elab_statements.specs.vs_scopes.specs.Printed.{plainly}
-use Rattle.vs_elab_statements.proofs.BlockLemmas.{blocks_Delay, blocks_Event, blocks_For, blocks_Forever, blocks_Repeat, blocks_While, got, placed_inside, site_inside, ratio_inside, names_at, inside_free, inside_fails, below_deeper}
+use Rattle.vs_elab_statements.proofs.BlockLemmas.{blocks_Delay, blocks_Event, blocks_For, blocks_Forever, blocks_Repeat, blocks_While, placed_inside, site_inside, ratio_inside, names_at, inside_free, inside_fails, below_deeper}
 use Rattle.vs_elab_statements.proofs.DepthLemmas.{items_depth, items_falls, item_within}
 use Rattle.vs_elab_statements.proofs.StatementLemmas.{begin_refused, behind_overfull, behind_refused, block_refused, case_overfull, case_refused_by, delay_inner, else_refused, event_inner, forever_inner, item_refused, items_refused, label_refused, listed_all, listed_more, listed_none, named_refused, otherwise_none, otherwise_some, repeat_inner, stated_all, stated_more, stated_none, statement_refused, states_Block, states_Case, states_Named, states_behind, then_refused, turn_refused, while_inner}
 use Rattle.vs_elab_statements.specs.Blocks.{HaveScopes}
@@ -114,16 +115,16 @@ for_statement-returns-in_err-inner-clause-answer t c envs p v =
     let q = err_from_is_err_and c.from_residual-in_err-inner.result c.from_residual-in_err-inner.ensures.1 in
     rw (q.1, q.2) (turn_refused c.args.view.now.list.now envs p c.args.next.now c.args.head.now c.args.x.now _ _ c.in_err-inner.field-0.0 (c.in_ok-begin.ensures.answer envs p v).1.next_is c.deref-3.ensures (c.in_err-inner.ensures.answer envs p v))
 
-pub behind-returns-clause-answer : goal.behind-returns-clause-answer
-behind-returns-clause-answer t c envs p v = states_behind c.args.view.now.list.now envs p c.args.next.now c.in_ok-number.number _ _ c.args.s.now c.in_ok-inner.inner c.in_ok-number.ensures (c.in_ok-inner.ensures.answer envs p v)
+pub numbered_body-returns-clause-answer : goal.numbered_body-returns-clause-answer
+numbered_body-returns-clause-answer t c envs p v = states_behind c.args.view.now.list.now envs p c.args.next.now c.in_ok-number.number _ _ c.args.s.now c.in_ok-inner.inner c.in_ok-number.ensures (c.in_ok-inner.ensures.answer envs p v)
 
-pub behind-returns-in_err-number-clause-answer : goal.behind-returns-in_err-number-clause-answer
-behind-returns-in_err-number-clause-answer t c envs p v =
+pub numbered_body-returns-in_err-number-clause-answer : goal.numbered_body-returns-in_err-number-clause-answer
+numbered_body-returns-in_err-number-clause-answer t c envs p v =
     let q = err_from_is_err_and c.from_residual.result c.from_residual.ensures.1 in
     rw (q.1, q.2) (behind_overfull c.args.view.now.list.now envs p c.args.next.now c.args.s.now c.in_err-number.field-0.0 c.in_err-number.ensures)
 
-pub behind-returns-in_err-inner-clause-answer : goal.behind-returns-in_err-inner-clause-answer
-behind-returns-in_err-inner-clause-answer t c envs p v =
+pub numbered_body-returns-in_err-inner-clause-answer : goal.numbered_body-returns-in_err-inner-clause-answer
+numbered_body-returns-in_err-inner-clause-answer t c envs p v =
     let q = err_from_is_err_and c.from_residual-in_err-inner.result c.from_residual-in_err-inner.ensures.1 in
     rw (q.1, q.2) (behind_refused c.args.view.now.list.now envs p c.args.next.now _ c.args.s.now c.in_err-inner.field-0.0 c.in_ok-number.ensures.1.0 (c.in_err-inner.ensures.answer envs p v))
 
@@ -364,16 +365,16 @@ for_statement-returns-in_err-inner-clause-below t c =
     let q = err_from_is_err_and c.from_residual-in_err-inner.result c.from_residual-in_err-inner.ensures.1 in
     rw (q.1, q.2) c.in_err-inner.ensures.below
 
-pub behind-returns-clause-below : goal.behind-returns-clause-below
-behind-returns-clause-below t c = tt
+pub numbered_body-returns-clause-below : goal.numbered_body-returns-clause-below
+numbered_body-returns-clause-below t c = tt
 
-pub behind-returns-in_err-number-clause-below : goal.behind-returns-in_err-number-clause-below
-behind-returns-in_err-number-clause-below t c =
+pub numbered_body-returns-in_err-number-clause-below : goal.numbered_body-returns-in_err-number-clause-below
+numbered_body-returns-in_err-number-clause-below t c =
     let q = err_from_is_err_and c.from_residual.result c.from_residual.ensures.1 in
     rw (q.1, q.2) (overfull_below (length c.args.view.now.list.now) c.args.next.now c.in_err-number.field-0.0 c.in_err-number.ensures)
 
-pub behind-returns-in_err-inner-clause-below : goal.behind-returns-in_err-inner-clause-below
-behind-returns-in_err-inner-clause-below t c =
+pub numbered_body-returns-in_err-inner-clause-below : goal.numbered_body-returns-in_err-inner-clause-below
+numbered_body-returns-in_err-inner-clause-below t c =
     let q = err_from_is_err_and c.from_residual-in_err-inner.result c.from_residual-in_err-inner.ensures.1 in
     rw (q.1, q.2) c.in_err-inner.ensures.below
 
@@ -449,8 +450,8 @@ statement-block-requires t c = (
   ),
 )
 
-pub statement-behind-requires : goal.statement-behind-requires
-statement-behind-requires t c =
+pub statement-numbered_body-requires : goal.statement-numbered_body-requires
+statement-numbered_body-requires t c =
     (search (rules, the_lemmas), (c.requires.placed, in_then c.args.view.now.list.now c.args.view.now.place c.args.s.now c.requires.blocks c.in-If.e c.in-If.x c.in-If.other c.deref-in-If.result.now c.in-If.is c.deref-in-If.ensures))
 
 pub statement-otherwise-requires : goal.statement-otherwise-requires
@@ -461,24 +462,24 @@ pub statement-for_statement-requires : goal.statement-for_statement-requires
 statement-for_statement-requires t c =
     (search (rules, the_lemmas), (c.requires.placed, in_around c.args.view.now.list.now c.args.view.now.place c.args.s.now c.requires.blocks (s.For c.in-For.head c.in-For.x) c.in-For.x.value c.in-For.x.value c.in-For.is (blocks_For c.in-For.head c.in-For.x) refl))
 
-pub statement-behind-requires-in-While : goal.statement-behind-requires-in-While
-statement-behind-requires-in-While t c =
+pub statement-numbered_body-requires-in-While : goal.statement-numbered_body-requires-in-While
+statement-numbered_body-requires-in-While t c =
     (search (rules, the_lemmas), (c.requires.placed, in_around c.args.view.now.list.now c.args.view.now.place c.args.s.now c.requires.blocks (s.While c.in-While.e c.in-While.x) c.in-While.x.value c.deref-in-While.result.now c.in-While.is (blocks_While c.in-While.e c.in-While.x) c.deref-in-While.ensures))
 
-pub statement-behind-requires-in-Repeat : goal.statement-behind-requires-in-Repeat
-statement-behind-requires-in-Repeat t c =
+pub statement-numbered_body-requires-in-Repeat : goal.statement-numbered_body-requires-in-Repeat
+statement-numbered_body-requires-in-Repeat t c =
     (search (rules, the_lemmas), (c.requires.placed, in_around c.args.view.now.list.now c.args.view.now.place c.args.s.now c.requires.blocks (s.Repeat c.in-Repeat.e c.in-Repeat.x) c.in-Repeat.x.value c.deref-in-Repeat.result.now c.in-Repeat.is (blocks_Repeat c.in-Repeat.e c.in-Repeat.x) c.deref-in-Repeat.ensures))
 
-pub statement-behind-requires-in-Forever : goal.statement-behind-requires-in-Forever
-statement-behind-requires-in-Forever t c =
+pub statement-numbered_body-requires-in-Forever : goal.statement-numbered_body-requires-in-Forever
+statement-numbered_body-requires-in-Forever t c =
     (search (rules, the_lemmas), (c.requires.placed, in_around c.args.view.now.list.now c.args.view.now.place c.args.s.now c.requires.blocks (s.Forever c.in-Forever.x) c.in-Forever.x.value c.deref-in-Forever.result.now c.in-Forever.is (blocks_Forever c.in-Forever.x) c.deref-in-Forever.ensures))
 
-pub statement-behind-requires-in-Delay : goal.statement-behind-requires-in-Delay
-statement-behind-requires-in-Delay t c =
+pub statement-numbered_body-requires-in-Delay : goal.statement-numbered_body-requires-in-Delay
+statement-numbered_body-requires-in-Delay t c =
     (search (rules, the_lemmas), (c.requires.placed, in_around c.args.view.now.list.now c.args.view.now.place c.args.s.now c.requires.blocks (s.Delay c.in-Delay.value c.in-Delay.x) c.in-Delay.x.value c.deref-in-Delay.result.now c.in-Delay.is (blocks_Delay c.in-Delay.value c.in-Delay.x) c.deref-in-Delay.ensures))
 
-pub statement-behind-requires-in-Event : goal.statement-behind-requires-in-Event
-statement-behind-requires-in-Event t c =
+pub statement-numbered_body-requires-in-Event : goal.statement-numbered_body-requires-in-Event
+statement-numbered_body-requires-in-Event t c =
     (search (rules, the_lemmas), (c.requires.placed, in_around c.args.view.now.list.now c.args.view.now.place c.args.s.now c.requires.blocks (s.Event c.in-Event.control c.in-Event.x) c.in-Event.x.value c.deref-in-Event.result.now c.in-Event.is (blocks_Event c.in-Event.control c.in-Event.x) c.deref-in-Event.ensures))
 
 pub statements-statement-requires : goal.statements-statement-requires
@@ -508,6 +509,6 @@ pub otherwise-statement-requires : goal.otherwise-statement-requires
 otherwise-statement-requires t c =
     (first_of (search rules, grind (arith, common_steps)), (c.requires.placed, in_other c.args.view.now.list.now c.args.view.now.place c.args.other.now c.in-Some.s c.deref.result.now c.in-Some.is c.deref.ensures c.requires.blocks))
 
-pub for_statement-behind-requires : goal.for_statement-behind-requires
-for_statement-behind-requires t c =
+pub for_statement-numbered_body-requires : goal.for_statement-numbered_body-requires
+for_statement-numbered_body-requires t c =
     (first_of (search rules, grind (arith, common_steps)), (c.requires.placed, subst (λ z. HaveScopes c.args.view.now.list.now c.args.view.now.place (blocks_in z)) (sym c.deref-3.ensures) c.requires.blocks))

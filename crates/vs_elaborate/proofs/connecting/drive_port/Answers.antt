@@ -3,7 +3,7 @@ use Rattle.vs_elab_statements.specs.vs_scopes.proofs.AnswerLemmas.{told_part}
 use Rattle.vs_elab_statements.specs.Members.{connected}
 use Rattle.vs_elaborate.specs.passes.Filling.{port_faults, ConnectsNot}
 use Rattle.vs_elaborate.proofs.FillingLemmas.{connects_push, port_of_connected}
-use Rattle.vs_elab_statements.specs.vs_elab_listed.proofs.DeclareLemmas.{any_last}
+use Rattle.vs_elab_statements.specs.vs_elab_signals.proofs.DeclareLemmas.{any_last}
 use Rattle.vs_elaborate.proofs.PortLemmas.{outer_is}
 use Rattle.vs_elaborate.proofs.connecting.drive_port.Goals as goal
 

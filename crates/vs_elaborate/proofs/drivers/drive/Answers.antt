@@ -2,7 +2,7 @@ use Rattle.std.proofs.Common.{[], ◌∷◌, ◌++◌, refl, arith}
 use Rattle.vs_elab_statements.specs.vs_scopes.proofs.AnswerLemmas.{told_part}
 use Rattle.vs_elaborate.specs.passes.Filling.{text_faults, DrivesNot}
 use Rattle.vs_elaborate.proofs.FillingLemmas.{drives_push}
-use Rattle.vs_elab_statements.specs.vs_elab_listed.proofs.DeclareLemmas.{any_last}
+use Rattle.vs_elab_statements.specs.vs_elab_signals.proofs.DeclareLemmas.{any_last}
 use Rattle.vs_elaborate.proofs.drivers.drive.Goals as goal
 
 pub returns-in_ok-push-in-Ok : goal.returns-in_ok-push-in-Ok

@@ -2,7 +2,7 @@ use Rattle.std.proofs.Common.{take, sym, subst, arith}
 use Rattle.std.proofs.lemmas.List.{take_all}
 use Rattle.std.proofs.lemmas.Slice.Zip.{AllZip-long}
 use Rattle.std.proofs.lemmas.Result.{err_from_is_err_and}
-use Rattle.vs_elab_statements.specs.vs_elab_listed.specs.Opened.{IsOpened}
+use Rattle.vs_elab_statements.specs.vs_elab_signals.specs.Opened.{IsOpened}
 use Rattle.vs_elab_statements.specs.Surroundings.{surroundings_at}
 use Rattle.vs_elaborate.specs.passes.Filling.{Fills}
 use Rattle.vs_elaborate.proofs.FillingLemmas.{fills_none, fills_more, fills_one_not, take_next}

@@ -3,9 +3,9 @@ use Rattle.vs_elab_statements.specs.vs_widths.specs.Names.{meaning_of, nested_na
 use Rattle.vs_elab_statements.specs.vs_scopes.specs.Scopes.{seen_from}
 use Rattle.vs_elab_statements.specs.Surroundings.{surroundings_at}
 use Rattle.vs_elab_statements.specs.passes.Views.{IsSite}
-use Rattle.vs_elab_statements.proofs.BlockLemmas.{got, outward_within, site_names}
-use Rattle.vs_design.specs.vs_logic4.proofs.Basics.{zip_at}
-use Rattle.vs_elab_statements.specs.vs_elab_listed.specs.Opened.{IsOpened}
+use Rattle.vs_elab_statements.proofs.BlockLemmas.{outward_within, site_names}
+use Rattle.vs_design.specs.vs_logic4.proofs.Basics.{zip_at, got}
+use Rattle.vs_elab_statements.specs.vs_elab_signals.specs.Opened.{IsOpened}
 use Rattle.vs_elaborate.proofs.PortLemmas.{path_around}
 use Rattle.vs_elaborate.proofs.filling.fill_named.Goals as goal
 

@@ -3,7 +3,7 @@ use Rattle.std.proofs.lemmas.Option.{slice_get-get_or}
 use Rattle.vs_elab_statements.specs.vs_widths.specs.Names.{meaning_of, nested_names}
 use Rattle.vs_elab_statements.proofs.BlockLemmas.{around_within}
 use Rattle.vs_design.specs.vs_logic4.proofs.Basics.{zip_at}
-use Rattle.vs_elab_statements.specs.vs_elab_listed.specs.Opened.{IsOpened}
+use Rattle.vs_elab_statements.specs.vs_elab_signals.specs.Opened.{IsOpened}
 use Rattle.vs_elaborate.proofs.FillingLemmas.{outer_names_are}
 use Rattle.vs_elaborate.proofs.filling.fill_within.Goals as goal
 

@@ -3,10 +3,10 @@ use Rattle.std.proofs.lemmas.Result.{err_from_is_err_and}
 use Rattle.vs_elab_hierarchy.specs.vs_scopes.specs.Reads.{read_piece}
 use Rattle.vs_elab_hierarchy.specs.vs_scopes.specs.declared.scope.ScopePiece.{ScopePiece as FoundPiece}
 use Rattle.vs_elab_statements.specs.Members.{behaviors_in}
+use Rattle.vs_design.specs.vs_logic4.proofs.Basics.{got}
 use Rattle.vs_elaborate.specs.passes.Filling.{Runs, RunsNot}
 use Rattle.vs_elab_statements.specs.vs_scopes.proofs.AnswerLemmas.{kept_more, kept_all, kept_fault}
 use Rattle.vs_elaborate.proofs.FillingLemmas.{runs_not_more}
-use Rattle.vs_elab_statements.proofs.BlockLemmas.{got}
 use Rattle.vs_elaborate.proofs.processes.run_pieces.Goals as goal
 
 pub returns-in_err-run_piece : goal.returns-in_err-run_piece

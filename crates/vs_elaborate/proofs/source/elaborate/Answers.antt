@@ -1,8 +1,8 @@
 use Rattle.std.proofs.Common.{◌≡◌, ap, subst, ◌∙◌, arith}
 use Rattle.std.proofs.lemmas.Result.{err_from_is_err_and}
 use Rattle.vs_elab_statements.specs.vs_scopes.specs.Scopes.{scopes_of}
-use Rattle.vs_elab_statements.specs.vs_elab_listed.specs.Opened.{OpensAll}
-use Rattle.vs_elab_statements.specs.vs_scopes.specs.scopes_passes.Answers.{Told}
+use Rattle.vs_elab_statements.specs.vs_elab_signals.specs.Opened.{OpensAll}
+use Rattle.vs_elab_statements.specs.vs_scopes.specs.scopes_passes.Answers.{IsReported}
 use Rattle.vs_elab_statements.specs.Surroundings.{surroundings_at}
 use Rattle.vs_elaborate.specs.passes.Filling.{Fills, FillsOneNot}
 use Rattle.vs_elaborate.specs.Timescales.{timescale_of, ratio_of}
@@ -33,7 +33,7 @@ returns-in_err-contents c =
     let x = c.in_ok-opening.opening in
     let o : OpensAll ms c.args.top.now x = rw c.deref.ensures.value at c.in_ok-opening.ensures.opens in
     let ratio : c.ratio_of.result.ticks ≡ ratio_of (timescale_of source) = c.ratio_of.ensures ∙ ap ratio_of c.timescale_of-scale.ensures in
-    rw (p.1, p.2) (filling_told source c.args.top.now c.in_err-contents.field-0.0 (subst (λ n. Told (FillsOneNot (surroundings_at n (scopes_of ms c.args.top.now)) (scopes_of ms c.args.top.now)) c.in_err-contents.field-0.0) ratio
+    rw (p.1, p.2) (filling_told source c.args.top.now c.in_err-contents.field-0.0 (subst (λ n. IsReported (FillsOneNot (surroundings_at n (scopes_of ms c.args.top.now)) (scopes_of ms c.args.top.now)) c.in_err-contents.field-0.0) ratio
     (c.in_err-contents.ensures (scopes_of ms c.args.top.now) (rw c.deref-2.ensures.value (sites source c.args.top.now x o c.ratio_of.result.ticks)))))
 
 pub check_drivers-requires : goal.check_drivers-requires

@@ -1,10 +1,10 @@
 use Rattle.std.proofs.Common.{◌≡◌, true}
-use Rattle.vs_kernel.specs.Standing.{IsStanding}
+use Rattle.vs_kernel.specs.Snapshot.{IsSnapshot}
 use Rattle.vs_explain.proofs.steps.count_steps.Given as goal
 
 abbrev pub invariant-loop-left : goal.invariant-loop-left
 invariant-loop-left g l = record {
-  run : IsStanding l.run;
+  run : IsSnapshot l.run;
   chooses : l.run.chooses ≡ true;
 }
 

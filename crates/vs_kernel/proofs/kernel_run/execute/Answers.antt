@@ -4,13 +4,13 @@ use Rattle.vs_run_regions.specs.vs_process.specs.States.{State}
 use Rattle.vs_run_regions.specs.vs_process.specs.Blocks.{inside_block}
 use Rattle.vs_run_regions.specs.vs_process.proofs.Results.{on_err}
 use Rattle.vs_kernel.specs.vs_run_steps.specs.Runs.{state_of}
-use Rattle.vs_kernel.specs.Standing.{Standing, point_of}
+use Rattle.vs_kernel.specs.Snapshot.{Snapshot, point_of}
 use Rattle.vs_kernel.specs.vs_run_steps.proofs.Appending.{append_none}
 use Rattle.vs_kernel.specs.vs_run_steps.proofs.WritingLemmas.{part_failed, first_failed, failed_as, failed_from}
 use Rattle.vs_kernel.specs.vs_run_steps.specs.Points.{Point}
 use Rattle.vs_kernel.specs.vs_run_steps.specs.Turns.{RunsTo, TurnedTo}
 use Rattle.vs_kernel.proofs.RunsLemmas.{HasRun, begins, limited, incomplete, complete_past, complete_over, ended_run, header_failed, end_failed}
-use Rattle.vs_kernel.proofs.StandsLemmas.{StandsAt, all_failed, all_on}
+use Rattle.vs_kernel.proofs.RunPointLemmas.{IsAtPoint, all_failed, all_on}
 use Rattle.vs_kernel.proofs.kernel_run.execute.Goals as goal
 use Rattle.vs_kernel.proofs.kernel_run.execute.Goals.{then-loop-run-test+else-time-until, else-loop-run-test}
 
@@ -44,13 +44,13 @@ loop-run-preserved g c =
     let q : Point = point_of c.take_steps.new.self to.0 (g.V.Sink.bytes c.take_steps.new.vcd) (g.L.Sink.bytes c.take_steps.new.lines) in
     let turned : TurnedTo c.loop-run.left c.in_ok-rest.rest c.loop-run.run.blocks p q = to.1 in
     let taken : ℕ = c.args.steps - c.loop-run.left in
-    let before : StandsAt c.args.design.now c.args.until c.args.steps taken p old lold =
+    let before : IsAtPoint c.args.design.now c.args.until c.args.steps taken p old lold =
     record { run = c.loop-run.invariant.run; inside = c.loop-run.invariant.inside (omega (arith, c.if-left-eq0.false)) }
     in
     let within : taken + turned.0 ≤ c.args.steps = omega (arith, c.loop-run.invariant.within, turned.1) in
     let count : taken + turned.0 ≡ c.args.steps - c.in_ok-rest.rest = omega (arith, c.loop-run.invariant.within, turned.1) in
-    let later : StandsAt c.args.design.now c.args.until c.args.steps (c.args.steps - c.in_ok-rest.rest) q old lold =
-    subst (λ (n : ℕ). StandsAt c.args.design.now c.args.until c.args.steps n q old lold) count
+    let later : IsAtPoint c.args.design.now c.args.until c.args.steps (c.args.steps - c.in_ok-rest.rest) q old lold =
+    subst (λ (n : ℕ). IsAtPoint c.args.design.now c.args.until c.args.steps n q old lold) count
     (all_on before turned.0 c.loop-run.run.blocks q c.blocks_exclude.ensures c.inside_follows.ensures c.loop-run.invariant.blocks early within turned.2)
     in
     record {
@@ -58,8 +58,8 @@ loop-run-preserved g c =
       within = omega (arith, c.loop-run.invariant.within, c.in_ok-rest.ensures.some);
       inside = λ some. sym (to.2 some) ∙ later.inside;
       standing = c.in_ok-rest.ensures.run;
-      design = ap (λ (r : Standing). r.design) c.in_ok-rest.ensures.same ∙ c.loop-run.invariant.design;
-      blocks = ap (λ (r : Standing). r.blocks) c.in_ok-rest.ensures.same ∙ c.loop-run.invariant.blocks;
+      design = ap (λ (r : Snapshot). r.design) c.in_ok-rest.ensures.same ∙ c.loop-run.invariant.design;
+      blocks = ap (λ (r : Snapshot). r.blocks) c.in_ok-rest.ensures.same ∙ c.loop-run.invariant.blocks;
       failures = c.in_ok-rest.ensures.failures.0 ∙ c.loop-run.invariant.failures;
       line_failures = c.in_ok-rest.ensures.failures.1 ∙ c.loop-run.invariant.line_failures;
     }
@@ -98,7 +98,7 @@ returns-in_err-rest-clause-begun g c =
     let early : (state_of c.loop-run.run.running).time ≤ c.args.until = omega (arith, c.time.ensures, c.if-time-until.true) in
     let p : Point = point_of c.loop-run.run c.loop-run.run.inside (g.V.Sink.bytes c.loop-run.vcd) (g.L.Sink.bytes c.loop-run.lines) in
     let taken : ℕ = c.args.steps - c.loop-run.left in
-    let before : StandsAt c.args.design.now c.args.until c.args.steps taken p (g.V.Sink.bytes c.args.vcd.now) (g.L.Sink.bytes c.args.lines.now) =
+    let before : IsAtPoint c.args.design.now c.args.until c.args.steps taken p (g.V.Sink.bytes c.args.vcd.now) (g.L.Sink.bytes c.args.lines.now) =
     record { run = c.loop-run.invariant.run; inside = c.loop-run.invariant.inside (omega (arith, c.if-left-eq0.false)) }
     in
     let within : taken + c.loop-run.left ≤ c.args.steps = omega (arith, c.loop-run.invariant.within) in

@@ -12,10 +12,10 @@ returns-in_ok-write_planes-in-Bits-clause-written g c =
     subst (λ (x : Update). WritesUpdate x c.args.run.now.regions.listed.writes (state_of c.args.run.now) (state_of c.write_planes.new.self) true) (sym c.in-Bits.is)
     (refl, c.in_ok-write_planes-in-Bits.ensures.state)
 
-pub returns-in_ok-write_listed-in-Any-clause-written : goal.returns-in_ok-write_listed-in-Any-clause-written
-returns-in_ok-write_listed-in-Any-clause-written g c =
-    subst (λ (x : Update). WritesUpdate x c.args.run.now.regions.listed.writes (state_of c.args.run.now) (state_of c.write_listed.new.self) true) (sym c.in-Any.is)
-    (refl, c.in_ok-write_listed-in-Any.ensures.state)
+pub returns-in_ok-write_activated-in-Any-clause-written : goal.returns-in_ok-write_activated-in-Any-clause-written
+returns-in_ok-write_activated-in-Any-clause-written g c =
+    subst (λ (x : Update). WritesUpdate x c.args.run.now.regions.listed.writes (state_of c.args.run.now) (state_of c.write_activated.new.self) true) (sym c.in-Any.is)
+    (refl, c.in_ok-write_activated-in-Any.ensures.state)
 
 pub write_planes-requires : goal.write_planes-requires
 write_planes-requires g c κs within = (
@@ -29,5 +29,5 @@ write_planes-requires g c κs within = (
   ),
 )
 
-pub write_listed-requires : goal.write_listed-requires
-write_listed-requires g c κs within = (within, (c.requires.agrees, subst (IsIn c.args.run.now.regions.listed.signals c.args.run.now.regions.listed.writes) c.in-Any.is c.requires.known))
+pub write_activated-requires : goal.write_activated-requires
+write_activated-requires g c κs within = (within, (c.requires.agrees, subst (IsIn c.args.run.now.regions.listed.signals c.args.run.now.regions.listed.writes) c.in-Any.is c.requires.known))

@@ -1,5 +1,5 @@
 use Rattle.std.proofs.Common.{◌≡◌, drop}
-use Rattle.vs_run_active.specs.Standings.{woken_in}
+use Rattle.vs_run_active.specs.ProcessPlaces.{woken_in}
 use Rattle.vs_kernel.specs.Leaving.{changed_each}
 use Rattle.vs_kernel.proofs.moves.wake_each.Given as goal
 

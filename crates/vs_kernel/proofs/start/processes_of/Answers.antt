@@ -1,7 +1,7 @@
 use Rattle.std.proofs.Common.{◌≡◌, ◌∙◌, ◌+◌, ◌∷◌, ◌++◌, [], ℕ, List, take, sym, ap, subst}
 use Rattle.std.proofs.lemmas.List.{take_more}
 use Rattle.vs_process.specs.Texts.{Text}
-use Rattle.vs_run_active.specs.Standings.{IsWaitOf}
+use Rattle.vs_run_active.specs.ProcessPlaces.{IsWaitOf}
 use Rattle.vs_kernel.specs.Starting.{AreStarted}
 use Rattle.vs_kernel.proofs.StartLemmas.{started_more}
 use Rattle.vs_kernel.proofs.start.processes_of.Goals as goal

@@ -63,4 +63,4 @@ returns-clause-run g c =
       finishing = refl;
       over = refl;
     } in
-    start_run c.terms_are_listed.ensures c.args.design.now c.args.scripts.now r at
+    start_run c.terms_are_found.ensures c.args.design.now c.args.scripts.now r at

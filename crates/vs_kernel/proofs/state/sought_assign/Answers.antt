@@ -1,7 +1,7 @@
-use Rattle.std.proofs.Common.{◌≡◌, ℕ, false, slice_get, arith}
+use Rattle.std.proofs.Common.{◌≡◌, ℕ, false, slice_get, arith, below_more}
 use Rattle.vs_run_regions.specs.vs_process.specs.Executions.{if_some}
 use Rattle.vs_run_active.specs.Touches.{is_left}
-use Rattle.vs_kernel.proofs.ActiveLemmas.{below_more, none_any}
+use Rattle.vs_kernel.proofs.ActiveLemmas.{none_any}
 use Rattle.vs_kernel.proofs.state.sought_assign.Goals as goal
 
 pub loop-assign-init : goal.loop-assign-init

@@ -1,10 +1,10 @@
-use Rattle.std.proofs.Common.{◌≡◌, ◌∙◌, ℕ, false, refl, sym, arith}
+use Rattle.std.proofs.Common.{◌≡◌, ◌∙◌, ℕ, false, refl, sym, arith, below_more}
 use Rattle.vs_run_regions.specs.vs_process.specs.Places.{is_going}
 use Rattle.vs_run_regions.specs.vs_process.specs.declared.moves.Move.TheVariants.{Step}
 use Rattle.vs_run_regions.specs.vs_process.specs.Executions.{is_enabled}
 use Rattle.vs_run_steps.specs.Runs.{counters_of, state_of}
 use Rattle.vs_run_steps.proofs.RunsLemmas.{places_long}
-use Rattle.vs_kernel.proofs.ActiveLemmas.{below_more, none_any}
+use Rattle.vs_kernel.proofs.ActiveLemmas.{none_any}
 use Rattle.vs_kernel.proofs.state.sought_step.Goals as goal
 
 pub loop-process-init : goal.loop-process-init

@@ -5,20 +5,20 @@ use Rattle.vs_syntax.specs.Reading.{stuck_first, stuck_second}
 use Rattle.vs_syntax.proofs.Gets.{gets_seq}
 use Rattle.vs_parse_expressions.specs.Answers.{seen}
 use Rattle.vs_parse_expressions.proofs.Exits.{fails_by}
-use Rattle.vs_parse_expressions.specs.Lists.{behind_commas}
+use Rattle.vs_parse_expressions.specs.Lists.{comma_tail}
 use Rattle.vs_parse_expressions.proofs.form.declared.Goals as goal
 
 pub returns-in_err-said : goal.returns-in_err-said
 returns-in_err-said g c =
     let p = err_from_is_err_and c.from_residual.result c.from_residual.ensures.1 in
-    rw (p.1, p.2) (fails_by form (form · g.T.Element.grammar · behind_commas g.T.Element.grammar · mark m.Semicolon) c.args.depth c.args.depth (seen c.args.tokens.now) (seen c.args.tokens.now)
+    rw (p.1, p.2) (fails_by form (form · g.T.Element.grammar · comma_tail g.T.Element.grammar · mark m.Semicolon) c.args.depth c.args.depth (seen c.args.tokens.now) (seen c.args.tokens.now)
     (λ deep at s. stuck_first s)
     c.in_err-said.field-0.0 c.in_err-said.ensures)
 
 pub returns-in_err-names : goal.returns-in_err-names
 returns-in_err-names g c =
     let p = err_from_is_err_and c.from_residual-in_err-names.result c.from_residual-in_err-names.ensures.1 in
-    rw (p.1, p.2) (fails_by (g.T.Element.grammar · behind_commas g.T.Element.grammar · mark m.Semicolon) (form · g.T.Element.grammar · behind_commas g.T.Element.grammar · mark m.Semicolon) c.args.depth c.args.depth (seen c.in_ok-said.said.rest.now) (seen c.args.tokens.now)
+    rw (p.1, p.2) (fails_by (g.T.Element.grammar · comma_tail g.T.Element.grammar · mark m.Semicolon) (form · g.T.Element.grammar · comma_tail g.T.Element.grammar · mark m.Semicolon) c.args.depth c.args.depth (seen c.in_ok-said.said.rest.now) (seen c.args.tokens.now)
     (λ deep at s. stuck_second c.in_ok-said.ensures s)
     c.in_err-names.field-0.0 c.in_err-names.ensures)
 

@@ -6,7 +6,7 @@ use Rattle.vs_syntax.proofs.Gets.{gets_seq}
 use Rattle.vs_syntax.specs.Views.{expr_tree, labelled_tree}
 use Rattle.vs_parse_expressions.specs.Answers.{seen}
 use Rattle.vs_parse_expressions.proofs.Exits.{fails_by}
-use Rattle.vs_parse_expressions.specs.Lists.{behind_commas}
+use Rattle.vs_parse_expressions.specs.Lists.{comma_tail}
 use Rattle.vs_parse_expressions.specs.Parts.{Leads}
 use Rattle.vs_parse_expressions.proofs.ListsLists.{grown_none}
 use Rattle.vs_parse_expressions.proofs.Parts.{ended_as}
@@ -23,7 +23,7 @@ returns-in_err-first c =
 pub returns-in_err-all : goal.returns-in_err-all
 returns-in_err-all c =
     let p = err_from_is_err_and c.from_residual-in_err-all.result c.from_residual-in_err-all.ensures.1 in
-    rw (p.1, p.2) (fails_by (behind_commas (part an_expr)) (part a_case_item) c.args.depth c.args.depth (seen c.in_ok-first.first.rest.now) (seen c.args.tokens.now)
+    rw (p.1, p.2) (fails_by (comma_tail (part an_expr)) (part a_case_item) c.args.depth c.args.depth (seen c.in_ok-first.first.rest.now) (seen c.args.tokens.now)
     (λ deep at s. chosen_stuck c.args.depth deep _ at c.requires.depth c.requires.first (stuck_second c.in_ok-first.ensures (stuck_first s)))
     c.in_err-all.field-0.0 c.in_err-all.ensures)
 

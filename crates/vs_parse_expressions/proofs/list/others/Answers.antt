@@ -1,7 +1,7 @@
 use Rattle.std.proofs.lemmas.Result.{err_from_is_err_and}
 use Rattle.vs_parse_expressions.specs.Answers.{seen}
 use Rattle.vs_parse_expressions.proofs.Exits.{fails_by}
-use Rattle.vs_parse_expressions.specs.Lists.{behind_commas}
+use Rattle.vs_parse_expressions.specs.Lists.{comma_tail}
 use Rattle.vs_parse_expressions.proofs.ListsLists.{adding_start, adding_push, adding_stuck, all_added, comma_shorter}
 use Rattle.vs_parse_expressions.proofs.list.others.Goals as goal
 
@@ -13,7 +13,7 @@ loop-after-init g c = record {
 pub returns-in_err-other : goal.returns-in_err-other
 returns-in_err-other g c =
     let p = err_from_is_err_and c.from_residual.result c.from_residual.ensures.1 in
-    rw (p.1, p.2) (fails_by g.T.Element.grammar (behind_commas g.T.Element.grammar) c.args.depth c.args.depth (seen c.in-Some.after.now) (seen c.args.tokens.now)
+    rw (p.1, p.2) (fails_by g.T.Element.grammar (comma_tail g.T.Element.grammar) c.args.depth c.args.depth (seen c.in-Some.after.now) (seen c.args.tokens.now)
     (λ deep at s. adding_stuck g.T.Element.grammar c.args.depth deep g.T.Element.tree_of _ _ _ at _ _ c.requires c.loop-after.invariant.adding c.in-Some.ensures s)
     c.in_err-other.field-0.0 c.in_err-other.ensures)
 

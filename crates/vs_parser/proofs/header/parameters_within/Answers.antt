@@ -11,7 +11,7 @@ use Rattle.vs_syntax.specs.Views.{header_parameter_tree, header_parameters_tree}
 use Rattle.vs_syntax.specs.declared.tree.HeaderParameter.{HeaderParameter}
 use Rattle.vs_parse_expressions.specs.Answers.{seen}
 use Rattle.vs_parse_expressions.proofs.Exits.{fails_by}
-use Rattle.vs_parse_expressions.specs.Lists.{behind_commas}
+use Rattle.vs_parse_expressions.specs.Lists.{comma_tail}
 use Rattle.vs_parse_expressions.specs.Parts.{ReadsWithin}
 use Rattle.vs_parse_expressions.proofs.Parts.{ended_as}
 use Rattle.vs_parser.proofs.Headers as h
@@ -27,7 +27,7 @@ returns-in_err-first c =
 pub returns-in_err-all : goal.returns-in_err-all
 returns-in_err-all c =
     let p = err_from_is_err_and c.from_residual-in_err-all.result c.from_residual-in_err-all.ensures.1 in
-    rw (p.1, p.2) (fails_by (behind_commas (part a_header_parameter)) h.parameters_inside c.args.depth c.args.depth (seen c.in_ok-first.first.rest.now) (seen c.args.inside.now)
+    rw (p.1, p.2) (fails_by (comma_tail (part a_header_parameter)) h.parameters_inside c.args.depth c.args.depth (seen c.in_ok-first.first.rest.now) (seen c.args.inside.now)
     (λ deep at s. stuck_second c.in_ok-first.ensures (stuck_first s))
     c.in_err-all.field-0.0 c.in_err-all.ensures)
 

@@ -5,7 +5,7 @@ use Rattle.vs_syntax.specs.Views.{connection_tree}
 use Rattle.vs_syntax.proofs.Gets.{gets_seq}
 use Rattle.vs_parse_expressions.specs.Answers.{seen}
 use Rattle.vs_parse_expressions.proofs.Exits.{fails_by}
-use Rattle.vs_parse_expressions.specs.Lists.{behind_commas}
+use Rattle.vs_parse_expressions.specs.Lists.{comma_tail}
 use Rattle.vs_parser.proofs.InstanceLemmas.{named}
 use Rattle.vs_parse_expressions.proofs.ListsLists.{grown_none}
 use Rattle.vs_parser.proofs.instance.by_name.Goals as goal
@@ -20,7 +20,7 @@ returns-in_err-first c =
 pub returns-in_err-behind : goal.returns-in_err-behind
 returns-in_err-behind c =
     let p = err_from_is_err_and c.from_residual-in_err-behind.result c.from_residual-in_err-behind.ensures.1 in
-    rw (p.1, p.2) (fails_by (behind_commas (part a_connection)) named c.args.depth c.args.depth (seen c.in_ok-first.first.rest.now) (seen c.args.tokens.now)
+    rw (p.1, p.2) (fails_by (comma_tail (part a_connection)) named c.args.depth c.args.depth (seen c.in_ok-first.first.rest.now) (seen c.args.tokens.now)
     (λ deep at s. stuck_second c.in_ok-first.ensures s)
     c.in_err-behind.field-0.0 c.in_err-behind.ensures)
 

@@ -19,7 +19,7 @@ returns-in_err-values c =
 pub returns-in_err-placed : goal.returns-in_err-placed
 returns-in_err-placed c =
     let p = err_from_is_err_and c.from_residual-in_err-placed.result c.from_residual-in_err-placed.ensures.1 in
-    rw (p.1, p.2) (fails_by (grammar.listed an_instance) instances c.args.depth c.args.depth (seen c.in_ok-values.values.rest.now) (seen c.args.tokens.now)
+    rw (p.1, p.2) (fails_by (grammar.comma_list an_instance) instances c.args.depth c.args.depth (seen c.in_ok-values.values.rest.now) (seen c.args.tokens.now)
     (λ deep at s. stuck_second c.in_ok-values.ensures s)
     c.in_err-placed.field-0.0 c.in_err-placed.ensures)
 

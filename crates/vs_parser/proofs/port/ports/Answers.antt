@@ -1,6 +1,6 @@
 use Rattle.std.proofs.Common.{sym, ◌∙◌}
 use Rattle.std.proofs.lemmas.Result.{err_from_is_err_and}
-use Rattle.vs_syntax.specs.Grammar.{part, told_ports, port_names}
+use Rattle.vs_syntax.specs.Grammar.{part, directed_ports, port_names}
 use Rattle.vs_parse_expressions.specs.Answers.{seen}
 use Rattle.vs_parse_expressions.proofs.Exits.{fails_by}
 use Rattle.vs_parser.specs.declared.port.Said.TheVariants as s
@@ -11,7 +11,7 @@ use Rattle.vs_parser.proofs.port.ports.Goals as goal
 pub returns-in_err-first : goal.returns-in_err-first
 returns-in_err-first c =
     let p = err_from_is_err_and c.from_residual.result c.from_residual.ensures.1 in
-    rw (p.1, p.2) (fails_by (part told_ports) ports_within c.args.depth c.args.depth (seen c.args.tokens.now) (seen c.args.tokens.now)
+    rw (p.1, p.2) (fails_by (part directed_ports) ports_within c.args.depth c.args.depth (seen c.args.tokens.now) (seen c.args.tokens.now)
     (λ deep at t. told_stuck c.args.depth deep c.in-Some.direction _ _ at c.in-Some.ensures t)
     c.in_err-first.field-0.0 (c.in_err-first.ensures.reads s.Nothing))
 

@@ -21,46 +21,46 @@ pub headed-returns-then-depth-least_statement : goal.headed-returns-then-depth-l
 headed-returns-then-depth-least_statement t c = head_deep c.args.depth _ _ c.args.head c.requires (omega (arith, c.least_statement.ensures.need))
 
 pub headed-returns-in-Word : goal.headed-returns-in-Word
-headed-returns-in-Word t c = word_stmt _ c.args.depth _ _ _ (begins_of _ _ _ _ c.in-Word.is c.requires) (word_room _ _ _ c.args.depth c.in-Word.is c.least_statement.ensures.need (omega arith)) c.behind.ensures
+headed-returns-in-Word t c = word_stmt _ c.args.depth _ _ _ (begins_of _ _ _ _ c.in-Word.is c.requires) (word_room _ _ _ c.args.depth c.in-Word.is c.least_statement.ensures.need (omega arith)) c.statement_rest.ensures
 
-pub behind-returns-in-Null : goal.behind-returns-in-Null
-behind-returns-in-Null t c = null_read _ c.args.depth _ c.in-Null.is
+pub statement_rest-returns-in-Null : goal.statement_rest-returns-in-Null
+statement_rest-returns-in-Null t c = null_read _ c.args.depth _ c.in-Null.is
 
-pub behind-returns-in-Block : goal.behind-returns-in-Block
-behind-returns-in-Block t c = word_is _ _ c.args.depth _ _ c.in-Block.is c.block.ensures
+pub statement_rest-returns-in-Block : goal.statement_rest-returns-in-Block
+statement_rest-returns-in-Block t c = word_is _ _ c.args.depth _ _ c.in-Block.is c.block.ensures
 
-pub behind-returns-in-If : goal.behind-returns-in-If
-behind-returns-in-If t c = word_is _ _ c.args.depth _ _ c.in-If.is c.conditional.ensures
+pub statement_rest-returns-in-If : goal.statement_rest-returns-in-If
+statement_rest-returns-in-If t c = word_is _ _ c.args.depth _ _ c.in-If.is c.conditional.ensures
 
-pub behind-returns-in-Case : goal.behind-returns-in-Case
-behind-returns-in-Case t c = word_is _ _ c.args.depth _ _ c.in-Case.is c.case_stmt.ensures
+pub statement_rest-returns-in-Case : goal.statement_rest-returns-in-Case
+statement_rest-returns-in-Case t c = word_is _ _ c.args.depth _ _ c.in-Case.is c.case_stmt.ensures
 
-pub behind-returns-in-Casez : goal.behind-returns-in-Casez
-behind-returns-in-Casez t c = word_is _ _ c.args.depth _ _ c.in-Casez.is c.case_stmt-in-Casez.ensures
+pub statement_rest-returns-in-Casez : goal.statement_rest-returns-in-Casez
+statement_rest-returns-in-Casez t c = word_is _ _ c.args.depth _ _ c.in-Casez.is c.case_stmt-in-Casez.ensures
 
-pub behind-returns-in-Casex : goal.behind-returns-in-Casex
-behind-returns-in-Casex t c = word_is _ _ c.args.depth _ _ c.in-Casex.is c.case_stmt-in-Casex.ensures
+pub statement_rest-returns-in-Casex : goal.statement_rest-returns-in-Casex
+statement_rest-returns-in-Casex t c = word_is _ _ c.args.depth _ _ c.in-Casex.is c.case_stmt-in-Casex.ensures
 
-pub behind-returns-in-For : goal.behind-returns-in-For
-behind-returns-in-For t c = word_is _ _ c.args.depth _ _ c.in-For.is c.for_stmt.ensures
+pub statement_rest-returns-in-For : goal.statement_rest-returns-in-For
+statement_rest-returns-in-For t c = word_is _ _ c.args.depth _ _ c.in-For.is c.for_stmt.ensures
 
-pub behind-returns-in-While : goal.behind-returns-in-While
-behind-returns-in-While t c = word_is _ _ c.args.depth _ _ c.in-While.is c.loop_stmt.ensures
+pub statement_rest-returns-in-While : goal.statement_rest-returns-in-While
+statement_rest-returns-in-While t c = word_is _ _ c.args.depth _ _ c.in-While.is c.loop_stmt.ensures
 
-pub behind-returns-in-Repeat : goal.behind-returns-in-Repeat
-behind-returns-in-Repeat t c = word_is _ _ c.args.depth _ _ c.in-Repeat.is c.loop_stmt-in-Repeat.ensures
+pub statement_rest-returns-in-Repeat : goal.statement_rest-returns-in-Repeat
+statement_rest-returns-in-Repeat t c = word_is _ _ c.args.depth _ _ c.in-Repeat.is c.loop_stmt-in-Repeat.ensures
 
-pub behind-returns-in-Forever : goal.behind-returns-in-Forever
-behind-returns-in-Forever t c = word_is _ _ c.args.depth _ _ c.in-Forever.is c.forever_stmt.ensures
+pub statement_rest-returns-in-Forever : goal.statement_rest-returns-in-Forever
+statement_rest-returns-in-Forever t c = word_is _ _ c.args.depth _ _ c.in-Forever.is c.forever_stmt.ensures
 
-pub behind-returns-in-Delay : goal.behind-returns-in-Delay
-behind-returns-in-Delay t c = word_is _ _ c.args.depth _ _ c.in-Delay.is c.delayed_stmt.ensures
+pub statement_rest-returns-in-Delay : goal.statement_rest-returns-in-Delay
+statement_rest-returns-in-Delay t c = word_is _ _ c.args.depth _ _ c.in-Delay.is c.delayed_stmt.ensures
 
-pub behind-returns-in-Event : goal.behind-returns-in-Event
-behind-returns-in-Event t c = word_is _ _ c.args.depth _ _ c.in-Event.is c.event_stmt.ensures
+pub statement_rest-returns-in-Event : goal.statement_rest-returns-in-Event
+statement_rest-returns-in-Event t c = word_is _ _ c.args.depth _ _ c.in-Event.is c.event_stmt.ensures
 
-pub behind-returns-in-Finish : goal.behind-returns-in-Finish
-behind-returns-in-Finish t c = word_is _ _ c.args.depth _ _ c.in-Finish.is (c.finish_stmt.ensures c.args.depth)
+pub statement_rest-returns-in-Finish : goal.statement_rest-returns-in-Finish
+statement_rest-returns-in-Finish t c = word_is _ _ c.args.depth _ _ c.in-Finish.is (c.finish_stmt.ensures c.args.depth)
 
 pub boxed-returns-in_err-inner : goal.boxed-returns-in_err-inner
 boxed-returns-in_err-inner t c =
@@ -259,29 +259,29 @@ block-loop-head-init t c = record { along = along_start (part a_stmt) c.args.dep
 pub stmt-headed-requires : goal.stmt-headed-requires
 stmt-headed-requires t c = (omega arith, c.in-Some.ensures)
 
-pub behind-block-requires : goal.behind-block-requires
-behind-block-requires t c = (omega arith, tt)
+pub statement_rest-block-requires : goal.statement_rest-block-requires
+statement_rest-block-requires t c = (omega arith, tt)
 
-pub behind-conditional-requires : goal.behind-conditional-requires
-behind-conditional-requires t c = (omega arith, room_of _ _ c.args.depth c.in-If.is c.requires)
+pub statement_rest-conditional-requires : goal.statement_rest-conditional-requires
+statement_rest-conditional-requires t c = (omega arith, room_of _ _ c.args.depth c.in-If.is c.requires)
 
-pub behind-case_stmt-requires : goal.behind-case_stmt-requires
-behind-case_stmt-requires t c = (omega arith, room_of _ _ c.args.depth c.in-Case.is c.requires)
+pub statement_rest-case_stmt-requires : goal.statement_rest-case_stmt-requires
+statement_rest-case_stmt-requires t c = (omega arith, room_of _ _ c.args.depth c.in-Case.is c.requires)
 
-pub behind-for_stmt-requires : goal.behind-for_stmt-requires
-behind-for_stmt-requires t c = (omega arith, tt)
+pub statement_rest-for_stmt-requires : goal.statement_rest-for_stmt-requires
+statement_rest-for_stmt-requires t c = (omega arith, tt)
 
-pub behind-loop_stmt-requires : goal.behind-loop_stmt-requires
-behind-loop_stmt-requires t c = (omega arith, tt)
+pub statement_rest-loop_stmt-requires : goal.statement_rest-loop_stmt-requires
+statement_rest-loop_stmt-requires t c = (omega arith, tt)
 
-pub behind-forever_stmt-requires : goal.behind-forever_stmt-requires
-behind-forever_stmt-requires t c = (omega arith, tt)
+pub statement_rest-forever_stmt-requires : goal.statement_rest-forever_stmt-requires
+statement_rest-forever_stmt-requires t c = (omega arith, tt)
 
-pub behind-delayed_stmt-requires : goal.behind-delayed_stmt-requires
-behind-delayed_stmt-requires t c = (omega arith, tt)
+pub statement_rest-delayed_stmt-requires : goal.statement_rest-delayed_stmt-requires
+statement_rest-delayed_stmt-requires t c = (omega arith, tt)
 
-pub behind-event_stmt-requires : goal.behind-event_stmt-requires
-behind-event_stmt-requires t c = (omega arith, tt)
+pub statement_rest-event_stmt-requires : goal.statement_rest-event_stmt-requires
+statement_rest-event_stmt-requires t c = (omega arith, tt)
 
 pub boxed-stmt-requires : goal.boxed-stmt-requires
 boxed-stmt-requires t c = (omega arith, tt)

@@ -12,8 +12,8 @@ decreases-stmt l = 8 * l.depth + 1
 abbrev pub decreases-headed : goal.decreases-headed
 decreases-headed l = 8 * l.depth
 
-abbrev pub decreases-behind : goal.decreases-behind
-decreases-behind l = 8 * l.depth + 5
+abbrev pub decreases-statement_rest : goal.decreases-statement_rest
+decreases-statement_rest l = 8 * l.depth + 5
 
 abbrev pub decreases-boxed : goal.decreases-boxed
 decreases-boxed l = 8 * l.depth + 2

@@ -1,6 +1,6 @@
 use Rattle.std.proofs.Common.{◌∷◌}
 use Rattle.vs_prep_macros.specs.Pieces.{cut_by}
-use Rattle.vs_prep_macros.proofs.Behind.{cut_behind, behind_splits, behind_one}
+use Rattle.vs_prep_macros.proofs.Suffixes.{cut_behind, behind_splits, behind_one}
 use Rattle.vs_prep_macros.proofs.laws.front_and_rest.Goals as goal
 
 pub returns : goal.returns

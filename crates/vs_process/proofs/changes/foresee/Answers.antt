@@ -16,7 +16,7 @@ loop-part-preserved c =
     let xs : List Change = c.loop-part.changes.items in
     let rest : List Change = changed_words store new (drop (c.loop-part.part-index + 1) parts) in
     let more : c.note_word.new.changes.items ≡ xs ++ changed_part store new part =
-    c.note_word.ensures.noted ∙ ap₂ (λ (a b : Option (List Digit)). xs ++ changed_word part.signal part.word a b) c.word-before.ensures c.word_behind-behind.ensures
+    c.note_word.ensures.noted ∙ ap₂ (λ (a b : Option (List Digit)). xs ++ changed_word part.signal part.word a b) c.word-before.ensures c.word_after_write-behind.ensures
     in
     let next : drop c.loop-part.part-index parts ≡ part ∷ drop (c.loop-part.part-index + 1) parts =
     drop_more parts c.loop-part.part-index part c.loop-part-test.true ∙ ap (λ (p : Part). p ∷ drop (c.loop-part.part-index + 1) parts) (sym c.part-item.is)

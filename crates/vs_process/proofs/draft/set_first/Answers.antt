@@ -1,9 +1,10 @@
 use Rattle.std.proofs.Common.{ap, ◌∙◌, Some}
 use Rattle.std.proofs.Math.Seq.{map-set_same}
 use Rattle.std.proofs.lemmas.Option.{get_or_from_slice_get}
+use Rattle.vs_design.specs.vs_logic4.proofs.Basics.{set_here}
 use Rattle.vs_process.specs.declared.draft.Op.{Op}
 use Rattle.vs_process.specs.Codes.{link_of}
-use Rattle.vs_process.proofs.Lists.{set_here, set_other}
+use Rattle.vs_process.proofs.Lists.{set_other}
 use Rattle.vs_process.proofs.draft.set_first.Goals as goal
 
 pub returns-clause-links : goal.returns-clause-links

@@ -1,7 +1,8 @@
 use Rattle.std.proofs.Common.{◌≡◌, ◌∙◌, ◌∷◌, [], ap, arith, length}
 use Rattle.vs_design.specs.declared.statement.Aim.{Aim}
 use Rattle.vs_design.specs.declared.statement.Aim.TheVariants.{Fixed}
-use Rattle.vs_process.proofs.SpotLemmas.{only_one, spot_is}
+use Rattle.vs_design.specs.vs_logic4.proofs.Basics.{only_one}
+use Rattle.vs_process.proofs.SpotLemmas.{spot_is}
 use Rattle.vs_process.proofs.spots.spot_of.Goals as goal
 
 pub returns : goal.returns

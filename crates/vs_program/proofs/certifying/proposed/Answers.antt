@@ -1,5 +1,5 @@
 use Rattle.std.proofs.Common.{List, ℕ, refl, subst}
-use Rattle.vs_certified.specs.vs_simulate.specs.Honesty.{Defines}
+use Rattle.vs_sign_off.specs.vs_simulate.specs.Honesty.{Defines}
 use Rattle.vs_program.proofs.certifying.proposed.Goals as goal
 
 pub returns-then-is_too_long-clause-err : goal.returns-then-is_too_long-clause-err

@@ -2,7 +2,7 @@ use Rattle.std.proofs.Common.{◌∙◌, List, ℕ, ap, subst, sym}
 use Rattle.std.specs.Prelude.{false, ◌≡◌, Option}
 use Rattle.std.specs.Io.KnownBytes.{Keeps}
 use Rattle.std.proofs.KnownBytes.{Keeps-refl}
-use Rattle.vs_certified.specs.Certified.{is_before_run}
+use Rattle.vs_sign_off.specs.Certified.{is_before_run}
 use Rattle.vs_outputs.specs.Buffers.{all_bytes, writer_of}
 use Rattle.vs_program.specs.Ends.{HasBegunWriting, HasWritten}
 use Rattle.vs_program.proofs.Ends.{ends_by_doing, ends_by_fault}

@@ -1,6 +1,6 @@
 use Rattle.std.proofs.Common.{◌≡◌, ℕ, List, false, subst}
 use Rattle.std.specs.Prelude.{IfErr}
-use Rattle.vs_certified.specs.vs_simulate.specs.Honesty.{is_refusal}
+use Rattle.vs_sign_off.specs.vs_simulate.specs.Honesty.{is_refusal}
 use Rattle.vs_program.specs.Races.{HasBegunRace}
 use Rattle.vs_program.proofs.doing.seek_race.Goals as goal
 

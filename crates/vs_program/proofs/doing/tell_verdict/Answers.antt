@@ -1,6 +1,6 @@
 use Rattle.std.proofs.Common.{◌∙◌, ℕ, List, subst}
-use Rattle.vs_certified.specs.Judged.{IsJudgedBy}
-use Rattle.vs_certified.specs.vs_vcd_writing.specs.Sinks.{AppendsPart}
+use Rattle.vs_sign_off.specs.Judged.{IsJudgedBy}
+use Rattle.vs_sign_off.specs.vs_vcd_writing.specs.Sinks.{AppendsPart}
 use Rattle.vs_program.proofs.Fails.{if_err}
 use Rattle.vs_program.proofs.doing.tell_verdict.Goals as goal
 

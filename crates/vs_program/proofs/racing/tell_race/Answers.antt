@@ -1,9 +1,9 @@
 use Rattle.std.proofs.Common.{ℕ, List, inr, refl, subst, sym}
 use Rattle.std.proofs.lemmas.Result.{err_from_is_err_and}
 use Rattle.std.specs.Io.KnownBytes.{Appends}
-use Rattle.vs_certified.specs.vs_vcd_writing.specs.Sinks.{AppendsPart}
-use Rattle.vs_certified.specs.vs_simulate.specs.Honesty.{SimulationFails, is_refusal}
-use Rattle.vs_race.specs.Races.{IsAnswerBy}
+use Rattle.vs_sign_off.specs.vs_vcd_writing.specs.Sinks.{AppendsPart}
+use Rattle.vs_sign_off.specs.vs_simulate.specs.Honesty.{SimulationFails, is_refusal}
+use Rattle.vs_sign_off.specs.Races.{IsAnswerBy}
 use Rattle.vs_program.proofs.Fails.{if_err}
 use Rattle.vs_program.proofs.RacingLemmas.{defined_of, not_late}
 use Rattle.vs_program.proofs.racing.tell_race.Goals as goal

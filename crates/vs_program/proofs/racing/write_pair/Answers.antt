@@ -1,6 +1,6 @@
 use Rattle.std.proofs.Common.{subst, sym}
 use Rattle.std.specs.Prelude.{OnOk}
-use Rattle.vs_race.specs.declared.answer.Race.{Race}
+use Rattle.vs_sign_off.specs.declared.answer.Race.{Race}
 use Rattle.vs_program.specs.Races.{WroteDumps}
 use Rattle.vs_program.proofs.racing.write_pair.Goals as goal
 

@@ -26,5 +26,5 @@ add_uses-returns-in-Block t c =
 
 pub add_uses-returns-in_ok-add_uses-in-If : goal.add_uses-returns-in_ok-add_uses-in-If
 add_uses-returns-in_ok-add_uses-in-If t c =
-    added_behind _ _ _ _ _ _ _ c.in_ok-add_uses-in-If.ensures c.add_uses_behind.ensures
+    added_behind _ _ _ _ _ _ _ c.in_ok-add_uses-in-If.ensures c.add_else_uses.ensures
     (ap (λ y. used_in y ++ else_uses c.in-If.other) c.deref-in-If.ensures ∙ sym (uses_If c.in-If.field-0 c.in-If.x c.in-If.other) ∙ ap used_in (sym c.in-If.is))

@@ -2,8 +2,8 @@ use Rattle.std.proofs.Common.{◌≡◌, ℕ, ◌+◌, Bool, Some, List, [], ◌
 use Rattle.std.specs.declared.vec.Vec.{Vec}
 use Rattle.std.specs.declared.alloc.Global.{Global}
 use Rattle.std.proofs.lemmas.List.{length-append}
+use Rattle.vs_design.specs.vs_logic4.proofs.Basics.{each_more}
 use Rattle.vs_rules_of_processes.specs.Classes.{AreReachedFrom}
-use Rattle.vs_rules_of_processes.proofs.ListLemmas.{each_more}
 use Rattle.vs_rules_of_processes.proofs.classes.all_marks.Goals as goal
 
 pub loop-class-preserved : goal.loop-class-preserved

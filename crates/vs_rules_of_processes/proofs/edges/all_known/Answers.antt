@@ -1,9 +1,10 @@
 use Rattle.std.proofs.Common.{◌≡◌, ℕ, ◌+◌, Some, List, [], ◌∷◌, ◌++◌, length, slice_get, sym, ◌∙◌, ap, subst, arith}
 use Rattle.std.proofs.lemmas.List.{length-append}
 use Rattle.vs_design.specs.declared.statement.EventTerm.{EventTerm}
+use Rattle.vs_design.specs.vs_logic4.proofs.Basics.{each_more}
 use Rattle.vs_rules_of_processes.specs.declared.edges.Term.{Term}
 use Rattle.vs_rules_of_processes.specs.EdgePlaces.{IsKnown}
-use Rattle.vs_rules_of_processes.proofs.PairLemmas.{at_place, each_more}
+use Rattle.vs_rules_of_processes.proofs.PairLemmas.{at_place}
 use Rattle.vs_rules_of_processes.proofs.edges.all_known.Goals as goal
 
 pub loop-i-preserved : goal.loop-i-preserved

@@ -5,7 +5,8 @@ use Rattle.vs_design.specs.declared.statement.EventTerm.{EventTerm}
 use Rattle.vs_rules.specs.Claims.{IsRootOf}
 use Rattle.vs_rules.specs.Slots.{Fires}
 use Rattle.vs_claims.specs.Facts.{Case}
-use Rattle.vs_rules_of_processes.proofs.PairLemmas.{in_only, only_in}
+use Rattle.vs_design.specs.vs_logic4.proofs.Basics.{one_in as only_in}
+use Rattle.vs_rules_of_processes.proofs.PairLemmas.{in_only}
 use Rattle.vs_rules_of_processes.proofs.readings.is_term_apart.Goals as goal
 
 pub returns-then-all_are : goal.returns-then-all_are

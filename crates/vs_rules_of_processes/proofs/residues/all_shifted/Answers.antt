@@ -1,6 +1,7 @@
 use Rattle.std.proofs.Common.{ℕ, List, ◌+◌, ◌%◌, refl, subst, sym}
 use Rattle.std.specs.List.{Contains}
-use Rattle.vs_rules_of_processes.proofs.Shifts.{further, all_do, one_not}
+use Rattle.vs_design.specs.vs_logic4.proofs.Basics.{all_do, one_not}
+use Rattle.vs_rules_of_processes.proofs.Shifts.{further}
 use Rattle.vs_rules_of_processes.proofs.residues.all_shifted.Goals as goal
 
 pub returns-then-not-has_residue : goal.returns-then-not-has_residue

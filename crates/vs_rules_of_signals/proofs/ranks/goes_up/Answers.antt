@@ -1,7 +1,8 @@
 use Rattle.std.proofs.Common.{ℕ, ◌↔◌, List, true, false, IsTrue, refl, subst, arith}
 use Rattle.std.specs.List.{Contains}
+use Rattle.vs_design.specs.vs_logic4.proofs.Basics.{all_do, one_not}
 use Rattle.vs_rules_of_signals.specs.Ranks.{IsBelow}
-use Rattle.vs_rules_of_signals.proofs.ListLemmas.{further, all_do, one_not}
+use Rattle.vs_rules_of_signals.proofs.ListLemmas.{further}
 use Rattle.vs_rules_of_signals.proofs.ranks.goes_up.Goals as goal
 
 pub loop-next-preserved : goal.loop-next-preserved

@@ -1,6 +1,5 @@
-use Rattle.std.proofs.Common.{ℕ, refl, arith}
+use Rattle.std.proofs.Common.{ℕ, refl, arith, below_more as further_at}
 use Rattle.vs_rules_of_signals.specs.Ranks.{RisesFrom}
-use Rattle.vs_rules_of_signals.proofs.RankLemmas.{further_at}
 use Rattle.vs_rules_of_signals.proofs.ranks.rises.Goals as goal
 
 pub loop-place-preserved : goal.loop-place-preserved

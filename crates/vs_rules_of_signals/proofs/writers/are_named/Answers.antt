@@ -1,5 +1,6 @@
 use Rattle.std.proofs.Common.{◌≡◌, ◌⊎◌, Some, refl}
-use Rattle.vs_rules_of_signals.proofs.ListLemmas.{further, all_do, one_not}
+use Rattle.vs_design.specs.vs_logic4.proofs.Basics.{all_do, one_not}
+use Rattle.vs_rules_of_signals.proofs.ListLemmas.{further}
 use Rattle.vs_rules_of_signals.proofs.writers.are_named.Goals as goal
 
 pub returns-then-not-is_named : goal.returns-then-not-is_named

@@ -1,7 +1,8 @@
 use Rattle.std.proofs.Common.{refl}
 use Rattle.std.proofs.lemmas.Bool.{false≢true}
 use Rattle.vs_maps.specs.vs_rules.specs.Claims.{IsBlock}
-use Rattle.vs_rules_of_signals.proofs.ListLemmas.{further, all_do, one_not}
+use Rattle.vs_design.specs.vs_logic4.proofs.Basics.{all_do, one_not}
+use Rattle.vs_rules_of_signals.proofs.ListLemmas.{further}
 use Rattle.vs_rules_of_signals.proofs.writers.has_no_block.Goals as goal
 
 pub returns-then-is_block : goal.returns-then-is_block

@@ -1,8 +1,8 @@
 use Rattle.std.proofs.Common.{◌≡◌, ℕ, ◌+◌, Some, List, [], ◌∷◌, ◌++◌, length, slice_get, sym, ◌∙◌, ap, subst}
 use Rattle.std.proofs.lemmas.List.{length-append}
+use Rattle.vs_design.specs.vs_logic4.proofs.Basics.{each_more}
 use Rattle.vs_rules_of_signals.specs.declared.ranks.Ranks.{Ranks}
 use Rattle.vs_rules_of_signals.specs.Ranks.{AreRanksOf}
-use Rattle.vs_rules_of_signals.proofs.WriteLemmas.{each_more}
 use Rattle.vs_rules_of_signals.proofs.writes.all_ranks.Goals as goal
 
 pub loop-i-preserved : goal.loop-i-preserved

@@ -1,6 +1,7 @@
 use Rattle.std.proofs.Common.{ℕ}
+use Rattle.vs_claims.proofs.RootLemmas.{none_more as more_below}
 use Rattle.vs_rules_of_starts.specs.Beginnings.{GivesBit}
-use Rattle.vs_rules_of_starts.proofs.BeginningLemmas.{more_below, no_place, not_told}
+use Rattle.vs_rules_of_starts.proofs.BeginningLemmas.{no_place, not_told}
 use Rattle.vs_rules_of_starts.proofs.begins.gives_in_word.Goals as goal
 
 pub loop-place-preserved : goal.loop-place-preserved

@@ -19,6 +19,6 @@ returns g c =
     (subst (λ (n : ℕ). AreMarked keeps n c.deref.result.now) c.places.ensures
     (subst (λ (l : List Bool). AreMarked keeps c.places.result l) (sym c.deref.ensures.value) c.in_ok-done.ensures.exact))
     c.len.result (c.len.ensures ∙ count ∙ c.in_ok-reached.ensures.len)
-    (subst (λ (s : ℕ). AreReached (unmarked c.deref.result.now t.stops) (s ∷ []) (places t) c.deref-2.result.now) c.requires
-    (subst (λ (l : List Bool). AreReached (unmarked c.deref.result.now t.stops) (c.args.start ∷ []) (places t) l) (sym c.deref-2.ensures.value) c.in_ok-reached.ensures.exact)))
+    (subst (λ (s : ℕ). AreReached (unmarked c.deref.result.now t.stops) (s ∷ []) (places t) c.deref-2.result.now) c.start.ensures
+    (subst (λ (l : List Bool). AreReached (unmarked c.deref.result.now t.stops) (c.start.result ∷ []) (places t) l) (sym c.deref-2.ensures.value) c.in_ok-reached.ensures.exact)))
     c.all_keep.ensures

@@ -1,8 +1,9 @@
 use Rattle.std.proofs.Common.{ℕ, ◌≤◌, ◌∙◌, List, length, ap, subst}
 use Rattle.vs_design.specs.declared.signal.Signal.{Signal}
 use Rattle.vs_design.specs.Parts.{Parts}
+use Rattle.vs_claims.proofs.RootLemmas.{none_more as more_below}
 use Rattle.vs_rules_of_starts.specs.Started.{IsStartedBy}
-use Rattle.vs_rules_of_starts.proofs.BeginningLemmas.{more_below, not_told}
+use Rattle.vs_rules_of_starts.proofs.BeginningLemmas.{not_told}
 use Rattle.vs_rules_of_starts.proofs.StartedLemmas.{no_starter}
 use Rattle.vs_rules_of_starts.proofs.starter.has_starter.Goals as goal
 

@@ -1,4 +1,4 @@
-use Rattle.std.proofs.Common.{ℕ, ◌≡◌, ◌<◌, ◌↔◌, ◌∙◌, IsTrue, Option, Some, List, length, vec_len, refl, rules, subst, sym}
+use Rattle.std.proofs.Common.{ℕ, ◌≡◌, ◌↔◌, ◌∙◌, IsTrue, Option, Some, List, length, vec_len, refl, rules, subst, sym}
 use Rattle.std.proofs.lemmas.Result.{IfOk-weaker}
 use Rattle.std.specs.List.{Contains}
 use Rattle.vs_design.specs.declared.range.BitRange.{BitRange}
@@ -23,8 +23,7 @@ returns-then-len-eq0 c i are =
 
 pub starts_for-requires : goal.starts_for-requires
 starts_for-requires c =
-    subst (λ (p : Parts). c.in-Some.w < length p.processes) (sym c.design.ensures)
-    (may_within c.args.facts.now.design c.args.facts.now.claims c.args.g c.in-Some.w ((c.in-Some.ensures c.in-Some.w).1 refl))
+    may_within c.args.facts.now.design c.args.facts.now.claims c.args.g c.in-Some.w ((c.in-Some.ensures c.in-Some.w).1 refl)
 
 pub returns : goal.returns
 returns c =
@@ -33,11 +32,10 @@ returns c =
     let count : vec_len c.in_ok-named.named ≡ length c.in_ok-named.named.items = search rules in
     let first = some_first named (λ e. c.if-len-eq0.false (c.len.ensures ∙ count ∙ e)) in
     IfOk-weaker c.starts_for.result
-    (λ b. (i : ℕ) → AreNamed c.design.result.now i c.args.g c.deref.result.now → (IsTrue b ↔ StartsFor c.design.result.now i c.args.g c.in-Some.w))
+    (λ b. (i : ℕ) → AreNamed d i c.args.g c.deref.result.now → (IsTrue b ↔ StartsFor d i c.args.g c.in-Some.w))
     (λ b. (i : ℕ) → AreTerms d i c.args.terms.now → (IsTrue b ↔ IsStartedBy d c.args.facts.now.claims i c.args.g))
     (λ b h i are.
     let all = are_named d i c.args.g c.args.terms.now named are (subst (λ (p : Parts). (r : BitRange) → (Contains named r ↔ IsOf p c.args.g c.args.terms.now r)) c.requires c.in_ok-named.ensures) in
     started_is d c.args.facts.now.claims i c.args.g c.in-Some.w named all first.0 first.1 c.in-Some.ensures b
-    (subst (λ (p : Parts). (i : ℕ) → AreNamed p i c.args.g named → (IsTrue b ↔ StartsFor p i c.args.g c.in-Some.w)) c.design.ensures
-    (subst (λ (l : List BitRange). (i : ℕ) → AreNamed c.design.result.now i c.args.g l → (IsTrue b ↔ StartsFor c.design.result.now i c.args.g c.in-Some.w)) c.deref.ensures.value h) i all))
+    (subst (λ (l : List BitRange). (i : ℕ) → AreNamed d i c.args.g l → (IsTrue b ↔ StartsFor d i c.args.g c.in-Some.w)) c.deref.ensures.value h i all))
     c.starts_for.ensures

@@ -3,9 +3,10 @@ use Rattle.vs_design.specs.declared.design.Process.{Process}
 use Rattle.vs_design.specs.Parts.{Parts}
 use Rattle.vs_claims.specs.vs_process.specs.Executions.{is_combinational}
 use Rattle.vs_rules.specs.Claims.{cold}
+use Rattle.vs_drivers.proofs.ConeLemmas.{claimed_within as is_block_of}
 use Rattle.vs_rules_of_starts.specs.Cold.{StaysAtEach}
 use Rattle.vs_rules_of_starts.specs.Starts.{NoStarterIn}
-use Rattle.vs_rules_of_starts.proofs.StartLemmas.{cold_apart, cold_is, cold_not, false_not, is_block_of}
+use Rattle.vs_rules_of_starts.proofs.StartLemmas.{cold_apart, cold_is, cold_not, false_not}
 use Rattle.vs_rules_of_starts.proofs.starts.is_cold.Goals as goal
 
 pub stays_cold-requires-clause-within : goal.stays_cold-requires-clause-within

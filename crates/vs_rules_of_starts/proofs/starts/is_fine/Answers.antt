@@ -12,4 +12,4 @@ returns-then-is_source c =
 pub returns : goal.returns
 returns c =
     other_signal (IsSource c.args.facts.now.design c.args.facts.now.claims c.args.signal) (HasSignal c.args.written.now c.args.signal)
-    (λ s. false_not ((c.if-is_source.ensures c.args.facts.now.design c.args.facts.now.claims c.requires).1 s)) c.any_of.result c.any_of.ensures
+    (λ s. false_not ((c.if-is_source.ensures c.args.facts.now.design c.args.facts.now.claims c.requires).1 s)) c.has_signal.result c.has_signal.ensures

@@ -1,6 +1,6 @@
 use Rattle.std.proofs.Common.{ℕ, false, refl, slice_index_or, IsTrue}
 use Rattle.vs_rules.specs.Claims.{HasStart, starter}
-use Rattle.vs_rules_of_starts.proofs.BeginningLemmas.{more_below}
+use Rattle.vs_claims.proofs.RootLemmas.{none_more as more_below}
 use Rattle.vs_rules_of_starts.proofs.StartLemmas.{false_not, none_marked, one_marked}
 use Rattle.vs_rules_of_starts.proofs.starts.no_starter_in.Goals as goal
 

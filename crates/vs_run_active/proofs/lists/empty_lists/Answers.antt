@@ -1,6 +1,6 @@
 use Rattle.std.proofs.Common.{◌≡◌, ◌∙◌, ap, arith}
 use Rattle.vs_design.specs.Tables.{empty_rows}
-use Rattle.vs_run_active.proofs.ListsLemmas.{row-pushed}
+use Rattle.vs_design.proofs.Tables.{row-pushed}
 use Rattle.vs_run_active.proofs.lists.empty_lists.Goals as goal
 
 pub loop-preserved : goal.loop-preserved

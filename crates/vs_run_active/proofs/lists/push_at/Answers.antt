@@ -1,6 +1,6 @@
 use Rattle.std.proofs.Common.{◌++◌, ◌∷◌, [], refl}
 use Rattle.std.proofs.lemmas.Option.{slice_get_past, slice_get_read}
-use Rattle.vs_run_active.proofs.ListsLemmas.{rows-changed, rows-past}
+use Rattle.vs_design.proofs.Tables.{rows-changed, rows-past}
 use Rattle.vs_run_active.proofs.lists.push_at.Goals as goal
 
 pub returns-in_ok-push : goal.returns-in_ok-push

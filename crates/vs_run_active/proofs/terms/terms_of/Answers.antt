@@ -3,13 +3,13 @@ use Rattle.std.proofs.lemmas.List.{drop_all}
 use Rattle.vs_design.specs.Uses.{joined}
 use Rattle.vs_process.specs.Texts.{Control, Text}
 use Rattle.std.specs.Prelude.{Option}
-use Rattle.vs_run_active.specs.declared.watchers.ListedTerm.{ListedTerm}
+use Rattle.vs_run_active.specs.declared.watchers.ProcessTerm.{ProcessTerm}
 use Rattle.vs_run_active.specs.Terms.{control_terms, terms_from, text_terms}
 use Rattle.vs_run_active.proofs.TermsLemmas.{text_next}
 use Rattle.vs_run_active.proofs.terms.terms_of.Goals as goal
 
 pub loop-process-init : goal.loop-process-init
-loop-process-init c = ap (λ (l : List ListedTerm). l ++ terms_from 0 c.args.scripts.now) c.new-terms.ensures.items
+loop-process-init c = ap (λ (l : List ProcessTerm). l ++ terms_from 0 c.args.scripts.now) c.new-terms.ensures.items
 
 pub loop-process-preserved : goal.loop-process-preserved
 loop-process-preserved c =

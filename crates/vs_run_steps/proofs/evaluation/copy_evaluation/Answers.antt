@@ -2,8 +2,9 @@ use Rattle.std.proofs.Common.{◌≡◌, ℕ, Some, length, slice_get, subst}
 use Rattle.vs_design.specs.declared.design.Assign.{Assign}
 use Rattle.vs_design.specs.InOrder.{numbered_word}
 use Rattle.vs_run_steps.specs.Forms.{IsCopy, IsForm}
-use Rattle.vs_run_steps.proofs.FormsLemmas.{copy_evaluated, copy_value, planes_of_word}
+use Rattle.vs_run_steps.proofs.FormsLemmas.{copy_evaluated, copy_value}
 use Rattle.vs_run_steps.proofs.evaluation.copy_evaluation.Goals as goal
+use Rattle.vs_run_steps.proofs.RunsLemmas.{planes_fit as planes_of_word}
 
 pub change_of_copy-change-requires-clause-sized : goal.change_of_copy-change-requires-clause-sized
 change_of_copy-change-requires-clause-sized g c =

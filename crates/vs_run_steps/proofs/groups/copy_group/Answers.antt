@@ -10,8 +10,8 @@ loop-i-preserved g c =
     elim c.if-needs.branch [
       | then-needs+in_ok-made w ↦ record {
         done =
-            done_as c.args.forms.now c.args.limit c.args.run.now (c.loop-i.taken + w.in_ok-made.made) c.if-needs.taken w.evaluate_by.new.run c.if-needs.run w.taken-is w.run-is
-            (some_done c.args.forms.now c.args.limit c.loop-i.taken w.in_ok-made.made c.args.run.now c.loop-i.run w.evaluate_by.new.run c.loop-i.invariant.done
+            done_as c.args.forms.now c.args.limit c.args.run.now (c.loop-i.taken + w.in_ok-made.made) c.if-needs.taken w.evaluate.new.run c.if-needs.run w.taken-is w.run-is
+            (some_done c.args.forms.now c.args.limit c.loop-i.taken w.in_ok-made.made c.args.run.now c.loop-i.run w.evaluate.new.run c.loop-i.invariant.done
             (omega (arith, c.loop-i.invariant.done.within, w.in_ok-made.ensures.within))
             w.in_ok-made.ensures.run w.in_ok-made.ensures.made w.in_ok-made.ensures.marked);
         start = λ none. absurd (omega (arith, none));

@@ -34,12 +34,12 @@ returns c =
     let is : slice_get f.design.processes i ≡ Some q =
     subst (λ (l : List Process). slice_get l i ≡ Some q) (c.processes-processes.ensures ∙ ap (λ (d : Parts). d.processes) c.design.ensures)
     (slice_get-get_or c.processes-processes.result.now i c.index-processes-i.result (omega (arith, c.if-i-processes.false))) in
-    IfOk-weaker c.listed_runs.result
+    IfOk-weaker c.runs_by_lists.result
     (λ x. AreRunsBy (Plain (is_wide f.claims)) (DelayEndsBy (list_of (controls_in q.body) lists)) c.in-Some.tables.now x.before (rows x.ends.items))
     (λ x. RunsWhere DelayPauseEnds f i x)
     (λ x h t chart.
     let same = same_Some c.in-Some.tables.now t (c.in-Some.ensures ∙ chart) in
     listed_are f i q t lists x.before (rows x.ends.items) (subst (λ (s : Chart). (p : ℕ) → IsPlace s p → p < places s) same c.leads_in.ensures.points) is c.in-Some-lists.ensures
     (subst (λ (s : Chart). AreRunsBy (Plain (is_wide f.claims)) (DelayEndsBy (list_of (controls_in q.body) lists)) s x.before (rows x.ends.items)) same h))
-    (subst (λ (wide : Bool). IfOk c.listed_runs.result (λ x. AreRunsBy (Plain wide) (DelayEndsBy (list_of (controls_in q.body) lists)) c.in-Some.tables.now x.before (rows x.ends.items)))
-    c.is_wide.ensures c.listed_runs.ensures)
+    (subst (λ (wide : Bool). IfOk c.runs_by_lists.result (λ x. AreRunsBy (Plain wide) (DelayEndsBy (list_of (controls_in q.body) lists)) c.in-Some.tables.now x.before (rows x.ends.items)))
+    c.is_wide.ensures c.runs_by_lists.ensures)

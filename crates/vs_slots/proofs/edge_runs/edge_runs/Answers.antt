@@ -1,10 +1,10 @@
 use Rattle.std.proofs.Common.{◌≡◌, ℕ, ◌+◌, Some, List, [], ◌∷◌, ◌++◌, length, slice_get, sym, ◌∙◌, ap, subst, arith}
 use Rattle.std.proofs.lemmas.List.{length-append}
 use Rattle.vs_design.specs.Parts.{Parts}
+use Rattle.vs_design.specs.vs_logic4.proofs.Basics.{each_more}
 use Rattle.vs_slots.specs.declared.runs.Runs.{Runs}
 use Rattle.vs_slots.specs.Kept.{RunsWhere}
 use Rattle.vs_slots.specs.Runs.{EdgePauseEnds}
-use Rattle.vs_slots.proofs.KeptLemmas.{each_more}
 use Rattle.vs_slots.proofs.edge_runs.edge_runs.Goals as goal
 
 pub loop-i-preserved : goal.loop-i-preserved

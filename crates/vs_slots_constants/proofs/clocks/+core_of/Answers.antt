@@ -1,8 +1,9 @@
 use Rattle.std.proofs.Common.{sym, ap, ◌∙◌, arith}
 use Rattle.vs_design.specs.declared.statement.Statement.TheVariants.{rolls-Block}
 use Rattle.vs_design.specs.declared.statement.Statement.TheOpen as f
+use Rattle.vs_design.specs.vs_logic4.proofs.Basics.{only_one}
 use Rattle.vs_slots_constants.specs.Clocks.{is_single}
-use Rattle.vs_slots_constants.proofs.Cores.{core_inside, core_itself, core_other, only_one, not_one, layer_of}
+use Rattle.vs_slots_constants.proofs.Cores.{core_inside, core_itself, core_other, not_one, layer_of}
 use Rattle.vs_slots_constants.proofs.clocks.+core_of.Goals as goal
 
 pub returns-then-len-eq1 : goal.returns-then-len-eq1

@@ -1,5 +1,5 @@
 use Rattle.std.proofs.Common.{◌≡◌, ◌-◌, ◌<◌, ◌≤◌, suc, get_or, arith, subst, ◌∙◌}
-use Rattle.vs_time_wheel.proofs.Listed.{moved_down, above, passed_more, IsBelow, below_none, below_later, in_order_at, newest_at}
+use Rattle.vs_time_wheel.proofs.ShortList.{moved_down, above, passed_more, IsBelow, below_none, below_later, in_order_at, newest_at}
 use Rattle.vs_time_wheel.proofs.upcoming.enlist.Given.{Over}
 use Rattle.vs_time_wheel.proofs.upcoming.enlist.Goals as goal
 use Rattle.vs_time_wheel.proofs.upcoming.enlist.Goals.{then-loop-place-test+else-index-time, else-loop-place-test}

@@ -1,5 +1,5 @@
 use Rattle.std.proofs.Common.{◌≡◌, ◌≤◌, ◌∷◌, ◌++◌, length, take, drop}
-use Rattle.vs_time_wheel.proofs.Listed.{IsUpTo}
+use Rattle.vs_time_wheel.proofs.ShortList.{IsUpTo}
 use Rattle.vs_time_wheel.proofs.upcoming.enlist.Given as goal
 
 -- the event stands at its place so far, and those that it has passed are due no later

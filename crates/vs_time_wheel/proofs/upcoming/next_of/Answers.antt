@@ -1,5 +1,5 @@
 use Rattle.std.proofs.Common.{sym, ◌∙◌}
-use Rattle.vs_time_wheel.proofs.Listed.{next_of_list}
+use Rattle.vs_time_wheel.proofs.ShortList.{next_of_list}
 use Rattle.vs_time_wheel.proofs.upcoming.next_of.Goals as goal
 
 pub returns-in-Some : goal.returns-in-Some

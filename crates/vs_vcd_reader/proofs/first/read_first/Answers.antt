@@ -1,5 +1,5 @@
 use Rattle.std.proofs.lemmas.Result.{err_from_is_err_and}
-use Rattle.vs_vcd_reader.proofs.BodyLemmas.{after_first, after_values, after_zero, end_told, first_made, first_told, zero_told}
+use Rattle.vs_vcd_reader.proofs.BodyLemmas.{after_first, after_values, after_zero, end_told, first_made, first_net, zero_told}
 use Rattle.vs_vcd_reader.proofs.first.read_first.Goals as goal
 
 pub returns-in_err-after_time : goal.returns-in_err-after_time
@@ -12,7 +12,7 @@ returns-in_err-after_word c =
     let p = err_from_is_err_and c.from_residual-in_err-after_word.result c.from_residual-in_err-after_word.ensures.1 in
     rw (p.1, p.2)
     (after_zero c.args.widths.now c.args.text.now c.in_ok-after_time.after_time.now _ c.in_ok-after_time.ensures
-    (first_told c.args.widths.now c.in_ok-after_time.after_time.now _ c.in_err-after_word.ensures))
+    (first_net c.args.widths.now c.in_ok-after_time.after_time.now _ c.in_err-after_word.ensures))
 
 pub returns-in_err-changes : goal.returns-in_err-changes
 returns-in_err-changes c =

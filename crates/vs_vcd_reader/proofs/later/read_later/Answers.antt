@@ -6,7 +6,7 @@ use Rattle.std.proofs.lemmas.Result.{err_from_is_err_and}
 use Rattle.vs_vcd_reader.specs.declared.dump.Moment.{Moment}
 use Rattle.vs_vcd_reader.specs.Bodies.{AreLast, AreTimed}
 use Rattle.vs_vcd_reader.specs.Steps.{Place as p}
-use Rattle.vs_vcd_reader.specs.Stops.{IsToldAt}
+use Rattle.vs_vcd_reader.specs.Stops.{IsReportedAt}
 use Rattle.vs_vcd_reader.proofs.BodyLemmas.{bare_is, changes_told, later_none, later_told, time_bad, time_more, unended_by, whole_slice}
 use Rattle.vs_vcd_reader.proofs.later.read_later.Goals as goal
 
@@ -39,7 +39,7 @@ returns-in_err-changes c =
     (changes_told c.args.widths.now c.args.text.now c.loop-rest.rest.now c.in-Some.line.now c.in-Some.after.now c.args.values.items c.loop-rest.values.items
     c.loop-rest.last c.in_ok-time.time c.loop-rest.bare c.args.moments.now.items c.loop-rest.moments.items _ c.loop-rest.invariant.some c.in-Some.ensures.is
     c.in_ok-time.ensures
-    (subst (λ v. IsToldAt (p.Later c.args.widths.now v c.in_ok-time.time 0 true) c.in-Some.after.now c.in_err-changes.field-0.0) c.deref_mut.ensures.value
+    (subst (λ v. IsReportedAt (p.Later c.args.widths.now v c.in_ok-time.time 0 true) c.in-Some.after.now c.in_err-changes.field-0.0) c.deref_mut.ensures.value
     (c.in_err-changes.ensures c.in_ok-time.time)))
 
 pub loop-rest-preserved : goal.loop-rest-preserved

@@ -2,7 +2,7 @@ use Rattle.std.proofs.Common.{subst, ap, ◌∙◌, rules, w64}
 use Rattle.std.proofs.lemmas.Int.{to_z-of_z}
 use mir.Val.{SFits}
 use Rattle.vs_design.specs.vs_logic4.specs.Parts.{selected}
-use Rattle.vs_widths.specs.select_passes.Places.{StandsAlone}
+use Rattle.vs_widths.specs.select_passes.Places.{HasConstantValue}
 use Rattle.vs_widths.proofs.ExcerptLemmas.{cut_fixed, cut_chosen}
 use Rattle.vs_widths.proofs.fixing.cut.Goals as goal
 
@@ -11,7 +11,7 @@ returns-in-Some c =
     let e = c.args.extent in
     let z = c.place_of-place.result in
     let z64 : SFits w64 z = search rules in
-    cut_fixed c.args.digits c.select.result c.in-Some.low e z (subst (StandsAlone e.index) c.in-Some.is c.in_ok-low.ensures) c.place_of-place.ensures
+    cut_fixed c.args.digits c.select.result c.in-Some.low e z (subst (HasConstantValue e.index) c.in-Some.is c.in_ok-low.ensures) c.place_of-place.ensures
     (c.select.ensures ∙ ap (λ y. selected y e.shape.width c.args.digits) (to_z-of_z w64 z z64))
 
 pub returns-in_ok-excerpt-in-None : goal.returns-in_ok-excerpt-in-None

@@ -1,6 +1,7 @@
 use Rattle.std.proofs.Common.{ℕ, refl, arith}
+use Rattle.vs_design.specs.vs_logic4.proofs.Basics.{all_do, one_not}
 use Rattle.vs_cert_roots.specs.First.{WakesEntry}
-use Rattle.vs_rules_of_signals.proofs.ListLemmas.{further, all_do, one_not}
+use Rattle.vs_rules_of_signals.proofs.ListLemmas.{further}
 use Rattle.vs_cert_roots.proofs.first.FirstWrites.are_calm.Goals as goal
 
 pub loop-place-preserved : goal.loop-place-preserved

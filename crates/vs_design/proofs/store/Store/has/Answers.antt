@@ -2,7 +2,7 @@ use Rattle.std.proofs.Common.{◌+◌, ◌&&◌, drop, ◌∙◌, ap, sym}
 use Rattle.std.specs.List.{list_all}
 use Rattle.std.proofs.Math.ListN.{drop_of_length-le}
 use Rattle.std.proofs.lemmas.List.{drop_more}
-use Rattle.vs_design.specs.Behind.{keeps}
+use Rattle.vs_design.specs.WordWrites.{keeps}
 use Rattle.vs_design.proofs.Stores.{keeps_all}
 use Rattle.vs_design.proofs.store.Store.has.Goals as goal
 

@@ -1,6 +1,6 @@
 use Rattle.std.proofs.Common.{◌≡◌, drop}
 use Rattle.std.specs.List.{list_all}
-use Rattle.vs_design.specs.Behind.{keeps}
+use Rattle.vs_design.specs.WordWrites.{keeps}
 use Rattle.vs_design.proofs.store.Store.has.Given as goal
 
 abbrev pub invariant-loop-part : goal.invariant-loop-part

@@ -2,11 +2,11 @@ use Rattle.std.proofs.Common.{◌≡◌, Bool, ℕ, ◌↔◌, false, get_or, Is
 use Rattle.std.specs.List.{Contains}
 use Rattle.std.proofs.lemmas.Bool.{eqb-true}
 use Rattle.std.proofs.lemmas.Result.{IfOk-weaker}
+use Rattle.std.proofs.lemmas.List.{nil_from_length as empty_list}
 use Rattle.vs_rules.specs.Drivers.{IsBlocking, InCone}
 use Rattle.vs_drivers.specs.Assigned.{IsAssigned}
 use Rattle.vs_drivers.specs.Wires.{Wiring, OfWiring, IsFree}
 use Rattle.vs_drivers.proofs.ConeLemmas.{AreChosen, blocking_of_told, alone_told}
-use Rattle.vs_drivers.proofs.ListBasics.{empty_list}
 use Rattle.vs_drivers.proofs.WalkLemmas.{alone_named}
 use Rattle.vs_drivers.proofs.cones.Cones.blocking_of.Goals as goal
 
@@ -26,10 +26,10 @@ returns-then-is_empty c =
     let r = c.args.range in
     let row = c.writers.result.now in
     let none = empty_list row (eqb-true (length row) 0 (sym c.if-is_empty.ensures)) in
-    let same = c.is_set.ensures ∙ ap (λ (l : List Bool). get_or l r.signal false) c.deref.ensures.value in
+    let same = c.is_marked.ensures ∙ ap (λ (l : List Bool). get_or l r.signal false) c.deref.ensures.value in
     let marked = subst (λ (b : Bool). (IsTrue b ↔ (IsFree x r.signal × IsAssigned x.design r.signal))) (sym same) (c.self.invariant.marks_are r.signal) in
-    IfOk-weaker c.one_if.result (λ all. (k : ℕ) → (Contains all.items k ↔ (IsTrue c.is_set.result × (r.signal ≡ k))))
+    IfOk-weaker c.one_if.result (λ all. (k : ℕ) → (Contains all.items k ↔ (IsTrue c.is_marked.result × (r.signal ≡ k))))
     (λ all. OfWiring c.args.self.now (λ d claims. (u : ℕ) → (Contains all.items u ↔ (IsBlocking d claims u × InCone d claims u r))))
     (λ all h. subst (λ (y : Wiring). OfWiring y (λ d claims. (u : ℕ) → (Contains all.items u ↔ (IsBlocking d claims u × InCone d claims u r)))) c.self.view_is
-    (alone_told x r all.items c.is_set.result marked h (alone_named x r row none c.writers.ensures)))
+    (alone_told x r all.items c.is_marked.result marked h (alone_named x r row none c.writers.ensures)))
     c.one_if.ensures

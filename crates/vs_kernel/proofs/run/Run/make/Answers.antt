@@ -1,6 +1,6 @@
 use Rattle.std.proofs.Common.{◌≡◌, ◌∙◌, None, refl}
 use Rattle.vs_run_steps.specs.Runs.{running_of}
-use Rattle.vs_kernel.proofs.StandingLemmas.{first_moved, first_outside, standing_on}
+use Rattle.vs_kernel.proofs.SnapshotLemmas.{first_moved, first_outside, standing_on}
 use Rattle.vs_kernel.proofs.run.Run.make.Goals as goal
 
 pub returns-clause-run : goal.returns-clause-run

@@ -1,7 +1,7 @@
 use Rattle.std.proofs.Common.{◌≡◌, List, [], ℕ, length, refl, sym, ◌∙◌, ap, subst, arith}
 use Rattle.vs_run_active.specs.vs_process.proofs.Results.{on_err}
 use Rattle.vs_design.specs.Parts.{Parts}
-use Rattle.vs_kernel.specs.Standing.{IsKept}
+use Rattle.vs_kernel.specs.Snapshot.{IsKept}
 use Rattle.vs_run_steps.specs.Runs.{IsRunOf, marks_of, running_of, state_of}
 use Rattle.vs_run_steps.specs.Recording.{HasRoom}
 use Rattle.vs_run_steps.proofs.Appending.{part_all}

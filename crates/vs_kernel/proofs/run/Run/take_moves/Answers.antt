@@ -1,6 +1,6 @@
 use Rattle.std.proofs.Common.{◌∙◌, ◌-◌, ◌<◌, arith}
 use Rattle.vs_run_active.specs.vs_process.proofs.Results.{on_err}
-use Rattle.vs_kernel.proofs.StandingLemmas.{like_blocks, like_left, like_moved, like_still, moved_ended, moved_failed, region_ended, region_goes_on, turning_still, turning_told}
+use Rattle.vs_kernel.proofs.SnapshotLemmas.{like_blocks, like_left, like_moved, like_still, moved_ended, moved_failed, region_ended, region_goes_on, turning_still, turning_told}
 use Rattle.vs_kernel.proofs.run.Run.take_moves.Goals as goal
 
 pub returns-in_err-taken-in-Some-clause-err : goal.returns-in_err-taken-in-Some-clause-err

@@ -10,7 +10,7 @@ use Rattle.vs_parser.proofs.Declarations.{within_beyond, part_answers}
 use Rattle.vs_parser.proofs.header.OtherParameterElement.read.Goals as goal
 
 pub returns-in-Some : goal.returns-in-Some
-returns-in-Some c = c.told_parameter.ensures.other
+returns-in-Some c = c.parameter_with_word.ensures.other
 
 pub returns-in-None : goal.returns-in-None
 returns-in-None c =

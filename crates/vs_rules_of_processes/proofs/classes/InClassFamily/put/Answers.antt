@@ -1,7 +1,8 @@
 use Rattle.std.proofs.Common.{◌≡◌, ℕ, refl}
 use Rattle.std.proofs.lemmas.Bool.{false≢true}
+use Rattle.vs_maps.proofs.SignalLemmas.{none_put as nothing_put}
 use Rattle.vs_rules_of_processes.specs.Classes.{IsWrittenIn}
-use Rattle.vs_rules_of_processes.proofs.ListLemmas.{nothing_put, one_put}
+use Rattle.vs_rules_of_processes.proofs.ListLemmas.{one_put}
 use Rattle.vs_rules_of_processes.proofs.classes.InClassFamily.put.Goals as goal
 
 pub returns-in_ok-push : goal.returns-in_ok-push

@@ -16,6 +16,6 @@ returns-in-Some c =
     let row = c.in-Some.marks.now in
     let is = subst (λ (l : List (Vec Bool Global)). slice_get l k ≡ Some row) c.deref.ensures.value
     (slice_get_read c.deref.result.now (length c.deref.result.now) k row refl c.in-Some.ensures.lookup.3.0 c.in-Some.ensures.lookup.1) in
-    let mark = c.is_set.ensures ∙ ap (λ (l : List Bool). get_or l v false) c.deref-in-Some.ensures.value in
-    subst (λ (f : Case). IsTrue (not c.is_set.result) → IsClear f.design f.claims v c.args.residue) c.self.view_is
-    (λ t. clear x.design x.claims v k c.args.residue row.items (sym c.class_of.ensures) (c.self.invariant k row is) (sym mark ∙ off_by c.is_set.result t))
+    let mark = c.is_marked.ensures ∙ ap (λ (l : List Bool). get_or l v false) c.deref-in-Some.ensures.value in
+    subst (λ (f : Case). IsTrue (not c.is_marked.result) → IsClear f.design f.claims v c.args.residue) c.self.view_is
+    (λ t. clear x.design x.claims v k c.args.residue row.items (sym c.class_of.ensures) (c.self.invariant k row is) (sym mark ∙ off_by c.is_marked.result t))

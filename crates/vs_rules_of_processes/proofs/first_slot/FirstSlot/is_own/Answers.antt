@@ -4,6 +4,7 @@ use Rattle.std.proofs.lemmas.Option.{slice_get_read}
 use Rattle.vs_design.specs.declared.signal.Signal.{Signal}
 use Rattle.vs_design.specs.Parts.{Parts}
 use Rattle.vs_maps.specs.vs_rules.specs.Paths.{Writes}
+use Rattle.vs_maps.specs.Texts.{Texts}
 use Rattle.vs_claims.specs.Facts.{Case, AreCharts}
 use Rattle.vs_rules_of_processes.proofs.FirstReads.{own_narrow, own_wide}
 use Rattle.vs_rules_of_processes.proofs.first_slot.FirstSlot.is_own.Goals as goal
@@ -27,6 +28,6 @@ returns-else-is_wide c =
     let told = c.signals-signals.ensures ∙ ap (λ (e : Parts). e.signals) (c.design.ensures ∙ ap (λ (x : Case). x.design) c.self.view_is) in
     let is = subst (λ (l : List Signal). slice_get l v ≡ Some s) told
     (slice_get_read c.signals-signals.result.now (length c.signals-signals.result.now) v s refl c.in-Some.ensures.lookup.3.0 c.in-Some.ensures.lookup.1) in
-    let same = c.self.invariant.same ∙ ap (λ (x : Case). x.design) c.self.view_is in
+    let same = ap (λ (x : Texts). x.design) c.uses.ensures ∙ ap (λ (x : Case). x.design) c.self.view_is in
     own_narrow k.design k.claims c.args.i v s row c.is_sole.result (sym c.is_wide.ensures ∙ c.if-is_wide.false) is (sym c.if-not-is_variable.ensures)
     (subst (λ (e : Parts). (j : ℕ) → (Contains row j ↔ Writes e j v)) same c.writers.ensures) c.is_sole.ensures

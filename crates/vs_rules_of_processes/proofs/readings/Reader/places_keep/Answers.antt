@@ -1,8 +1,7 @@
-use Rattle.std.proofs.Common.{ℕ, refl, sym, ◌∙◌, arith}
+use Rattle.std.proofs.Common.{ℕ, refl, sym, ◌∙◌, arith, below_more as next_below}
 use Rattle.std.proofs.lemmas.Bool.{false≢true}
 use Rattle.vs_claims.specs.vs_maps.specs.Reaches.{IsPlace}
 use Rattle.vs_rules_of_processes.specs.ReadingPlaces.{MayReadAt}
-use Rattle.vs_rules_of_processes.proofs.PairLemmas.{next_below}
 use Rattle.vs_rules_of_processes.proofs.readings.Reader.places_keep.Goals as goal
 
 pub returns-then-not-kept : goal.returns-then-not-kept

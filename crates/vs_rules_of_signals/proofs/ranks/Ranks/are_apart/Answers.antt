@@ -1,6 +1,5 @@
-use Rattle.std.proofs.Common.{ℕ, refl, arith}
+use Rattle.std.proofs.Common.{ℕ, refl, arith, below_more as further_at}
 use Rattle.vs_rules_of_signals.specs.Ranks.{ApartAt}
-use Rattle.vs_rules_of_signals.proofs.RankLemmas.{further_at}
 use Rattle.vs_rules_of_signals.proofs.ranks.Ranks.are_apart.Goals as goal
 
 pub loop-k-preserved : goal.loop-k-preserved

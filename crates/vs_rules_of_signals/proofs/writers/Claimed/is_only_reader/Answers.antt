@@ -10,4 +10,4 @@ returns c =
     let d = c.args.self.now.facts.now.design in
     all_as (Contains c.readers.result.now) (λ j. ListsSignal d (reads_of d j) c.args.v) (λ j. j ≡ c.args.i)
     (λ j. subst (λ (x : Texts). (Contains c.readers.result.now j ↔ ListsSignal x.design (reads_of x.design j) c.args.v)) c.args.self.now.same (c.readers.ensures j))
-    c.are_all.result c.are_all.ensures
+    c.all_are.result c.all_are.ensures

@@ -3,7 +3,7 @@ use Rattle.std.proofs.lemmas.Option.{slice_get_read}
 use Rattle.vs_run_active.specs.Touches.{is_left}
 use Rattle.vs_run_active.specs.vs_process.specs.States.{settled}
 use Rattle.vs_run_active.proofs.ChangedLemmas.{changed_missing, changed_read}
-use Rattle.vs_run_active.proofs.ListedLemmas.{counted, fits, recounted}
+use Rattle.vs_run_active.proofs.ListCountLemmas.{counted, fits, recounted}
 use Rattle.vs_run_active.proofs.assigns.Assigns.settle.Goals as goal
 
 pub returns-in_default : goal.returns-in_default

@@ -1,8 +1,8 @@
 use Rattle.std.proofs.Common.{◌≡◌, length, ap, sym, ◌∙◌, refl, arith}
 use Rattle.vs_run_active.specs.vs_process.specs.States.{start_assign}
-use Rattle.vs_run_active.specs.Listed.{count}
+use Rattle.vs_run_active.specs.ListCounts.{count}
 use Rattle.vs_run_active.specs.Touches.{is_left}
-use Rattle.vs_run_active.proofs.ListedLemmas.{count_start}
+use Rattle.vs_run_active.proofs.ListCountLemmas.{count_start}
 use Rattle.vs_run_active.proofs.assigns.Assigns.start.Goals as goal
 
 pub invariant_of-result : goal.invariant_of-result

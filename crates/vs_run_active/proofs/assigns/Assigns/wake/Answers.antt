@@ -2,7 +2,7 @@ use Rattle.std.proofs.Common.{is_some, vec_len, refl, ap, arith}
 use Rattle.std.proofs.lemmas.Option.{slice_get_read}
 use Rattle.vs_run_active.specs.Touches.{is_left, woken}
 use Rattle.vs_run_active.proofs.ChangedLemmas.{changed_missing, changed_read}
-use Rattle.vs_run_active.proofs.ListedLemmas.{counted, fits, recounted}
+use Rattle.vs_run_active.proofs.ListCountLemmas.{counted, fits, recounted}
 use Rattle.vs_run_active.proofs.assigns.Assigns.wake.Goals as goal
 
 pub returns-in_default : goal.returns-in_default

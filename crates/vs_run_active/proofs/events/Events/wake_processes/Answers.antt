@@ -2,7 +2,7 @@ use Rattle.std.proofs.Common.{List, sym, ap, ◌∙◌}
 use Rattle.std.proofs.lemmas.List.{drop_all}
 use Rattle.vs_run_active.specs.declared.watchers.Watcher.{Watcher}
 use Rattle.vs_run_active.proofs.WalksLemmas.{watcher_more}
-use Rattle.vs_run_active.specs.Standings.{gone_on}
+use Rattle.vs_run_active.specs.ProcessPlaces.{gone_on}
 use Rattle.vs_run_active.specs.Waiting.{waits_for}
 use Rattle.vs_run_active.specs.Wakes.{has_one, walked_by}
 use Rattle.vs_run_active.proofs.events.Events.wake_processes.Goals as goal

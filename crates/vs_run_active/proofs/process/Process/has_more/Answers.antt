@@ -1,5 +1,5 @@
 use Rattle.std.proofs.Common.{length, refl}
-use Rattle.vs_run_active.proofs.StandingsLemmas.{more_told}
+use Rattle.vs_run_active.proofs.ProcessPlacesLemmas.{more_told}
 use Rattle.vs_run_active.proofs.process.Process.has_more.Goals as goal
 
 pub returns : goal.returns

@@ -2,8 +2,8 @@ use Rattle.std.proofs.Common.{◌∙◌, sym, ap}
 use Rattle.vs_process.specs.Places.{is_going}
 use Rattle.vs_process.specs.Scripts.{todo_on}
 use Rattle.vs_run_active.specs.declared.process.Wait.{Wait}
-use Rattle.vs_run_active.specs.Standings.{place_by}
-use Rattle.vs_run_active.proofs.StandingsLemmas.{going_told}
+use Rattle.vs_run_active.specs.ProcessPlaces.{place_by}
+use Rattle.vs_run_active.proofs.ProcessPlacesLemmas.{going_told}
 use Rattle.vs_run_active.proofs.process.Process.is_going.Goals as goal
 
 pub returns-in-Nothing : goal.returns-in-Nothing

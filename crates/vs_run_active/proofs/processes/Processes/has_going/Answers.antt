@@ -1,7 +1,7 @@
 use Rattle.std.proofs.Common.{nat_lt, ap, ◌∙◌}
 use Rattle.std.specs.List.{list_any}
-use Rattle.vs_run_active.proofs.ListedLemmas.{count_any}
-use Rattle.vs_run_active.specs.Standings.{is_active}
+use Rattle.vs_run_active.proofs.ListCountLemmas.{count_any}
+use Rattle.vs_run_active.specs.ProcessPlaces.{is_active}
 use Rattle.vs_run_active.proofs.processes.Processes.has_going.Goals as goal
 
 pub returns : goal.returns

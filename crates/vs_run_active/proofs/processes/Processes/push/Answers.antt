@@ -1,7 +1,7 @@
 use Rattle.std.proofs.Common.{◌≡◌, ◌++◌, ◌∷◌, [], cond, ℕ, Bool, ap, arith}
-use Rattle.vs_run_active.specs.Listed.{count}
-use Rattle.vs_run_active.proofs.ListedLemmas.{count_push, fits}
-use Rattle.vs_run_active.specs.Standings.{is_active}
+use Rattle.vs_run_active.specs.ListCounts.{count}
+use Rattle.vs_run_active.proofs.ListCountLemmas.{count_push, fits}
+use Rattle.vs_run_active.specs.ProcessPlaces.{is_active}
 use Rattle.vs_run_active.proofs.processes.Processes.push.Goals as goal
 
 pub recount-self-inside-requires-clause-room : goal.recount-self-inside-requires-clause-room

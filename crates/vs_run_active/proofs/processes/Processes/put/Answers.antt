@@ -1,8 +1,8 @@
 use Rattle.std.proofs.Common.{List, is_some, slice_set, vec_len, refl, sym, ◌∙◌, ap, ap₂, arith}
 use Rattle.std.proofs.lemmas.Option.{slice_get_read}
-use Rattle.vs_run_active.proofs.ListedLemmas.{counted, fits, recounted}
+use Rattle.vs_run_active.proofs.ListCountLemmas.{counted, fits, recounted}
 use Rattle.vs_run_active.specs.declared.process.Process.{Process}
-use Rattle.vs_run_active.specs.Standings.{is_active}
+use Rattle.vs_run_active.specs.ProcessPlaces.{is_active}
 use Rattle.vs_run_active.proofs.LeftLemmas.{put_missing}
 use Rattle.vs_run_active.proofs.processes.Processes.put.Goals as goal
 

@@ -1,7 +1,8 @@
 use Rattle.std.proofs.Common.{◌∙◌}
-use Rattle.vs_run_active.specs.Standings.{roused_in}
-use Rattle.vs_run_active.proofs.LeftLemmas.{changed_none, changed_put}
+use Rattle.vs_run_active.specs.ProcessPlaces.{roused_in}
+use Rattle.vs_run_active.proofs.LeftLemmas.{changed_none}
 use Rattle.vs_run_active.proofs.processes.Processes.rouse.Goals as goal
+use Rattle.vs_run_active.proofs.ChangedLemmas.{changed_there as changed_put}
 
 pub returns-in_default : goal.returns-in_default
 returns-in_default c = changed_none roused_in c.args.self.now c.args.process c.in_default.ensures

@@ -1,7 +1,8 @@
 use Rattle.std.proofs.Common.{◌∙◌, Bool, if◌then◌else◌, sym, ap}
-use Rattle.vs_run_active.specs.Standings.{gone_on, triggered_at}
-use Rattle.vs_run_active.proofs.LeftLemmas.{changed_none, changed_put, changed_stays}
+use Rattle.vs_run_active.specs.ProcessPlaces.{gone_on, triggered_at}
+use Rattle.vs_run_active.proofs.LeftLemmas.{changed_none, changed_stays}
 use Rattle.vs_run_active.proofs.processes.Processes.wake.Goals as goal
+use Rattle.vs_run_active.proofs.ChangedLemmas.{changed_there as changed_put}
 
 pub returns-in_default : goal.returns-in_default
 returns-in_default c = changed_none (triggered_at c.args.control) c.args.self.now c.args.process c.in_default.ensures

@@ -4,7 +4,7 @@ use Rattle.vs_design.specs.Writes.{Write}
 use Rattle.vs_run_regions.specs.declared.claims.Claim.{Claim}
 use Rattle.vs_run_regions.specs.declared.update.Update.{Update}
 use Rattle.vs_run_regions.specs.Claims.{are_once}
-use Rattle.vs_run_regions.specs.Updates.{Listed, is_first_left, is_shared, left_of, what_of}
+use Rattle.vs_run_regions.specs.Updates.{SlotView, is_first_left, is_shared, left_of, what_of}
 use Rattle.vs_run_regions.proofs.ClaimLemmas.{alone_shown}
 use Rattle.vs_run_regions.proofs.UpdatesLemmas.{found, shown_first}
 use Rattle.vs_run_regions.proofs.listing.SlotUpdates.is_first.Goals as goal
@@ -21,7 +21,7 @@ returns-then-is_alone c =
     ∙ sym c.is_alone.ensures ∙ c.if-is_alone.true
     in
     alone_shown s.writes.items s.active.items s.made c.args.number at at_is x there c.in_default-update.not-Gone s.claims.items once (λ _. c.self.invariant.1 c.if-self.true)
-    ∙ ap (λ (l : Listed). is_first_left l.active c.args.number) c.self.view_is
+    ∙ ap (λ (l : SlotView). is_first_left l.active c.args.number) c.self.view_is
 
 pub returns : goal.returns
 returns c =
@@ -35,4 +35,4 @@ returns c =
     ∙ ap₂ (λ (ws : List Write) (xs : List Update). list_any (is_shared (what_of ws x)) (map (left_of ws) (take (at - s.made) (drop s.made xs)))) c.deref-2.ensures.value c.deref-3.ensures.value
     in
     shown_first s.writes.items s.active.items s.made c.args.number at at_is x there c.in_default-update.not-Gone c.any_shares.result shared
-    ∙ ap (λ (l : Listed). is_first_left l.active c.args.number) c.self.view_is
+    ∙ ap (λ (l : SlotView). is_first_left l.active c.args.number) c.self.view_is

@@ -1,5 +1,5 @@
 use Rattle.std.proofs.Common.{◌≡◌, ◌+◌, ◌∷◌, Some, map, drop, slice_get, ap, subst}
-use Rattle.vs_run_regions.specs.Updates.{IsIn, Listed, left_of}
+use Rattle.vs_run_regions.specs.Updates.{IsIn, SlotView, left_of}
 use Rattle.vs_run_regions.proofs.ClaimLemmas.{claims_next}
 use Rattle.vs_run_regions.proofs.UpdatesLemmas.{drop_next, found, in_at, listed_gone, listed_next}
 use Rattle.vs_run_regions.proofs.listing.SlotUpdates.next.Goals as goal
@@ -35,8 +35,8 @@ returns c =
     let after = map (left_of ws) (drop (c.self.inside.made + 1) items) in
     record {
       taken =
-          subst (λ (l : Listed). l.active ≡ left_of l.writes x ∷ after) c.self.view_is (ap (map (left_of ws)) (drop_next items c.self.inside.made x there));
-      others = ap (λ (l : Listed). record l { active = after }) c.self.view_is;
+          subst (λ (l : SlotView). l.active ≡ left_of l.writes x ∷ after) c.self.view_is (ap (map (left_of ws)) (drop_next items c.self.inside.made x there));
+      others = ap (λ (l : SlotView). record l { active = after }) c.self.view_is;
       unchanged = tt;
-      known = subst (λ (l : Listed). IsIn l.signals l.writes x) c.self.view_is (in_at c.self.inside.design.now.signals ws items c.self.inside.made x c.self.invariant.0.active_in there);
+      known = subst (λ (l : SlotView). IsIn l.signals l.writes x) c.self.view_is (in_at c.self.inside.design.now.signals ws items c.self.inside.made x c.self.invariant.0.active_in there);
     }

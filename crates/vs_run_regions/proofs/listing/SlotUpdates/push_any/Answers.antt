@@ -2,7 +2,7 @@ use Rattle.std.proofs.Common.{◌≡◌, ◌∙◌, ◌∷◌, ◌++◌, [], Lis
 use Rattle.vs_design.specs.Writes.{Write}
 use Rattle.vs_run_regions.specs.declared.update.Update.{Update}
 use Rattle.vs_run_regions.specs.declared.update.Update.TheVariants as u
-use Rattle.vs_run_regions.specs.Updates.{AreListed, Listed, left_of, what_of}
+use Rattle.vs_run_regions.specs.Updates.{AreSlotUpdates, SlotView, left_of, what_of}
 use Rattle.vs_run_regions.proofs.UpdatesLemmas.{listed_any, listed_grown, on_err, whats_any, whats_grown}
 use Rattle.vs_run_regions.proofs.listing.SlotUpdates.push_any.Goals as goal
 
@@ -11,8 +11,8 @@ invariant_of-self-in_err-push-2 c =
     let s = c.self.inside in
     let grown : c.push.new.self.items ≡ s.due_writes.items ++ c.args.write ∷ [] = c.in_ok-push.ensures.items in
     let same : c.push-2.new.self.items ≡ s.due.items = c.in_err-push-2.ensures.items in (
-      subst (λ d. AreListed s.design.now.signals s.active.items s.made s.left s.writes.items d c.push.new.self.items) (sym same)
-          (subst (λ w. AreListed s.design.now.signals s.active.items s.made s.left s.writes.items s.due.items w) (sym grown)
+      subst (λ d. AreSlotUpdates s.design.now.signals s.active.items s.made s.left s.writes.items d c.push.new.self.items) (sym same)
+          (subst (λ w. AreSlotUpdates s.design.now.signals s.active.items s.made s.left s.writes.items s.due.items w) (sym grown)
           (listed_grown s.design.now.signals s.active.items s.made s.left s.writes.items s.due.items s.due_writes.items c.args.write c.self.invariant.0)),
       c.self.invariant.1,
     )
@@ -34,8 +34,8 @@ invariant_of-self-2 c =
     let s = c.self.inside in
     let grown : c.push.new.self.items ≡ s.due_writes.items ++ c.args.write ∷ [] = c.in_ok-push.ensures.items in
     let more : c.push-2.new.self.items ≡ s.due.items ++ u.Any c.len-number.result ∷ [] = c.in_ok-push-2.ensures.items in (
-      subst (λ d. AreListed s.design.now.signals s.active.items s.made s.left s.writes.items d c.push.new.self.items) (sym more)
-          (subst (λ w. AreListed s.design.now.signals s.active.items s.made s.left s.writes.items (s.due.items ++ u.Any c.len-number.result ∷ []) w) (sym grown)
+      subst (λ d. AreSlotUpdates s.design.now.signals s.active.items s.made s.left s.writes.items d c.push.new.self.items) (sym more)
+          (subst (λ w. AreSlotUpdates s.design.now.signals s.active.items s.made s.left s.writes.items (s.due.items ++ u.Any c.len-number.result ∷ []) w) (sym grown)
           (listed_any s.design.now.signals s.active.items s.made s.left s.writes.items s.due.items s.due_writes.items c.args.write c.len-number.result (c.len-number.ensures ∙ s.due_writes.ok.0) c.self.invariant.0)),
       c.self.invariant.1,
     )
@@ -48,4 +48,4 @@ returns-clause-pushed c =
     ap (λ l. record { signals = s.design.now.signals; active = map (left_of s.writes.items) (drop s.made s.active.items); due = l; writes = s.writes.items })
     (ap₂ (λ (w : List Write) (d : List Update). map (what_of w) d) grown more
     ∙ whats_any s.design.now.signals s.due.items s.due_writes.items c.args.write c.len-number.result (c.len-number.ensures ∙ s.due_writes.ok.0) c.self.invariant.0.due_in)
-    ∙ ap (λ (l : Listed). record l { due = l.due ++ c.args.write ∷ [] }) c.self.view_is
+    ∙ ap (λ (l : SlotView). record l { due = l.due ++ c.args.write ∷ [] }) c.self.view_is

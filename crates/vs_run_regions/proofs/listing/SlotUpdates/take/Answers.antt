@@ -1,5 +1,5 @@
 use Rattle.std.proofs.Common.{◌≡◌, ◌∙◌, ◌+◌, Some, None, drop, map, slice_get, slice_set, ap, subst, arith}
-use Rattle.vs_run_regions.specs.Updates.{IsIn, Listed, left_of, what_of}
+use Rattle.vs_run_regions.specs.Updates.{IsIn, SlotView, left_of, what_of}
 use Rattle.vs_run_regions.proofs.ClaimLemmas.{claims_taken}
 use Rattle.vs_run_regions.proofs.UpdatesLemmas.{found, in_at, is_left, left_there, lefts_without, listed_taken, some_left}
 use Rattle.vs_run_regions.proofs.listing.SlotUpdates.take.Goals as goal
@@ -37,14 +37,14 @@ returns c =
     let there : slice_get s.active.items at ≡ Some x = found s.active.items c.deref.result.now at x c.deref.ensures.value c.in_ok-update.ensures.lookup.0 c.in_ok-update.ensures.lookup.1 in
     record {
       taken =
-          subst (λ (l : Listed). slice_get l.active c.args.number ≡ Some (Some (what_of l.writes x))) c.self.view_is
+          subst (λ (l : SlotView). slice_get l.active c.args.number ≡ Some (Some (what_of l.writes x))) c.self.view_is
           (left_there s.design.now.signals s.active.items s.made s.left s.writes.items s.due.items s.due_writes.items c.self.invariant.0 c.args.number at at_is x there
           ∙ ap Some (is_left s.writes.items x c.in_default.not-Gone));
       rest =
           ap (λ l. record { signals = s.design.now.signals; active = l; due = map (what_of s.due_writes.items) s.due.items; writes = s.writes.items })
           (lefts_without s.design.now.signals s.active.items s.made s.left s.writes.items s.due.items s.due_writes.items c.self.invariant.0 c.args.number at at_is x there)
-          ∙ ap (λ (l : Listed). record l { active = slice_set l.active c.args.number None }) c.self.view_is;
+          ∙ ap (λ (l : SlotView). record l { active = slice_set l.active c.args.number None }) c.self.view_is;
       kept = tt;
-      left = subst (λ (l : Listed). left_of l.writes x ≡ Some (what_of l.writes x)) c.self.view_is (is_left s.writes.items x c.in_default.not-Gone);
-      known = subst (λ (l : Listed). IsIn l.signals l.writes x) c.self.view_is (in_at s.design.now.signals s.writes.items s.active.items at x c.self.invariant.0.active_in there);
+      left = subst (λ (l : SlotView). left_of l.writes x ≡ Some (what_of l.writes x)) c.self.view_is (is_left s.writes.items x c.in_default.not-Gone);
+      known = subst (λ (l : SlotView). IsIn l.signals l.writes x) c.self.view_is (in_at s.design.now.signals s.writes.items s.active.items at x c.self.invariant.0.active_in there);
     }

@@ -5,7 +5,7 @@ use Rattle.vs_process.specs.Places.{active_at}
 use Rattle.vs_process.specs.Scripts.{todo_on}
 use Rattle.vs_process.proofs.SpotLemmas.{found_there}
 use Rattle.vs_run_active.specs.vs_process.proofs.Results.{on_err}
-use Rattle.vs_run_active.specs.Standings.{place_by}
+use Rattle.vs_run_active.specs.ProcessPlaces.{place_by}
 use Rattle.vs_run_active.specs.Taken.{placed}
 use Rattle.vs_run_steps.specs.declared.step.Went.{Went}
 use Rattle.vs_run_steps.specs.Runs.{counters_at, state_of}

@@ -1,7 +1,7 @@
 use Rattle.std.proofs.Common.{◌≡◌, ◌∷◌, [], ◌++◌, reverse, refl, ap, arith, ◌∙◌}
 use Rattle.vs_time_wheel.specs.Bag.{SameBag, events_at}
 use Rattle.vs_time_wheel.proofs.Fronts.{none_up_to}
-use Rattle.vs_time_wheel.proofs.Listed.{listed_added, least_more}
+use Rattle.vs_time_wheel.proofs.ShortList.{listed_added, least_more}
 use Rattle.vs_time_wheel.proofs.upcoming.Upcoming.add.Goals as goal
 
 pub invariant_of-self-then-is_before : goal.invariant_of-self-then-is_before

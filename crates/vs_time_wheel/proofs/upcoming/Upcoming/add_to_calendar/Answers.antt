@@ -2,7 +2,7 @@ use Rattle.std.proofs.Common.{◌∷◌, [], ◌++◌, reverse, sym, ap, ◌∙�
 use Rattle.vs_time_wheel.specs.Bag.{SameBag}
 use Rattle.vs_time_wheel.proofs.Bags.{SameBag-trans, SameBag-append, least_time-same}
 use Rattle.vs_time_wheel.proofs.Fronts.{SameBag-behind}
-use Rattle.vs_time_wheel.proofs.Listed.{late_added, least_more}
+use Rattle.vs_time_wheel.proofs.ShortList.{late_added, least_more}
 use Rattle.vs_time_wheel.proofs.Outcomes.{OnErr-any}
 use Rattle.vs_time_wheel.proofs.upcoming.Upcoming.add_to_calendar.Goals as goal
 

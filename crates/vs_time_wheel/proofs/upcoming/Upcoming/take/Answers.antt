@@ -1,8 +1,8 @@
 use Rattle.std.proofs.Common.{◌≡◌, ◌≤◌, ◌++◌, [], reverse, Some, true, false, ap, ◌∙◌}
 use Rattle.std.specs.Option.{ForSome}
 use Rattle.vs_time_wheel.specs.Bag.{events_at, least_time, oldest_at}
-use Rattle.vs_time_wheel.specs.Listed.{AreInOrder, IsNextDue, next_in_order}
-use Rattle.vs_time_wheel.proofs.Listed.{at_most_late, none_listed, oldest_at-late, rest_late, in_order_popped, next_of_both}
+use Rattle.vs_time_wheel.specs.ShortList.{AreInOrder, IsNextDue, next_in_order}
+use Rattle.vs_time_wheel.proofs.ShortList.{at_most_late, none_listed, oldest_at-late, rest_late, in_order_popped, next_of_both}
 use Rattle.vs_time_wheel.proofs.upcoming.Upcoming.take.Goals as goal
 
 pub take_from_calendar-event-requires-clause-none_before : goal.take_from_calendar-event-requires-clause-none_before

@@ -13,4 +13,4 @@ returns-then-not-fits c =
     not_fitting c.args.self.now.widths.items c.args.self.now.depth c.args.self.now.own c.args.line.now c.in-Some.declaration c.requires.deep
     (some_at c.in_ok-declaration.field-0 c.in-Some.declaration c.args.line.now c.len-number.result (length c.args.self.now.widths.items) c.in_ok-declaration.ensures
     c.in-Some.is (omega arith))
-    (λ m. false≢true (sym c.if-not-fits.true ∙ c.may_stand-fits.ensures.1 m))
+    (λ m. false≢true (sym c.if-not-fits.true ∙ c.may_occur-fits.ensures.1 m))

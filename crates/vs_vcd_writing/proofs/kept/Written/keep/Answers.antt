@@ -1,7 +1,7 @@
 use Rattle.std.proofs.Common.{◌+◌, drop, length, length-set, refl, sym, ap, ◌∙◌, arith}
 use Rattle.std.proofs.Math.ListN.{drop_of_length-le}
 use Rattle.vs_vcd_writing.specs.declared.kept.DumpChange.{DumpChange}
-use Rattle.vs_vcd_writing.specs.Kept.{kept_behind}
+use Rattle.vs_vcd_writing.specs.Kept.{kept_after}
 use Rattle.vs_vcd_writing.specs.Words.{kept_of}
 use Rattle.vs_vcd_writing.proofs.KeptLemmas.{keep_more}
 use Rattle.vs_vcd_writing.proofs.WordLemmas.{length_of_words, kept_of-set}
@@ -36,8 +36,8 @@ loop-change-preserved c =
     let long = ap length c.set.ensures ∙ length-set s.words change.signal change.value in record {
       codes = long ∙ c.loop-change.invariant.codes;
       long = long ∙ c.loop-change.invariant.long;
-      kept = ap (λ l. kept_behind (kept_of s.codes.items l) rest) c.set.ensures
-          ∙ ap (λ l. kept_behind l rest) (kept_of-set s.codes.items s.words change.signal change.value)
+      kept = ap (λ l. kept_after (kept_of s.codes.items l) rest) c.set.ensures
+          ∙ ap (λ l. kept_after l rest) (kept_of-set s.codes.items s.words change.signal change.value)
           ∙ keep_more (kept_of c.self.inside.codes.items c.self.inside.words) (kept_of s.codes.items s.words) c.args.changes.now c.loop-change.change-index change change
           c.loop-change-test.true c.change-item.is c.loop-change.invariant.kept;
     }
@@ -45,5 +45,5 @@ loop-change-preserved c =
 pub returns : goal.returns
 returns c =
     let s = c.loop-change.self-inside in
-    sym (ap (kept_behind (kept_of s.codes.items s.words)) (drop_of_length-le c.args.changes.now c.loop-change-test.false))
-    ∙ c.loop-change.invariant.kept ∙ ap (λ l. kept_behind l c.args.changes.now) c.self.view_is
+    sym (ap (kept_after (kept_of s.codes.items s.words)) (drop_of_length-le c.args.changes.now c.loop-change-test.false))
+    ∙ c.loop-change.invariant.kept ∙ ap (λ l. kept_after l c.args.changes.now) c.self.view_is

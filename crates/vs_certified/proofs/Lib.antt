@@ -1,3 +1,0 @@
-pub mod CertifiedLemmas
-pub mod LinesLemmas
-pub mod TraceLemmas

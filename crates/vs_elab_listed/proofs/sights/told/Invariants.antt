@@ -1,8 +1,0 @@
-use Rattle.std.proofs.Common.{[], map, take}
-use Rattle.vs_elab_listed.specs.vs_scopes.specs.Reads.{read_piece}
-use Rattle.vs_scopes.specs.Nets.{told_from}
-use Rattle.vs_scopes.specs.scopes_passes.Declared.{AddsNames}
-use Rattle.vs_elab_listed.proofs.sights.told.Given as goal
-
-abbrev pub invariant-loop-place : goal.invariant-loop-place
-invariant-loop-place l = AddsNames [] l.names (told_from 0 (map read_piece (take l.place l.pieces)))

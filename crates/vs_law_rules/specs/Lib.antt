@@ -1,3 +1,0 @@
-pub mod Laws
-pub use Rattle.vs_independence
-pub use Rattle.vs_independence.specs.vs_process

@@ -1,8 +1,0 @@
--- A race keeps the rules of no certificate.
-use Rattle.vs_law_witnesses.proofs.Race.{formed, race}
-use Rattle.vs_law_witnesses.specs.Race.{racing}
-use Rattle.vs_law_rules.proofs.Ruled.{rules_make_independent}
-use Rattle.vs_law_witnesses.specs.RaceRules.{ARaceKeepsNoRules}
-
-pub race_keeps_no_rules : ARaceKeepsNoRules
-race_keeps_no_rules g c kept = race g c.grain (rules_make_independent (racing g) c (formed g) kept)

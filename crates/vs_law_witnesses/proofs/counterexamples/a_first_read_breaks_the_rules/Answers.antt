@@ -1,5 +1,0 @@
-use Rattle.vs_law_witnesses.proofs.CounterexampleReads.{first_read}
-use Rattle.vs_law_witnesses.proofs.counterexamples.a_first_read_breaks_the_rules.Goals as goal
-
-pub returns : goal.returns
-returns c = first_read

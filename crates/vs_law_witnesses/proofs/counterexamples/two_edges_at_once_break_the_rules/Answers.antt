@@ -1,5 +1,0 @@
-use Rattle.vs_law_witnesses.proofs.CounterexampleWaits.{two_edges}
-use Rattle.vs_law_witnesses.proofs.counterexamples.two_edges_at_once_break_the_rules.Goals as goal
-
-pub returns : goal.returns
-returns c = two_edges

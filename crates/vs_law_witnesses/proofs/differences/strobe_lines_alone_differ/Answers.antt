@@ -1,5 +1,0 @@
-use Rattle.vs_law_witnesses.proofs.Alone.{lines_differ}
-use Rattle.vs_law_witnesses.proofs.differences.strobe_lines_alone_differ.Goals as goal
-
-pub returns : goal.returns
-returns c = lines_differ

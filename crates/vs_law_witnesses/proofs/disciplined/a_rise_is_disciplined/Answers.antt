@@ -1,5 +1,0 @@
-use Rattle.vs_law_witnesses.proofs.Rise.{rise_is_disciplined}
-use Rattle.vs_law_witnesses.proofs.disciplined.a_rise_is_disciplined.Goals as goal
-
-pub returns : goal.returns
-returns c = rise_is_disciplined

@@ -1,5 +1,0 @@
-use Rattle.vs_law_witnesses.proofs.Lines.{formed, seen}
-use Rattle.vs_law_witnesses.proofs.disciplined.lines_are_seen.Goals as goal
-
-pub returns : goal.returns
-returns c = λ g grain. (formed g, seen g grain)

@@ -1,5 +1,0 @@
-use Rattle.vs_law_witnesses.proofs.Block.{block_at_a_net_keeps_the_rules}
-use Rattle.vs_law_witnesses.proofs.ruled.a_block_at_a_net_keeps_the_rules.Goals as goal
-
-pub returns : goal.returns
-returns c = block_at_a_net_keeps_the_rules

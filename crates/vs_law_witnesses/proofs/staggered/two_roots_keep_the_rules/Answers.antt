@@ -1,5 +1,0 @@
-use Rattle.vs_law_witnesses.proofs.Roots.{two_roots_keep_the_rules}
-use Rattle.vs_law_witnesses.proofs.staggered.two_roots_keep_the_rules.Goals as goal
-
-pub returns : goal.returns
-returns c = two_roots_keep_the_rules

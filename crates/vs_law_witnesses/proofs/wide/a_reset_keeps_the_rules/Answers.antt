@@ -1,5 +1,0 @@
-use Rattle.vs_law_witnesses.proofs.Resets.{reset_keeps_the_rules}
-use Rattle.vs_law_witnesses.proofs.wide.a_reset_keeps_the_rules.Goals as goal
-
-pub returns : goal.returns
-returns c = reset_keeps_the_rules

@@ -1,9 +1,0 @@
-mod DisplayLemmas
-mod RowLemmas
-mod SilentLemmas
-mod StrobeLemmas
-mod GiveLemmas
-mod PrintLemmas
-mod UnequalLemmas
-mod ValueLemmas
-mod RaceLemmas

@@ -1,6 +1,0 @@
-use Rattle.std.proofs.Common.{◌≤◌}
-use Rattle.vs_race.proofs.UnequalLemmas.{AreLeft}
-use Rattle.vs_race.proofs.unequal.first_unequal.Given as goal
-
-abbrev pub invariant-loop-signal : goal.invariant-loop-signal
-invariant-loop-signal l = record { left : AreLeft l.signals l.place l.signal; most : l.place ≤ l.signal }

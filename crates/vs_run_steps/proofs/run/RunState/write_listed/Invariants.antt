@@ -1,4 +1,0 @@
-use Rattle.vs_run_steps.proofs.run.RunState.write_listed.Given as goal
-
-abbrev pub ghost-write_any : goal.ghost-write_any
-ghost-write_any g a = g.plan.design.signals

@@ -1,0 +1,15 @@
+pub mod Certified
+pub mod Judged
+pub use Rattle.vs_cert_check
+pub use Rattle.vs_simulate.specs.vs_kernel
+pub use Rattle.vs_simulate.specs.vs_kernel.specs.vs_vcd_writing
+pub use Rattle.vs_independence.specs.vs_process
+pub use Rattle.vs_simulate
+pub mod Displays
+pub mod Rows
+pub mod Strobes
+pub mod Witnesses
+pub mod passes
+pub mod Dumps
+pub mod Races
+pub use Rattle.vs_propose

@@ -1,5 +1,0 @@
-use Rattle.vs_vcd_reader.proofs.OneFaultLemmas.{one_fault}
-use Rattle.vs_vcd_reader.proofs.law_laws.faults_are_one.Goals as goal
-
-pub returns : goal.returns
-returns c = one_fault
