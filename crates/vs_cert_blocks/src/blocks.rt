@@ -1,5 +1,5 @@
 //! Whether a combinational block keeps the rule K5, by its process and its map.
-ghost use Rattle.std.specs.Prelude.{ℕ, ◌≡◌, ◌↔◌, ◌⊎◌, false, map, IfOk, OnOk, IsTrue};
+ghost use Rattle.std.specs.Prelude.{ℕ, ◌≡◌, ◌↔◌, ◌⊎◌, false, IfOk, OnOk, IsTrue};
 ghost use Rattle.std.specs.List.{Contains};
 ghost use Rattle.vs_graph.specs.Clear.{AreClear};
 ghost use Rattle.vs_claims.specs.vs_process.specs.declared.moves.Grain.TheVariants as g;
@@ -7,7 +7,6 @@ ghost use Rattle.vs_claims.specs.vs_maps.specs.Ranges.{HasSignal, statement_at};
 ghost use Rattle.vs_claims.specs.vs_maps.specs.Reaches.{places, IsPlace};
 ghost use Rattle.vs_drivers.specs.Ranges.{Cover};
 ghost use Rattle.vs_design.specs.declared.range.BitRange.{BitRange};
-ghost use Rattle.vs_design.specs.declared.statement.EventTerm.{EventTerm};
 ghost use Rattle.vs_cert_blocks.specs.Blocks.{IsQuiet, AreOfOrNamed, IsSignalFirst, AreSignalsFirst, KeepsText, KeepsBlock};
 ghost use Rattle.vs_cert_blocks.specs.Walks.{has_late_effect_at, AreReads, AreWoken, HaveSure};
 
@@ -16,10 +15,10 @@ use crate::early::early_ranges;
 use crate::starts::starts;
 use crate::walks::{Walks, sure, woken};
 use std::alloc::{AllocError, Global};
-use vs_claims::vs_maps::{Tables, terms, text_reads};
+use vs_claims::vs_maps::{Tables, push_signals, terms, text_reads};
 use vs_claims::vs_process::{Grain, is_combinational};
-use vs_design::{BitRange, Design, EventTerm, Process};
-use vs_drivers::{BySignal, SignalSet, covers};
+use vs_design::{BitRange, Design, Process};
+use vs_drivers::{BySignal, SignalSet, covers, push_ranges};
 use vs_graph::{Rule, all_keep, clear_marks};
 use vs_process::statement_writes;
 
@@ -54,36 +53,15 @@ fn is_quiet<'a>(alloc: Global, tables: &'a Tables<'a>) -> Result<bool, AllocErro
     Ok(all)
 }
 
-// The signals of ranges, one after another.
-fn all_signals(alloc: Global, ranges: &[BitRange]) -> Result<Vec<usize>, AllocError>
-    ensures { IfOk result (λ signals. signals.items ≡ map (λ (r : BitRange). r.signal) ranges.now) }
-{
-    let mut signals = Vec::new(alloc);
-    for range in ranges {
-        signals.push(range.signal)?;
-    }
-    Ok(signals)
-}
-
 // The signals that ranges are of, each once.
 fn signals_of(alloc: Global, ranges: &[BitRange]) -> Result<Vec<usize>, AllocError>
     ensures { IfOk result (λ signals. (v : ℕ) → (Contains signals.items v ↔ HasSignal ranges.now v)) }
 {
-    let mut signals = all_signals(alloc, ranges)?;
+    let mut signals = Vec::new(alloc);
+    push_signals(&mut signals, ranges)?;
     signals.sort_unstable();
     signals.dedup();
     Ok(signals)
-}
-
-// The ranges of terms.
-fn term_ranges(alloc: Global, terms: &[EventTerm]) -> Result<Vec<BitRange>, AllocError>
-    ensures { IfOk result (λ ranges. ranges.items ≡ map (λ (t : EventTerm). t.range) terms.now) }
-{
-    let mut ranges = Vec::new(alloc);
-    for term in terms {
-        ranges.push(term.range)?;
-    }
-    Ok(ranges)
 }
 
 // The ranges that are read at each place of a map.
@@ -128,7 +106,8 @@ fn are_named<'a>(
     ensures { IfOk result (λ b. (IsTrue b ↔ AreOfOrNamed design.now tables.entry.now signals.now read.now)) }
 {
     let terms = terms(alloc, tables)?;
-    let ranges = term_ranges(alloc, &terms)?;
+    let mut ranges = Vec::new(alloc);
+    push_ranges(&mut ranges, &terms)?;
     let named = BySignal::of(ranges);
     let written = SignalSet::of(alloc, signals)?;
     Ok(are_of_or_covered(design, &written, &named, read))

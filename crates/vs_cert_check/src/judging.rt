@@ -7,7 +7,6 @@ ghost use Rattle.vs_cert_check.specs.Marks.{marks_of};
 ghost use Rattle.vs_cert_check.specs.Means.{Means};
 ghost use Rattle.vs_cert_check.specs.Verdicts.{KeepsAt, AllKeptBelow};
 ghost use Rattle.vs_rules_of_signals.specs.vs_claims.specs.Facts.{AreCharts, bodies};
-ghost use Rattle.vs_claims.specs.Subjects.{subject_view};
 ghost use Rattle.vs_claims.specs.vs_certificate.specs.JsonValue.{value_of};
 ghost use Rattle.vs_claims.specs.vs_certificate.specs.Reading.{IsSound, IsSoundBy, IsSoundWide, other_by};
 ghost use Rattle.vs_rules_of_signals.specs.vs_graph.specs.Verdicts.{IsFirst, IsLeast};
@@ -16,7 +15,7 @@ ghost use Rattle.vs_rules_of_starts.specs.vs_rules.specs.Certificates.{claims_of
 ghost use Rattle.vs_rules_of_starts.specs.vs_rules.specs.Claims.{is_wide};
 ghost use Rattle.vs_rules_of_starts.specs.vs_rules.specs.Limits.{IsWideCertificate};
 ghost use Rattle.vs_rules_of_starts.specs.vs_rules.specs.Verdict.{IsVerdict, numbers, subjects};
-ghost use Rattle.vs_rules_of_processes.specs.vs_drivers.specs.Wires.{wiring};
+ghost use Rattle.vs_rules_of_processes.specs.vs_drivers.specs.Wires.{IsWiringOf};
 ghost use Rattle.vs_rules_of_processes.specs.vs_drivers.specs.vs_slots_constants.specs.Inverted.{AreInverted};
 ghost use Rattle.vs_rules_of_signals.specs.vs_maps.specs.Reaches.{chart_of};
 
@@ -28,8 +27,8 @@ use std::alloc::{AllocError, Global};
 use vs_cert_blocks::vs_process::{Code, TextMap};
 use vs_cert_roots::vs_drivers::Copies;
 use vs_cert_roots::{Entries, FirstWrites};
+use vs_claims::all_subjects;
 use vs_claims::vs_certificate::{Certificate, Rules};
-use vs_claims::{Subject, all_subjects, name_of};
 use vs_design::Design;
 use vs_independence::{rules_make_displays_alike, rules_make_independent};
 use vs_rules_of_processes::vs_drivers::Cones;
@@ -44,24 +43,22 @@ use vs_rules_of_starts::{Beginning, Starts, in_order};
 /// How many rules there are before the last one.
 pub(crate) const BEFORE: usize = 10;
 
-// A rule before the last, by its number from 0 on, and the subjects in their order.
+// A rule before the last, by its number from 0 on.
 #[derive(Drop)]
 pub(crate) struct OfRule<'a, 'b> {
     pub sheet: &'b Sheet<'a>,
-    pub all: &'b [Subject<'a>],
     pub rule: usize,
     pub ghost before: { rule < 10 },
-    pub ghost are: { map subject_view all.now ≡ subjects sheet.now.facts.now.design sheet.now.facts.now.claims },
 }
 
 impl<'a, 'b> Rule for OfRule<'a, 'b> {
-    ghost keeps = { λ f i. KeepsAt f.sheet.now.facts.now.design f.sheet.now.facts.now.claims f.rule i };
+    ghost keeps = { λ f i. KeepsAt f.sheet.now.design f.sheet.now.claims f.rule i };
 
     fn test(&self, alloc: Global, i: usize) -> Result<bool, AllocError> {
-        if i >= self.all.len() {
-            return Ok(true);
+        match self.sheet.subject(i) {
+            None => Ok(true),
+            Some(subject) => keeps(alloc, self.sheet, self.rule, subject),
         }
-        keeps(alloc, self.sheet, self.rule, self.all[i])
     }
 }
 
@@ -69,52 +66,39 @@ impl<'a, 'b> Rule for OfRule<'a, 'b> {
 #[derive(Drop)]
 struct OfStarts<'a, 'b> {
     sheet: &'b Sheet<'a>,
-    all: &'b [Subject<'a>],
     starts: &'b Starts<'a>,
     beginning: &'b Beginning<'a>,
-    ghost starts_are: { starts.now ≡ sheet.now.facts.now },
-    ghost of: { beginning.now ≡ sheet.now.facts.now.design },
-    ghost blocks: { (i : ℕ) → (K5 sheet.now.facts.now.design sheet.now.facts.now.claims i → ⊥) → ⊥ },
-    ghost are: { map subject_view all.now ≡ subjects sheet.now.facts.now.design sheet.now.facts.now.claims },
+    ghost starts_are: { starts.now ≡ sheet.now },
+    ghost of: { beginning.now ≡ sheet.now.design },
+    ghost blocks: { (i : ℕ) → (K5 sheet.now.design sheet.now.claims i → ⊥) → ⊥ },
 }
 
 impl<'a, 'b> Rule for OfStarts<'a, 'b> {
-    ghost keeps = { λ f i. KeepsAt f.sheet.now.facts.now.design f.sheet.now.facts.now.claims 10 i };
+    ghost keeps = { λ f i. KeepsAt f.sheet.now.design f.sheet.now.claims 10 i };
 
     fn test(&self, alloc: Global, i: usize) -> Result<bool, AllocError> {
-        if i >= self.all.len() {
-            return Ok(true);
+        match self.sheet.subject(i) {
+            None => Ok(true),
+            Some(subject) => starts_well(alloc, self.sheet, self.starts, self.beginning, subject),
         }
-        starts_well(alloc, self.sheet, self.starts, self.beginning, self.all[i])
     }
 }
 
-// The rules before the last, and the subjects in their order.
-#[derive(Drop)]
-struct RulesBefore<'a, 'b> {
-    sheet: &'b Sheet<'a>,
-    all: &'b [Subject<'a>],
-    ghost are: { map subject_view all.now ≡ subjects sheet.now.facts.now.design sheet.now.facts.now.claims },
-}
+// The rules before the last.
+impl<'a> Book for Sheet<'a> {
+    ghost rules = { λ s. 10 };
 
-impl<'a, 'b> Book for RulesBefore<'a, 'b> {
-    ghost rules = { λ b. 10 };
+    ghost things = { λ s. length (subjects s.design s.claims) };
 
-    ghost things = { λ b. length b.all.now };
-
-    ghost keeps = { λ b. KeepsAt b.sheet.now.facts.now.design b.sheet.now.facts.now.claims };
+    ghost keeps = { λ s. KeepsAt s.design s.claims };
 
     fn rules(&self) -> usize {
         BEFORE
     }
 
     fn first(&self, alloc: Global, rule: usize) -> Result<Option<usize>, AllocError> {
-        let one = OfRule {
-            sheet: self.sheet,
-            all: self.all,
-            rule,
-        };
-        let first = first_broken(alloc, &one, self.all.len())?;
+        let one = OfRule { sheet: self, rule };
+        let first = first_broken(alloc, &one, self.count())?;
         Ok(first)
     }
 }
@@ -123,57 +107,43 @@ impl<'a, 'b> Book for RulesBefore<'a, 'b> {
 pub(crate) fn first_starts<'a>(
     alloc: Global,
     sheet: &Sheet<'a>,
-    all: &[Subject<'a>],
     most: usize,
 ) -> Result<Vec<usize>, AllocError>
-    requires are { map subject_view all.now ≡ subjects sheet.now.facts.now.design sheet.now.facts.now.claims }
-    requires kept { AllKeptBelow sheet.now.facts.now.design sheet.now.facts.now.claims 10 }
-    ensures first { IfOk result (λ found. FirstBroken (KeepsAt sheet.now.facts.now.design sheet.now.facts.now.claims 10) most
-        (numbers 0 (length all.now)) found.items) }
-    ensures within { IfOk result (λ found. All (λ i. i < length all.now) found.items) }
+    requires { AllKeptBelow sheet.now.design sheet.now.claims 10 }
+    ensures first { IfOk result (λ found. FirstBroken (KeepsAt sheet.now.design sheet.now.claims 10) most
+        (numbers 0 (length (subjects sheet.now.design sheet.now.claims))) found.items) }
+    ensures within { IfOk result (λ found. All (λ i. i < length (subjects sheet.now.design sheet.now.claims)) found.items) }
 {
     let order = in_order(alloc, sheet.facts)?;
     let beginning = Beginning::new(alloc, sheet.facts.design(), &order)?;
     let of_blocks = Starts::of(alloc, sheet.facts, sheet.cones)?;
     let starts = OfStarts {
         sheet,
-        all,
         starts: &of_blocks,
         beginning: &beginning,
     };
-    let found = breakers(alloc, &starts, all.len(), most)?;
+    let found = breakers(alloc, &starts, sheet.count(), most)?;
     Ok(found)
 }
 
 // The first subject that breaks the last rule, where all keep those before.
-fn first_start<'a>(
-    alloc: Global,
-    sheet: &Sheet<'a>,
-    all: &[Subject<'a>],
-) -> Result<Option<usize>, AllocError>
-    requires are { map subject_view all.now ≡ subjects sheet.now.facts.now.design sheet.now.facts.now.claims }
-    requires kept { AllKeptBelow sheet.now.facts.now.design sheet.now.facts.now.claims 10 }
-    ensures { IfOk result (λ first. IsFirst (KeepsAt sheet.now.facts.now.design sheet.now.facts.now.claims 10)
-        (length all.now) first) }
+fn first_start(alloc: Global, sheet: &Sheet) -> Result<Option<usize>, AllocError>
+    requires { AllKeptBelow sheet.now.design sheet.now.claims 10 }
+    ensures { IfOk result (λ first. IsFirst (KeepsAt sheet.now.design sheet.now.claims 10)
+        (length (subjects sheet.now.design sheet.now.claims)) first) }
 {
-    let found = first_starts(alloc, sheet, all, 1)?;
+    let found = first_starts(alloc, sheet, 1)?;
     Ok(found.first().copied())
 }
 
 // The least rule that is broken, and the first subject that breaks it.
-fn least<'a, 'b>(
-    alloc: Global,
-    sheet: &'b Sheet<'a>,
-    all: &'b [Subject<'a>],
-) -> Result<Option<(usize, usize)>, AllocError>
-    requires are { map subject_view all.now ≡ subjects sheet.now.facts.now.design sheet.now.facts.now.claims }
-    ensures { IfOk result (λ least. IsLeast (KeepsAt sheet.entry.now.facts.now.design sheet.entry.now.facts.now.claims) 11
-        (length all.entry.now) least) }
+fn least(alloc: Global, sheet: &Sheet) -> Result<Option<(usize, usize)>, AllocError>
+    ensures { IfOk result (λ least. IsLeast (KeepsAt sheet.now.design sheet.now.claims) 11
+        (length (subjects sheet.now.design sheet.now.claims)) least) }
 {
-    let before = RulesBefore { sheet, all };
-    match judge(alloc, &before)? {
+    match judge(alloc, sheet)? {
         Some(least) => Ok(Some(least)),
-        None => match first_start(alloc, sheet, all)? {
+        None => match first_start(alloc, sheet)? {
             None => Ok(None),
             Some(i) => Ok(Some((BEFORE, i))),
         },
@@ -181,26 +151,21 @@ fn least<'a, 'b>(
 }
 
 // The verdict that the least broken rule and the first subject that breaks it are.
-fn verdict_of<'a>(
+fn verdict_of(
     alloc: Global,
-    facts: &Facts<'a>,
-    all: &[Subject<'a>],
+    sheet: &Sheet,
     least: Option<(usize, usize)>,
 ) -> Result<Verdict, AllocError>
-    requires are { map subject_view all.now ≡ subjects facts.now.design facts.now.claims }
-    requires least { IsLeast (KeepsAt facts.now.design facts.now.claims) 11 (length all.now) least }
-    ensures { IfOk result (λ v. IsVerdictOn facts.entry.now.design facts.entry.now.claims v) }
+    requires { IsLeast (KeepsAt sheet.now.design sheet.now.claims) 11 (length (subjects sheet.now.design sheet.now.claims)) least }
+    ensures { IfOk result (λ v. IsVerdictOn sheet.now.design sheet.now.claims v) }
 {
     least_is_verdict();
     match least {
         None => Ok(Verdict::Yes),
-        Some((rule, i)) => match name_of(facts, all[i]) {
-            None => unreachable!(),
-            Some(name) => {
-                let place = Vec::from_slice(alloc, name)?;
-                Ok(Verdict::No(rule as u8 + 1, place))
-            }
-        },
+        Some((rule, i)) => {
+            let place = Vec::from_slice(alloc, sheet.name(i))?;
+            Ok(Verdict::No(rule as u8 + 1, place))
+        }
     }
 }
 
@@ -216,52 +181,16 @@ fn block_marks(alloc: Global, facts: &Facts) -> Result<Vec<bool>, AllocError>
 }
 
 // The verdict, by all tables.
-fn by_sheet<'a>(alloc: Global, sheet: &Sheet<'a>, most: usize) -> Result<VerdictReport, AllocError>
-    ensures { IfOk result (λ t. IsReport sheet.entry.now.facts.now.design sheet.entry.now.facts.now.claims most t) }
+fn by_sheet(alloc: Global, sheet: &Sheet, most: usize) -> Result<VerdictReport, AllocError>
+    ensures { IfOk result (λ t. IsReport sheet.now.design sheet.now.claims most t) }
 {
-    let all = all_subjects(alloc, sheet.facts)?;
-    let least = least(alloc, &*sheet, &all)?;
-    let verdict = verdict_of(alloc, sheet.facts, &all, least)?;
-    let broken = all_broken(alloc, &*sheet, &all, least, most)?;
+    let least = least(alloc, sheet)?;
+    let verdict = verdict_of(alloc, sheet, least)?;
+    let broken = all_broken(alloc, sheet, least, most)?;
     Ok(VerdictReport { verdict, broken })
 }
 
-// The verdict, by the tables in which the rules look things up.
-fn by_tables<'x>(
-    alloc: Global,
-    facts: &'x Facts<'x>,
-    cones: &'x Cones<'x>,
-    copies: &'x Copies<'x>,
-    entries: &'x Entries<'x>,
-    first_writes: &'x FirstWrites<'x>,
-    slots: &'x Slots<'x>,
-    classes: &'x WriteClasses<'x>,
-    first_slot: &'x FirstSlot<'x>,
-    most: usize,
-) -> Result<VerdictReport, AllocError>
-    requires cones { cones.now ≡ wiring facts.now.design (marks_of facts.now.design facts.now.claims) }
-    requires copies { copies.now ≡ facts.now.design }
-    requires entries { entries.now ≡ facts.now }
-    requires first_writes { first_writes.now ≡ facts.now }
-    requires slots { slots.now ≡ facts.now }
-    requires classes { classes.now ≡ slots.now }
-    requires first_slot { first_slot.now ≡ facts.now }
-    ensures { IfOk result (λ t. IsReport facts.entry.now.design facts.entry.now.claims most t) }
-{
-    let sheet = Sheet {
-        facts,
-        cones,
-        copies,
-        entries,
-        first_writes,
-        slots,
-        classes,
-        first_slot,
-    };
-    by_sheet(alloc, &sheet, most)
-}
-
-// The verdict, by what is known of the first slot.
+// The verdict, by the drivers of a design and the entries of its certificate.
 fn by_entries<'x>(
     alloc: Global,
     facts: &'x Facts<'x>,
@@ -271,50 +200,46 @@ fn by_entries<'x>(
     entries: &'x Entries<'x>,
     most: usize,
 ) -> Result<VerdictReport, AllocError>
-    requires cones { cones.now ≡ wiring facts.now.design (marks_of facts.now.design facts.now.claims) }
+    requires cones { IsWiringOf facts.now.design facts.now.claims cones.now }
     requires copies { copies.now ≡ facts.now.design }
     requires inverted { AreInverted facts.now.design (is_wide facts.now.claims) inverted.now }
     requires entries { entries.now ≡ facts.now }
     ensures { IfOk result (λ t. IsReport facts.entry.now.design facts.entry.now.claims most t) }
 {
-    let first_writes = FirstWrites::of(alloc, entries, inverted)?;
+    let first_writes = FirstWrites::of(entries, inverted);
     let slots = Slots::new(alloc, facts, inverted)?;
     let classes = WriteClasses::of(alloc, &slots, cones)?;
     let first_slot = FirstSlot::new(alloc, facts, cones)?;
-    by_tables(
-        alloc,
-        &*facts,
-        &*cones,
-        &*copies,
-        &*entries,
-        &first_writes,
-        &slots,
-        &classes,
-        &first_slot,
-        most,
-    )
+    let subjects = all_subjects(alloc, facts)?;
+    let sheet = Sheet {
+        facts: &*facts,
+        cones: &*cones,
+        copies: &*copies,
+        entries: &*entries,
+        first_writes: &first_writes,
+        slots: &slots,
+        classes: &classes,
+        first_slot: &first_slot,
+        subjects: &subjects,
+    };
+    by_sheet(alloc, &sheet, most)
 }
 
 // The verdict, by the facts of a design and its certificate.
 fn by_facts<'x>(
     alloc: Global,
     facts: &'x Facts<'x>,
-    certificate: &'x Certificate,
-    tables: &'x [Tables<'x>],
-    marks: &'x [bool],
     most: usize,
 ) -> Result<VerdictReport, AllocError>
-    requires certificate { claims_of certificate.now ≡ facts.now.claims }
-    requires tables { tables.now ≡ facts.now.charts }
-    requires marks { marks.now ≡ marks_of facts.now.design facts.now.claims }
     ensures { IfOk result (λ t. IsReport facts.entry.now.design facts.entry.now.claims most t) }
 {
     facts.maps();
     let design = facts.design();
-    let cones = Cones::new(alloc, design, tables, marks)?;
+    let marks = block_marks(alloc, facts)?;
+    let cones = Cones::new(alloc, facts.sites(), &marks)?;
     let copies = Copies::of(alloc, design)?;
     let inverted = copies.inverted(alloc, facts.is_wide())?;
-    let entries = Entries::of(alloc, facts, certificate)?;
+    let entries = Entries::of(alloc, facts)?;
     by_entries(alloc, &*facts, &cones, &copies, &inverted, &entries, most)
 }
 
@@ -331,8 +256,7 @@ fn by_processes<'x>(
     ensures { IfOk result (λ t. IsReport design.entry.now (claims_of certificate.entry.now) most t) }
 {
     let facts = Facts::new(alloc, design, certificate, tables)?;
-    let marks = block_marks(alloc, &facts)?;
-    by_facts(alloc, &facts, &*certificate, &*tables, &marks, most)
+    by_facts(alloc, &facts, most)
 }
 
 // The verdict, by the maps of the texts of the processes.

@@ -3,7 +3,6 @@ ghost use Rattle.std.specs.Prelude.{ℕ, ◌≡◌, ◌<◌, ◌≤◌, ◌++◌
 ghost use Rattle.std.specs.List.{All};
 ghost use Rattle.vs_cert_check.specs.Broken.{broken_view, violation_at, AreFirstBroken, FirstBroken, IsBrokenList};
 ghost use Rattle.vs_cert_check.specs.Verdicts.{KeepsAt, AllKeptBelow};
-ghost use Rattle.vs_claims.specs.Subjects.{subject_view};
 ghost use Rattle.vs_rules_of_signals.specs.vs_graph.specs.Verdicts.{IsLeast};
 ghost use Rattle.vs_rules_of_starts.specs.vs_rules.specs.Verdict.{numbers, subjects};
 
@@ -11,8 +10,6 @@ use crate::judging::{BEFORE, OfRule, first_starts};
 use crate::sheet::Sheet;
 use crate::verdict::Broken;
 use std::alloc::{AllocError, Global};
-use vs_claims::{Subject, name_of};
-use vs_rules_of_signals::vs_claims::Facts;
 use vs_rules_of_signals::vs_graph::Rule;
 
 /// The first things below a number that break a rule, at most so many.
@@ -38,31 +35,24 @@ pub(crate) fn breakers<R: Rule>(
 }
 
 // Puts subjects, by their numbers, at the end of those that break rules.
-fn tell<'a>(
+fn tell(
     alloc: Global,
-    facts: &Facts<'a>,
-    all: &[Subject<'a>],
+    sheet: &Sheet,
     rule: usize,
     found: &[usize],
     list: &mut Vec<Broken>,
 ) -> Result<(), AllocError>
-    requires are { map subject_view all.now ≡ subjects facts.now.design facts.now.claims }
     requires rule { rule < 11 }
-    requires within { All (λ i. i < length all.now) found.now }
+    requires within { All (λ i. i < length (subjects sheet.now.design sheet.now.claims)) found.now }
     ensures { OnOk result (map broken_view list.new.items ≡
-        map broken_view list.old.items ++ map (λ i. violation_at facts.now.design facts.now.claims (rule, i)) found.now) }
+        map broken_view list.old.items ++ map (λ i. violation_at sheet.now.design sheet.now.claims (rule, i)) found.now) }
 {
     for i in found {
-        match name_of(facts, all[*i]) {
-            None => unreachable!(),
-            Some(name) => {
-                let place = Vec::from_slice(alloc, name)?;
-                list.push(Broken {
-                    number: rule as u8 + 1,
-                    place,
-                })?;
-            }
-        }
+        let place = Vec::from_slice(alloc, sheet.name(*i))?;
+        list.push(Broken {
+            number: rule as u8 + 1,
+            place,
+        })?;
     }
     Ok(())
 }
@@ -71,41 +61,33 @@ fn tell<'a>(
 fn broken_from<'a, 'b>(
     alloc: Global,
     sheet: &'b Sheet<'a>,
-    all: &'b [Subject<'a>],
     first: usize,
     most: usize,
 ) -> Result<Vec<Broken>, AllocError>
-    requires are { map subject_view all.now ≡ subjects sheet.now.facts.now.design sheet.now.facts.now.claims }
     requires first { first ≤ 10 }
-    requires kept { AllKeptBelow sheet.now.facts.now.design sheet.now.facts.now.claims first }
-    ensures { IfOk result (λ list. AreFirstBroken sheet.entry.now.facts.now.design sheet.entry.now.facts.now.claims 10 most list.items) }
+    requires kept { AllKeptBelow sheet.now.design sheet.now.claims first }
+    ensures { IfOk result (λ list. AreFirstBroken sheet.entry.now.design sheet.entry.now.claims 10 most list.items) }
 {
     let mut list = Vec::new(alloc);
     for rule in first..BEFORE {
-        let one = OfRule { sheet, all, rule };
-        let found = breakers(alloc, &one, all.len(), most - list.len())?;
-        tell(alloc, sheet.facts, all, rule, &found, &mut list)?;
+        let one = OfRule { sheet, rule };
+        let found = breakers(alloc, &one, sheet.count(), most - list.len())?;
+        tell(alloc, sheet, rule, &found, &mut list)?;
     }
     Ok(list)
 }
 
 // The first subjects that break the last rule, at most so many, where all keep those before.
-fn broken_starts<'a>(
-    alloc: Global,
-    sheet: &Sheet<'a>,
-    all: &[Subject<'a>],
-    most: usize,
-) -> Result<Vec<Broken>, AllocError>
-    requires are { map subject_view all.now ≡ subjects sheet.now.facts.now.design sheet.now.facts.now.claims }
-    requires kept { AllKeptBelow sheet.now.facts.now.design sheet.now.facts.now.claims 10 }
-    ensures { IfOk result (λ list. AreFirstBroken sheet.entry.now.facts.now.design sheet.entry.now.facts.now.claims 11 most list.items) }
+fn broken_starts(alloc: Global, sheet: &Sheet, most: usize) -> Result<Vec<Broken>, AllocError>
+    requires { AllKeptBelow sheet.now.design sheet.now.claims 10 }
+    ensures { IfOk result (λ list. AreFirstBroken sheet.now.design sheet.now.claims 11 most list.items) }
 {
     let mut list = Vec::new(alloc);
     if most == 0 {
         return Ok(list);
     }
-    let found = first_starts(alloc, sheet, all, most)?;
-    tell(alloc, sheet.facts, all, BEFORE, &found, &mut list)?;
+    let found = first_starts(alloc, sheet, most)?;
+    tell(alloc, sheet, BEFORE, &found, &mut list)?;
     Ok(list)
 }
 
@@ -113,21 +95,19 @@ fn broken_starts<'a>(
 pub(crate) fn all_broken<'a, 'b>(
     alloc: Global,
     sheet: &'b Sheet<'a>,
-    all: &'b [Subject<'a>],
     least: Option<(usize, usize)>,
     most: usize,
 ) -> Result<Vec<Broken>, AllocError>
-    requires are { map subject_view all.now ≡ subjects sheet.now.facts.now.design sheet.now.facts.now.claims }
-    requires least { IsLeast (KeepsAt sheet.now.facts.now.design sheet.now.facts.now.claims) 11 (length all.now) least }
-    ensures { IfOk result (λ list. IsBrokenList sheet.entry.now.facts.now.design sheet.entry.now.facts.now.claims most list.items) }
+    requires { IsLeast (KeepsAt sheet.now.design sheet.now.claims) 11 (length (subjects sheet.now.design sheet.now.claims)) least }
+    ensures { IfOk result (λ list. IsBrokenList sheet.entry.now.design sheet.entry.now.claims most list.items) }
 {
     match least {
         None => Ok(Vec::new(alloc)),
         Some((rule, _)) => {
             if rule < BEFORE {
-                broken_from(alloc, sheet, all, rule, most)
+                broken_from(alloc, sheet, rule, most)
             } else {
-                broken_starts(alloc, &*sheet, &*all, most)
+                broken_starts(alloc, &*sheet, most)
             }
         }
     }

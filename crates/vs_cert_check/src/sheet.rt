@@ -1,21 +1,20 @@
 //! The rules of a design and its certificate, by their numbers and subjects.
-ghost use Rattle.std.specs.Prelude.{ℕ, ◌≡◌, ◌<◌, ◌↔◌, length, IfOk, IsTrue};
+ghost use Rattle.std.specs.Prelude.{ℕ, ◌≡◌, ◌<◌, ◌↔◌, Some, length, option_map, slice_get, IfOk, IsTrue};
 ghost use Rattle.vs_cert_check.specs.Answers.{IsOfDesign};
+ghost use Rattle.vs_cert_check.specs.Broken.{name_of};
 ghost use Rattle.vs_cert_check.specs.Verdicts.{rule_of};
 ghost use Rattle.vs_claims.specs.Subjects.{subject_view};
-ghost use Rattle.vs_rules_of_starts.specs.vs_rules.specs.Rules.{K10_Process};
 ghost use Rattle.vs_rules_of_starts.specs.vs_rules.specs.Blocks.{K5};
-ghost use Rattle.vs_rules_of_starts.specs.vs_rules.specs.Verdict.{Keeps, k11};
+ghost use Rattle.vs_rules_of_starts.specs.vs_rules.specs.Verdict.{Keeps, k11, subjects};
 ghost use Rattle.vs_rules_of_starts.specs.vs_rules.specs.Verdict as verdict;
-ghost use Rattle.vs_cert_check.specs.Marks.{marks_of};
-ghost use Rattle.vs_rules_of_processes.specs.vs_drivers.specs.Wires.{wiring};
 
 use std::alloc::{AllocError, Global};
+use std::marker::Model;
 use vs_cert_blocks::keeps_block;
 use vs_cert_roots::vs_drivers::Copies;
 use vs_cert_roots::{Entries, FirstWrites, keeps_first_root, keeps_root};
 use vs_claims::{
-    Subject, keeps_assign_name, keeps_listed_name, keeps_process_name, keeps_signal_name,
+    Subject, keeps_assign_name, keeps_name, keeps_process_name, keeps_signal_name, name_of,
 };
 use vs_rules_of_processes::vs_drivers::Cones;
 use vs_rules_of_processes::vs_slots::Slots;
@@ -24,7 +23,8 @@ use vs_rules_of_signals::vs_claims::Facts;
 use vs_rules_of_signals::{keeps_assign_order, keeps_mode, keeps_process_order, keeps_writers};
 use vs_rules_of_starts::{Beginning, Starts, keeps_start_by};
 
-/// A design and its certificate, with the tables in which the rules look things up.
+/// A design and its certificate, with the tables in which the rules look things up, and the subjects of the rules in their order. A contract sees
+/// the design, what the certificate claims of it, and the maps of the texts of the processes.
 #[derive(Drop)]
 pub(crate) struct Sheet<'a> {
     pub facts: &'a Facts<'a>,
@@ -35,20 +35,60 @@ pub(crate) struct Sheet<'a> {
     pub slots: &'a Slots<'a>,
     pub classes: &'a WriteClasses<'a>,
     pub first_slot: &'a FirstSlot<'a>,
-    pub ghost cones_are: { cones.now ≡ wiring facts.now.design (marks_of facts.now.design facts.now.claims) },
-    pub ghost copies_are: { copies.now ≡ facts.now.design },
-    pub ghost entries_are: { entries.now ≡ facts.now },
-    pub ghost first_writes_are: { first_writes.now ≡ facts.now },
-    pub ghost slots_are: { slots.now ≡ facts.now },
-    pub ghost classes_are: { classes.now ≡ slots.now },
-    pub ghost first_slot_is: { first_slot.now ≡ facts.now },
+    pub subjects: &'a [Subject<'a>],
+}
+
+impl<'a> Model for Sheet<'a> {
+    ghost use Rattle.std.specs.Coded.{codes};
+    ghost use Rattle.vs_design.specs.contracts.expression.Typed as expression;
+    ghost use Rattle.vs_design.specs.contracts.statement.Statement as statement;
+    ghost use Rattle.vs_rules_of_signals.specs.vs_claims.specs.Facts.{Case};
+    ghost use Rattle.vs_cert_check.specs.Sheets.{AreTables};
+
+    ghost Value = { Case };
+
+    ghost coded = { Prim.hlevel (codes, statement.the_row.coded, expression.the_row.coded) };
+
+    ghost view = { λ s. s.facts.now };
+
+    ghost invariant = { λ s. AreTables s.facts.now s.cones.now s.copies.now s.entries.now s.first_writes.now s.slots.now
+        s.classes.now s.first_slot.now s.subjects.now };
+}
+
+impl<'a> Sheet<'a> {
+    /// How many subjects there are.
+    pub(crate) fn count(&self) -> usize
+        ensures { result ≡ length (subjects self.now.design self.now.claims) }
+    {
+        self.subjects.len()
+    }
+
+    /// The subject of a number, where there is one.
+    pub(crate) fn subject(&self, i: usize) -> Option<Subject<'a>>
+        ensures { option_map subject_view result ≡ slice_get (subjects self.now.design self.now.claims) i }
+    {
+        if i >= self.subjects.len() {
+            return None;
+        }
+        Some(self.subjects[i])
+    }
+
+    /// The name of the subject of a number.
+    pub(crate) fn name(&self, i: usize) -> &'a [u8]
+        requires { i < length (subjects self.now.design self.now.claims) }
+        ensures { Some result.now ≡ name_of self.now.design (slice_get (subjects self.now.design self.now.claims) i) }
+    {
+        match name_of(self.facts, self.subjects[i]) {
+            None => unreachable!(),
+            Some(name) => name,
+        }
+    }
 }
 
 // Whether a signal keeps a rule, by the rule's number from 0 on.
 fn keeps_of_signal(alloc: Global, sheet: &Sheet, rule: usize, v: usize) -> Result<bool, AllocError>
-    requires within { v < length sheet.now.facts.now.design.signals }
-    ensures { IfOk result (λ b. (IsTrue b ↔
-        Keeps sheet.now.facts.now.design sheet.now.facts.now.claims (rule_of rule) (verdict.signal v))) }
+    requires within { v < length sheet.now.design.signals }
+    ensures { IfOk result (λ b. (IsTrue b ↔ Keeps sheet.now.design sheet.now.claims (rule_of rule) (verdict.signal v))) }
 {
     match rule {
         0 => Ok(keeps_signal_name(sheet.facts, v)),
@@ -62,8 +102,7 @@ fn keeps_of_signal(alloc: Global, sheet: &Sheet, rule: usize, v: usize) -> Resul
 
 // Whether a continuous assignment does.
 fn keeps_of_assign(alloc: Global, sheet: &Sheet, rule: usize, j: usize) -> Result<bool, AllocError>
-    ensures { IfOk result (λ b. (IsTrue b ↔
-        Keeps sheet.now.facts.now.design sheet.now.facts.now.claims (rule_of rule) (verdict.assign j))) }
+    ensures { IfOk result (λ b. (IsTrue b ↔ Keeps sheet.now.design sheet.now.claims (rule_of rule) (verdict.assign j))) }
 {
     match rule {
         0 => Ok(keeps_assign_name(sheet.facts, j)),
@@ -75,8 +114,7 @@ fn keeps_of_assign(alloc: Global, sheet: &Sheet, rule: usize, j: usize) -> Resul
 // Whether a process does, but for the last rule.
 fn keeps_of_process(alloc: Global, sheet: &Sheet, rule: usize, i: usize) -> Result<bool, AllocError>
     requires rule { rule < 10 }
-    ensures { IfOk result (λ b. (IsTrue b ↔
-        Keeps sheet.now.facts.now.design sheet.now.facts.now.claims (rule_of rule) (verdict.process i))) }
+    ensures { IfOk result (λ b. (IsTrue b ↔ Keeps sheet.now.design sheet.now.claims (rule_of rule) (verdict.process i))) }
 {
     match rule {
         0 => Ok(keeps_process_name(sheet.facts, i)),
@@ -91,12 +129,11 @@ fn keeps_of_process(alloc: Global, sheet: &Sheet, rule: usize, i: usize) -> Resu
 }
 
 // Whether a name of a list does.
-fn keeps_of_listed(sheet: &Sheet, rule: usize, name: &[u8]) -> bool
-    ensures { IsTrue result ↔
-        Keeps sheet.now.facts.now.design sheet.now.facts.now.claims (rule_of rule) (verdict.listed name.now) }
+fn keeps_rule_of_name(sheet: &Sheet, rule: usize, name: &[u8]) -> bool
+    ensures { IsTrue result ↔ Keeps sheet.now.design sheet.now.claims (rule_of rule) (verdict.listed name.now) }
 {
     match rule {
-        0 => keeps_listed_name(sheet.facts, name),
+        0 => keeps_name(sheet.facts, name),
         _ => true,
     }
 }
@@ -109,15 +146,14 @@ pub(crate) fn keeps(
     subject: Subject,
 ) -> Result<bool, AllocError>
     requires rule { rule < 10 }
-    requires of { IsOfDesign sheet.now.facts.now.design (subject_view subject) }
-    ensures { IfOk result (λ b. (IsTrue b ↔
-        Keeps sheet.now.facts.now.design sheet.now.facts.now.claims (rule_of rule) (subject_view subject.entry))) }
+    requires of { IsOfDesign sheet.now.design (subject_view subject) }
+    ensures { IfOk result (λ b. (IsTrue b ↔ Keeps sheet.now.design sheet.now.claims (rule_of rule) (subject_view subject.entry))) }
 {
     match subject {
         Subject::Signal(v) => keeps_of_signal(alloc, sheet, rule, v),
         Subject::Assign(j) => keeps_of_assign(alloc, sheet, rule, j),
         Subject::Process(i) => keeps_of_process(alloc, sheet, rule, i),
-        Subject::Listed(name) => Ok(keeps_of_listed(sheet, rule, name)),
+        Subject::Listed(name) => Ok(keeps_rule_of_name(sheet, rule, name)),
     }
 }
 
@@ -129,11 +165,10 @@ pub(crate) fn starts_well(
     beginning: &Beginning,
     subject: Subject,
 ) -> Result<bool, AllocError>
-    requires starts { starts.now ≡ sheet.now.facts.now }
-    requires beginning { beginning.now ≡ sheet.now.facts.now.design }
-    requires shape { (i : ℕ) → (K5 sheet.now.facts.now.design sheet.now.facts.now.claims i → ⊥) → ⊥ }
-    ensures { IfOk result (λ b. (IsTrue b ↔
-        Keeps sheet.now.facts.now.design sheet.now.facts.now.claims k11 (subject_view subject.entry))) }
+    requires starts { starts.now ≡ sheet.now }
+    requires beginning { beginning.now ≡ sheet.now.design }
+    requires shape { (i : ℕ) → (K5 sheet.now.design sheet.now.claims i → ⊥) → ⊥ }
+    ensures { IfOk result (λ b. (IsTrue b ↔ Keeps sheet.now.design sheet.now.claims k11 (subject_view subject.entry))) }
 {
     match subject {
         Subject::Process(i) => {

@@ -1,76 +1,16 @@
 -- The entries for signals of edge terms.
-use Rattle.std.proofs.Common.{◌≡◌, ℕ, zero, suc, ◌<◌, ◌≤◌, ◌⊎◌, ◌↔◌, inl, inr, ◌++◌, Bool, true, false, is_some, if◌then◌else◌, Option, Some, None, List, [], ◌∷◌, length, map, option_map, slice_get, refl, sym, ◌∙◌, ap, subst, arith}
+use Rattle.std.proofs.Common.{◌≡◌, ℕ, zero, suc, ◌<◌, ◌≤◌, ◌↔◌, Bool, true, false, is_some, if◌then◌else◌, Option, Some, None, List, [], ◌∷◌, length, map, slice_get, refl, sym, ◌∙◌, ap, arith}
 use Rattle.std.specs.List.{Contains}
 use Rattle.std.specs.Str.{bytes_eq}
-use Rattle.std.proofs.lemmas.List.{get_or_past}
-use Rattle.std.proofs.lemmas.Option.{same_Some, slice_get-map, slice_get_within, slice_get_past}
+use Rattle.std.proofs.lemmas.Option.{same_Some, slice_get_past}
 use Rattle.std.proofs.lemmas.Slice.Eq.{bytes_eq-Decides}
-use Rattle.vs_design.specs.vs_logic4.proofs.Basics.{there, one_in as in_one}
-use Rattle.vs_rules.specs.vs_certificate.specs.declared.members.Certificate.{Certificate}
-use Rattle.vs_rules.specs.vs_certificate.specs.declared.members.EdgeSignal.{EdgeSignal}
+use Rattle.vs_design.specs.vs_logic4.proofs.Basics.{there}
 use Rattle.vs_design.specs.Parts.{Parts}
-use Rattle.vs_rules.specs.Certificates.{claims_of, edge_claim}
 use Rattle.vs_rules.specs.Claims.{Name, Claims, EdgeClaim, IsSignalNamed, signal_name, times_in}
 use Rattle.vs_rules.specs.Rules.{IsEdgeSignal}
 use Rattle.vs_drivers.specs.Copies.{IsOnly}
-use Rattle.vs_rules_of_signals.specs.vs_graph.specs.Rows.{AreRows, row as row_of}
-use Rattle.vs_cert_roots.specs.Entries.{NamesEntry, HasEntries}
-use Rattle.vs_cert_roots.proofs.ListLemmas.{nothing_more, appended}
-
--- ---- an entry by its place
-
-pub entry_here : (c : Certificate) (x : Claims) → claims_of c ≡ x → (place : ℕ) (t : EdgeSignal) → slice_get c.edges.items place ≡ Some t → slice_get x.edges place ≡ Some (edge_claim t)
-entry_here c x e place t h =
-    subst (λ (y : Claims). slice_get y.edges place ≡ Some (edge_claim t)) e (slice_get-map edge_claim c.edges.items place ∙ ap (option_map edge_claim) h)
-
-named_is : (d : Parts) (edges : List EdgeClaim) (place : ℕ) (e : EdgeClaim) → slice_get edges place ≡ Some e → (o : Option ℕ) → ((v : ℕ) → (IsSignalNamed d v e.signal ↔ o ≡ Some v)) →
-    (v : ℕ) → (NamesEntry d edges place v ↔ o ≡ Some v)
-named_is d edges place e at o f v = (
-  λ h. (f v).0 (subst (λ (x : EdgeClaim). IsSignalNamed d v x.signal) (same_Some h.0 e (sym h.1 ∙ at)) h.2),
-  λ h. (e, at, (f v).1 h),
-)
-
-pub put_none_named : (d : Parts) (edges : List EdgeClaim) (place : ℕ) (e : EdgeClaim) → slice_get edges place ≡ Some e → ((v : ℕ) → (IsSignalNamed d v e.signal ↔ None ≡ Some v)) →
-    (old : List ℕ) (v : ℕ) → (Contains old v ↔ (Contains old v ⊎ NamesEntry d edges place v))
-put_none_named d edges place e at f old =
-    nothing_more old (NamesEntry d edges place) (λ v h. let g : None ≡ Some v = (named_is d edges place e at None f v).0 h in cc)
-
-pub put_one_named : (d : Parts) (edges : List EdgeClaim) (place : ℕ) (e : EdgeClaim) → slice_get edges place ≡ Some e → (u : ℕ) → ((v : ℕ) → (IsSignalNamed d v e.signal ↔ Some u ≡ Some v)) →
-    (old new : List ℕ) → new ≡ old ++ u ∷ [] → (v : ℕ) → (Contains new v ↔ (Contains old v ⊎ NamesEntry d edges place v))
-put_one_named d edges place e at u f old new pushed =
-    appended old (u ∷ []) new (NamesEntry d edges place) pushed (λ v. (
-      λ h. (named_is d edges place e at (Some u) f v).1 (ap Some (in_one u v h)),
-      λ h. subst (Contains (u ∷ [])) (same_Some u v ((named_is d edges place e at (Some u) f v).0 h)) (0, omega arith, refl),
-    ))
-
-pub past_named : (d : Parts) (edges : List EdgeClaim) (place : ℕ) → length edges ≤ place → (old : List ℕ) (v : ℕ) → (Contains old v ↔ (Contains old v ⊎ NamesEntry d edges place v))
-past_named d edges place past old = nothing_more old (NamesEntry d edges place) (λ v h. absurd (omega (arith, past, slice_get_within edges place h.0 h.1)))
-
--- ---- rows
-
-row_is : (d : Parts) (edges : List EdgeClaim) (m n : ℕ) (table : List (List ℕ)) (v : ℕ) (row : List ℕ) → AreRows (NamesEntry d edges) m n table → m ≡ length edges → v < n → row_of table v ≡ row →
-    (place : ℕ) → (Contains row place ↔ NamesEntry d edges place v)
-row_is d edges m n table v row are e h same place = (
-  λ c. ((are v place h).0 (subst (λ (l : List ℕ). Contains l place) (sym same) c)).1,
-  λ y. subst (λ (l : List ℕ). Contains l place) same ((are v place h).1 (subst (λ (k : ℕ). place < k) (sym e) (slice_get_within edges place y.0 y.1), y)),
-)
-
-past_row : (d : Parts) (edges : List EdgeClaim) (v : ℕ) (row : List ℕ) → length d.signals ≤ v → row ≡ [] → (place : ℕ) → (Contains row place ↔ NamesEntry d edges place v)
-past_row d edges v row past e place = (
-  λ c. absurd (omega (arith, (subst (λ (l : List ℕ). Contains l place) e c).1)),
-  λ y. let f : None ≡ Some y.0.signal = ap signal_name (sym (slice_get_past d.signals v past)) ∙ y.2 in cc,
-)
-
--- the row of any number, also of one past the end
-pub any_row : (d : Parts) (edges : List EdgeClaim) (table : List (List ℕ)) (v : ℕ) (row : List ℕ) → length table ≡ length d.signals → AreRows (NamesEntry d edges) (length edges) (length d.signals) table → row ≡ row_of table v →
-    (place : ℕ) → (Contains row place ↔ NamesEntry d edges place v)
-any_row d edges table v row long are same = by (side v (length d.signals)) where
-  side : (a b : ℕ) → (a < b) ⊎ (b ≤ a)
-  side a b = grind arith
-
-  by : (v < length d.signals) ⊎ (length d.signals ≤ v) → (place : ℕ) → (Contains row place ↔ NamesEntry d edges place v)
-  by (inl h) = row_is d edges (length edges) (length d.signals) table v row are refl h (sym same)
-  by (inr g) = past_row d edges v row g (same ∙ get_or_past table v [] (subst (λ (n : ℕ). n ≤ v) (sym long) g))
+use Rattle.vs_rules_of_signals.specs.vs_claims.specs.Facts.{NamesEntry}
+use Rattle.vs_cert_roots.specs.Entries.{HasEntries}
 
 pub no_name : (d : Parts) (v : ℕ) (name : Name) → length d.signals ≤ v → IsSignalNamed d v name → ⊥
 no_name d v name past h = let f : None ≡ Some name = ap signal_name (sym (slice_get_past d.signals v past)) ∙ h in cc

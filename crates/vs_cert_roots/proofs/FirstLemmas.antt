@@ -19,7 +19,7 @@ use Rattle.vs_cert_roots.specs.First.{FirstByPlaces, SiteAt, HasSite, IsSilent, 
 use Rattle.vs_rules_of_signals.specs.Places.{WritesAt}
 use Rattle.vs_cert_roots.proofs.HotLemmas.{writes_numbered, end_writes, either}
 use Rattle.vs_rules.proofs.Past.{past_paths}
-use Rattle.vs_cert_roots.proofs.TermLemmas.{HasChart, chart_is}
+use Rattle.vs_drivers.specs.vs_maps.proofs.TermLemmas.{HasChart, chart_is}
 
 -- ---- places and points
 

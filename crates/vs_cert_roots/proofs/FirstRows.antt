@@ -1,8 +1,7 @@
 -- Rows of roots and of what writes in the first slot.
-use Rattle.std.proofs.Common.{◌≡◌, ℕ, ◌<◌, ◌≤◌, ◌⊎◌, ◌↔◌, ◌==◌, ◌∷◌, [], ◌++◌, inl, inr, Bool, true, false, not, IsTrue, Option, Some, None, List, length, get_or, slice_get, if◌then◌else◌, refl, sym, ◌∙◌, ap, subst, arith}
+use Rattle.std.proofs.Common.{◌≡◌, ℕ, ◌<◌, ◌≤◌, ◌⊎◌, ◌↔◌, ◌==◌, inl, inr, Bool, true, false, IsTrue, Option, Some, None, List, length, get_or, slice_get, if◌then◌else◌, refl, sym, ◌∙◌, ap, subst, arith}
 use Rattle.std.specs.List.{Contains}
-use Rattle.std.proofs.lemmas.List.{get_or_past}
-use Rattle.std.proofs.lemmas.Option.{same_Some, slice_get_within}
+use Rattle.std.proofs.lemmas.Option.{same_Some}
 use Rattle.vs_design.specs.vs_logic4.specs.declared.digit.Digit.{Digit}
 use Rattle.vs_design.specs.vs_logic4.specs.declared.digit.Digit.TheVariants.{X}
 use Rattle.vs_design.specs.vs_logic4.specs.Edges.{is_edge}
@@ -19,31 +18,19 @@ use Rattle.vs_drivers.specs.Copies.{IsOnly}
 use Rattle.vs_drivers.specs.vs_maps.specs.declared.along.Along.TheVariants.{ZeroTime}
 use Rattle.vs_drivers.specs.vs_maps.specs.Ranges.{HasSignal, later_at}
 use Rattle.vs_drivers.specs.vs_maps.specs.Reaches.{Chart, InSlot0}
-use Rattle.vs_rules_of_signals.specs.vs_graph.specs.Rows.{AreRows, row as row_of}
 use Rattle.vs_rules_of_signals.specs.vs_graph.proofs.Sets.{contains_at}
-use Rattle.vs_rules_of_signals.specs.vs_claims.specs.Facts.{AreCharts, IsRootAt}
+use Rattle.vs_rules_of_signals.specs.vs_claims.specs.Facts.{AreCharts, IsRootAt, NamesRoot}
 use Rattle.vs_drivers.specs.vs_maps.specs.Sites.{UsesAt, site_of}
 use Rattle.vs_drivers.specs.vs_maps.specs.declared.sites.Site.{Site}
 use Rattle.vs_drivers.specs.vs_maps.specs.declared.sites.Use.TheVariants.{Now, Later}
 use Rattle.vs_drivers.specs.vs_maps.proofs.SiteLemmas.{AreSitesOf, written_so}
 use Rattle.vs_drivers.specs.vs_maps.proofs.WalkLemmas.{start_walked}
-use Rattle.vs_cert_roots.specs.First.{SiteAt, HasSite, IsFirst, IsSilent, NamesRoot, WakesFromX, WakesEntry, left_out, StartsSilently, StartsWellIn, StartsWell}
-use Rattle.std.proofs.lemmas.Bool.{eqb-true, eqb-false, ne_eqb, not-true, false_from_ne_true}
-use Rattle.vs_design.specs.vs_logic4.proofs.Basics.{same_self, one_in as in_one}
+use Rattle.vs_cert_roots.specs.First.{SiteAt, HasSite, IsFirst, IsSilent, WakesFromX, WakesEntry, left_out, StartsSilently, StartsWellIn, StartsWell}
+use Rattle.std.proofs.lemmas.Bool.{eqb-true, false_from_ne_true}
+use Rattle.vs_design.specs.vs_logic4.proofs.Basics.{same_self}
 use Rattle.vs_rules.specs.Rules.{K10_Signal}
 use Rattle.vs_cert_roots.proofs.FirstLemmas.{first_by_places}
 use Rattle.vs_cert_roots.proofs.EntryLemmas.{no_name}
-use Rattle.vs_cert_roots.proofs.ListLemmas.{nothing_more, appended}
-
-pub row_exact : (has : ℕ → ℕ → Type 0) (m n : ℕ) (table : List (List ℕ)) (v : ℕ) (row : List ℕ) → AreRows has m n table → ((i : ℕ) → has i v → i < m) → v < n → row_of table v ≡ row →
-    (i : ℕ) → (Contains row i ↔ has i v)
-row_exact has m n table v row are within h same i = (
-  λ c. ((are v i h).0 (subst (λ (l : List ℕ). Contains l i) (sym same) c)).1,
-  λ y. subst (λ (l : List ℕ). Contains l i) same ((are v i h).1 (within i y, y)),
-)
-
-root_within : (d : Parts) (edges : List EdgeClaim) (v place : ℕ) → NamesRoot d edges place v → place < length edges
-root_within d edges v place h = slice_get_within edges place h.1.entry h.1.is
 
 pub past_root : (d : Parts) (c : Claims) (v : ℕ) → length d.signals ≤ v → IsRoot d c v → ⊥
 past_root d c v past h = no_name d v h.1.entry.root past h.1.root_is
@@ -117,37 +104,6 @@ entry_within d edges place root v h = by (cases v (length d.signals)) where
   by : (v < length d.signals) ⊎ (length d.signals ≤ v) → v < length d.signals
   by (inl l) = l
   by (inr g) = absurd (no_name d v h.entry.signal g h.signal)
-
-past_claims : (d : Parts) (edges : List EdgeClaim) (root : ℕ) → length d.signals ≤ root → (row : List ℕ) → row ≡ [] → (place : ℕ) → (Contains row place ↔ NamesRoot d edges place root)
-past_claims d edges root past row e place = (
-  λ c. absurd (omega (arith, (subst (λ (l : List ℕ). Contains l place) e c).1)),
-  λ h. absurd (no_name d root h.1.entry.root past h.1.root_is),
-)
-
--- the entries of any number, also of one past the end
-pub any_claims : (d : Parts) (edges : List EdgeClaim) (table : List (List ℕ)) (root : ℕ) (row : List ℕ) → length table ≡ length d.signals → AreRows (NamesRoot d edges) (length edges) (length d.signals) table →
-    row ≡ row_of table root → (place : ℕ) → (Contains row place ↔ NamesRoot d edges place root)
-any_claims d edges table root row long are same = by (side root (length d.signals)) where
-  side : (a b : ℕ) → (a < b) ⊎ (b ≤ a)
-  side a b = grind arith
-
-  by : (root < length d.signals) ⊎ (length d.signals ≤ root) → (place : ℕ) → (Contains row place ↔ NamesRoot d edges place root)
-  by (inl h) = row_exact (NamesRoot d edges) (length edges) (length d.signals) table root row are (root_within d edges root) h (sym same)
-  by (inr g) = past_claims d edges root g row (same ∙ get_or_past table root [] (subst (λ (n : ℕ). n ≤ root) (sym long) g))
-
--- ---- what is put
-
-pub no_claimed : (d : Parts) (edges : List EdgeClaim) (place : ℕ) → ((root v : ℕ) → (IsRootAt d edges place root v ↔ ◌≡◌ {A = Option (ℕ × ℕ)} None (Some (root, v)))) → (old : List ℕ) (r : ℕ) →
-    (Contains old r ↔ (Contains old r ⊎ NamesRoot d edges place r))
-no_claimed d edges place f old = nothing_more old (NamesRoot d edges place) (λ r h. let e : ◌≡◌ {A = Option (ℕ × ℕ)} None (Some (r, h.0)) = (f r h.0).0 h.1 in cc)
-
-pub one_claimed : (d : Parts) (edges : List EdgeClaim) (place a b : ℕ) → ((root v : ℕ) → (IsRootAt d edges place root v ↔ ◌≡◌ {A = Option (ℕ × ℕ)} (Some (a, b)) (Some (root, v)))) → (old new : List ℕ) → new ≡ old ++ a ∷ [] → (r : ℕ) →
-    (Contains new r ↔ (Contains old r ⊎ NamesRoot d edges place r))
-one_claimed d edges place a b f old new e =
-    appended old (a ∷ []) new (NamesRoot d edges place) e (λ r. (
-      λ h. (b, (f r b).1 (ap (λ (x : ℕ). Some (x, b)) (in_one a r h))),
-      λ h. subst (Contains (a ∷ [])) (ap (λ (x : ℕ × ℕ). x.0) (same_Some (a, b) (r, h.0) ((f r h.0).0 h.1))) (0, omega arith, refl),
-    ))
 
 -- ---- sites of the first slot
 
@@ -248,26 +204,3 @@ within_of_root d c v h = by (cases v (length d.signals)) where
   by : (v < length d.signals) ⊎ (length d.signals ≤ v) → v < length d.signals
   by (inl l) = l
   by (inr g) = absurd (past_root d c v g h)
-
--- a row that isn't empty tells what all of its numbers do
-pub row_told : (P : ℕ → Type 0) (A : Type 0) (row : List ℕ) (n : ℕ) (b : Bool) → ((k : ℕ) → (Contains row k ↔ P k)) → ((k : ℕ) → P k → A) → (A → (k : ℕ) × P k) → n ≡ length row → b ≡ (n == 0) →
-    (not b ≡ true ↔ A)
-row_told P A row n b are into back long told = (
-  λ t. into (get_or row 0 0) ((are (get_or row 0 0)).0 (contains_at row 0 (some (eqb-false n 0 (sym told ∙ not-true b t))))),
-  λ a. let y = back a in let m = (are y.0).1 y.1 in ap not (told ∙ ne_eqb n 0 (λ z. omega (arith, m.1, long, z))),
-) where
-  some : (n ≡ 0 → ⊥) → 0 < length row
-  some h = by (cases n) where
-    cases : (m : ℕ) → (m ≡ 0) ⊎ (0 < m)
-    cases m = grind arith
-
-    by : (n ≡ 0) ⊎ (0 < n) → 0 < length row
-    by (inl z) = absurd (h z)
-    by (inr l) = omega (arith, l, long)
-
-pub root_told : (d : Parts) (c : Claims) (v : ℕ) (row : List ℕ) (n : ℕ) (b : Bool) → ((p : ℕ) → (Contains row p ↔ NamesRoot d c.edges p v)) → n ≡ length row → b ≡ (n == 0) → (not b ≡ true ↔ IsRoot d c v)
-root_told d c v row n b are long told =
-    row_told (λ p. NamesRoot d c.edges p v) (IsRoot d c v) row n b are
-    (λ p y. (y.0, record { place = p; entry = y.1.entry; is = y.1.is; signal = y.1.signal; root_is = y.1.root_is }))
-    (λ h. (h.1.place, (h.0, record { entry = h.1.entry; is = h.1.is; signal = h.1.signal; root_is = h.1.root_is })))
-    long told

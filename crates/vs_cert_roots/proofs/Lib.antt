@@ -1,7 +1,6 @@
 pub mod EntryLemmas
 pub mod TermLemmas
 pub mod HotLemmas
-pub mod ListLemmas
 pub mod FirstLemmas
 pub mod SeenLemmas
 pub mod FirstRows

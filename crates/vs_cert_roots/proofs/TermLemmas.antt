@@ -1,53 +1,39 @@
--- The event terms of processes, and the sites that wait for them.
+-- The edge terms of processes, and the sites that wait for them.
 use Rattle.std.proofs.Common.{◌≡◌, ℕ, ◌<◌, ◌≤◌, ◌⊎◌, ◌↔◌, not, inl, inr, Bool, IsTrue, true, Option, Some, None, List, length, slice_get, refl, sym, ◌∙◌, ap, subst, arith}
 use Rattle.std.specs.List.{Contains, list_any}
 use Rattle.std.proofs.lemmas.Bool.{and_parts, and_from, false≢true, not-true}
-use Rattle.std.proofs.lemmas.List.Folds.{Any-from_list_any, list_any-from_Any}
-use Rattle.std.proofs.lemmas.Option.{same_Some, slice_get_within}
+use Rattle.std.proofs.lemmas.Option.{same_Some}
 use Rattle.vs_design.specs.vs_logic4.proofs.Basics.{there}
-use Rattle.vs_design.specs.declared.design.Process.{Process}
 use Rattle.vs_design.specs.declared.statement.EventTerm.{EventTerm}
 use Rattle.vs_design.specs.Parts.{Parts}
 use Rattle.vs_process.specs.Places.{Todo}
 use Rattle.vs_process.specs.Steps.{wait}
 use Rattle.vs_process.specs.Ways as ways
 use Rattle.vs_process.specs.Ways.{Pause, next_by}
-use Rattle.vs_process.specs.Stops.{IsText}
 use Rattle.vs_process.specs.Executions.{is_any, is_level}
 use Rattle.vs_rules.specs.Claims.{IsWide}
-use Rattle.vs_rules.specs.Paths.{HasTerm, IsHeardAtStart, IsSlot0}
+use Rattle.vs_rules.specs.Paths.{IsHeardAtStart, IsSlot0}
 use Rattle.vs_rules.specs.Points.{Goes}
 use Rattle.vs_rules.specs.Rules.{IsEdgeSignal}
 use Rattle.vs_drivers.specs.vs_maps.specs.declared.along.Along.TheVariants.{ZeroTime}
 use Rattle.vs_drivers.specs.vs_maps.specs.Reaches.{Chart, InSlot0, pause_at}
 use Rattle.vs_drivers.specs.vs_maps.proofs.WalkLemmas.{start_walked}
-use Rattle.vs_drivers.specs.vs_maps.specs.Ranges.{HasTermAt, pause_terms}
-use Rattle.vs_drivers.specs.vs_maps.specs.Sites.{IsSite, UsesAt, waiting_of}
+use Rattle.vs_drivers.specs.vs_maps.specs.Ranges.{pause_terms}
+use Rattle.vs_drivers.specs.vs_maps.specs.Sites.{IsSite, UsesAt, waiting_of, waits_by}
 use Rattle.vs_drivers.specs.vs_maps.specs.declared.sites.Site.{Site}
 use Rattle.vs_drivers.specs.vs_maps.specs.declared.sites.Use.{Use}
 use Rattle.vs_drivers.specs.vs_maps.specs.declared.sites.Use.TheVariants.{Now, Later, Reads, Shows, Waits}
-use Rattle.vs_drivers.specs.vs_maps.proofs.EachWalk.{terms_exact, terms_in, term_way}
+use Rattle.vs_drivers.specs.vs_maps.proofs.EachWalk.{terms_in, term_way}
 use Rattle.vs_drivers.specs.vs_maps.proofs.SiteLemmas.{AreSitesOf}
+use Rattle.vs_drivers.specs.vs_maps.proofs.TermLemmas.{HasChart, chart_is, terms_at, no_terms, terms_so}
 use Rattle.vs_drivers.specs.vs_maps.proofs.Texts.{from_back, from_on, step_back, step_on}
 use Rattle.vs_rules_of_signals.specs.vs_claims.specs.Facts.{AreCharts, Case}
 use Rattle.vs_design.specs.vs_logic4.specs.declared.digit.Digit.{Digit}
 use Rattle.vs_design.specs.vs_logic4.specs.declared.digit.Digit.TheVariants.{X}
 use Rattle.vs_design.specs.vs_logic4.specs.declared.edge.Edge.{Edge}
 use Rattle.vs_design.specs.vs_logic4.specs.Edges.{is_edge}
-use Rattle.vs_cert_roots.specs.Entries.{is_from_x, is_proper, waits_by}
+use Rattle.vs_cert_roots.specs.Entries.{is_from_x, is_proper}
 use Rattle.vs_cert_roots.specs.First.{IsAtStart, WakesSignal, WakesSite}
-use Rattle.vs_rules.proofs.Past.{past_points, end_next}
-
--- the process of a chart
-pub record HasChart (d : Parts) (i : ℕ) (t : Chart) : Type 0 where
-  pub process : Process
-  pub is : slice_get d.processes i ≡ Some process
-  pub text : IsText process.body t.stops t.start
-
-pub chart_is : (d : Parts) (charts : List Chart) → AreCharts d charts → (i : ℕ) (t : Chart) → slice_get charts i ≡ Some t → HasChart d i t
-chart_is d charts are i t at =
-    let p = there d.processes i (subst (λ (n : ℕ). i < n) are.as_many (slice_get_within charts i t at)) in
-    record { process = p.0; is = p.1; text = are.each i p.0 t p.1 at }
 
 -- where there is no chart there is no process
 pub no_chart : (d : Parts) (charts : List Chart) → AreCharts d charts → (i : ℕ) → None ≡ slice_get charts i → length d.processes ≤ i
@@ -61,59 +47,6 @@ no_chart d charts are i none = by (cases i (length d.processes)) where
       let e : None ≡ Some t.0 = none ∙ t.1 in
       cc
   by (inr g) = g
-
-pub terms_at : (d : Parts) (charts : List Chart) → AreCharts d charts → (i : ℕ) (t : Chart) → slice_get charts i ≡ Some t → (term : EventTerm) → (HasTermAt t term ↔ HasTerm d i term)
-terms_at d charts are i t at term = let h = chart_is d charts are i t at in terms_exact d i h.process t.stops t.start h.text h.is term
-
--- past the end there is none
-pub no_terms : (d : Parts) (i : ℕ) → length d.processes ≤ i → (term : EventTerm) → HasTerm d i term → ⊥
-no_terms d i past term h =
-    let e = end_next h.control (wait h.number h.terms h.behind) (past_points d i h.control past h.point) h.goes in
-    cc
-
--- ---- sites that wait
-
--- a term of a process that is of the signal and passes a test
-record HasTermSo (d : Parts) (v : ℕ) (test : Edge → Bool) : Type 0 where
-  process : ℕ
-  term : EventTerm
-  has : HasTerm d process term
-  of : term.range.signal ≡ v
-  passes : test term.edge ≡ true
-
--- what a site waits for is one
-waits_so : (d : Parts) (charts : List Chart) → AreCharts d charts → (v : ℕ) (test : Edge → Bool) (s : Site) (u : Use) → s.usage ≡ u → IsSite charts s → s.range.signal ≡ v → waits_by test u ≡ true →
-    HasTermSo d v test
-waits_so d charts maps v test s (Waits edge) e is of h =
-    let x : EventTerm = record { range = s.range; edge = edge } in
-    let uses = subst (λ (u : Use). UsesAt is.chart s.place u s.range) e is.uses in
-    record { process = s.process; term = x; has = (terms_at d charts maps s.process is.chart is.is x).0 (s.place, is.point, uses); of = of; passes = h }
-waits_so d charts maps v test s Now e is of h = absurd (false≢true h)
-waits_so d charts maps v test s Later e is of h = absurd (false≢true h)
-waits_so d charts maps v test s Reads e is of h = absurd (false≢true h)
-waits_so d charts maps v test s Shows e is of h = absurd (false≢true h)
-
--- there is such a term where one of the sites of the signal waits so
-terms_so : (d : Parts) (charts : List Chart) → AreCharts d charts → (v : ℕ) (sites : List Site) → AreSitesOf charts v sites → (test : Edge → Bool) →
-    (list_any (λ (s : Site). waits_by test s.usage) sites ≡ true ↔ HasTermSo d v test)
-terms_so d charts maps v sites are test = (
-  λ h.
-      let y = Any-from_list_any (λ (s : Site). waits_by test s.usage) sites h in
-      let c = (are y.1).0 (y.0, y.2, y.3) in
-      waits_so d charts maps v test y.1 y.1.usage refl c.0 c.1 y.4,
-  λ h. back h (cases h.process (length d.processes)),
-) where
-  cases : (a b : ℕ) → (a < b) ⊎ (b ≤ a)
-  cases a b = grind arith
-
-  back : (h : HasTermSo d v test) → (h.process < length d.processes) ⊎ (length d.processes ≤ h.process) → list_any (λ (s : Site). waits_by test s.usage) sites ≡ true
-  back h (inl l) =
-      let t = there charts h.process (subst (λ (n : ℕ). h.process < n) (sym maps.as_many) l) in
-      let y = (terms_at d charts maps h.process t.0 t.1 h.term).1 h.has in
-      let site = waiting_of h.process y.0 h.term in
-      let c = (are site).1 (record { chart = t.0; is = t.1; point = y.1; uses = y.2 }, h.of) in
-      list_any-from_Any (λ (s : Site). waits_by test s.usage) sites (c.0, site, c.1, c.2, h.passes)
-  back h (inr past) = absurd (no_terms d h.process past h.term h.has)
 
 pub edge_signal : (d : Parts) (charts : List Chart) → AreCharts d charts → (v : ℕ) (sites : List Site) → AreSitesOf charts v sites →
     (list_any (λ (s : Site). waits_by is_proper s.usage) sites ≡ true ↔ IsEdgeSignal d v)

@@ -1,5 +1,5 @@
 -- What a root is given in the first slot, by the places of maps.
-use Rattle.std.specs.Prelude.{ℕ, ◌≡◌, ◌==◌, ◌↔◌, Bool, true, false, Option, Some, None, List, length, get_or, slice_get, if◌then◌else◌}
+use Rattle.std.specs.Prelude.{ℕ, ◌≡◌, ◌==◌, ◌↔◌, Bool, true, false, Option, Some, None, List, get_or, slice_get, if◌then◌else◌}
 use Rattle.vs_design.specs.vs_logic4.specs.declared.digit.Digit.{Digit}
 use Rattle.vs_design.specs.vs_logic4.specs.declared.digit.Digit.TheVariants.{X}
 use Rattle.vs_design.specs.vs_logic4.specs.declared.edge.Edge.{Edge}
@@ -8,7 +8,7 @@ use Rattle.vs_design.specs.vs_logic4.specs.Tables.{not_digit}
 use Rattle.vs_design.specs.declared.statement.EventTerm.{EventTerm}
 use Rattle.vs_design.specs.Parts.{Parts}
 use Rattle.vs_process.specs.Executions.{is_level}
-use Rattle.vs_rules.specs.Claims.{Claims, EdgeClaim, IsRoot, IsRootOf, IsWide, is_wide}
+use Rattle.vs_rules.specs.Claims.{Claims, IsRoot, IsRootOf, IsWide, is_wide}
 use Rattle.vs_rules.specs.Constants.{bit_of, IsKnown}
 use Rattle.vs_rules.specs.Copies.{SeenAs}
 use Rattle.vs_rules.specs.Paths.{HasTerm, IsHeardAtStart}
@@ -16,12 +16,12 @@ use Rattle.vs_rules.specs.Rules.{K10_Signal}
 use Rattle.vs_drivers.specs.vs_slots_constants.specs.Givings.{given_here}
 use Rattle.vs_drivers.specs.vs_slots_constants.specs.Inverted.{AreInverted}
 use Rattle.vs_drivers.specs.Copies.{IsOnly}
-use Rattle.vs_rules_of_signals.specs.vs_graph.specs.Rows.{AreRows}
 use Rattle.vs_drivers.specs.vs_maps.specs.Ranges.{HasSignal, later_at, statement_at}
 use Rattle.vs_drivers.specs.vs_maps.specs.Reaches.{Chart, InSlot0}
 use Rattle.vs_rules_of_signals.specs.vs_claims.specs.Facts.{Case, AreCharts, IsRootAt}
 use Rattle.vs_rules_of_signals.specs.Places.{WritesAt}
-use Rattle.vs_cert_roots.specs.Entries.{is_from_x, waits_by}
+use Rattle.vs_drivers.specs.vs_maps.specs.Sites.{waits_by}
+use Rattle.vs_cert_roots.specs.Entries.{is_from_x}
 use Rattle.vs_drivers.specs.vs_maps.specs.Sites.{IsWrite}
 use Rattle.vs_drivers.specs.vs_maps.specs.declared.sites.Site.{Site}
 
@@ -71,20 +71,10 @@ WakesSite k digit except s =
 abbrev pub left_out : ℕ → ℕ → ℕ → Option ℕ
 left_out writer root v = if v == root then Some writer else None
 
--- the entry of a place has the root
-abbrev pub NamesRoot : Parts → List EdgeClaim → ℕ → ℕ → Type 0
-NamesRoot d edges place root = (v : ℕ) × IsRootAt d edges place root v
-
--- the places of entries, by their roots
-abbrev pub AreRootRows : Case → List (List ℕ) → Type 0
-AreRootRows k table = AreRows (NamesRoot k.design k.claims.edges) (length k.claims.edges) (length k.design.signals) table
-
 -- what is kept
-pub record KeepsFirst (k : Case) (inverted : List Bool) (claimed : List (List ℕ)) : Type 0 where
+pub record KeepsFirst (k : Case) (inverted : List Bool) : Type 0 where
   pub maps : AreCharts k.design k.charts
   pub inverted_are : AreInverted k.design (is_wide k.claims) inverted
-  pub roots_long : length claimed ≡ length k.design.signals
-  pub roots_are : AreRootRows k claimed
 
 -- the digit that a signal shows where its root has one, by which signals show a variable inverted
 abbrev pub shown_by : List Bool → ℕ → Digit → Digit

@@ -1,12 +1,12 @@
 //! The entries of a certificate for the signals of edge terms, and which sites wait for edges.
 ghost use Rattle.std.specs.Prelude.{ℕ, ◌≡◌, ◌<◌, ◌↔◌, length, IfOk, IsTrue};
 ghost use Rattle.std.specs.List.{Contains, list_any};
-ghost use Rattle.vs_rules.specs.Certificates.{claims_of};
 ghost use Rattle.vs_rules.specs.Claims.{IsRootOf};
 ghost use Rattle.vs_rules.specs.Rules.{IsEdgeSignal};
 ghost use Rattle.vs_drivers.specs.vs_maps.specs.declared.sites.Site.{Site};
 ghost use Rattle.vs_cert_roots.specs.First.{WakesSignal, WakesSite};
-ghost use Rattle.vs_cert_roots.specs.Entries.{NamesEntry, HasEntries, is_from_x, is_proper, waits_by};
+ghost use Rattle.vs_cert_roots.specs.Entries.{HasEntries, is_from_x, is_proper};
+ghost use Rattle.vs_drivers.specs.vs_maps.specs.Sites.{waits_by};
 
 use crate::early::is_at_start;
 use std::alloc::{AllocError, Global};
@@ -14,36 +14,8 @@ use std::marker::Model;
 use vs_design::vs_logic4::{Digit, Edge};
 use vs_drivers::only;
 use vs_drivers::vs_maps::{Site, Use};
-use vs_rules::vs_certificate::Certificate;
 use vs_rules_of_signals::Writes;
 use vs_rules_of_signals::vs_claims::Facts;
-use vs_rules_of_signals::vs_graph::{Family, Rows, index_of};
-
-// The signals of the entries.
-#[derive(Drop)]
-struct Signals<'a> {
-    facts: &'a Facts<'a>,
-    certificate: &'a Certificate,
-    ghost same: { claims_of certificate.now ≡ facts.now.claims },
-}
-
-impl<'a> Family for Signals<'a> {
-    ghost has = { λ f place v. NamesEntry f.facts.now.design f.facts.now.claims.edges place v };
-
-    fn put(&self, _alloc: Global, i: usize, out: &mut Vec<usize>) -> Result<(), AllocError> {
-        let certificate = self.certificate;
-        if i >= certificate.edges.len() {
-            return Ok(());
-        }
-        match self
-            .facts
-            .signal_named(certificate.edges[i].signal.as_bytes())
-        {
-            None => Ok(()),
-            Some(v) => Ok(out.push(v)?),
-        }
-    }
-}
 
 // Whether a use waits for an edge.
 fn is_edge_use(usage: Use) -> bool
@@ -101,12 +73,11 @@ fn none_wakes(facts: &Facts, sites: &[Site], digit: Digit, except: Option<usize>
     true
 }
 
-/// The entries of a certificate for the signals of edge terms, by the number of the signal, and where their writers write signals. A contract sees
-/// the design, what the certificate claims of it, and the maps of the texts of the processes.
+/// The entries of a certificate for the signals of edge terms, and where their writers write signals. A contract sees the design, what the
+/// certificate claims of it, and the maps of the texts of the processes.
 #[derive(Drop)]
 pub struct Entries<'a> {
     writes: Writes<'a>,
-    places: Rows<usize>,
 }
 
 impl<'a> Model for Entries<'a> {
@@ -114,32 +85,21 @@ impl<'a> Model for Entries<'a> {
     ghost use Rattle.vs_design.specs.contracts.expression.Typed as expression;
     ghost use Rattle.vs_design.specs.contracts.statement.Statement as statement;
     ghost use Rattle.vs_rules_of_signals.specs.vs_claims.specs.Facts.{Case};
-    ghost use Rattle.vs_cert_roots.specs.Entries.{KeepsEntries};
 
     ghost Value = { Case };
 
     ghost coded = { Prim.hlevel (codes, statement.the_row.coded, expression.the_row.coded) };
 
     ghost view = { λ e. e.writes };
-
-    ghost invariant = { λ e. KeepsEntries e.writes e.places };
 }
 
 impl<'a> Entries<'a> {
-    /// The entries of a certificate. It takes as long as there are entries, and as the texts of the processes.
-    pub fn of(
-        alloc: Global,
-        facts: &'a Facts<'a>,
-        certificate: &'a Certificate,
-    ) -> Result<Entries<'a>, AllocError>
-        requires { claims_of certificate.now ≡ facts.now.claims }
+    /// The entries of a certificate. It takes as long as the texts of the processes.
+    pub fn of(alloc: Global, facts: &'a Facts<'a>) -> Result<Entries<'a>, AllocError>
         ensures { IfOk result (λ e. e ≡ facts.entry.now) }
     {
-        let signals = Signals { facts, certificate };
-        let count = facts.design().signals().len();
-        let places = index_of(alloc, &signals, certificate.edges.len(), count)?;
         let writes = Writes::of(alloc, facts)?;
-        Ok(Entries { writes, places })
+        Ok(Entries { writes })
     }
 
     /// The facts of which they are.
@@ -177,13 +137,6 @@ impl<'a> Entries<'a> {
         none_wakes(facts, facts.sites().of_signal(v), digit, except)
     }
 
-    // The places of the entries of a signal.
-    fn places(&self, v: usize) -> &[usize]
-        ensures { (place : ℕ) → (Contains result.now place ↔ NamesEntry self.now.design self.now.claims.edges place v) }
-    {
-        self.places.row(v)
-    }
-
     /// The variables that a signal is claimed to copy.
     pub fn roots(&self, alloc: Global, v: usize) -> Result<Vec<usize>, AllocError>
         ensures { IfOk result (λ roots. (r : ℕ) → (Contains roots.items r ↔ IsRootOf self.now.design self.now.claims r v)) }
@@ -195,10 +148,12 @@ impl<'a> Entries<'a> {
     pub fn has_right_entries(&self, v: usize) -> bool
         ensures { IsTrue result ↔ HasEntries self.now.design self.now.claims v }
     {
-        if v >= self.places.len() {
+        let facts = self.facts();
+        let signals = facts.design().signals();
+        if v >= signals.len() {
             return true;
         }
-        let places = self.places(v);
+        let places = facts.entries_of(v);
         if self.is_edge_signal(v) {
             only(places).is_some()
         } else {

@@ -10,7 +10,8 @@ ghost use Rattle.vs_drivers.specs.vs_slots_constants.specs.Inverted.{AreInverted
 ghost use Rattle.vs_drivers.specs.vs_maps.specs.Ranges.{statement_at};
 ghost use Rattle.vs_drivers.specs.vs_maps.specs.Reaches.{Chart};
 ghost use Rattle.vs_drivers.specs.vs_maps.specs.declared.sites.Site.{Site};
-ghost use Rattle.vs_cert_roots.specs.First.{IsFirst, SiteAt, HasSite, IsSilent, StartsSilently, StartsWellIn, StartsWell, NamesRoot, WakesEntry, left_out, shown_by};
+ghost use Rattle.vs_rules_of_signals.specs.vs_claims.specs.Facts.{NamesRoot};
+ghost use Rattle.vs_cert_roots.specs.First.{IsFirst, SiteAt, HasSite, IsSilent, StartsSilently, StartsWellIn, StartsWell, WakesEntry, left_out, shown_by};
 
 use crate::early::is_at_start;
 use crate::entries::Entries;
@@ -21,7 +22,7 @@ use vs_drivers::only;
 use vs_drivers::vs_maps::{Site, Tables, is_write};
 use vs_drivers::vs_slots_constants::{Bit, given_by, known};
 use vs_rules_of_signals::vs_claims::Facts;
-use vs_rules_of_signals::vs_graph::{Family, Rows, index_of, is_marked};
+use vs_rules_of_signals::vs_graph::is_marked;
 
 // Whether a site is a write at a place that is done in the first slot.
 fn is_first(facts: &Facts, site: Site) -> bool
@@ -77,30 +78,11 @@ fn first_places(
     Ok(all)
 }
 
-// The roots of the entries.
-#[derive(Drop)]
-struct Claimed<'a> {
-    facts: &'a Facts<'a>,
-}
-
-impl<'a> Family for Claimed<'a> {
-    ghost has = { λ f place root. NamesRoot f.facts.now.design f.facts.now.claims.edges place root };
-
-    fn put(&self, _alloc: Global, i: usize, out: &mut Vec<usize>) -> Result<(), AllocError> {
-        match self.facts.edge(i) {
-            None => Ok(()),
-            Some((root, _)) => Ok(out.push(root)?),
-        }
-    }
-}
-
-/// The entries of a certificate, those of each root, and which signals show a variable inverted. A contract sees the design, what the certificate
-/// claims of it, and the maps of the texts of the processes.
+/// The entries of a certificate, and which signals show a variable inverted. A contract sees the design, what the certificate claims of it, and the maps of the texts of the processes.
 #[derive(Drop)]
 pub struct FirstWrites<'a> {
     entries: &'a Entries<'a>,
     inverted: &'a [bool],
-    claimed: Rows<usize>,
 }
 
 impl<'a> Model for FirstWrites<'a> {
@@ -116,7 +98,7 @@ impl<'a> Model for FirstWrites<'a> {
 
     ghost view = { λ w. w.entries.now };
 
-    ghost invariant = { λ w. KeepsFirst w.entries.now w.inverted.now w.claimed };
+    ghost invariant = { λ w. KeepsFirst w.entries.now w.inverted.now };
 }
 
 // The digit that a signal shows where its root has one, by which signals show a variable inverted.
@@ -156,38 +138,27 @@ fn digit_at<'a>(
 }
 
 impl<'a> FirstWrites<'a> {
-    /// What the entries of a certificate say of the first slot, by which signals show a variable inverted. It takes as long as there are entries.
-    pub fn of(
-        alloc: Global,
-        entries: &'a Entries<'a>,
-        inverted: &'a [bool],
-    ) -> Result<FirstWrites<'a>, AllocError>
+    /// What the entries of a certificate say of the first slot, by which signals show a variable inverted.
+    pub fn of(entries: &'a Entries<'a>, inverted: &'a [bool]) -> FirstWrites<'a>
         requires { AreInverted entries.now.design (is_wide entries.now.claims) inverted.now }
-        ensures { IfOk result (λ w. w ≡ entries.entry.now) }
+        ensures { result ≡ entries.entry.now }
     {
-        let facts = entries.facts();
-        facts.maps();
-        let count = facts.design().signals().len();
-        let claimed = index_of(alloc, &Claimed { facts }, facts.edges(), count)?;
-        Ok(FirstWrites {
-            entries,
-            inverted,
-            claimed,
-        })
+        entries.facts().maps();
+        FirstWrites { entries, inverted }
     }
 
     // The places of the entries with a root.
     fn claims_of(&self, root: usize) -> &[usize]
         ensures { (place : ℕ) → (Contains result.now place ↔ NamesRoot self.now.design self.now.claims.edges place root) }
     {
-        self.claimed.row(root)
+        self.entries.facts().entries_with_root(root)
     }
 
     // Whether a signal is the root of an entry.
     fn is_root(&self, v: usize) -> bool
         ensures { IsTrue result ↔ IsRoot self.now.design self.now.claims v }
     {
-        !self.claims_of(v).is_empty()
+        self.entries.facts().is_root(v)
     }
 
     // Whether the entry of a place is not of a root, or a change of the root from x to a digit that a process makes wakes no edge term of its signal.
@@ -310,7 +281,7 @@ fn starts_well<'a>(
 pub fn keeps_first_root(alloc: Global, first: &FirstWrites, v: usize) -> Result<bool, AllocError>
     ensures { IfOk result (λ b. (IsTrue b ↔ K10_Signal first.entry.now.design first.entry.now.claims v)) }
 {
-    let _ = &first.claimed;
+    let _ = &first.inverted;
     if !first.is_root(v) {
         return Ok(true);
     }

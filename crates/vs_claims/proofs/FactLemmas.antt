@@ -1,9 +1,11 @@
 -- What the names of a design and the entries of a certificate say, by numbers.
-use Rattle.std.proofs.Common.{◌≡◌, ℕ, suc, ◌+◌, ◌<◌, ◌≤◌, ◌↔◌, Bool, true, false, Option, Some, None, List, [], ◌∷◌, length, map, slice_get, option_map, refl, sym, ◌∙◌, ap, subst, arith, if◌then◌else◌}
+use Rattle.std.proofs.Common.{◌≡◌, ℕ, suc, ◌+◌, ◌<◌, ◌↔◌, Bool, true, false, Option, Some, None, List, [], ◌∷◌, length, map, slice_get, slice_index_or, option_map, refl, sym, ◌∙◌, ap, subst, arith, if◌then◌else◌}
 use Rattle.std.specs.List.{flat_map}
 use Rattle.std.specs.Str.{bytes_eq}
+use Rattle.std.proofs.lemmas.Bool.{false≢true}
 use Rattle.std.proofs.lemmas.List.{length-map}
-use Rattle.std.proofs.lemmas.Option.{same_Some, slice_get-map, slice_get_within, slice_get_past}
+use Rattle.std.proofs.lemmas.Option.{none-some, same_Some, slice_get-map}
+use Rattle.std.proofs.lemmas.Slice.Eq.{bytes_eq-Decides}
 use Rattle.vs_certificate.specs.declared.members.Certificate.{Certificate}
 use Rattle.vs_certificate.specs.declared.members.EdgeSignal.{EdgeSignal}
 use Rattle.vs_certificate.specs.declared.members.ProcessEntry.{ProcessEntry}
@@ -12,29 +14,57 @@ use Rattle.vs_design.specs.declared.design.Assign.{Assign}
 use Rattle.vs_design.specs.declared.design.Process.{Process}
 use Rattle.vs_design.specs.declared.signal.Signal.{Signal}
 use Rattle.vs_design.specs.Parts.{Parts}
-use Rattle.vs_claims.specs.vs_rules.specs.Certificates.{kind_from, name_from, edge_claim, process_claim}
+use Rattle.vs_claims.specs.vs_rules.specs.Certificates.{claims_of, kind_from, name_from, edge_claim, process_claim, process_from}
 use Rattle.vs_claims.specs.vs_rules.specs.Certificates as from
-use Rattle.vs_claims.specs.vs_rules.specs.Claims.{Name, Claims, SignalClaim, ProcessClaim, EdgeClaim, times_in, signal_names, process_names, edge_signals, edge_names, names_of_edge, signal_claim, kind_in, claim_of, claim_for, kind_of, kind_for, place_of}
-use Rattle.vs_claims.specs.vs_rules.specs.Claims.{IsSignalNamed, IsProcessNamed, IsAssignNamed, signal_name, process_name, assign_name}
+use Rattle.vs_claims.specs.vs_rules.specs.Claims.{Name, Claims, Kind, SignalClaim, ProcessClaim, EdgeClaim, times_in, signal_names, process_names, edge_signals, edge_names, names_of_edge, signal_claim, kind_in, claim_of, claim_for, kind_of, kind_for, place_of}
+use Rattle.vs_claims.specs.vs_rules.specs.Claims.{IsSignalNamed, IsProcessNamed, IsAssignNamed, IsWriter, IsSecond, names_process, writer_in, second_in, signal_name, process_name, assign_name}
 use Rattle.vs_maps.specs.Reaches.{Chart}
 use Rattle.vs_maps.specs.Texts.{Texts}
 use Rattle.vs_claims.specs.declared.names.Names.{Names}
-use Rattle.vs_claims.specs.Places.{place_in}
+use Rattle.vs_claims.specs.Places.{place_for, place_in}
 use Rattle.vs_claims.specs.Facts.{Case, case_of}
-use Rattle.vs_claims.specs.facts_passes.Kept.{AreFacts, paths, named_processes, named_assigns, signal_entries, process_entries, edge_roots}
+use Rattle.vs_claims.specs.facts_passes.Kept.{AreFacts, paths, named_processes, named_assigns, signal_entries, process_entries, edge_roots, writers_of}
 use Rattle.vs_claims.specs.facts_passes.Kept as kept
-use Rattle.vs_claims.proofs.PlaceLemmas.{at_place, named_is, none_rest}
+use Rattle.vs_claims.proofs.PlaceLemmas.{for_within, named_is, none_rest, places_at}
 
 -- ---- entries by name
 
+-- what is said of the element of a place that may be there
+abbrev pub read_by : {A B : Type 0} → (A → B) → List A → Option ℕ → Option B
+read_by f xs None = None
+read_by f xs (Some i) = option_map f (slice_get xs i)
+
 -- what a first entry says, or else the others
-head_or : {A B : Type 0} (f : A → B) (e : A) (es : List A) (rest : Option B) (i : ℕ) (x : A) (b : Bool) (o : Option ℕ) →
-    (if b then Some 0 else option_map suc o) ≡ Some i → slice_get (e ∷ es) i ≡ Some x →
-    ((k : ℕ) → o ≡ Some k → slice_get es k ≡ Some x → rest ≡ Some (f x)) → (if b then Some (f e) else rest) ≡ Some (f x)
-head_or {A} f e es rest i x true o h is r =
-    ap (λ (a : A). Some (f a)) (same_Some e x (subst (λ (k : ℕ). slice_get (e ∷ es) k ≡ Some x) (sym (same_Some 0 i h)) is))
-head_or f e es rest i x false None h is r = absurd (cc)
-head_or f e es rest i x false (Some k) h is r = r k refl (subst (λ (k : ℕ). slice_get (e ∷ es) k ≡ Some x) (sym (same_Some (suc k) i h)) is)
+head_or : {A B : Type 0} (f : A → B) (e : A) (es : List A) (rest : Option B) (b : Bool) (o : Option ℕ) → rest ≡ read_by f es o →
+    (if b then Some (f e) else rest) ≡ read_by f (e ∷ es) (if b then Some 0 else option_map suc o)
+head_or f e es rest true o h = refl
+head_or f e es rest false None h = h
+head_or f e es rest false (Some k) h = h
+
+claim_at : (es : List SignalEntry) (name : Name) →
+    signal_claim (map from.signal_claim es) name ≡ read_by from.signal_claim es (place_in (signal_entries es) name)
+claim_at [] name = refl
+claim_at (e ∷ es) name =
+    head_or from.signal_claim e es (signal_claim (map from.signal_claim es) name) (bytes_eq (name_from e.name) name) (place_in (signal_entries es) name)
+    (claim_at es name)
+
+claim_by : (c : Certificate) (o : Option Signal) →
+    claim_for (claims_of c) o ≡ read_by from.signal_claim c.signals.items (place_for (signal_entries c.signals.items) (signal_name o))
+claim_by c None = refl
+claim_by c (Some s) = claim_at c.signals.items s.path.items
+
+abbrev pub kind_told : ProcessEntry → Kind
+kind_told p = kind_from p.kind
+
+kind_at : (ps : List ProcessEntry) (name : Name) → kind_in (map process_claim ps) name ≡ read_by kind_told ps (place_in (process_entries ps) name)
+kind_at [] name = refl
+kind_at (p ∷ ps) name =
+    head_or kind_told p ps (kind_in (map process_claim ps) name) (bytes_eq (name_from p.name) name) (place_in (process_entries ps) name) (kind_at ps name)
+
+kind_by : (c : Certificate) (o : Option Process) →
+    kind_for (claims_of c) o ≡ read_by kind_told c.processes.items (place_for (process_entries c.processes.items) (process_name o))
+kind_by c None = refl
+kind_by c (Some p) = kind_at c.processes.items p.name.items
 
 place_head : (b : Bool) (o : Option ℕ) (i rest : ℕ) → (if b then Some 0 else option_map suc o) ≡ Some i → ((k : ℕ) → o ≡ Some k → k ≡ rest) →
     i ≡ (if b then 0 else suc rest)
@@ -42,41 +72,15 @@ place_head true o i rest h r = sym (same_Some 0 i h)
 place_head false None i rest h r = absurd (cc)
 place_head false (Some k) i rest h r = sym (same_Some (suc k) i h) ∙ ap suc (r k refl)
 
-signal_claim_none : (es : List SignalEntry) (name : Name) → place_in (signal_entries es) name ≡ None → signal_claim (map from.signal_claim es) name ≡ None
-signal_claim_none [] name h = refl
-signal_claim_none (e ∷ es) name h =
-    let r = none_rest (bytes_eq (name_from e.name) name) (place_in (signal_entries es) name) h in
-    ap (λ (b : Bool). if b then Some (from.signal_claim e) else signal_claim (map from.signal_claim es) name) r.0 ∙ signal_claim_none es name r.1
-
-signal_claim_some : (es : List SignalEntry) (name : Name) (i : ℕ) (x : SignalEntry) → place_in (signal_entries es) name ≡ Some i → slice_get es i ≡ Some x →
-    signal_claim (map from.signal_claim es) name ≡ Some (from.signal_claim x)
-signal_claim_some [] name i x h is = absurd (cc)
-signal_claim_some (e ∷ es) name i x h is =
-    head_or from.signal_claim e es (signal_claim (map from.signal_claim es) name) i x (bytes_eq (name_from e.name) name) (place_in (signal_entries es) name) h is
-    (λ k at found. signal_claim_some es name k x at found)
-
-kind_in_none : (ps : List ProcessEntry) (name : Name) → place_in (process_entries ps) name ≡ None → kind_in (map process_claim ps) name ≡ None
-kind_in_none [] name h = refl
-kind_in_none (p ∷ ps) name h =
-    let r = none_rest (bytes_eq (name_from p.name) name) (place_in (process_entries ps) name) h in
-    ap (λ (b : Bool). if b then Some (kind_from p.kind) else kind_in (map process_claim ps) name) r.0 ∙ kind_in_none ps name r.1
-
-kind_in_some : (ps : List ProcessEntry) (name : Name) (i : ℕ) (x : ProcessEntry) → place_in (process_entries ps) name ≡ Some i → slice_get ps i ≡ Some x →
-    kind_in (map process_claim ps) name ≡ Some (kind_from x.kind)
-kind_in_some [] name i x h is = absurd (cc)
-kind_in_some (p ∷ ps) name i x h is =
-    head_or (λ (p : ProcessEntry). kind_from p.kind) p ps (kind_in (map process_claim ps) name) i x (bytes_eq (name_from p.name) name)
-    (place_in (process_entries ps) name) h is (λ k at found. kind_in_some ps name k x at found)
-
 -- ---- places of names
 
-past_all : (ns : List Name) (name : Name) → place_in ns name ≡ None → length ns ≡ place_of name ns
+pub past_all : (ns : List Name) (name : Name) → place_in ns name ≡ None → length ns ≡ place_of name ns
 past_all [] name h = refl
 past_all (n ∷ ns) name h =
     let r = none_rest (bytes_eq n name) (place_in ns name) h in
     ap suc (past_all ns name r.1) ∙ sym (ap (λ (b : Bool). if b then 0 else suc (place_of name ns)) r.0)
 
-placed : (ns : List Name) (name : Name) (i : ℕ) → place_in ns name ≡ Some i → i ≡ place_of name ns
+pub placed : (ns : List Name) (name : Name) (i : ℕ) → place_in ns name ≡ Some i → i ≡ place_of name ns
 placed [] name i h = absurd (cc)
 placed (n ∷ ns) name i h = place_head (bytes_eq n name) (place_in ns name) i (place_of name ns) h (λ k e. placed ns name k e)
 
@@ -102,12 +106,6 @@ process_at d i = process_name_is (slice_get d.processes i) ∙ sym (slice_get-ma
 
 pub assign_at : (d : Parts) (j : ℕ) → assign_name (slice_get d.assigns j) ≡ slice_get (named_assigns d.assigns) j
 assign_at d j = assign_name_is (slice_get d.assigns j) ∙ sym (slice_get-map (λ (a : Assign). a.name.items) d.assigns j)
-
-pub no_signal : (d : Parts) (c : Claims) (v : ℕ) → length d.signals ≤ v → None ≡ claim_of d c v
-no_signal d c v past = ap (claim_for c) (sym (slice_get_past d.signals v past))
-
-pub no_process : (d : Parts) (c : Claims) (i : ℕ) → length d.processes ≤ i → None ≡ kind_of d c i
-no_process d c i past = ap (kind_for c) (sym (slice_get_past d.processes i past))
 
 claimed_signals : (es : List SignalEntry) → signal_entries es ≡ map (λ (s : SignalClaim). s.name) (map from.signal_claim es)
 claimed_signals [] = refl
@@ -139,6 +137,39 @@ times_in_edges [] name = refl
 times_in_edges (y ∷ ys) name =
     both_times (bytes_eq y.root name) (bytes_eq y.signal name) (times_in name (flat_map names_of_edge ys)) (times_in name (map (λ (y : EdgeClaim). y.root) ys))
     (times_in name (map (λ (y : EdgeClaim). y.signal) ys)) (times_in_edges ys name)
+
+-- ---- numbers of names
+
+process_for : (d : Parts) (ps : List Name) → ((name : Name) (i : ℕ) → (IsProcessNamed d i name ↔ place_in ps name ≡ Some i)) → (w : Option Name) (i : ℕ) →
+    (names_process w (slice_get d.processes i) ≡ true ↔ place_for ps w ≡ Some i)
+process_for d ps named None i = (λ e. absurd (false≢true e), λ e. absurd (none-some i e))
+process_for d ps named (Some name) i = by (slice_get d.processes i) (named name i) where
+  by : (o : Option Process) → (process_name o ≡ Some name ↔ place_in ps name ≡ Some i) → (names_process (Some name) o ≡ true ↔ place_in ps name ≡ Some i)
+  by None k = (λ e. absurd (false≢true e), λ e. absurd (none-some name (k.1 e)))
+  by (Some p) k =
+      let same = bytes_eq-Decides name p.name.items in
+      (λ e. k.0 (ap Some (sym (same.0 e))), λ e. same.1 (sym (same_Some p.name.items name (k.1 e))))
+
+-- the processes that an entry names, which may be there
+writers_by : (d : Parts) (ps : List Name) → ((name : Name) (i : ℕ) → (IsProcessNamed d i name ↔ place_in ps name ≡ Some i)) → (o : Option SignalEntry)
+    (claim : Option SignalClaim) (w : Option ℕ × Option ℕ) (i : ℕ) → claim ≡ option_map from.signal_claim o → option_map (writers_of ps) o ≡ Some w →
+    (names_process (writer_in claim) (slice_get d.processes i) ≡ true ↔ w.0 ≡ Some i) × (names_process (second_in claim) (slice_get d.processes i) ≡ true ↔ w.1 ≡ Some i)
+writers_by d ps named None claim w i e is = absurd (none-some w is)
+writers_by d ps named (Some t) claim w i e is =
+    let p = slice_get d.processes i in
+    subst (λ (y : Option ℕ × Option ℕ). (names_process (writer_in claim) p ≡ true ↔ y.0 ≡ Some i) × (names_process (second_in claim) p ≡ true ↔ y.1 ≡ Some i))
+    (same_Some (writers_of ps t) w is)
+    (subst (λ (y : Option SignalClaim). (names_process (writer_in y) p ≡ true ↔ place_for ps (process_from t.writer) ≡ Some i)
+    × (names_process (second_in y) p ≡ true ↔ place_for ps (process_from t.second) ≡ Some i)) (sym e)
+    (process_for d ps named (process_from t.writer) i, process_for d ps named (process_from t.second) i))
+
+-- the places in the order of names that may be there
+order_place : (order order' names names' : List Name) (ps : List ℕ) → order ≡ order' → names ≡ names' → ps ≡ map (λ (m : Name). place_of m order) names →
+    (j : ℕ) (o : Option Name) → o ≡ slice_get names' j → slice_get ps j ≡ option_map (λ (m : Name). place_of m order') o
+order_place order order' names names' ps a b is j o at =
+    ap (λ (qs : List ℕ). slice_get qs j) is ∙ slice_get-map (λ (m : Name). place_of m order) names j
+    ∙ ap (λ (ns : List Name). option_map (λ (m : Name). place_of m ns) (slice_get names j)) a
+    ∙ ap (λ (ns : List Name). option_map (λ (m : Name). place_of m order') (slice_get ns j)) b ∙ ap (option_map (λ (m : Name). place_of m order')) (sym at)
 
 module _ {d : Parts} {c : Certificate} {charts : List Chart} {u : Texts} {n : Names} where
   signal_is : AreFacts d c charts u n → (name : Name) (o : Option ℕ) → o ≡ place_in n.design.signals name →
@@ -201,58 +232,70 @@ module _ {d : Parts} {c : Certificate} {charts : List Chart} {u : Texts} {n : Na
 
   -- ---- entries by number
 
-  pub entry_within : AreFacts d c charts u n → (name : Name) (i : ℕ) → place_in n.claims.signals name ≡ Some i → i < length c.signals.items
-  entry_within h name i is =
-      let l = slice_get_within n.claims.signals i name (at_place n.claims.signals name i is) in
-      let len = ap length h.names.claims.signals_are ∙ length-map c.signals.items (λ (e : SignalEntry). name_from e.name) in
+  signal_place : AreFacts d c charts u n → (v : ℕ) →
+      slice_index_or n.places.signals.items v None ≡ place_for (signal_entries c.signals.items) (signal_name (slice_get d.signals v))
+  signal_place h v =
+      ap (λ (ps : List (Option ℕ)). slice_index_or ps v None) h.names.places.signals_are ∙ places_at n.claims.signals n.design.signals v
+      ∙ ap (λ (ns : List Name). place_for ns (slice_get n.design.signals v)) h.names.claims.signals_are
+      ∙ ap (λ (ns : List Name). place_for (signal_entries c.signals.items) (slice_get ns v)) h.names.design.signals_are
+      ∙ ap (place_for (signal_entries c.signals.items)) (sym (path_at d v))
+
+  process_place : AreFacts d c charts u n → (i : ℕ) →
+      slice_index_or n.places.processes.items i None ≡ place_for (process_entries c.processes.items) (process_name (slice_get d.processes i))
+  process_place h i =
+      ap (λ (ps : List (Option ℕ)). slice_index_or ps i None) h.names.places.processes_are ∙ places_at n.claims.processes n.design.processes i
+      ∙ ap (λ (ns : List Name). place_for ns (slice_get n.design.processes i)) h.names.claims.processes_are
+      ∙ ap (λ (ns : List Name). place_for (process_entries c.processes.items) (slice_get ns i)) h.names.design.processes_are
+      ∙ ap (place_for (process_entries c.processes.items)) (sym (process_at d i))
+
+  pub entry_within : AreFacts d c charts u n → (v i : ℕ) → slice_index_or n.places.signals.items v None ≡ Some i → i < length c.signals.items
+  entry_within h v i is =
+      let l = for_within (signal_entries c.signals.items) (signal_name (slice_get d.signals v)) i (sym (signal_place h v) ∙ is) in
+      let len = length-map c.signals.items (λ (e : SignalEntry). name_from e.name) in
       omega arith
 
-  pub kind_within : AreFacts d c charts u n → (name : Name) (i : ℕ) → place_in n.claims.processes name ≡ Some i → i < length c.processes.items
-  kind_within h name i is =
-      let l = slice_get_within n.claims.processes i name (at_place n.claims.processes name i is) in
-      let len = ap length h.names.claims.processes_are ∙ length-map c.processes.items (λ (e : ProcessEntry). name_from e.name) in
+  pub kind_within : AreFacts d c charts u n → (i k : ℕ) → slice_index_or n.places.processes.items i None ≡ Some k → k < length c.processes.items
+  kind_within h i k is =
+      let l = for_within (process_entries c.processes.items) (process_name (slice_get d.processes i)) k (sym (process_place h i) ∙ is) in
+      let len = length-map c.processes.items (λ (e : ProcessEntry). name_from e.name) in
       omega arith
 
-  pub no_entry : AreFacts d c charts u n → (x : Case) → case_of d c charts ≡ x → (v : ℕ) (s : Signal) →
-      slice_get d.signals v ≡ Some s → place_in n.claims.signals s.path.items ≡ None → None ≡ claim_of x.design x.claims v
-  no_entry h x e v s at is =
-      subst (λ (x : Case). None ≡ claim_of x.design x.claims v) e
-      (sym (ap (claim_for (case_of d c charts).claims) at
-      ∙ signal_claim_none c.signals.items s.path.items (ap (λ (ns : List Name). place_in ns s.path.items) (sym h.names.claims.signals_are) ∙ is)))
+  pub claims_are : AreFacts d c charts u n → (x : Case) → case_of d c charts ≡ x → (v : ℕ) →
+      claim_of x.design x.claims v ≡ read_by from.signal_claim c.signals.items (slice_index_or n.places.signals.items v None)
+  claims_are h x e v =
+      subst (λ (x : Case). claim_of x.design x.claims v ≡ read_by from.signal_claim c.signals.items (slice_index_or n.places.signals.items v None)) e
+      (claim_by c (slice_get d.signals v) ∙ ap (read_by from.signal_claim c.signals.items) (sym (signal_place h v)))
 
-  pub entry_is : AreFacts d c charts u n → (x : Case) → case_of d c charts ≡ x → (v : ℕ) (s : Signal) (i : ℕ) (t : SignalEntry) →
-      slice_get d.signals v ≡ Some s → place_in n.claims.signals s.path.items ≡ Some i → slice_get c.signals.items i ≡ Some t →
-      Some (from.signal_claim t) ≡ claim_of x.design x.claims v
-  entry_is h x e v s i t at is found =
-      subst (λ (x : Case). Some (from.signal_claim t) ≡ claim_of x.design x.claims v) e
-      (sym (ap (claim_for (case_of d c charts).claims) at
-      ∙ signal_claim_some c.signals.items s.path.items i t (ap (λ (ns : List Name). place_in ns s.path.items) (sym h.names.claims.signals_are) ∙ is) found))
+  pub kinds_are : AreFacts d c charts u n → (x : Case) → case_of d c charts ≡ x → (i : ℕ) →
+      kind_of x.design x.claims i ≡ read_by kind_told c.processes.items (slice_index_or n.places.processes.items i None)
+  kinds_are h x e i =
+      subst (λ (x : Case). kind_of x.design x.claims i ≡ read_by kind_told c.processes.items (slice_index_or n.places.processes.items i None)) e
+      (kind_by c (slice_get d.processes i) ∙ ap (read_by kind_told c.processes.items) (sym (process_place h i)))
 
-  pub no_kind : AreFacts d c charts u n → (x : Case) → case_of d c charts ≡ x → (i : ℕ) (p : Process) →
-      slice_get d.processes i ≡ Some p → place_in n.claims.processes p.name.items ≡ None → None ≡ kind_of x.design x.claims i
-  no_kind h x e i p at is =
-      subst (λ (x : Case). None ≡ kind_of x.design x.claims i) e
-      (sym (ap (kind_for (case_of d c charts).claims) at
-      ∙ kind_in_none c.processes.items p.name.items (ap (λ (ns : List Name). place_in ns p.name.items) (sym h.names.claims.processes_are) ∙ is)))
+  pub writers_long : AreFacts d c charts u n → length n.places.writers.items ≡ length c.signals.items
+  writers_long h = ap length h.names.places.writers_are ∙ length-map c.signals.items (writers_of n.design.processes)
 
-  pub kind_is : AreFacts d c charts u n → (x : Case) → case_of d c charts ≡ x → (i : ℕ) (p : Process) (k : ℕ) (t : ProcessEntry) →
-      slice_get d.processes i ≡ Some p → place_in n.claims.processes p.name.items ≡ Some k → slice_get c.processes.items k ≡ Some t →
-      Some (kind_from t.kind) ≡ kind_of x.design x.claims i
-  kind_is h x e i p k t at is found =
-      subst (λ (x : Case). Some (kind_from t.kind) ≡ kind_of x.design x.claims i) e
-      (sym (ap (kind_for (case_of d c charts).claims) at
-      ∙ kind_in_some c.processes.items p.name.items k t (ap (λ (ns : List Name). place_in ns p.name.items) (sym h.names.claims.processes_are) ∙ is) found))
+  pub writers_are : AreFacts d c charts u n → (x : Case) → case_of d c charts ≡ x → (v k : ℕ) (w : Option ℕ × Option ℕ) →
+      slice_index_or n.places.signals.items v None ≡ Some k → slice_get n.places.writers.items k ≡ Some w →
+      (i : ℕ) → (IsWriter x.design x.claims v i ↔ w.0 ≡ Some i) × (IsSecond x.design x.claims v i ↔ w.1 ≡ Some i)
+  writers_are h x e v k w at is i =
+      writers_by x.design n.design.processes (λ name j. process_named_is h x e name (place_in n.design.processes name) refl j) (slice_get c.signals.items k)
+      (claim_of x.design x.claims v) w i (claims_are h x e v ∙ ap (read_by from.signal_claim c.signals.items) at)
+      (sym (slice_get-map (writers_of n.design.processes) c.signals.items k)
+      ∙ ap (λ (ws : List (Option ℕ × Option ℕ)). slice_get ws k) (sym h.names.places.writers_are) ∙ is)
 
   -- ---- the order
 
-  pub not_in_order : AreFacts d c charts u n → (x : Case) → case_of d c charts ≡ x → (name : Name) →
-      place_in n.claims.order name ≡ None → length c.order.items ≡ place_of name x.claims.order
-  not_in_order h x e name is =
-      subst (λ (x : Case). length c.order.items ≡ place_of name x.claims.order) e
-      (sym (length-map c.order.items name_from) ∙ past_all (map name_from c.order.items) name (ap (λ (ns : List Name). place_in ns name) (sym h.names.claims.order_is) ∙ is))
+  pub assign_place_is : AreFacts d c charts u n → (x : Case) → case_of d c charts ≡ x → (j : ℕ) →
+      slice_get n.places.assigns.items j ≡ option_map (λ (m : Name). place_of m x.claims.order) (assign_name (slice_get x.design.assigns j))
+  assign_place_is h x e j =
+      subst (λ (x : Case). slice_get n.places.assigns.items j ≡ option_map (λ (m : Name). place_of m x.claims.order) (assign_name (slice_get x.design.assigns j))) e
+      (order_place n.claims.order (map name_from c.order.items) n.design.assigns (named_assigns d.assigns) n.places.assigns.items h.names.claims.order_is
+      h.names.design.assigns_are h.names.places.assigns_are j (assign_name (slice_get d.assigns j)) (assign_at d j))
 
-  pub in_order : AreFacts d c charts u n → (x : Case) → case_of d c charts ≡ x → (name : Name) (i : ℕ) →
-      place_in n.claims.order name ≡ Some i → i ≡ place_of name x.claims.order
-  in_order h x e name i is =
-      subst (λ (x : Case). i ≡ place_of name x.claims.order) e
-      (placed (map name_from c.order.items) name i (ap (λ (ns : List Name). place_in ns name) (sym h.names.claims.order_is) ∙ is))
+  pub process_place_is : AreFacts d c charts u n → (x : Case) → case_of d c charts ≡ x → (i : ℕ) →
+      slice_get n.places.blocks.items i ≡ option_map (λ (m : Name). place_of m x.claims.order) (process_name (slice_get x.design.processes i))
+  process_place_is h x e i =
+      subst (λ (x : Case). slice_get n.places.blocks.items i ≡ option_map (λ (m : Name). place_of m x.claims.order) (process_name (slice_get x.design.processes i))) e
+      (order_place n.claims.order (map name_from c.order.items) n.design.processes (named_processes d.processes) n.places.blocks.items h.names.claims.order_is
+      h.names.design.processes_are h.names.places.blocks_are i (process_name (slice_get d.processes i)) (process_at d i))

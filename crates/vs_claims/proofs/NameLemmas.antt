@@ -1,26 +1,19 @@
 -- Names of lists, and subjects by their numbers.
-use Rattle.std.proofs.Common.{◌≡◌, ℕ, zero, suc, ◌+◌, ◌⊎◌, ◌↔◌, inl, inr, true, false, Option, Some, None, is_some, List, [], ◌∷◌, ◌++◌, map, append_assoc, add-one, refl, sym, ◌∙◌, ap, subst, arith}
-use Rattle.std.specs.List.{flat_map}
+use Rattle.std.proofs.Common.{◌≡◌, ℕ, zero, suc, ◌+◌, ◌⊎◌, ◌↔◌, inl, inr, true, false, Option, Some, None, is_some, List, [], ◌∷◌, ◌++◌, map, append_assoc, add-one, refl, sym, ◌∙◌, ap, arith}
 use Rattle.std.proofs.lemmas.List.{map-append}
-use Rattle.vs_claims.specs.vs_certificate.specs.declared.members.Certificate.{Certificate}
-use Rattle.vs_claims.specs.vs_rules.specs.Certificates.{claims_of, edge_claim, name_from, process_claim, signal_claim}
-use Rattle.vs_claims.specs.vs_rules.specs.Claims.{Name, Claims, ProcessClaim, SignalClaim, all_names, names_of_edge}
+use Rattle.vs_claims.specs.vs_rules.specs.Claims.{Name, Claims, all_names, edge_names, process_names, signal_names}
 use Rattle.vs_claims.specs.vs_rules.specs.Verdict.{Subject, numbers}
 use Rattle.vs_claims.specs.declared.subjects.Subject as kept
 use Rattle.vs_claims.specs.Subjects.{subject_view}
 
 -- ---- the names of all lists
 
-pub all_are : (c : Certificate) (x : Claims) → claims_of c ≡ x → (none some more most all : List Name) → none ≡ [] →
-    some ≡ none ++ flat_map names_of_edge (map edge_claim c.edges.items) → more ≡ some ++ map name_from c.order.items →
-    most ≡ more ++ map (λ (p : ProcessClaim). p.name) (map process_claim c.processes.items) →
-    all ≡ most ++ map (λ (s : SignalClaim). s.name) (map signal_claim c.signals.items) → all ≡ all_names x
-all_are c x e none some more most all a b d f g =
-    subst (λ (x : Claims). all ≡ all_names x) e
-    (g ∙ ap (λ (ns : List Name). ns ++ map (λ (s : SignalClaim). s.name) (map signal_claim c.signals.items))
-    (f ∙ ap (λ (ns : List Name). ns ++ map (λ (p : ProcessClaim). p.name) (map process_claim c.processes.items))
-    (d ∙ ap (λ (ns : List Name). ns ++ map name_from c.order.items)
-    (b ∙ ap (λ (ns : List Name). ns ++ flat_map names_of_edge (map edge_claim c.edges.items)) a))))
+pub all_are : (x : Claims) (none some more most all : List Name) → none ≡ [] → some ≡ none ++ edge_names x → more ≡ some ++ x.order →
+    most ≡ more ++ process_names x → all ≡ most ++ signal_names x → all ≡ all_names x
+all_are x none some more most all a b d f g =
+    g ∙ ap (λ (ns : List Name). ns ++ signal_names x)
+    (f ∙ ap (λ (ns : List Name). ns ++ process_names x)
+    (d ∙ ap (λ (ns : List Name). ns ++ x.order) (b ∙ ap (λ (ns : List Name). ns ++ edge_names x) a)))
 
 -- ---- numbers
 

@@ -1,12 +1,12 @@
 -- Places of names in lists.
-use Rattle.std.proofs.Common.{◌≡◌, ℕ, zero, suc, ◌↔◌, Bool, true, false, Option, Some, None, List, [], ◌∷◌, slice_get, option_map, true≢false, refl, sym, ◌∙◌, ap, subst, arith, if◌then◌else◌}
+use Rattle.std.proofs.Common.{◌≡◌, ℕ, zero, suc, ◌<◌, ◌↔◌, Bool, true, false, Option, Some, None, List, [], ◌∷◌, length, map, slice_get, slice_index_or, option_map, refl, sym, ◌∙◌, ap, subst, if◌then◌else◌}
 use Rattle.std.specs.List.{AllByRecursion, IsDistinct}
 use Rattle.std.specs.Str.{bytes_eq}
-use Rattle.std.proofs.lemmas.Option.{same_Some}
+use Rattle.std.proofs.lemmas.Option.{none-some, same_Some, slice_get_within}
 use Rattle.std.proofs.lemmas.Slice.Eq.{bytes_eq-Decides}
 use Rattle.std.proofs.lemmas.Map.Keys.{IsDistinct-head, IsDistinct-tail}
-use Rattle.vs_rules.specs.Claims.{Name, times_in}
-use Rattle.vs_claims.specs.Places.{place_in}
+use Rattle.vs_rules.specs.Claims.{Name}
+use Rattle.vs_claims.specs.Places.{place_for, place_in}
 
 pub none_rest : (b : Bool) (o : Option ℕ) → (if b then Some 0 else option_map suc o) ≡ None → (b ≡ false) × (o ≡ None)
 none_rest true o h = absurd (cc)
@@ -52,36 +52,13 @@ place_at (n ∷ ns) name (suc i) h is =
 pub named_is : (ns : List Name) (name : Name) (i : ℕ) → IsDistinct bytes_eq ns → (slice_get ns i ≡ Some name ↔ place_in ns name ≡ Some i)
 named_is ns name i h = (place_at ns name i h, at_place ns name i)
 
--- ---- how often
+-- ---- by numbers
 
-none_times : (ns : List Name) (name : Name) (j : ℕ) → times_in name ns ≡ 0 → slice_get ns j ≡ Some name → ⊥
-none_times [] name j h is = cc
-none_times (n ∷ ns) name j h is = step (bytes_eq n name) refl h j is (λ i e. none_times ns name i e) where
-  step : (b : Bool) → bytes_eq n name ≡ b → (if b then suc (times_in name ns) else times_in name ns) ≡ 0 → (j : ℕ) → slice_get (n ∷ ns) j ≡ Some name →
-      ((i : ℕ) → times_in name ns ≡ 0 → slice_get ns i ≡ Some name → ⊥) → ⊥
-  step true e h j is rest = cc
-  step false e h zero is rest = absurd (true≢false (sym ((bytes_eq-Decides n name).1 (same_Some n name is)) ∙ e))
-  step false e h (suc i) is rest = rest i h is
+pub places_at : (ns names : List Name) (i : ℕ) → slice_index_or (map (place_in ns) names) i None ≡ place_for ns (slice_get names i)
+places_at ns [] i = refl
+places_at ns (n ∷ names) zero = refl
+places_at ns (n ∷ names) (suc i) = places_at ns names i
 
--- a name that has no place stands nowhere
-pub nowhere : (ns : List Name) (name : Name) (j : ℕ) → place_in ns name ≡ None → slice_get ns j ≡ Some name → ⊥
-nowhere [] name j h is = cc
-nowhere (n ∷ ns) name zero h is =
-    let r = none_rest (bytes_eq n name) (place_in ns name) h in
-    absurd (true≢false (sym ((bytes_eq-Decides n name).1 (same_Some n name is)) ∙ r.0))
-nowhere (n ∷ ns) name (suc j) h is = nowhere ns name j (none_rest (bytes_eq n name) (place_in ns name) h).1 is
-
--- one that stands once stands at its first place alone
-one_step : (n : Name) (ns : List Name) (name : Name) (i j : ℕ) (b : Bool) (o : Option ℕ) → bytes_eq n name ≡ b →
-    (if b then suc (times_in name ns) else times_in name ns) ≡ 1 → (if b then Some 0 else option_map suc o) ≡ Some i → slice_get (n ∷ ns) j ≡ Some name →
-    ((k l : ℕ) → times_in name ns ≡ 1 → o ≡ Some k → slice_get ns l ≡ Some name → l ≡ k) → j ≡ i
-one_step n ns name i zero true o e once h is rest = same_Some 0 i h
-one_step n ns name i (suc j) true o e once h is rest = absurd (none_times ns name j (omega (arith, once)) is)
-one_step n ns name i zero false o e once h is rest = absurd (true≢false (sym ((bytes_eq-Decides n name).1 (same_Some n name is)) ∙ e))
-one_step n ns name i (suc j) false None e once h is rest = absurd (cc)
-one_step n ns name i (suc j) false (Some k) e once h is rest = ap suc (rest k j once refl is) ∙ same_Some (suc k) i h
-
-pub one_place : (ns : List Name) (name : Name) (i j : ℕ) → times_in name ns ≡ 1 → place_in ns name ≡ Some i → slice_get ns j ≡ Some name → j ≡ i
-one_place [] name i j once h is = absurd (cc)
-one_place (n ∷ ns) name i j once h is =
-    one_step n ns name i j (bytes_eq n name) (place_in ns name) refl once h is (λ k l a b e. one_place ns name k l a b e)
+pub for_within : (ns : List Name) (o : Option Name) (k : ℕ) → place_for ns o ≡ Some k → k < length ns
+for_within ns None k h = absurd (none-some k h)
+for_within ns (Some name) k h = slice_get_within ns k name (at_place ns name k h)

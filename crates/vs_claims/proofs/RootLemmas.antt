@@ -1,30 +1,24 @@
 -- The entries of edge terms, by the numbers of the signals that they name.
-use Rattle.std.proofs.Common.{◌≡◌, ℕ, zero, suc, ◌+◌, ◌<◌, ◌≤◌, ◌⊎◌, ◌↔◌, inl, inr, true, false, IsTrue, Option, Some, None, List, [], ◌∷◌, ◌++◌, length, map, get_or, slice_get, option_map, refl, sym, ◌∙◌, ap, subst, arith, eqb, ltb, not, ◌==◌}
+use Rattle.std.proofs.Common.{◌≡◌, ℕ, zero, suc, ◌+◌, ◌<◌, ◌≤◌, ◌⊎◌, ◌↔◌, inl, inr, Bool, true, IsTrue, Option, Some, None, List, [], ◌∷◌, ◌++◌, length, map, get_or, slice_get, slice_index_or, option_map, refl, sym, ◌∙◌, ap, subst, arith, ltb, not, ◌==◌}
 use Rattle.std.specs.List.{Contains}
 use Rattle.std.proofs.Math.Dec.{eqb-suc-zero}
-use Rattle.std.proofs.lemmas.Bool.{eq-eqb, eqb-true, lt-ltb}
+use Rattle.std.proofs.lemmas.Bool.{false≢true, lt-ltb}
+use Rattle.std.proofs.lemmas.List.{get_or_past}
 use Rattle.std.proofs.lemmas.List.Elements.{Contains-append_left, Contains-append_right, Contains-append_cases}
-use Rattle.std.proofs.lemmas.Option.{same_Some, slice_get-map, slice_get_within, slice_get_past}
+use Rattle.std.proofs.lemmas.Option.{none-some, same_Some, slice_get-map, slice_get_within}
 use Rattle.vs_certificate.specs.declared.members.Certificate.{Certificate}
-use Rattle.vs_certificate.specs.declared.members.EdgeSignal.{EdgeSignal}
-use Rattle.vs_design.specs.declared.signal.Signal.{Signal}
 use Rattle.vs_design.specs.Parts.{Parts}
-use Rattle.vs_claims.specs.vs_rules.specs.Certificates.{edge_claim, name_from}
-use Rattle.vs_claims.specs.vs_rules.specs.Claims.{Name, Claims, EdgeClaim, signal_name, edge_signals, times_in, IsSignalNamed, IsRootOf, IsRoot}
+use Rattle.vs_claims.specs.vs_rules.specs.Claims.{Name, Claims, EdgeClaim, IsSignalNamed, IsRootOf, IsRoot}
+use Rattle.vs_maps.specs.vs_graph.specs.Rows.{AreRows, row as row_of}
+use Rattle.vs_maps.specs.vs_graph.proofs.Sets.{same_read}
 use Rattle.vs_maps.specs.Reaches.{Chart}
 use Rattle.vs_maps.specs.Texts.{Texts}
 use Rattle.vs_claims.specs.declared.names.Names.{Names}
-use Rattle.vs_claims.specs.Places.{place_in}
-use Rattle.vs_claims.specs.Facts.{Case, case_of, IsRootAt}
-use Rattle.vs_claims.specs.facts_passes.Kept.{AreFacts}
-use Rattle.vs_claims.proofs.FactLemmas.{signal_named_is}
-use Rattle.vs_claims.proofs.PlaceLemmas.{nowhere, one_place}
-
--- both numbers, where both are there
-abbrev pub pair_of : Option ℕ → Option ℕ → Option (ℕ × ℕ)
-pair_of None p = None
-pair_of (Some root) None = None
-pair_of (Some root) (Some v) = Some (root, v)
+use Rattle.vs_claims.specs.Places.{place_for, place_in}
+use Rattle.vs_claims.specs.Facts.{Case, case_of, IsRootAt, NamesEntry, NamesRoot}
+use Rattle.vs_claims.specs.facts_passes.Kept.{AreFacts, both_at, pair_of}
+use Rattle.vs_claims.proofs.FactLemmas.{signal_named_is, edge_roots_are, edge_signals_are}
+use Rattle.vs_claims.proofs.PlaceLemmas.{for_within, places_at}
 
 pair_is : (o p : Option ℕ) (root v : ℕ) → pair_of o p ≡ Some (root, v) → (o ≡ Some root) × (p ≡ Some v)
 pair_is None p root v h = absurd (cc)
@@ -33,74 +27,51 @@ pair_is (Some a) (Some b) root v h =
     let e = same_Some (a, b) (root, v) h in
     (ap (λ (x : ℕ × ℕ). Some x.0) e, ap (λ (x : ℕ × ℕ). Some x.1) e)
 
-pub entry_at : (d : Parts) (c : Certificate) (charts : List Chart) (x : Case) → case_of d c charts ≡ x → (place : ℕ) (t : EdgeSignal) →
-    slice_get c.edges.items place ≡ Some t → slice_get x.claims.edges place ≡ Some (edge_claim t)
-entry_at d c charts x e place t h =
-    subst (λ (x : Case). slice_get x.claims.edges place ≡ Some (edge_claim t)) e
-    (slice_get-map edge_claim c.edges.items place ∙ ap (option_map edge_claim) h)
+-- what an entry that may be there names
+end_is : (d : Parts) (f : EdgeClaim → Name) (ns : List Name) → ((name : Name) (v : ℕ) → (IsSignalNamed d v name ↔ place_in ns name ≡ Some v)) →
+    (o : Option EdgeClaim) (v : ℕ) → (((y : EdgeClaim) × (o ≡ Some y) × IsSignalNamed d v (f y)) ↔ place_for ns (option_map f o) ≡ Some v)
+end_is d f ns named None v = (λ h. absurd (none-some h.0 h.1), λ h. absurd (none-some v h))
+end_is d f ns named (Some y) v = (
+  λ h. (named (f y) v).0 (subst (λ (z : EdgeClaim). IsSignalNamed d v (f z)) (sym (same_Some y h.0 h.1)) h.2),
+  λ h. (y, refl, (named (f y) v).1 h),
+)
 
--- what an entry names, by the numbers of its names
-pub entry_names : (d : Parts) (edges : List EdgeClaim) (place : ℕ) (y : EdgeClaim) → slice_get edges place ≡ Some y → (o p : Option ℕ) →
-    ((v : ℕ) → (IsSignalNamed d v y.root ↔ o ≡ Some v)) → ((v : ℕ) → (IsSignalNamed d v y.signal ↔ p ≡ Some v)) →
-    (q : Option (ℕ × ℕ)) → q ≡ pair_of o p → (root v : ℕ) → (IsRootAt d edges place root v ↔ q ≡ Some (root, v))
-entry_names d edges place y is o p root_is signal_is q pair root v = (there, back) where
+-- both of an entry, by its root and its signal
+edge_of : (d : Parts) (edges : List EdgeClaim) (place root v : ℕ) (o p : Option ℕ) →
+    (((y : EdgeClaim) × (slice_get edges place ≡ Some y) × IsSignalNamed d root y.root) ↔ o ≡ Some root) → (NamesEntry d edges place v ↔ p ≡ Some v) →
+    (q : Option (ℕ × ℕ)) → q ≡ pair_of o p → (IsRootAt d edges place root v ↔ q ≡ Some (root, v))
+edge_of d edges place root v o p root_is signal_is q pair = (there, back) where
   there : IsRootAt d edges place root v → q ≡ Some (root, v)
   there h =
-      let same = same_Some h.entry y (sym h.is ∙ is) in
-      let a = (root_is root).0 (subst (λ (y : EdgeClaim). IsSignalNamed d root y.root) same h.root_is) in
-      let b = (signal_is v).0 (subst (λ (y : EdgeClaim). IsSignalNamed d v y.signal) same h.signal) in
-      pair ∙ ap (λ (o : Option ℕ). pair_of o p) a ∙ ap (pair_of (Some root)) b
+      pair ∙ ap (λ (o : Option ℕ). pair_of o p) (root_is.0 (h.entry, h.is, h.root_is)) ∙ ap (pair_of (Some root)) (signal_is.0 (h.entry, h.is, h.signal))
 
   back : q ≡ Some (root, v) → IsRootAt d edges place root v
   back h =
       let e = pair_is o p root v (sym pair ∙ h) in
-      record { entry = y; is = is; signal = (signal_is v).1 e.1; root_is = (root_is root).1 e.0 }
+      let r = root_is.1 e.0 in
+      let s = signal_is.1 e.1 in
+      record { entry = s.0; is = s.1; signal = s.2; root_is = subst (λ (y : EdgeClaim). IsSignalNamed d root y.root) (same_Some r.0 s.0 (sym r.1 ∙ s.1)) r.2 }
 
--- ---- lists of roots
+-- ---- lists of numbers
 
 only_one : (x r k : ℕ) → k < 1 → get_or (x ∷ []) k r ≡ r → x ≡ r
 only_one x r zero l is = is
 only_one x r (suc k) l is = absurd (omega (arith, l))
 
--- with the root of an entry of the signal
-pub put_some : (At : ℕ → ℕ → Type 0) (o : Option (ℕ × ℕ)) → ((r v : ℕ) → (At r v ↔ o ≡ Some (r, v))) → (out new : List ℕ) (root of v : ℕ) →
-    o ≡ Some (root, of) → of ≡ v → new ≡ out ++ root ∷ [] → (r : ℕ) → (Contains new r ↔ (Contains out r ⊎ At r v))
-put_some At o exact out new root of v is same pushed r = subst (λ (xs : List ℕ). Contains xs r ↔ (Contains out r ⊎ At r v)) (sym pushed) (there, back) where
-  there : Contains (out ++ root ∷ []) r → Contains out r ⊎ At r v
-  there h = elim (Contains-append_cases out (root ∷ []) r h)
-      [ inl a ↦ inl a | inr a ↦ inr ((exact r v).1 (is ∙ ap (λ (n : ℕ). Some (n, of)) (only_one root r a.0 a.1 a.2) ∙ ap (λ (n : ℕ). Some (r, n)) same)) ]
+-- with one more
+pub put_one : (P : ℕ → Type 0) (out new : List ℕ) (a : ℕ) → new ≡ out ++ a ∷ [] → P a → ((r : ℕ) → P r → a ≡ r) → (r : ℕ) →
+    (Contains new r ↔ (Contains out r ⊎ P r))
+put_one P out new a pushed here one r = subst (λ (xs : List ℕ). Contains xs r ↔ (Contains out r ⊎ P r)) (sym pushed) (there, back) where
+  there : Contains (out ++ a ∷ []) r → Contains out r ⊎ P r
+  there h = elim (Contains-append_cases out (a ∷ []) r h) [ inl x ↦ inl x | inr x ↦ inr (subst P (only_one a r x.0 x.1 x.2) here) ]
 
-  back : Contains out r ⊎ At r v → Contains (out ++ root ∷ []) r
-  back (inl a) = Contains-append_left out (root ∷ []) r a
-  back (inr a) =
-      let e = same_Some (root, of) (r, v) (sym is ∙ (exact r v).0 a) in
-      Contains-append_right out (root ∷ []) r (0, omega arith, ap (λ (x : ℕ × ℕ). x.0) e)
+  back : Contains out r ⊎ P r → Contains (out ++ a ∷ []) r
+  back (inl x) = Contains-append_left out (a ∷ []) r x
+  back (inr x) = Contains-append_right out (a ∷ []) r (0, omega arith, one r x)
 
--- without one of another signal, or where the entry names no two signals
-pub put_none : (At : ℕ → ℕ → Type 0) (o : Option (ℕ × ℕ)) → ((r v : ℕ) → (At r v ↔ o ≡ Some (r, v))) → (out : List ℕ) (v : ℕ) →
-    ((r : ℕ) → o ≡ Some (r, v) → ⊥) → (r : ℕ) → (Contains out r ↔ (Contains out r ⊎ At r v))
-put_none At o exact out v none r = (λ h. inl h, λ h. elim h [ inl a ↦ a | inr a ↦ absurd (none r ((exact r v).0 a)) ])
-
-pub other_signal : (o : Option (ℕ × ℕ)) (root of v : ℕ) → o ≡ Some (root, of) → (of ≡ v → ⊥) → (r : ℕ) → o ≡ Some (r, v) → ⊥
-other_signal o root of v is apart r h = apart (ap (λ (x : ℕ × ℕ). x.1) (same_Some (root, of) (r, v) (sym is ∙ h)))
-
-pub no_signals : (o : Option (ℕ × ℕ)) (v : ℕ) → o ≡ None → (r : ℕ) → o ≡ Some (r, v) → ⊥
-no_signals o v is r h = cc
-
--- ---- whether an entry has a root
-
-pub root_none : (At : ℕ → ℕ → Type 0) (o : Option (ℕ × ℕ)) → ((r v : ℕ) → (At r v ↔ o ≡ Some (r, v))) → (root : ℕ) → o ≡ None →
-    (IsTrue false ↔ ((v : ℕ) × At root v))
-root_none At o exact root is = (λ h. absurd (cc), λ h. absurd (no_signals o h.0 is root ((exact root h.0).0 h.1)))
-
-pub root_some : (At : ℕ → ℕ → Type 0) (o : Option (ℕ × ℕ)) → ((r v : ℕ) → (At r v ↔ o ≡ Some (r, v))) → (root of v : ℕ) → o ≡ Some (of, v) →
-    (IsTrue (eqb of root) ↔ ((u : ℕ) × At root u))
-root_some At o exact root of v is = (there, back) where
-  there : IsTrue (eqb of root) → (u : ℕ) × At root u
-  there h = (v, (exact root v).1 (is ∙ ap (λ (n : ℕ). Some (n, v)) (eqb-true of root h)))
-
-  back : (u : ℕ) × At root u → IsTrue (eqb of root)
-  back h = eq-eqb of root (ap (λ (x : ℕ × ℕ). x.0) (same_Some (of, v) (root, h.0) (sym is ∙ (exact root h.0).0 h.1)))
+-- with nothing more
+pub put_none : (P : ℕ → Type 0) (out : List ℕ) → ((r : ℕ) → P r → ⊥) → (r : ℕ) → (Contains out r ↔ (Contains out r ⊎ P r))
+put_none P out none r = (λ h. inl h, λ h. elim h [ inl x ↦ x | inr x ↦ absurd (none r x) ])
 
 -- ---- all entries
 
@@ -111,91 +82,111 @@ root_at_of : (d : Parts) (c : Claims) (root v : ℕ) → IsRootOf d c root v →
 root_at_of d c root v h =
     (h.place, slice_get_within c.edges h.place h.entry h.is, record { entry = h.entry; is = h.is; signal = h.signal; root_is = h.root_is })
 
--- a list of the roots of all entries is one of all roots
-pub roots_are : (d : Parts) (c : Claims) (roots : List ℕ) (v r : ℕ) →
-    (Contains roots r ↔ ((place : ℕ) × (place < length c.edges) × IsRootAt d c.edges place r v)) → (Contains roots r ↔ IsRootOf d c r v)
-roots_are d c roots v r h = (λ x. let p = h.0 x in root_of_at d c p.0 r v p.2, λ x. h.1 (root_at_of d c r v x))
+-- the roots of the entries of a signal
+pub roots_in : (d : Parts) (c : Claims) (v r : ℕ) (roots row : List ℕ) → ((p : ℕ) → (Contains row p ↔ NamesEntry d c.edges p v)) →
+    (Contains roots r ↔ ((k : ℕ) × (k < length row) × IsRootAt d c.edges (get_or row k 0) r v)) → (Contains roots r ↔ IsRootOf d c r v)
+roots_in d c v r roots row are h = (
+  λ x. let y = h.0 x in root_of_at d c (get_or row y.0 0) r v y.2,
+  λ x.
+      let p = root_at_of d c r v x in
+      let k = (are p.0).1 (p.2.entry, p.2.is, p.2.signal) in
+      h.1 (k.0, k.1, subst (λ (q : ℕ). IsRootAt d c.edges q r v) (sym (same_read row k.0 0 p.0 k.1 ∙ k.2)) p.2),
+)
 
-pub is_a_root : (d : Parts) (c : Claims) (place root : ℕ) → (v : ℕ) × IsRootAt d c.edges place root v → IsTrue true ↔ IsRoot d c root
-is_a_root d c place root h = (λ x. (h.0, root_of_at d c place root h.0 h.1), λ x. refl)
-
-pub no_root : (d : Parts) (c : Claims) (root i : ℕ) → length c.edges ≤ i →
-    ((place : ℕ) → place < i → (v : ℕ) × IsRootAt d c.edges place root v → ⊥) → (IsTrue false ↔ IsRoot d c root)
-no_root d c root i past none =
-    (λ x. absurd (cc), λ x. let p = root_at_of d c root x.0 x.1 in absurd (none p.0 (omega (arith, p.1, past)) (x.0, p.2)))
+-- whether there is an entry with a root
+pub root_told : (d : Parts) (c : Claims) (v : ℕ) (row : List ℕ) (b : Bool) → ((p : ℕ) → (Contains row p ↔ NamesRoot d c.edges p v)) →
+    b ≡ (length row == 0) → (IsTrue (not b) ↔ IsRoot d c v)
+root_told d c v [] b are told = (
+  λ t. absurd (false≢true (sym (ap not told) ∙ t)),
+  λ h. let y = root_at_of d c v h.0 h.1 in absurd (omega (arith, ((are y.0).1 (h.0, y.2)).1)),
+)
+root_told d c v (p ∷ ps) b are told = (
+  λ t. let y = (are p).0 (0, omega arith, refl) in (y.0, root_of_at d c p v y.0 y.1),
+  λ h. ap not (told ∙ eqb-suc-zero (length ps)),
+)
 
 pub none_more : (P : ℕ → Type 0) (i : ℕ) → ((k : ℕ) → k < i → P k → ⊥) → (P i → ⊥) → (k : ℕ) → k < i + 1 → P k → ⊥
 none_more P i before here k l h = elim (at k l) [ inl below ↦ before k below h | inr e ↦ here (subst P e h) ] where
   at : (k : ℕ) → k < i + 1 → (k < i) ⊎ (k ≡ i)
   at k l = grind (arith, l)
 
--- what the entry of a place names
-pub edge_is : {d : Parts} {c : Certificate} {charts : List Chart} {u : Texts} {n : Names} →
-    AreFacts d c charts u n → (x : Case) → case_of d c charts ≡ x → (place : ℕ) (t : EdgeSignal) →
-    slice_get c.edges.items place ≡ Some t → (o p : Option ℕ) → o ≡ place_in n.design.signals (name_from t.root) → p ≡ place_in n.design.signals (name_from t.signal) →
-    (q : Option (ℕ × ℕ)) → q ≡ pair_of o p → (root v : ℕ) → (IsRootAt x.design x.claims.edges place root v ↔ q ≡ Some (root, v))
-edge_is {d} {c} {charts} h x e place t found o p a b =
-    entry_names x.design x.claims.edges place (edge_claim t) (entry_at d c charts x e place t found) o p
-    (signal_named_is h x e (name_from t.root) o a) (signal_named_is h x e (name_from t.signal) p b)
+-- ---- entries by the numbers of signals
 
--- ---- the entries of a signal or of a root
+within : (ns names : List Name) (ps : List (Option ℕ)) → ps ≡ map (place_in ns) names → (i v : ℕ) → slice_index_or ps i None ≡ Some v →
+    (i < length names) × (v < length ns)
+within ns names ps is i v h =
+    by (slice_get names i) refl (sym (ap (λ (qs : List (Option ℕ)). slice_index_or qs i None) is ∙ places_at ns names i) ∙ h) where
+      by : (o : Option Name) → slice_get names i ≡ o → place_for ns o ≡ Some v → (i < length names) × (v < length ns)
+      by None at k = absurd (none-some v k)
+      by (Some name) at k = (slice_get_within names i name at, for_within ns (Some name) v k)
 
-named_at : (ys : List EdgeClaim) (f : EdgeClaim → Name) (place : ℕ) (y : EdgeClaim) → slice_get ys place ≡ Some y → slice_get (map f ys) place ≡ Some (f y)
-named_at ys f place y is = slice_get-map f ys place ∙ ap (option_map f) is
+-- a row, also of a number past the end
+row_is : (has : ℕ → ℕ → Type 0) (m n : ℕ) (table : List (List ℕ)) → length table ≡ n → AreRows has m n table → (v : ℕ) →
+    ((i : ℕ) → has i v → (i < m) × (v < n)) → (row : List ℕ) → row ≡ row_of table v → (i : ℕ) → (Contains row i ↔ has i v)
+row_is has m n table long are v inside row same i = by (side v n) where
+  side : (a b : ℕ) → (a < b) ⊎ (b ≤ a)
+  side a b = grind arith
 
-same_path : (d : Parts) (v : ℕ) (s : Signal) (name : Name) → slice_get d.signals v ≡ Some s → IsSignalNamed d v name → name ≡ s.path.items
-same_path d v s name at is = same_Some name s.path.items (sym is ∙ ap signal_name at)
+  by : (v < n) ⊎ (n ≤ v) → (Contains row i ↔ has i v)
+  by (inl h) = (
+    λ c. ((are v i h).0 (subst (λ (l : List ℕ). Contains l i) same c)).1,
+    λ y. subst (λ (l : List ℕ). Contains l i) (sym same) ((are v i h).1 ((inside i y).0, y)),
+  )
+  by (inr g) = (
+    λ c. absurd (omega (arith, (subst (λ (l : List ℕ). Contains l i) (same ∙ get_or_past table v [] (subst (λ (k : ℕ). k ≤ v) (sym long) g)) c).1)),
+    λ y. absurd (omega (arith, g, (inside i y).1)),
+  )
 
-no_such_signal : (d : Parts) (v : ℕ) (name : Name) → length d.signals ≤ v → IsSignalNamed d v name → ⊥
-no_such_signal d v name past is = let e = sym (ap signal_name (slice_get_past d.signals v past)) ∙ is in cc
+module _ {d : Parts} {c : Certificate} {charts : List Chart} {u : Texts} {n : Names} where
+  -- what entries name, by one of their names
+  end_at : AreFacts d c charts u n → (x : Case) → case_of d c charts ≡ x → (f : EdgeClaim → Name) (names : List Name) (ps : List (Option ℕ)) →
+      names ≡ map f x.claims.edges → ps ≡ map (place_in n.design.signals) names → (place v : ℕ) →
+      (((y : EdgeClaim) × (slice_get x.claims.edges place ≡ Some y) × IsSignalNamed x.design v (f y)) ↔ slice_index_or ps place None ≡ Some v)
+  end_at h x e f names ps are is place v =
+      let told = end_is x.design f n.design.signals (λ name w. signal_named_is h x e name (place_in n.design.signals name) refl w)
+      (slice_get x.claims.edges place) v in
+      let same = ap (λ (qs : List (Option ℕ)). slice_index_or qs place None) is ∙ places_at n.design.signals names place
+      ∙ ap (λ (ns : List Name). place_for n.design.signals (slice_get ns place)) are
+      ∙ ap (place_for n.design.signals) (slice_get-map f x.claims.edges place) in
+      (λ y. same ∙ told.0 y, λ k. told.1 (sym same ∙ k))
 
-pub past_entries : (d : Parts) (edges : List EdgeClaim) (v : ℕ) → length d.signals ≤ v → (place root : ℕ) → IsRootAt d edges place root v → ⊥
-past_entries d edges v past place root h = no_such_signal d v h.entry.signal past h.signal
+  signal_at : AreFacts d c charts u n → (x : Case) → case_of d c charts ≡ x → (place v : ℕ) →
+      (NamesEntry x.design x.claims.edges place v ↔ slice_index_or n.edge_places.ends.signals.items place None ≡ Some v)
+  signal_at h x e place v =
+      end_at h x e (λ (y : EdgeClaim). y.signal) n.edges.signals n.edge_places.ends.signals.items (edge_signals_are h x e)
+      h.names.edge_places.ends.signals_are place v
 
-pub no_entries : (d : Parts) (c : Claims) (v : ℕ) (s : Signal) (ns : List Name) → slice_get d.signals v ≡ Some s → ns ≡ edge_signals c →
-    place_in ns s.path.items ≡ None → (place root : ℕ) → IsRootAt d c.edges place root v → ⊥
-no_entries d c v s ns at are is place root h =
-    nowhere (edge_signals c) s.path.items place (ap (λ (ns : List Name). place_in ns s.path.items) (sym are) ∙ is)
-    (named_at c.edges (λ (y : EdgeClaim). y.signal) place h.entry h.is ∙ ap Some (same_path d v s h.entry.signal at h.signal))
+  pub edge_is : AreFacts d c charts u n → (x : Case) → case_of d c charts ≡ x → (place : ℕ) (q : Option (ℕ × ℕ)) → q ≡ both_at n.edge_places.ends place →
+      (root v : ℕ) → (IsRootAt x.design x.claims.edges place root v ↔ q ≡ Some (root, v))
+  edge_is h x e place q is root v =
+      edge_of x.design x.claims.edges place root v (slice_index_or n.edge_places.ends.roots.items place None)
+      (slice_index_or n.edge_places.ends.signals.items place None)
+      (end_at h x e (λ (y : EdgeClaim). y.root) n.edges.roots n.edge_places.ends.roots.items (edge_roots_are h x e) h.names.edge_places.ends.roots_are place root)
+      (signal_at h x e place v) q is
 
-pub one_entry : (d : Parts) (c : Claims) (v : ℕ) (s : Signal) (ns : List Name) (i : ℕ) → slice_get d.signals v ≡ Some s → ns ≡ edge_signals c →
-    place_in ns s.path.items ≡ Some i → times_in s.path.items ns ≡ 1 → (place root : ℕ) → IsRootAt d c.edges place root v → place ≡ i
-one_entry d c v s ns i at are is once place root h =
-    one_place (edge_signals c) s.path.items i place (ap (times_in s.path.items) (sym are) ∙ once) (ap (λ (ns : List Name). place_in ns s.path.items) (sym are) ∙ is)
-    (named_at c.edges (λ (y : EdgeClaim). y.signal) place h.entry h.is ∙ ap Some (same_path d v s h.entry.signal at h.signal))
+  pub entries_are : AreFacts d c charts u n → (x : Case) → case_of d c charts ≡ x → (v : ℕ) (row : List ℕ) → row ≡ row_of n.edge_places.by_signal v →
+      (place : ℕ) → (Contains row place ↔ NamesEntry x.design x.claims.edges place v)
+  entries_are h x e v row is place =
+      let p = h.names.edge_places in
+      let signals = n.edge_places.ends.signals.items in
+      let told = signal_at h x e place v in
+      let here = row_is (λ i w. slice_index_or signals i None ≡ Some w) (length n.edges.signals) (length n.design.signals) n.edge_places.by_signal
+      p.signals_long p.signals_are v (λ i. within n.design.signals n.edges.signals signals p.ends.signals_are i v) row is place in
+      (λ k. told.1 (here.0 k), λ y. here.1 (told.0 y))
 
-pub past_root : (d : Parts) (c : Claims) (v : ℕ) → length d.signals ≤ v → (IsTrue false ↔ IsRoot d c v)
-past_root d c v past = (λ h. absurd (cc), λ h. absurd (no_such_signal d v h.1.entry.root past h.1.root_is))
-
-pub no_such_root : (d : Parts) (c : Claims) (v : ℕ) (s : Signal) (ns : List Name) → slice_get d.signals v ≡ Some s →
-    ns ≡ map (λ (y : EdgeClaim). y.root) c.edges → place_in ns s.path.items ≡ None → (IsTrue false ↔ IsRoot d c v)
-no_such_root d c v s ns at are is = (
-  λ h. absurd (cc),
-  λ h. absurd (nowhere (map (λ (y : EdgeClaim). y.root) c.edges) s.path.items h.1.place
-      (ap (λ (ns : List Name). place_in ns s.path.items) (sym are) ∙ is)
-      (named_at c.edges (λ (y : EdgeClaim). y.root) h.1.place h.1.entry h.1.is ∙ ap Some (same_path d v s h.1.entry.root at h.1.root_is))),
-)
-
--- the roots of a signal without entries, and of one with one entry
-pub no_roots : (d : Parts) (c : Claims) (roots : List ℕ) (v : ℕ) → roots ≡ [] → ((place root : ℕ) → IsRootAt d c.edges place root v → ⊥) → (r : ℕ) →
-    (Contains roots r ↔ IsRootOf d c r v)
-no_roots d c roots v empty none r =
-    (λ h. absurd (no_item r (subst (λ (xs : List ℕ). Contains xs r) empty h)), λ h. let p = root_at_of d c r v h in absurd (none p.0 r p.2)) where
-      no_item : (r : ℕ) → Contains [] r → ⊥
-      no_item r h = omega (arith, h.1)
-
-pub one_root_is : (d : Parts) (c : Claims) (old new : List ℕ) (place v r : ℕ) → old ≡ [] →
-    ((place' root : ℕ) → IsRootAt d c.edges place' root v → place' ≡ place) → (Contains new r ↔ (Contains old r ⊎ IsRootAt d c.edges place r v)) →
-    (Contains new r ↔ IsRootOf d c r v)
-one_root_is d c old new place v r empty one exact = (there, back) where
-  no_item : (r : ℕ) → Contains [] r → ⊥
-  no_item r h = omega (arith, h.1)
-
-  there : Contains new r → IsRootOf d c r v
-  there h = elim (exact.0 h) [ inl o ↦ absurd (no_item r (subst (λ (xs : List ℕ). Contains xs r) empty o)) | inr a ↦ root_of_at d c place r v a ]
-
-  back : IsRootOf d c r v → Contains new r
-  back h = let p = root_at_of d c r v h in exact.1 (inr (subst (λ (k : ℕ). IsRootAt d c.edges k r v) (one p.0 r p.2) p.2))
+  pub root_entries_are : AreFacts d c charts u n → (x : Case) → case_of d c charts ≡ x → (root : ℕ) (row : List ℕ) → row ≡ row_of n.edge_places.by_root root →
+      (place : ℕ) → (Contains row place ↔ NamesRoot x.design x.claims.edges place root)
+  root_entries_are h x e root row is place =
+      let p = h.names.edge_places in
+      let ends = n.edge_places.ends in
+      let told = edge_is h x e place (both_at ends place) refl root in
+      let here = row_is (λ i r. (v : ℕ) × (both_at ends i ≡ Some (r, v))) (length n.edges.signals) (length n.design.signals) n.edge_places.by_root
+      p.roots_long p.roots_are root (λ i y.
+      let k = pair_is (slice_index_or ends.roots.items i None) (slice_index_or ends.signals.items i None) root y.0 y.1 in (
+        (within n.design.signals n.edges.signals ends.signals.items p.ends.signals_are i y.0 k.1).0,
+        (within n.design.signals n.edges.roots ends.roots.items p.ends.roots_are i root k.0).1,
+      )) row is place in
+      (λ k. let y = here.0 k in (y.0, (told y.0).1 y.1), λ y. here.1 (y.0, (told y.0).0 y.1))
 
 -- ---- whether a name stands there
 

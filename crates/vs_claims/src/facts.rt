@@ -2,18 +2,18 @@
 ghost use Rattle.std.specs.Prelude.{ℕ, ◌≡◌, ◌↔◌, ◌⊎◌, ◌==◌, true, Some, IfOk, OnOk, IsTrue, not, is_some, length, option_map, slice_get};
 ghost use Rattle.std.specs.List.{Contains};
 ghost use Rattle.vs_design.specs.WellFormed.{WellFormed};
-ghost use Rattle.vs_claims.specs.vs_rules.specs.Certificates.{claims_of, mode_from, grain_from, name_unless_empty};
-ghost use Rattle.vs_claims.specs.vs_rules.specs.Claims.{claim_of, mode_in, writer_in, second_in, kind_of, names_process, assign_name, process_name};
+ghost use Rattle.vs_claims.specs.vs_rules.specs.Certificates.{claims_of, mode_from, grain_from};
+ghost use Rattle.vs_claims.specs.vs_rules.specs.Claims.{claim_of, mode_in, writer_in, second_in, kind_of, assign_name, process_name};
 ghost use Rattle.vs_claims.specs.vs_rules.specs.Claims.{place_of, times_in, signal_names, process_names, edge_names};
 ghost use Rattle.vs_claims.specs.vs_rules.specs.Claims.{IsSignalNamed, IsProcessNamed, IsAssignNamed, IsWriter, IsSecond, IsBlock, IsEdge, IsDelay, IsMixed, WaitsForEdges, IsSequential, IsRootOf, IsRoot, is_wide};
 ghost use Rattle.vs_claims.specs.vs_rules.specs.Limits.{IsWideCertificate};
-ghost use Rattle.vs_claims.specs.declared.facts.EntriesOf.TheVariants.{One};
-ghost use Rattle.vs_claims.specs.Facts.{AreCharts, AreListsOf, IsRootAt, case_of, seen, kind_seen};
-ghost use Rattle.vs_claims.specs.facts_passes.Kept.{AreEntriesOf, entry_seen};
+ghost use Rattle.vs_claims.specs.Facts.{AreCharts, AreListsOf, IsRootAt, NamesEntry, NamesRoot, case_of, seen, kind_seen};
+ghost use Rattle.vs_claims.specs.facts_passes.Kept.{entry_seen};
 ghost use Rattle.vs_maps.specs.Reaches.{Chart, InSlot0};
 ghost use Rattle.vs_maps.specs.Texts.{texts_of};
 
 use crate::names::Names;
+use crate::places::{number_at, place_at};
 use crate::words::{displays, grain, is_block, is_delay, is_edge, is_mixed, lists_in};
 use std::alloc::{AllocError, Global};
 use std::marker::Model;
@@ -34,17 +34,6 @@ fn is_early(tables: &Tables, wide: bool, p: usize) -> bool
     }
 }
 
-// The entries of a signal among those of edge terms.
-#[derive(Clone, Copy)]
-enum EntriesOf {
-    // There is none.
-    None,
-    // There is that of this place at most.
-    One(usize),
-    // There may be several.
-    Several,
-}
-
 /// A design, its certificate, and the tables of its processes. A contract sees the design, what the certificate claims of it, and the maps of
 /// the texts of the processes.
 #[derive(Drop)]
@@ -53,7 +42,7 @@ pub struct Facts<'a> {
     certificate: &'a Certificate,
     tables: &'a [Tables<'a>],
     uses: Uses<'a>,
-    names: Names<'a>,
+    pub(crate) names: Names<'a>,
 }
 
 impl<'a> Model for Facts<'a> {
@@ -184,12 +173,8 @@ impl<'a> Facts<'a> {
     fn entry(&self, v: usize) -> Option<&'a SignalEntry>
         ensures { entry_seen result ≡ claim_of self.now.design self.now.claims v }
     {
-        let signals = self.design.signals();
-        if v >= signals.len() {
-            return None;
-        }
         let certificate = self.certificate;
-        match self.names.claims.signals.find(&signals[v].path) {
+        match place_at(&self.names.places.signals, v) {
             None => None,
             Some(i) => Some(&certificate.signals[i]),
         }
@@ -205,35 +190,29 @@ impl<'a> Facts<'a> {
         }
     }
 
-    // The number of the process of this name; the empty text names none.
-    fn named(&self, name: &str) -> Option<usize>
-        ensures { (i : ℕ) →
-            (names_process (name_unless_empty name.now) (slice_get self.now.design.processes i) ≡ true ↔ result ≡ Some i) }
+    // The processes that the entry of a signal names: its writer, and its second.
+    fn writers(&self, v: usize) -> (Option<usize>, Option<usize>)
+        ensures writer { (i : ℕ) → (IsWriter self.now.design self.now.claims v i ↔ result.0 ≡ Some i) }
+        ensures second { (i : ℕ) → (IsSecond self.now.design self.now.claims v i ↔ result.1 ≡ Some i) }
     {
-        if name.is_empty() {
-            return None;
+        match place_at(&self.names.places.signals, v) {
+            None => (None, None),
+            Some(k) => self.names.places.writers[k],
         }
-        self.process_named(name.as_bytes())
     }
 
     /// The process that is claimed to be a signal's writer.
     pub fn writer(&self, v: usize) -> Option<usize>
         ensures { (i : ℕ) → (IsWriter self.now.design self.now.claims v i ↔ result ≡ Some i) }
     {
-        match self.entry(v) {
-            None => None,
-            Some(e) => self.named(e.writer.as_str()),
-        }
+        self.writers(v).0
     }
 
     /// The process that is claimed to write a signal at the start alone.
     pub fn second(&self, v: usize) -> Option<usize>
         ensures { (i : ℕ) → (IsSecond self.now.design self.now.claims v i ↔ result ≡ Some i) }
     {
-        match self.entry(v) {
-            None => None,
-            Some(e) => self.named(e.second.as_str()),
-        }
+        self.writers(v).1
     }
 
     /// Whether the entry of a signal names a writer, be it a process or not.
@@ -260,12 +239,8 @@ impl<'a> Facts<'a> {
     pub fn kind(&self, i: usize) -> Option<&'a ClaimedKind>
         ensures { kind_seen result ≡ kind_of self.now.design self.now.claims i }
     {
-        let processes = self.design.processes();
-        if i >= processes.len() {
-            return None;
-        }
         let certificate = self.certificate;
-        match self.names.claims.processes.find(&processes[i].name) {
+        match place_at(&self.names.places.processes, i) {
             None => None,
             Some(k) => Some(&certificate.processes[k].kind),
         }
@@ -337,18 +312,21 @@ impl<'a> Facts<'a> {
     pub fn edge(&self, place: usize) -> Option<(usize, usize)>
         ensures { (root v : ℕ) → (IsRootAt self.now.design self.now.claims.edges place root v ↔ result ≡ Some (root, v)) }
     {
-        let certificate = self.certificate;
-        if place >= certificate.edges.len() {
-            return None;
-        }
-        let e = &certificate.edges[place];
-        let Some(root) = self.names.design.signals.find(e.root.as_bytes()) else {
-            return None;
-        };
-        let Some(v) = self.names.design.signals.find(e.signal.as_bytes()) else {
-            return None;
-        };
-        Some((root, v))
+        self.names.edge_places.ends.both(place)
+    }
+
+    /// The places of the entries with a root, where their own signals are signals of the design.
+    pub fn entries_with_root(&self, root: usize) -> &[usize]
+        ensures { (place : ℕ) → (Contains result.now place ↔ NamesRoot self.now.design self.now.claims.edges place root) }
+    {
+        self.names.edge_places.by_root.row(root)
+    }
+
+    /// The places of the entries of a signal.
+    pub fn entries_of(&self, v: usize) -> &[usize]
+        ensures { (place : ℕ) → (Contains result.now place ↔ NamesEntry self.now.design self.now.claims.edges place v) }
+    {
+        self.names.edge_places.by_signal.row(v)
     }
 
     // Puts the root of an entry, where the entry is of this signal.
@@ -364,130 +342,36 @@ impl<'a> Facts<'a> {
         Ok(())
     }
 
-    // The entries of a signal.
-    fn entries_of(&self, v: usize) -> EntriesOf
-        ensures { AreEntriesOf self.now.design self.now.claims.edges v result }
-    {
-        let signals = self.design.signals();
-        if v >= signals.len() {
-            return EntriesOf::None;
-        }
-        let name = &signals[v].path;
-        match self.names.edges.signals.find(name) {
-            None => EntriesOf::None,
-            Some(place) => {
-                if self.names.edges.signals.times(name) == 1 {
-                    EntriesOf::One(place)
-                } else {
-                    EntriesOf::Several
-                }
-            }
-        }
-    }
-
-    // The variables that a signal is claimed to copy, in whatever entry. It takes as long as there are entries.
-    fn all_roots(&self, alloc: Global, v: usize) -> Result<Vec<usize>, AllocError>
-        ensures { IfOk result (λ roots. (r : ℕ) → (Contains roots.items r ↔ IsRootOf self.now.design self.now.claims r v)) }
-    {
-        let mut roots = Vec::new(alloc);
-        for place in 0..self.edges() {
-            self.put_root(place, v, &mut roots)?;
-        }
-        Ok(roots)
-    }
-
-    // The root of the one entry of a signal.
-    fn one_root(&self, alloc: Global, place: usize, v: usize) -> Result<Vec<usize>, AllocError>
-        requires { AreEntriesOf self.now.design self.now.claims.edges v (One place) }
-        ensures { IfOk result (λ roots. (r : ℕ) → (Contains roots.items r ↔ IsRootOf self.now.design self.now.claims r v)) }
-    {
-        let mut roots = Vec::new(alloc);
-        self.put_root(place, v, &mut roots)?;
-        Ok(roots)
-    }
-
-    /// The variables that a signal is claimed to copy. Where it has several entries, which breaks the rule K6, it takes as long as there are
-    /// entries.
+    /// The variables that a signal is claimed to copy.
     pub fn roots(&self, alloc: Global, v: usize) -> Result<Vec<usize>, AllocError>
         ensures { IfOk result (λ roots. (r : ℕ) → (Contains roots.items r ↔ IsRootOf self.now.design self.now.claims r v)) }
     {
-        match self.entries_of(v) {
-            EntriesOf::None => Ok(Vec::new(alloc)),
-            EntriesOf::One(place) => self.one_root(alloc, place, v),
-            EntriesOf::Several => self.all_roots(alloc, v),
+        let mut roots = Vec::new(alloc);
+        for place in self.entries_of(v) {
+            self.put_root(*place, v, &mut roots)?;
         }
+        Ok(roots)
     }
 
-    // Whether the entry of a place has this root.
-    fn has_root(&self, place: usize, root: usize) -> bool
-        ensures { IsTrue result ↔ ((v : ℕ) × IsRootAt self.now.design self.now.claims.edges place root v) }
-    {
-        match self.edge(place) {
-            None => false,
-            Some((of, _)) => of == root,
-        }
-    }
-
-    // Whether a signal is the root of some entry. It takes as long as there are entries.
-    fn is_any_root(&self, v: usize) -> bool
-        ensures { IsTrue result ↔ IsRoot self.now.design self.now.claims v }
-    {
-        for place in 0..self.edges() {
-            if self.has_root(place, v) {
-                return true;
-            }
-        }
-        false
-    }
-
-    /// Whether a signal is the root of an entry. Where the first entry with that root names no signal of the design, which breaks the rule K1, it
-    /// takes as long as there are entries.
+    /// Whether a signal is the root of an entry.
     pub fn is_root(&self, v: usize) -> bool
         ensures { IsTrue result ↔ IsRoot self.now.design self.now.claims v }
     {
-        let signals = self.design.signals();
-        if v >= signals.len() {
-            return false;
-        }
-        let Some(place) = self.names.edges.roots.find(&signals[v].path) else {
-            return false;
-        };
-        if self.has_root(place, v) {
-            return true;
-        }
-        self.is_any_root(v)
-    }
-
-    /// The place of a name in the order; of one that isn't there, how many there are.
-    pub fn place_in_order(&self, name: &[u8]) -> usize
-        ensures { result ≡ place_of name.now self.now.claims.order }
-    {
-        match self.names.claims.order.find(name) {
-            None => self.certificate.order.len(),
-            Some(place) => place,
-        }
+        !self.entries_with_root(v).is_empty()
     }
 
     /// The place of a continuous assignment in the order.
     pub fn assign_place(&self, j: usize) -> Option<usize>
         ensures { result ≡ option_map (λ n. place_of n self.now.claims.order) (assign_name (slice_get self.now.design.assigns j)) }
     {
-        let assigns = self.design.assigns();
-        if j >= assigns.len() {
-            return None;
-        }
-        Some(self.place_in_order(&assigns[j].name))
+        number_at(&self.names.places.assigns, j)
     }
 
     /// The place of a process in the order.
     pub fn process_place(&self, i: usize) -> Option<usize>
         ensures { result ≡ option_map (λ n. place_of n self.now.claims.order) (process_name (slice_get self.now.design.processes i)) }
     {
-        let processes = self.design.processes();
-        if i >= processes.len() {
-            return None;
-        }
-        Some(self.place_in_order(&processes[i].name))
+        number_at(&self.names.places.blocks, i)
     }
 
     /// How often a name stands among the entries of signals.

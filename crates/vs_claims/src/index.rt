@@ -1,7 +1,6 @@
 //! Names in order, where each stands first, and how often.
-ghost use Rattle.std.specs.Prelude.{◌≡◌, IfOk, length, slice_get};
+ghost use Rattle.std.specs.Prelude.{◌≡◌, IfOk, length};
 ghost use Rattle.std.specs.List.Sorted.{IsSorted};
-ghost use Rattle.std.specs.Option.{option_copied};
 ghost use Rattle.vs_rules.specs.Claims.{times_in};
 ghost use Rattle.vs_claims.specs.Places.{place_in, texts};
 ghost use Rattle.vs_claims.specs.passes.Placed.{placed_from, placed_cmp, AreBelow, AreUpTo};
@@ -73,14 +72,11 @@ impl<'a> Index<'a> {
         self.names.len()
     }
 
-    /// The name of a place, where there is one.
-    pub fn name(&self, place: usize) -> Option<&'a [u8]>
-        ensures { option_copied result ≡ slice_get self.now place }
+    /// The names.
+    pub fn names(&self) -> &[&'a [u8]]
+        ensures { texts result.now ≡ self.now }
     {
-        if place >= self.names.len() {
-            return None;
-        }
-        Some(self.names[place])
+        &self.names
     }
 
     /// The first place of a name, where it is there.

@@ -4,6 +4,7 @@ ghost use Rattle.vs_claims.specs.facts_passes.Kept.{edge_roots, edge_signals, Ar
 
 use crate::Index;
 use crate::named::names_of;
+use crate::places::{ClaimPlaces, EdgePlaces, claim_places, edge_places};
 use std::alloc::{AllocError, Global};
 use vs_certificate::{Certificate, EdgeSignal};
 use vs_design::Design;
@@ -39,7 +40,7 @@ pub(crate) struct EdgeNames<'a> {
     pub(crate) signals: Index<'a>,
 }
 
-/// The names of a design and of its certificate.
+/// The names of a design and of its certificate, and where they stand in one another's lists.
 #[derive(Drop)]
 pub(crate) struct Names<'a> {
     /// Those of the design.
@@ -48,6 +49,10 @@ pub(crate) struct Names<'a> {
     pub(crate) claims: ClaimedNames<'a>,
     /// Those of its entries of edge terms.
     pub(crate) edges: EdgeNames<'a>,
+    /// Where those of the design stand in the order and the entries.
+    pub(crate) places: ClaimPlaces,
+    /// Where those of the entries of edge terms stand among the signals.
+    pub(crate) edge_places: EdgePlaces,
 }
 
 // The names of the roots of edge signals.
@@ -113,7 +118,7 @@ fn edge_names<'a>(alloc: Global, edges: &'a [EdgeSignal]) -> Result<EdgeNames<'a
 }
 
 impl<'a> Names<'a> {
-    /// The names of a design and of its certificate.
+    /// The names of a design and of its certificate, and their places.
     pub(crate) fn of(
         alloc: Global,
         design: &'a Design,
@@ -124,10 +129,14 @@ impl<'a> Names<'a> {
         let of_design = design_names(alloc, design)?;
         let claims = claimed_names(alloc, certificate)?;
         let edges = edge_names(alloc, &certificate.edges)?;
+        let places = claim_places(alloc, &of_design, &claims, &certificate.signals)?;
+        let edge_places = edge_places(alloc, &edges, &of_design.signals)?;
         Ok(Names {
             design: of_design,
             claims,
             edges,
+            places,
+            edge_places,
         })
     }
 }

@@ -1,16 +1,16 @@
 //! The rule K1: each list of a certificate names what it is a list of, each once, and nothing else.
 ghost use Rattle.std.specs.Prelude.{◌≡◌, ◌↔◌, ◌⊎◌, IsTrue};
 ghost use Rattle.vs_claims.specs.vs_rules.specs.Claims.{IsBlock, signal_names, process_names, edge_names, times_in};
-ghost use Rattle.vs_claims.specs.vs_rules.specs.Rules.{K1_Signal, K1_Assign, K1_Process, K1_Name, IsListed};
+ghost use Rattle.vs_claims.specs.vs_rules.specs.Rules.{K1_Signal, K1_Assign, K1_Process, K1_Name, IsOnlyIn};
 ghost use Rattle.vs_claims.specs.Ordered.{IsOrdered};
 
 use crate::Facts;
 use crate::subjects::{assign_name, process_name, signal_name};
 
 // Whether a name stands once among the entries of signals, and neither in the order nor among the entries of processes.
-fn is_listed_signal(facts: &Facts, name: &[u8]) -> bool
+fn is_named_once_as_signal(facts: &Facts, name: &[u8]) -> bool
     ensures { IsTrue result ↔
-        IsListed name.now (signal_names facts.now.claims) facts.now.claims.order (process_names facts.now.claims) }
+        IsOnlyIn name.now (signal_names facts.now.claims) facts.now.claims.order (process_names facts.now.claims) }
 {
     if facts.times_as_signal(name) != 1 {
         return false;
@@ -27,14 +27,14 @@ pub fn keeps_signal_name(facts: &Facts, v: usize) -> bool
 {
     match signal_name(facts, v) {
         None => true,
-        Some(name) => is_listed_signal(facts, name),
+        Some(name) => is_named_once_as_signal(facts, name),
     }
 }
 
 // Whether a name stands once in the order, and neither among the entries of signals nor among those of processes.
-fn is_listed_assign(facts: &Facts, name: &[u8]) -> bool
+fn is_named_once_as_assign(facts: &Facts, name: &[u8]) -> bool
     ensures { IsTrue result ↔
-        IsListed name.now facts.now.claims.order (signal_names facts.now.claims) (process_names facts.now.claims) }
+        IsOnlyIn name.now facts.now.claims.order (signal_names facts.now.claims) (process_names facts.now.claims) }
 {
     if facts.times_in_order(name) != 1 {
         return false;
@@ -55,15 +55,15 @@ pub fn keeps_assign_name(facts: &Facts, j: usize) -> bool
             if facts.is_in_edges(name) {
                 return false;
             }
-            is_listed_assign(facts, name)
+            is_named_once_as_assign(facts, name)
         }
     }
 }
 
 // Whether a name stands once among the entries of processes, and neither among those of signals nor among those of edge terms.
-fn is_listed_process(facts: &Facts, name: &[u8]) -> bool
+fn is_named_once_as_process(facts: &Facts, name: &[u8]) -> bool
     ensures { IsTrue result ↔
-        IsListed name.now (process_names facts.now.claims) (signal_names facts.now.claims) (edge_names facts.now.claims) }
+        IsOnlyIn name.now (process_names facts.now.claims) (signal_names facts.now.claims) (edge_names facts.now.claims) }
 {
     if facts.times_as_process(name) != 1 {
         return false;
@@ -90,7 +90,7 @@ pub fn keeps_process_name(facts: &Facts, i: usize) -> bool
     match process_name(facts, i) {
         None => true,
         Some(name) => {
-            if !is_listed_process(facts, name) {
+            if !is_named_once_as_process(facts, name) {
                 return false;
             }
             is_ordered(facts, name, facts.is_block(i))
@@ -99,7 +99,7 @@ pub fn keeps_process_name(facts: &Facts, i: usize) -> bool
 }
 
 /// Whether a name of a list keeps the rule K1: it is that of a signal, of a continuous assignment or of a process.
-pub fn keeps_listed_name(facts: &Facts, name: &[u8]) -> bool
+pub fn keeps_name(facts: &Facts, name: &[u8]) -> bool
     ensures { IsTrue result ↔ K1_Name facts.now.design facts.now.claims name.now }
 {
     if facts.signal_named(name).is_some() {

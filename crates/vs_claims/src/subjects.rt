@@ -55,7 +55,7 @@ fn push_processes(out: &mut Vec<Subject>, n: usize) -> Result<(), AllocError>
 }
 
 // Puts names of lists.
-fn push_listed<'a>(out: &mut Vec<Subject<'a>>, names: &[&'a [u8]]) -> Result<(), AllocError>
+fn push_names<'a>(out: &mut Vec<Subject<'a>>, names: &[&'a [u8]]) -> Result<(), AllocError>
     ensures { OnOk result (map subject_view out.new.items ≡ map subject_view out.old.items ++ map verdict.listed (texts names.entry.now)) }
 {
     for name in names {
@@ -75,7 +75,7 @@ pub fn all_subjects<'a>(alloc: Global, facts: &Facts<'a>) -> Result<Vec<Subject<
     push_signals(&mut all, design.signals().len())?;
     push_assigns(&mut all, design.assigns().len())?;
     push_processes(&mut all, design.processes().len())?;
-    push_listed(&mut all, &names)?;
+    push_names(&mut all, &names)?;
     Ok(all)
 }
 

@@ -1,26 +1,27 @@
 -- Signals that are written by `=`, numbers that are chosen, and what the calls on cones answer.
-use Rattle.std.proofs.Common.{◌≡◌, ℕ, zero, suc, ◌+◌, ◌-◌, ◌<◌, ◌≤◌, ◌⊎◌, ◌↔◌, inl, inr, Bool, false, IsTrue, Some, List, [], ◌∷◌, ◌++◌, length, get_or, drop, take, replicate, slice_get, sym, ◌∙◌, ap, subst, arith}
+use Rattle.std.proofs.Common.{◌≡◌, ℕ, zero, suc, ◌+◌, ◌-◌, ◌<◌, ◌≤◌, ◌⊎◌, ◌↔◌, inl, inr, Bool, false, IsTrue, List, [], ◌∷◌, ◌++◌, length, get_or, drop, take, replicate, refl, sym, ◌∙◌, ap, subst, arith}
 use Rattle.std.specs.List.{Contains}
 use Rattle.std.proofs.lemmas.Bool.{cases_lt, false≢true}
 use Rattle.std.proofs.lemmas.List.{get_or-drop, take_more, take_all}
 use Rattle.std.proofs.lemmas.List.Elements.{Contains-append_left, Contains-append_right, Contains-append_cases}
-use Rattle.std.proofs.lemmas.Option.{none-some, same_Some, slice_get_within, slice_get_past, slice_get_cases}
-use Rattle.vs_design.specs.declared.design.Process.{Process}
+use Rattle.std.proofs.lemmas.Option.{none-some, slice_get_within, slice_get_past, slice_get_cases}
 use Rattle.vs_design.specs.declared.range.BitRange.{BitRange}
 use Rattle.vs_design.specs.Parts.{Parts}
 use Rattle.vs_process.specs.Places.{Todo}
-use Rattle.vs_process.specs.Stops.{IsText}
 use Rattle.vs_rules.specs.Claims.{Claims, Kind, Start, kind_for, IsBlock}
 use Rattle.vs_rules.specs.Drivers.{Driver, block, IsDriver, DriverNeeds, DriverWrites, IsSource, IsBlocking, InCone, Passes}
-use Rattle.vs_rules.specs.Paths.{ListsSignal, WritesNow, todo_now}
-use Rattle.vs_maps.proofs.EachPoint.{now_here}
+use Rattle.vs_rules.specs.Paths.{WritesNow, todo_now}
+use Rattle.vs_maps.proofs.EachWalk.{writes_now_at}
 use Rattle.vs_maps.proofs.Texts.{place_of, place_back}
-use Rattle.vs_maps.specs.Ranges.{HasSignal, now_at}
-use Rattle.vs_maps.specs.Reaches.{Chart, IsPlace, places}
+use Rattle.vs_maps.specs.Reaches.{Chart}
+use Rattle.vs_maps.specs.Sites.{UsesAt, site_of}
+use Rattle.vs_maps.specs.Walks.{AreMarked}
+use Rattle.vs_maps.specs.declared.sites.Use.{Use}
+use Rattle.vs_maps.specs.declared.sites.Use.TheVariants.{Now}
 use Rattle.vs_design.specs.vs_logic4.proofs.Basics.{below_or, none_in}
 use Rattle.vs_maps.specs.vs_graph.proofs.RowLemmas.{head_in, in_either as split}
-use Rattle.vs_drivers.specs.Assigned.{AssignsAt, AssignsIn, IsAssigned}
-use Rattle.vs_drivers.specs.Names.{AreMaps}
+use Rattle.vs_drivers.specs.Assigned.{AssignsIn, IsAssigned}
+use Rattle.vs_maps.specs.Texts.{AreCharts}
 use Rattle.vs_drivers.specs.declared.writers.Written.{Written}
 use Rattle.vs_drivers.specs.Walks.{Passed, Named}
 use Rattle.vs_drivers.specs.Wires.{Wiring, OfWiring, Drives, IsFree, WritesAt, NeedsAt, driver_at, drivers}
@@ -30,84 +31,43 @@ use Rattle.vs_drivers.proofs.WalkLemmas.{cones_are, passes_are}
 
 -- ---- signals that are written by `=`
 
--- the signals that a point writes by `=` are put
-pub put_at : (t : Chart) (p u : ℕ) (old new : List ℕ) (rs : List BitRange) → IsPlace t p → rs ≡ now_at t p → (Contains new u ↔ (Contains old u ⊎ HasSignal rs u)) →
-    (Contains new u ↔ (Contains old u ⊎ AssignsAt t p u))
-put_at t p u old new rs place now f = (
-  λ h. elim (f.0 h) [ inl l ↦ inl l | inr w ↦ inr (record { is_place = place; writes = subst (λ (l : List BitRange). HasSignal l u) now w }) ],
-  λ h. f.1 (elim h [ inl l ↦ inl l | inr a ↦ inr (subst (λ (l : List BitRange). HasSignal l u) (sym now) a.writes) ]),
-)
-
-pub put_none : (t : Chart) (p u : ℕ) (old : Type 0) → (IsPlace t p → ⊥) → (old ↔ (old ⊎ AssignsAt t p u))
-put_none t p u old not = (inl, λ h. elim h [ inl l ↦ l | inr a ↦ absurd (not a.is_place) ])
-
--- the signals of a process are put
-pub put_process : (charts : List Chart) (i u : ℕ) (t : Chart) (old new all : List ℕ) → slice_get charts i ≡ Some t → ((p : ℕ) → IsPlace t p → p < places t) →
-    new ≡ old ++ all → ((v : ℕ) → (Contains all v ↔ ((p : ℕ) × (p < places t) × AssignsAt t p v))) → (Contains new u ↔ (Contains old u ⊎ AssignsIn charts i u))
-put_process charts i u t old new all is below made each = (
-  λ h. elim (Contains-append_cases old all u (subst (λ (l : List ℕ). Contains l u) made h)) [
-    | inl l ↦ inl l
-    | inr l ↦ let y = (each u).0 l in inr (record { chart = t; is = is; place = y.0; assigns = y.2 })
-  ],
-  λ h. subst (λ (l : List ℕ). Contains l u) (sym made) (elim h [
-    | inl l ↦ Contains-append_left old all u l
-    | inr a ↦ Contains-append_right old all u
-        (let here = subst (λ (k : Chart). AssignsAt k a.place u) (same_Some a.chart t (sym a.is ∙ is)) a.assigns in
-        (each u).1 (a.place, below a.place here.is_place, here))
-  ]),
-)
-
-pub put_past : (charts : List Chart) (i u : ℕ) (old : Type 0) → length charts ≤ i → (old ↔ (old ⊎ AssignsIn charts i u))
-put_past charts i u old past = (inl, λ h. elim h [ inl l ↦ l | inr a ↦ let within = slice_get_within charts i a.chart a.is in absurd (omega (arith, within, past)) ])
-
--- what the statement at a place writes is what its point does
-writes_at : (d : Parts) (q : Process) (t : Chart) (text : IsText q.body t.stops t.start) (p u : ℕ) → (HasSignal (now_at t p) u ↔ WritesNow d (text.at p) u)
-writes_at d q t text p u =
-    subst (λ (rs : List BitRange). (HasSignal (now_at t p) u ↔ ListsSignal d rs u)) (sym (now_here q.body t.stops t.start text p)) (
-      λ y. record { range = y.0; listed = (y.1, tt); of = y.2 },
-      λ h. (h.range, h.listed.0, h.of),
-    )
-
-assigned_on : (d : Parts) (charts : List Chart) → AreMaps d charts → (i u : ℕ) → AssignsIn charts i u → IsAssigned d u
-assigned_on d charts maps i u a = elim (slice_get_cases d.processes i).1 [
-  | inl y ↦ let text = maps.each i y.0 a.chart y.2 a.is in record {
-    process = i;
-    point = text.at a.place;
-    is = place_back d i y.0 a.chart.stops a.chart.start text y.2 a.place a.assigns.is_place;
-    writes = (writes_at d y.0 a.chart text a.place u).0 a.assigns.writes;
-  }
-  | inr y ↦ let within = slice_get_within charts i a.chart a.is in absurd (omega (arith, within, y.0, maps.as_many))
-]
+assigned_on : (d : Parts) (charts : List Chart) → AreCharts d charts → (u : ℕ) → AssignsIn charts u → IsAssigned d u
+assigned_on d charts maps u a =
+    let s = a.0 in
+    let is = a.1 in
+    elim (slice_get_cases d.processes s.process).1 [
+      | inl y ↦ let text = maps.each s.process y.0 is.chart y.2 is.is in record {
+        process = s.process;
+        point = text.at s.place;
+        is = place_back d s.process y.0 is.chart.stops is.chart.start text y.2 s.place is.point;
+        writes = (writes_now_at d y.0 is.chart.stops is.chart.start text u s.place).0 (s.range, subst (λ (x : Use). UsesAt is.chart s.place x s.range) a.3 is.uses, a.2);
+      }
+      | inr y ↦ let within = slice_get_within charts s.process is.chart is.is in absurd (omega (arith, within, y.0, maps.as_many))
+    ]
 
 nothing : (d : Parts) (k : Todo) (u : ℕ) → k ≡ [] → WritesNow d k u → ⊥
 nothing d k u e w = none_in w.range (subst (λ (l : Todo). Contains (todo_now l) w.range) e w.listed.0)
 
-assigned_back : (d : Parts) (charts : List Chart) → AreMaps d charts → (u : ℕ) → IsAssigned d u → (i : ℕ) × (i < length charts) × AssignsIn charts i u
+assigned_back : (d : Parts) (charts : List Chart) → AreCharts d charts → (u : ℕ) → IsAssigned d u → AssignsIn charts u
 assigned_back d charts maps u a = elim (slice_get_cases d.processes a.process).1 [
   | inl y ↦ elim (slice_get_cases charts a.process).1 [
     | inl z ↦
         let text = maps.each a.process y.0 z.0 y.2 z.2 in
-        let p = place_of d a.process y.0 z.0.stops z.0.start text y.2 a.point a.is in (
-          a.process,
-          z.1,
-          record {
-            chart = z.0;
-            is = z.2;
-            place = p.0;
-            assigns = record {
-              is_place = p.1;
-              writes = (writes_at d y.0 z.0 text p.0 u).1 (subst (λ (k : Todo). WritesNow d k u) (sym p.2) a.writes);
-            };
-          },
-        )
+        let p = place_of d a.process y.0 z.0.stops z.0.start text y.2 a.point a.is in
+        let w = (writes_now_at d y.0 z.0.stops z.0.start text u p.0).1 (subst (λ (k : Todo). WritesNow d k u) (sym p.2) a.writes) in
+        (site_of a.process p.0 Now w.0, record { chart = z.0; is = z.2; point = p.1; uses = w.1 }, w.2, refl)
     | inr z ↦ absurd (omega (arith, y.1, z.0, maps.as_many))
   ]
   | inr y ↦ absurd (nothing d a.point u (past_points d a.process a.point y.0 a.is) a.writes)
 ]
 
 -- the signals that processes write by `=`, by their maps
-pub assigned_are : (d : Parts) (charts : List Chart) → AreMaps d charts → (u : ℕ) → (((i : ℕ) × (i < length charts) × AssignsIn charts i u) ↔ IsAssigned d u)
-assigned_are d charts maps u = (λ y. assigned_on d charts maps y.0 u y.2, assigned_back d charts maps u)
+assigned_are : (d : Parts) (charts : List Chart) → AreCharts d charts → (u : ℕ) → (AssignsIn charts u ↔ IsAssigned d u)
+assigned_are d charts maps u = (assigned_on d charts maps u, assigned_back d charts maps u)
+
+-- a variable is a signal of the design
+pub free_within : (x : Wiring) (u : ℕ) → IsFree x u → u < length x.design.signals
+free_within x u h = slice_get_within x.design.signals u h.variable.0 h.variable.1
 
 -- ---- numbers that are chosen
 
@@ -194,37 +154,10 @@ same_chosen among marks n now within h not u = (
 pub all_chosen : (among : List ℕ) (marks : List Bool) (n : ℕ) (all : List ℕ) → length among ≤ n → AreChosen (take n among) marks all → AreChosen among marks all
 all_chosen among marks n all past h = subst (λ (l : List ℕ). AreChosen l marks all) (take_all n among past) h
 
--- marks of the variables of a list that no process of kind comb writes
-pub record AreFreeAmong (x : Wiring) (among : List ℕ) (marks : List Bool) : Type 0 where
-  pub long : length marks ≡ length x.design.signals
-  pub exact : (u : ℕ) → (IsTrue (get_or marks u false) ↔ (IsFree x u × Contains among u))
-
 pub unmarked : (n k : ℕ) → IsTrue (get_or (replicate n false) k false) → ⊥
 unmarked zero k h = false≢true h
 unmarked (suc n) zero h = false≢true h
 unmarked (suc n) (suc k) h = unmarked n k h
-
-pub none_free : (x : Wiring) (n : ℕ) (marks : List Bool) → marks ≡ replicate n false → length marks ≡ length x.design.signals → AreFreeAmong x [] marks
-none_free x n marks is long = record {
-  long = long;
-  exact = λ u. (λ h. absurd (unmarked n u (subst (λ (l : List Bool). IsTrue (get_or l u false)) is h)), λ y. absurd (none_in u y.1));
-}
-
-pub more_free : (x : Wiring) (among : List ℕ) (n : ℕ) (now new : List Bool) → n < length among → AreFreeAmong x (take n among) now → length new ≡ length now →
-    ((k : ℕ) → (IsTrue (get_or new k false) ↔ (IsTrue (get_or now k false) ⊎ (IsFree x k × (k ≡ get_or among n 0))))) → AreFreeAmong x (take (n + 1) among) new
-more_free x among n now new within h long one = record {
-  long = long ∙ h.long;
-  exact = λ u. (
-    λ t. elim ((one u).0 t) [
-      | inl l ↦ let y = (h.exact u).0 l in (y.0, (in_take_more among n u within).1 (inl y.1))
-      | inr y ↦ (y.0, (in_take_more among n u within).1 (inr (sym y.1)))
-    ],
-    λ y. (one u).1 (elim ((in_take_more among n u within).0 y.1) [ inl l ↦ inl ((h.exact u).1 (y.0, l)) | inr e ↦ inr (y.0, sym e) ]),
-  );
-}
-
-pub all_free : (x : Wiring) (among : List ℕ) (n : ℕ) (marks : List Bool) → length among ≤ n → AreFreeAmong x (take n among) marks → AreFreeAmong x among marks
-all_free x among n marks past h = subst (λ (l : List ℕ). AreFreeAmong x l marks) (take_all n among past) h
 
 -- ---- what the calls answer
 
@@ -334,12 +267,11 @@ writers_told x v row h =
 
 -- ---- blocking sources
 
-pub blocking_marks : (x : Wiring) (charts : List Chart) → AreMaps x.design charts → (among : List ℕ) (marks : List Bool) (n : ℕ) → n ≡ length charts →
-    ((u : ℕ) → (Contains among u ↔ ((i : ℕ) × (i < n) × AssignsIn charts i u))) → ((u : ℕ) → (IsTrue (get_or marks u false) ↔ (IsFree x u × Contains among u))) → (u : ℕ) →
-    (IsTrue (get_or marks u false) ↔ (IsFree x u × IsAssigned x.design u))
-blocking_marks x charts maps among marks n long a m u = (
-  λ h. let y = (m u).0 h in let z = (a u).0 y.1 in (y.0, (assigned_are x.design charts maps u).0 (z.0, omega (arith, z.1, long), z.2)),
-  λ y. let z = (assigned_are x.design charts maps u).1 y.1 in (m u).1 (y.0, (a u).1 (z.0, omega (arith, z.1, long), z.2)),
+pub blocking_marks : (x : Wiring) (charts : List Chart) → AreCharts x.design charts → (marks : List Bool) → length marks ≡ length x.design.signals →
+    AreMarked (λ u. IsFree x u × AssignsIn charts u) (length x.design.signals) marks → (u : ℕ) → (IsTrue (get_or marks u false) ↔ (IsFree x u × IsAssigned x.design u))
+blocking_marks x charts maps marks long exact u = (
+  λ h. let y = (exact u (subst (λ (n : ℕ). u < n) long (mark_within marks u h))).0 h in (y.0, (assigned_are x.design charts maps u).0 y.1),
+  λ y. (exact u (free_within x u y.0)).1 (y.0, (assigned_are x.design charts maps u).1 y.1),
 )
 
 -- of a range of a signal that no driver writes

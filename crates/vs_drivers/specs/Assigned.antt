@@ -1,24 +1,18 @@
--- Signals that processes write by `=`, by the places of their maps.
-use Rattle.std.specs.Prelude.{ℕ, ◌≡◌, ◌↔◌, Bool, false, Some, List, slice_get, slice_index_or, IsTrue}
+-- Signals that processes write by `=`, by the sites of their maps.
+use Rattle.std.specs.Prelude.{ℕ, ◌≡◌, ◌↔◌, Bool, false, List, slice_index_or, IsTrue}
 use Rattle.std.specs.List.{Contains}
 use Rattle.vs_design.specs.Parts.{Parts}
 use Rattle.vs_process.specs.Places.{Todo}
 use Rattle.vs_rules.specs.Paths.{IsPoint, WritesNow}
-use Rattle.vs_maps.specs.Ranges.{HasSignal, now_at}
-use Rattle.vs_maps.specs.Reaches.{Chart, IsPlace}
+use Rattle.vs_maps.specs.Reaches.{Chart}
+use Rattle.vs_maps.specs.Sites.{IsSite}
+use Rattle.vs_maps.specs.declared.sites.Site.{Site}
+use Rattle.vs_maps.specs.declared.sites.Use.TheVariants.{Now}
 use Rattle.vs_drivers.specs.Wires.{Wiring, IsFree}
 
--- the statement at a place, which is a point, writes the signal by `=`
-pub record AssignsAt (t : Chart) (p u : ℕ) : Type 0 where
-  pub is_place : IsPlace t p
-  pub writes : HasSignal (now_at t p) u
-
--- one of some maps has such a place
-pub record AssignsIn (charts : List Chart) (i u : ℕ) : Type 0 where
-  pub chart : Chart
-  pub is : slice_get charts i ≡ Some chart
-  pub place : ℕ
-  pub assigns : AssignsAt chart place u
+-- a site of some maps is a write of the signal by `=`
+abbrev pub AssignsIn : List Chart → ℕ → Type 0
+AssignsIn charts u = (s : Site) × IsSite charts s × (s.range.signal ≡ u) × (s.usage ≡ Now)
 
 -- the text of some process writes the signal by `=`
 pub record IsAssigned (d : Parts) (u : ℕ) : Type 0 where

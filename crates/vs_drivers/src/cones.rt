@@ -4,18 +4,17 @@ ghost use Rattle.std.specs.List.{Contains};
 ghost use Rattle.vs_design.specs.declared.range.BitRange as range;
 ghost use Rattle.vs_rules.specs.Claims.{IsBlock};
 ghost use Rattle.vs_rules.specs.Drivers.{block, IsDriver, DriverNeeds, DriverWrites, IsSource, IsBlocking, InCone, Passes};
-ghost use Rattle.vs_drivers.specs.Assigned.{IsAssigned};
-ghost use Rattle.vs_drivers.specs.Names.{AreMaps};
+ghost use Rattle.vs_drivers.specs.Assigned.{AssignsIn};
+ghost use Rattle.vs_maps.specs.Texts.{AreCharts};
 ghost use Rattle.vs_drivers.specs.Wires.{Wiring, wiring, driver_at, IsFree, OfWiring};
 
-use crate::assigned::assigned;
 use crate::drivers::Drivers;
 use crate::writers::Written;
 use std::alloc::{AllocError, Global};
 use std::marker::Model;
-use vs_design::{BitRange, Design};
-use vs_maps::Tables;
-use vs_maps::vs_graph::is_marked;
+use vs_design::BitRange;
+use vs_maps::vs_graph::{Rule, is_marked};
+use vs_maps::{Sites, any_now, marks_of};
 
 /// The drivers of a design, and the cones of what they drive. A contract sees the design, and a mark for each of its processes: whether it is of
 /// kind comb.
@@ -82,37 +81,43 @@ fn marked(alloc: Global, marks: &[bool]) -> Result<Vec<usize>, AllocError>
     Ok(all)
 }
 
-// The blocking sources among some signals: a mark for each signal of the design.
-fn blocking_among(
-    alloc: Global,
-    drivers: &Drivers,
-    among: &[usize],
-) -> Result<Vec<bool>, AllocError>
-    ensures { IfOk result (λ marks. (u : ℕ) →
-        (IsTrue (slice_index_or marks.items u false) ↔ (IsFree drivers.now u × Contains among.now u))) }
-{
-    let mut marks = vec![in alloc; false; drivers.signals().len()]?;
-    for u in among {
-        drivers.mark_one(&mut marks, *u);
+// The blocking sources.
+#[derive(Drop)]
+struct Blocking<'a> {
+    drivers: &'a Drivers<'a>,
+    sites: &'a Sites<'a>,
+    ghost within: { (v : ℕ) → IsFree drivers.now v → v < length sites.now.design.signals },
+}
+
+impl<'a> Rule for Blocking<'a> {
+    ghost keeps = { λ f u. IsFree f.drivers.now u × AssignsIn f.sites.now.charts u };
+
+    fn test(&self, _alloc: Global, i: usize) -> Result<bool, AllocError> {
+        if !self.drivers.is_free(i) {
+            return Ok(false);
+        }
+        Ok(any_now(self.sites.of_signal(i)))
     }
-    Ok(marks)
 }
 
 impl<'a> Cones<'a> {
-    /// The drivers of a design, by the tables of its processes, and a mark for each process: whether it is of kind comb. It takes as long as the
-    /// design's texts are.
+    /// The drivers of a design, by the sites of its texts, and a mark for each process: whether it is of kind comb. It takes as long as the design's
+    /// texts are.
     pub fn new(
         alloc: Global,
-        design: &'a Design,
-        tables: &'a [Tables<'a>],
+        sites: &'a Sites<'a>,
         blocks: &'a [bool],
     ) -> Result<Cones<'a>, AllocError>
-        requires { AreMaps design.now tables.now }
-        ensures { IfOk result (λ x. x ≡ wiring design.entry.now blocks.entry.now) }
+        requires { AreCharts sites.now.design sites.now.charts }
+        ensures { IfOk result (λ x. x ≡ wiring sites.entry.now.design blocks.entry.now) }
     {
-        let drivers = Drivers::new(alloc, design, tables, blocks)?;
-        let among = assigned(alloc, tables)?;
-        let blocking = blocking_among(alloc, &drivers, &among)?;
+        let design = sites.design();
+        let drivers = Drivers::new(alloc, design, sites.tables(), blocks)?;
+        let rule = Blocking {
+            drivers: &drivers,
+            sites: &*sites,
+        };
+        let blocking = marks_of(alloc, &rule, design.signals().len())?;
         let listed = marked(alloc, &blocking)?;
         Ok(Cones {
             drivers,

@@ -3,7 +3,7 @@ ghost use Rattle.std.specs.Prelude.{ℕ, ◌+◌, ◌≡◌, ◌≤◌, ◌<◌,
 ghost use Rattle.std.specs.List.{Contains};
 ghost use Rattle.vs_design.specs.Kinds.{is_variable};
 ghost use Rattle.vs_drivers.specs.declared.writers.Written as written;
-ghost use Rattle.vs_drivers.specs.Names.{AreMaps};
+ghost use Rattle.vs_maps.specs.Texts.{AreCharts};
 ghost use Rattle.vs_drivers.specs.Walks.{Passed, Named, AreFreed};
 ghost use Rattle.vs_drivers.specs.Wires.{wiring, drivers, IsFree, WritesAt, NeedsAt};
 
@@ -85,7 +85,7 @@ impl<'a> Drivers<'a> {
         tables: &'a [Tables<'a>],
         blocks: &'a [bool],
     ) -> Result<Drivers<'a>, AllocError>
-        requires { AreMaps design.now tables.now }
+        requires { AreCharts design.now tables.now }
         ensures { IfOk result (λ x. x ≡ wiring design.entry.now blocks.entry.now) }
     {
         let wires = Wires {

@@ -2,7 +2,6 @@
 //! cover a range, and sets of signals, in which a look-up takes as long as the logarithm of how many there are.
 #![tactic(auto)]
 
-mod assigned;
 mod common;
 mod cones;
 mod copies;
@@ -25,6 +24,7 @@ pub use copies::{Copies, is_net};
 pub use covering::covers;
 pub use drivers::is_variable;
 pub use lists::only;
+pub use names::push_ranges;
 pub use once::distinct;
 pub use ranges::BySignal;
 pub use set::SignalSet;

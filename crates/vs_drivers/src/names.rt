@@ -6,7 +6,7 @@ use std::alloc::AllocError;
 use vs_design::{BitRange, EventTerm};
 
 /// Puts the ranges of event terms (IEEE 1364-2005, clause 9.7.2).
-pub(crate) fn push_ranges(out: &mut Vec<BitRange>, terms: &[EventTerm]) -> Result<(), AllocError>
+pub fn push_ranges(out: &mut Vec<BitRange>, terms: &[EventTerm]) -> Result<(), AllocError>
     ensures { OnOk result (out.new.items ≡ out.old.items ++ ranges_of_terms terms.now) }
 {
     for term in terms {

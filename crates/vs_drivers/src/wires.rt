@@ -27,7 +27,7 @@ impl<'a> Model for Wires<'a> {
     ghost use Rattle.std.specs.Coded.{codes};
     ghost use Rattle.vs_design.specs.contracts.expression.Typed as expression;
     ghost use Rattle.vs_design.specs.contracts.statement.Statement as statement;
-    ghost use Rattle.vs_drivers.specs.Names.{AreMaps};
+    ghost use Rattle.vs_maps.specs.Texts.{AreCharts};
     ghost use Rattle.vs_drivers.specs.Wires.{Wiring, wiring};
 
     ghost Value = { Wiring };
@@ -36,7 +36,7 @@ impl<'a> Model for Wires<'a> {
 
     ghost view = { λ w. wiring w.design.now w.blocks.now };
 
-    ghost invariant = { λ w. AreMaps w.design.now w.tables.now };
+    ghost invariant = { λ w. AreCharts w.design.now w.tables.now };
 }
 
 impl<'a> Wires<'a> {

@@ -7,7 +7,7 @@ ghost use Rattle.vs_widths.specs.Names.{meaning_of, nested_names, by_bytes};
 ghost use Rattle.vs_scopes.specs.Declarations.{Bindings};
 ghost use Rattle.vs_scopes.specs.Parameters.{outer_fault, outer_faults, own_faults, with_given};
 ghost use Rattle.vs_scopes.specs.scopes_passes.Parts.{read_given};
-ghost use Rattle.vs_elab_constants.specs.passes.Finding.{number_of, is_number, AreNumbers, AreNamed, AreFound, AreAll, IsTried, reported_fault, Comes, found_constants};
+ghost use Rattle.vs_elab_constants.specs.passes.Finding.{number_of, is_number, AreNumbers, AreNamed, AreFound, AreAll, IsTried, reported_fault, IsRoundOutcome, found_constants};
 ghost use Rattle.vs_elab_constants.specs.passes.Values.{RefusesValues, AddsConstants};
 
 use crate::evaluating::{ParameterValues, bind, constant_given, push_constant};
@@ -202,7 +202,7 @@ fn next_value<'s>(
     known: &Names<'s, Binding>,
 ) -> Result<Round, ParameterRefusal>
     requires all { length values.now ≡ length list.now }
-    ensures ok { IfOk result (Comes (meaning_of around.now) (meaning_of (known.now ++ nested_names outer.now))
+    ensures ok { IfOk result (IsRoundOutcome (meaning_of around.now) (meaning_of (known.now ++ nested_names outer.now))
         (map read_given list.now) values.now) }
     ensures fault { IfErr result (RefusesValues false
         (λ w. outer_faults w (meaning_of around.now) (map read_given list.now)) (λ w. false)) }

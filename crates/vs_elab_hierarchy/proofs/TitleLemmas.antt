@@ -286,11 +286,11 @@ module _ (env : Environment) (names : List (List ℕ)) where
   piece_titled i k (inside b) = inside_titled k b
   piece_titled i k (net n) = none_titled [] k k
 
-  record IsBehind (k j : ℕ) : Type 0 where
+  record IsLaterThan (k j : ℕ) : Type 0 where
     low : k ≤ j
     high : j ≤ suc k
 
-  behind_is : (k : ℕ) (p : Piece) → IsBehind k (after_piece k p)
+  behind_is : (k : ℕ) (p : Piece) → IsLaterThan k (after_piece k p)
   behind_is k (plain x) = record { low = omega arith; high = omega arith }
   behind_is k (loop h x) = record { low = omega arith; high = omega arith }
   behind_is k (choice e x o) = record { low = omega arith; high = omega arith }

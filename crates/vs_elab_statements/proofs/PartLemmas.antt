@@ -262,7 +262,7 @@ flat_parts f (y ∷ ys) (suc i) x h k =
     let q = flat_parts f ys i x (omega arith) k in (f y ++ q.0, (q.1.0, ap (λ z. f y ++ z) q.1.1 ∙ sym (append_assoc (f y) q.0 (f x ++ q.1.0))))
 
 -- what a pass over items keeps
-pub record Listed (envs : Path → Surroundings) (p : Path) (s : Shape) (first : ℕ) (xs : List (CaseLabel × Stmt)) (ys : List (Vec Typed Global × Statement)) (next : ℕ) : Type 0 where
+pub record KeepsItems (envs : Path → Surroundings) (p : Path) (s : Shape) (first : ℕ) (xs : List (CaseLabel × Stmt)) (ys : List (Vec Typed Global × Statement)) (next : ℕ) : Type 0 where
   pub sound : (r : Reason) → list_any (item_fault (envs p) r) xs ≡ false
   pub free : AreFree envs p (flat_map (λ (x : CaseLabel × Stmt). blocks_in x.1) xs)
   pub means : MeansItems envs p s first xs ys next

@@ -56,7 +56,7 @@ use Rattle.vs_scopes.proofs.Folds.{any_push, any_at}
 use Rattle.std.proofs.lemmas.Bool.{or_from as both_false, or_left as left_true, or_right as right_true}
 use Rattle.vs_design.specs.vs_logic4.proofs.Basics.{take_push}
 use Rattle.vs_elab_statements.proofs.FormLemmas.{count_Assign, count_Block, count_Case, count_Dump, count_Finish, count_For, count_If, count_Later, count_Named, count_Null, count_Print, counting_more, counts, fault_Assign, fault_Block, fault_Case, fault_Dump, fault_Finish, fault_For, fault_If, fault_Later, fault_Named, fault_Null, fault_Print, item_count, item_numbers, joined_push, labels_of, numbers_Case, numbers_Delay, numbers_If, numbers_Repeat, numbers_While, total_push, total_within}
-use Rattle.vs_elab_statements.proofs.PartLemmas.{IsAround, Listed, Stated, Takes, around_Delay, around_Event, around_Forever, around_Repeat, around_While, around_part, begin_part, behind_count, block_part, counting_one, else_part, flat_parts, if_blocks, items_part, items_parts, named_part, not_overfull, step_part, then_part, turn_part}
+use Rattle.vs_elab_statements.proofs.PartLemmas.{IsAround, KeepsItems, Stated, Takes, around_Delay, around_Event, around_Forever, around_Repeat, around_While, around_part, begin_part, behind_count, block_part, counting_one, else_part, flat_parts, if_blocks, items_part, items_parts, named_part, not_overfull, step_part, then_part, turn_part}
 use Rattle.vs_design.specs.vs_logic4.proofs.Basics.{right_false}
 use Rattle.vs_design.proofs.FormLemmas.{numbers_Null, numbers_Assign, numbers_Later, numbers_Call, numbers_Finish, numbers_Block, numbers_Forever, numbers_Event}
 
@@ -216,10 +216,10 @@ module _ (list : List FoundScope) (envs : Path → Surroundings) (p : Path) wher
   -- ---- a statement in another
 
   -- a number, and the statement with the numbers behind it
-  abbrev pub Behind : ℕ → Stmt → ℕ → Statement → ℕ → Type 0
-  Behind first x k y next = IsFree envs p (statement_burden (envs p) (first + 1) x) × ((k ≡ first) × MeansStatement envs p (first + 1) x y next)
+  abbrev pub IsNumberedFrom : ℕ → Stmt → ℕ → Statement → ℕ → Type 0
+  IsNumberedFrom first x k y next = IsFree envs p (statement_burden (envs p) (first + 1) x) × ((k ≡ first) × MeansStatement envs p (first + 1) x y next)
 
-  pub states_behind : (first k mid next : ℕ) (x : Stmt) (y : Statement) → Takes first k mid → States mid x y next → Behind first x k y next
+  pub states_behind : (first k mid next : ℕ) (x : Stmt) (y : Statement) → Takes first k mid → States mid x y next → IsNumberedFrom first x k y next
   states_behind first k mid next x y h q =
       let g : States (first + 1) x y next = subst (λ z. States z x y next) h.1.0 q in
       (g.0, (h.0, g.1))
@@ -237,7 +237,7 @@ module _ (list : List FoundScope) (envs : Path → Surroundings) (p : Path) wher
   part_refused : (part : Reason → Bool) (first : ℕ) (x whole : Stmt) (f : BodyFault) → IsAround (envs p) part x whole → Refuses part f → FailsIn first whole (as_statement_fault f)
   part_refused part first x whole f a h = fails_by list envs p part (statement_burden (envs p) first whole) f (λ r u. a.fault r ∙ left_true (part r) _ u) h
 
-  states_around : (part : Reason → Bool) (first k next : ℕ) (x whole : Stmt) (y made : Statement) → IsAround (envs p) part x whole → Behind first x k y next → ((r : Reason) → part r ≡ false) → IsStatement envs p whole made → numbers made ≡ k ∷ numbers y → States first whole made next
+  states_around : (part : Reason → Bool) (first k next : ℕ) (x whole : Stmt) (y made : Statement) → IsAround (envs p) part x whole → IsNumberedFrom first x k y next → ((r : Reason) → part r ≡ false) → IsStatement envs p whole made → numbers made ≡ k ∷ numbers y → States first whole made next
   states_around part first k next x whole y made a h u m n =
       let c : count_of whole ≡ 1 + count_of x = a.count in
       let room : first + 1 + count_of x < 2 ^ 32 = h.0.room in
@@ -290,9 +290,9 @@ module _ (list : List FoundScope) (envs : Path → Surroundings) (p : Path) wher
   inside : (x : Box Stmt Global) (y : Box Statement Global) (a : Stmt) (b : Statement) → a ≡ x.value → y.value ≡ b → IsStatement envs p a b → IsStatement envs p x.value y.value
   inside x y a b i j h = subst (λ z. IsStatement envs p z y.value) i (subst (λ z. IsStatement envs p a z) (sym j) h)
 
-  module _ (first k next : ℕ) (x : Box Stmt Global) (y : Box Statement Global) (a : Stmt) (b : Statement) (h : Behind first a k b next) (i : a ≡ x.value) (j : y.value ≡ b) where
-    body : Behind first x.value k b next
-    body = subst (λ z. Behind first z k b next) i h
+  module _ (first k next : ℕ) (x : Box Stmt Global) (y : Box Statement Global) (a : Stmt) (b : Statement) (h : IsNumberedFrom first a k b next) (i : a ≡ x.value) (j : y.value ≡ b) where
+    body : IsNumberedFrom first x.value k b next
+    body = subst (λ z. IsNumberedFrom first z k b next) i h
 
     made : IsStatement envs p x.value y.value
     made = inside x y a b i j h.1.1.means
@@ -383,7 +383,7 @@ module _ (list : List FoundScope) (envs : Path → Surroundings) (p : Path) wher
   else_refused first mid e x o a f i m h =
       fails_part list envs p (statements_burden (envs p) mid (else_list o)) (statement_burden (envs p) first (s.If e x o)) f (else_part (envs p) first mid e x o (m ∙ ap (λ z. first + 1 + count_of z) i)) h
 
-  pub states_If : (first k mid next : ℕ) (e : Box Expr Global) (signed : Bool) (z : Typed) (x : Box Stmt Global) (o : Option (Box Stmt Global)) (y w : Box Statement Global) (a : Stmt) (b c : Statement) → Behind first a k b mid → Otherwise mid o c next → Operates e.value signed z →
+  pub states_If : (first k mid next : ℕ) (e : Box Expr Global) (signed : Bool) (z : Typed) (x : Box Stmt Global) (o : Option (Box Stmt Global)) (y w : Box Statement Global) (a : Stmt) (b c : Statement) → IsNumberedFrom first a k b mid → Otherwise mid o c next → Operates e.value signed z →
       a ≡ x.value → y.value ≡ b → w.value ≡ c → States first (s.If e x o) (d.If k z y w) next
   states_If first k mid next e signed z x o y w a b c h g u i j l =
       let at : mid ≡ first + 1 + count_of x.value = h.1.1.next_is ∙ ap (λ v. first + 1 + count_of v) i in
@@ -429,7 +429,7 @@ module _ (list : List FoundScope) (envs : Path → Surroundings) (p : Path) wher
         let at : m2 ≡ first + 2 + count_of x.value = omega (arith, e, g, n) in
         fails_part list envs p (numbered_burden (envs p) m2 head.value.step.0 head.value.step.1) (statement_burden (envs p) first (s.For head x)) f (step_part (envs p) first head x m2 at) h
 
-  pub states_For : (first m1 m2 next i j k : ℕ) (head : Box ForHeader Global) (x : Box Stmt Global) (t u : Target) (y z w : Typed) (signed : Bool) (q : Stmt) (one made : Statement) → Numbers first head.value.first.0 head.value.first.1 i t y m1 → Behind m1 q j one m2 → Operates head.value.condition signed z → Numbers m2 head.value.step.0 head.value.step.1 k u w next →
+  pub states_For : (first m1 m2 next i j k : ℕ) (head : Box ForHeader Global) (x : Box Stmt Global) (t u : Target) (y z w : Typed) (signed : Bool) (q : Stmt) (one made : Statement) → Numbers first head.value.first.0 head.value.first.1 i t y m1 → IsNumberedFrom m1 q j one m2 → Operates head.value.condition signed z → Numbers m2 head.value.step.0 head.value.step.1 k u w next →
       q ≡ x.value → IsRepeated (d.Assign i t y) j z one (d.Assign k u w) made → States first (s.For head x) made next
   states_For first m1 m2 next i j k head x t u y z w signed q one made h g v o e r =
       let n = count_of x.value in
@@ -516,7 +516,7 @@ module _ (list : List FoundScope) (envs : Path → Surroundings) (p : Path) wher
   items_push _ _ _ _ _ x y (no_items q w g) h k = more_items q w g x y [] [] h k (no_items q w g)
   items_push _ _ _ _ _ x y (more_items q w g a b us vs o r os) h k = more_items q w g a b _ _ o r (items_push q w g us vs x y os h k)
 
-  pub listed_none : (s : Shape) (first : ℕ) (ys : List (Vec Typed Global × Statement)) → ys ≡ [] → Listed envs p s first [] ys first
+  pub listed_none : (s : Shape) (first : ℕ) (ys : List (Vec Typed Global × Statement)) → ys ≡ [] → KeepsItems envs p s first [] ys first
   listed_none s first ys h =
       let e : first ≡ first + 0 = omega arith in
       record {
@@ -525,8 +525,8 @@ module _ (list : List FoundScope) (envs : Path → Surroundings) (p : Path) wher
         means = record { means = subst (AreItems envs p s.width s.signed []) (sym h) (no_items p s.width s.signed); next_is = e; numbered = ap (λ z. joined (map item_numbers z)) h };
       }
 
-  pub listed_more : (s : Shape) (first mid next : ℕ) (xs : List (CaseLabel × Stmt)) (i : ℕ) (x : CaseLabel × Stmt) (ys zs : List (Vec Typed Global × Statement)) (v : Vec Typed Global) (y : Statement) → i < length xs → x ≡ get_or xs i x → zs ≡ ys ++ (v, y) ∷ [] → Listed envs p s first (take i xs) ys mid →
-      ((r : Reason) → list_any (operand_fault r (envs p).names) (label_exprs x.0) ≡ false) × AreTypedAt (envs p).names s.width s.signed (label_exprs x.0) v.items → States mid x.1 y next → Listed envs p s first (take (i + 1) xs) zs next
+  pub listed_more : (s : Shape) (first mid next : ℕ) (xs : List (CaseLabel × Stmt)) (i : ℕ) (x : CaseLabel × Stmt) (ys zs : List (Vec Typed Global × Statement)) (v : Vec Typed Global) (y : Statement) → i < length xs → x ≡ get_or xs i x → zs ≡ ys ++ (v, y) ∷ [] → KeepsItems envs p s first (take i xs) ys mid →
+      ((r : Reason) → list_any (operand_fault r (envs p).names) (label_exprs x.0) ≡ false) × AreTypedAt (envs p).names s.width s.signed (label_exprs x.0) v.items → States mid x.1 y next → KeepsItems envs p s first (take (i + 1) xs) zs next
   listed_more s first mid next xs i x ys zs v y h k e o t q =
       let front = take i xs in
       let more : total (map item_count (front ++ x ∷ [])) ≡ total (map item_count front) + count_of x.1 = total_push item_count front x in
@@ -535,16 +535,16 @@ module _ (list : List FoundScope) (envs : Path → Surroundings) (p : Path) wher
       let numbered : joined (map item_numbers (ys ++ (v, y) ∷ [])) ≡ counting first (total (map item_count (front ++ x ∷ []))) =
       ap joined (map-append item_numbers ys ((v, y) ∷ [])) ∙ joined_push (map item_numbers ys) (numbers y) ∙ ap (λ z. z ++ numbers y) o.means.numbered ∙ ap (λ z. counting first (total (map item_count front)) ++ z) (q.1.numbered ∙ ap (λ z. counting z (count_of x.1)) o.means.next_is)
       ∙ counting_more first (total (map item_count front)) (count_of x.1) ∙ ap (counting first) (sym more) in
-      let done : Listed envs p s first (front ++ x ∷ []) (ys ++ (v, y) ∷ []) next = record {
+      let done : KeepsItems envs p s first (front ++ x ∷ []) (ys ++ (v, y) ∷ []) next = record {
         sound = λ r. any_push (item_fault (envs p) r) front x (o.sound r) (both_false _ _ (t.0 r) (q.0.own r));
         free = pushed_free (λ (x : CaseLabel × Stmt). blocks_in x.1) front x o.free q.0.blocks;
         means = record { means = items_push p s.width s.signed front ys x (v, y) o.means.means t.1 q.1.means; next_is = at; numbered = numbered };
       } in
-      subst (λ z. Listed envs p s first z zs next) (sym (take_push xs i x h k)) (subst (λ z. Listed envs p s first (front ++ x ∷ []) z next) (sym e) done)
+      subst (λ z. KeepsItems envs p s first z zs next) (sym (take_push xs i x h k)) (subst (λ z. KeepsItems envs p s first (front ++ x ∷ []) z next) (sym e) done)
 
-  pub listed_all : (s : Shape) (first next : ℕ) (xs : List (CaseLabel × Stmt)) (i : ℕ) (ys : List (Vec Typed Global × Statement)) → length xs ≤ i → next < 2 ^ 32 → Listed envs p s first (take i xs) ys next → Lists s first xs ys next
+  pub listed_all : (s : Shape) (first next : ℕ) (xs : List (CaseLabel × Stmt)) (i : ℕ) (ys : List (Vec Typed Global × Statement)) → length xs ≤ i → next < 2 ^ 32 → KeepsItems envs p s first (take i xs) ys next → Lists s first xs ys next
   listed_all s first next xs i ys h small o =
-      let q : Listed envs p s first xs ys next = subst (λ z. Listed envs p s first z ys next) (take_all i xs h) o in
+      let q : KeepsItems envs p s first xs ys next = subst (λ z. KeepsItems envs p s first z ys next) (take_all i xs h) o in
       (record { own = q.sound; room = subst (λ z. z < 2 ^ 32) q.means.next_is small; blocks = q.free }, q.means)
 
   -- a fault of the labels of an item

@@ -78,20 +78,20 @@ same_self n h = true≢false (sym ((part_decides n n).1 refl) ∙ h)
 
 -- ---- what opens a scope
 
-record IsListed (ss : List Scope) (s : Scope) : Type 0 where
+record IsScopeAmong (ss : List Scope) (s : Scope) : Type 0 where
   place : ℕ
   is : slice_get ss place ≡ Some s
 
-listed_right : (xs ys : List Scope) (s : Scope) → IsListed ys s → IsListed (xs ++ ys) s
+listed_right : (xs ys : List Scope) (s : Scope) → IsScopeAmong ys s → IsScopeAmong (xs ++ ys) s
 listed_right xs ys s h = let q = at_behind xs ys h.place s h.is in record { place = q.0; is = q.1 }
 
-listed_left : (xs ys : List Scope) (s : Scope) → IsListed xs s → IsListed (xs ++ ys) s
+listed_left : (xs ys : List Scope) (s : Scope) → IsScopeAmong xs s → IsScopeAmong (xs ++ ys) s
 listed_left xs ys s h = record { place = h.place; is = at_first xs ys h.place s h.is }
 
-listed_later : (x : Scope) (xs : List Scope) (s : Scope) → IsListed xs s → IsListed (x ∷ xs) s
+listed_later : (x : Scope) (xs : List Scope) (s : Scope) → IsScopeAmong xs s → IsScopeAmong (x ∷ xs) s
 listed_later x xs s h = record { place = suc h.place; is = h.is }
 
-listed_either : (xs ys : List Scope) (s : Scope) (i : ℕ) → slice_get (xs ++ ys) i ≡ Some s → IsListed xs s ⊎ IsListed ys s
+listed_either : (xs ys : List Scope) (s : Scope) (i : ℕ) → slice_get (xs ++ ys) i ≡ Some s → IsScopeAmong xs s ⊎ IsScopeAmong ys s
 listed_either [] ys s i e = inr (record { place = i; is = e })
 listed_either (x ∷ xs) ys s zero e = inl (record { place = zero; is = e })
 listed_either (x ∷ xs) ys s (suc i) e = ⊎_elim (λ h. inl (listed_later x xs s h)) (λ h. inr h) (listed_either xs ys s i e)
@@ -112,15 +112,15 @@ abbrev HasOrigin : List Module → List Scope → Scope → Type 0
 HasOrigin ms all t = ((m : Module) × IsOpenedTop m t) ⊎ IsOpenedIn ms all t
 
 abbrev AreAmong : List Scope → List Scope → Type 0
-AreAmong ss all = (s : Scope) → IsListed ss s → IsListed all s
+AreAmong ss all = (s : Scope) → IsScopeAmong ss s → IsScopeAmong all s
 
-module _ (ms : List Module) (all : List Scope) (f : Scope → List Scope) (within : (t : Scope) → AreAmong (f t) all → HasOrigin ms all t → (s : Scope) → IsListed (f t) s → HasOrigin ms all s) (s : Scope) (known : IsListed all s) where
-  opened_from : (at : Before) (k : ℕ) (x : Inner) → slice_get (inner_of s) k ≡ Some x → (o : Option Scope) → opened ms s at x ≡ o → AreAmong (of_opened f o) all → (t : Scope) → IsListed (of_opened f o) t → HasOrigin ms all t
+module _ (ms : List Module) (all : List Scope) (f : Scope → List Scope) (within : (t : Scope) → AreAmong (f t) all → HasOrigin ms all t → (s : Scope) → IsScopeAmong (f t) s → HasOrigin ms all s) (s : Scope) (known : IsScopeAmong all s) where
+  opened_from : (at : Before) (k : ℕ) (x : Inner) → slice_get (inner_of s) k ≡ Some x → (o : Option Scope) → opened ms s at x ≡ o → AreAmong (of_opened f o) all → (t : Scope) → IsScopeAmong (of_opened f o) t → HasOrigin ms all t
   opened_from at k x is None e among t h = absurd (none-some t h.is)
   opened_from at k x is (Some z) e among t h =
       within z among (inr (record { outer = s; place = known.place; stands = known.is; at = at; number = k; inner = x; holds = is; opens = e })) t h
 
-  below_from : (at : Before) (xs : List Inner) → ((k : ℕ) (x : Inner) → slice_get xs k ≡ Some x → (j : ℕ) × (slice_get (inner_of s) j ≡ Some x)) → AreAmong (below ms f s at xs) all → (t : Scope) → IsListed (below ms f s at xs) t → HasOrigin ms all t
+  below_from : (at : Before) (xs : List Inner) → ((k : ℕ) (x : Inner) → slice_get xs k ≡ Some x → (j : ℕ) × (slice_get (inner_of s) j ≡ Some x)) → AreAmong (below ms f s at xs) all → (t : Scope) → IsScopeAmong (below ms f s at xs) t → HasOrigin ms all t
   below_from at [] held among t h = absurd (none-some t h.is)
   below_from at (x ∷ xs) held among t h =
       let o = opened ms s at x in
@@ -131,19 +131,19 @@ module _ (ms : List Module) (all : List Scope) (f : Scope → List Scope) (withi
       (below_from (before_following at first) xs (λ k y is. held (suc k) y is) (λ z k. among z (listed_right first others z k)) t)
       (listed_either first others t h.place h.is)
 
-first_from : (ms : List Module) (all ss : List Scope) (s t : Scope) → HasOrigin ms all s → (IsListed ss t → HasOrigin ms all t) → (i : ℕ) → slice_get (s ∷ ss) i ≡ Some t → HasOrigin ms all t
+first_from : (ms : List Module) (all ss : List Scope) (s t : Scope) → HasOrigin ms all s → (IsScopeAmong ss t → HasOrigin ms all t) → (i : ℕ) → slice_get (s ∷ ss) i ≡ Some t → HasOrigin ms all t
 first_from ms all ss s t p rest zero e = subst (HasOrigin ms all) (same_Some s t e) p
 first_from ms all ss s t p rest (suc i) e = rest (record { place = i; is = e })
 
-within_from : (n : ℕ) (ms : List Module) (all : List Scope) (s : Scope) → AreAmong (scopes_within n ms s) all → HasOrigin ms all s → (t : Scope) → IsListed (scopes_within n ms s) t → HasOrigin ms all t
+within_from : (n : ℕ) (ms : List Module) (all : List Scope) (s : Scope) → AreAmong (scopes_within n ms s) all → HasOrigin ms all s → (t : Scope) → IsScopeAmong (scopes_within n ms s) t → HasOrigin ms all t
 unfolding scopes_within
 within_from zero ms all s among p t h = first_from ms all [] s t p (λ k. absurd (none-some t k.is)) h.place h.is
 within_from (suc n) ms all s among p t h =
     let scopes = below ms (scopes_within n ms) s (within_first s) (inner_of s) in
-    let known : IsListed all s = among s (record { place = zero; is = refl }) in
+    let known : IsScopeAmong all s = among s (record { place = zero; is = refl }) in
     first_from ms all scopes s t p (below_from ms all (scopes_within n ms) (within_from n ms all) s known (within_first s) (inner_of s) (λ k x is. (k, is)) (λ x k. among x (listed_later s scopes x k)) t) h.place h.is
 
-top_from : (n : ℕ) (ms : List Module) (nets : Bool) (o : Option Module) (t : Option Scope) → opened_top nets o ≡ t → (s : Scope) → IsListed (of_opened (scopes_within n ms) t) s → HasOrigin ms (of_opened (scopes_within n ms) t) s
+top_from : (n : ℕ) (ms : List Module) (nets : Bool) (o : Option Module) (t : Option Scope) → opened_top nets o ≡ t → (s : Scope) → IsScopeAmong (of_opened (scopes_within n ms) t) s → HasOrigin ms (of_opened (scopes_within n ms) t) s
 top_from n ms nets o None e s h = absurd (none-some s h.is)
 top_from n ms nets o (Some t) e s h = within_from n ms (scopes_within n ms t) t (λ x k. k) (inl (what_is_opened_top nets o t e)) s h
 
@@ -220,7 +220,7 @@ is_some_is (Some k) h = (k, refl)
 -- ---- the scopes of named blocks
 
 -- where the scope of a named block stands among these
-record StandsAt (all : List Scope) (place : ℕ) (y : FoundScope) (b : NamedBlock) : Type 0 where
+record IsBlockScopeAt (all : List Scope) (place : ℕ) (y : FoundScope) (b : NamedBlock) : Type 0 where
   number : ℕ
   scope : Scope
   found : meaning_of y.blocks b.name ≡ Some number
@@ -261,7 +261,7 @@ module _ (source : Source) (top : List ℕ) (x : Hierarchy) (o : OpensAll source
           let inner : u.inner ≡ g.named b = same_Some u.inner (g.named b) (sym holds ∙ ap (slice_get (inner_of s)) (sym same) ∙ is) in
           (u.at, subst (λ z. opened source.modules.items s u.at z ≡ Some t) inner (subst (λ z. opened source.modules.items z u.at u.inner ≡ Some t) outer u.opens))
 
-  stands_at : (place : ℕ) (s : Scope) (y : FoundScope) (b : NamedBlock) → slice_get (scopes_of source.modules.items top) place ≡ Some s → slice_get x.scopes.items place ≡ Some y → IsInside s b → StandsAt (scopes_of source.modules.items top) place y b
+  stands_at : (place : ℕ) (s : Scope) (y : FoundScope) (b : NamedBlock) → slice_get (scopes_of source.modules.items top) place ≡ Some s → slice_get x.scopes.items place ≡ Some y → IsInside s b → IsBlockScopeAt (scopes_of source.modules.items top) place y b
   stands_at place s y b h at is =
       let blocks = zip_at (HasBlocks (scopes_of source.modules.items top)) x.scopes.items (scopes_of source.modules.items top) place y s o.blocks at h in
       let found = is_some_is (meaning_of y.blocks b.name) (blocks.all is.0 b is.1) in

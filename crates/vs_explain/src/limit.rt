@@ -72,7 +72,7 @@ struct Taker {
 
 /// The last steps of a run: how many they are, the time at which they began, in ticks, and how many of them each process and each assignment took.
 #[derive(Clone, Copy)]
-pub struct Taken<'c> {
+pub struct StepCounts<'c> {
     pub steps: u64,
     pub from: u64,
     pub processes: &'c [u64],
@@ -80,7 +80,7 @@ pub struct Taken<'c> {
 }
 
 /// The parts that took a step: the processes, and then the assignments.
-fn takers_of(alloc: Global, taken: Taken) -> Result<Vec<Taker>, AllocError> {
+fn takers_of(alloc: Global, taken: StepCounts) -> Result<Vec<Taker>, AllocError> {
     let mut takers = Vec::new(alloc);
     for (number, steps) in taken.processes.iter().enumerate() {
         if *steps > 0 {
@@ -192,7 +192,7 @@ fn put_takers(
 }
 
 /// Puts what the last steps did to the time.
-fn put_progress(page: &mut Page, taken: Taken, count: usize, time: u64) {
+fn put_progress(page: &mut Page, taken: StepCounts, count: usize, time: u64) {
     if taken.from < time {
         page.put("In these steps the time went on from ");
         page.put_shown(taken.from);
@@ -217,7 +217,7 @@ pub fn explain_steps(
     design: &Design,
     steps: u64,
     time: u64,
-    taken: Taken,
+    taken: StepCounts,
 ) {
     page.put("The run took ");
     page.put_shown(steps);

@@ -1,6 +1,6 @@
 //! Runs that take too many steps, and the events whose order makes two runs differ.
 
-use crate::limit::{Taken, explain_steps};
+use crate::limit::{StepCounts, explain_steps};
 use crate::scopes::put_scope;
 use crate::steps::last_steps;
 use std::alloc::{AllocError, Global};
@@ -23,7 +23,7 @@ pub fn explain_limit(
     let design = design_of(alloc, source, top);
     if let (Some(text), Ok(design)) = (&text, &design) {
         let last = last_steps(alloc, design, lifo, steps)?;
-        let taken = Taken {
+        let taken = StepCounts {
             steps: last.steps,
             from: last.from,
             processes: &last.processes,

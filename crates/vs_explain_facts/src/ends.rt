@@ -32,7 +32,7 @@ fn delayed(arrival: Arrival, ticks: u64, modulus: u64) -> Arrival {
 
 impl Walk {
     /// Comes to a statement.
-    fn come(&mut self, place: usize, arrival: Arrival) -> Result<(), AllocError> {
+    fn visit(&mut self, place: usize, arrival: Arrival) -> Result<(), AllocError> {
         let Some(row) = self.rows.get_mut(place) else {
             return Ok(());
         };
@@ -64,7 +64,7 @@ impl Walk {
             _ => arrival,
         };
         for to in nexts {
-            self.come(*to, next)?;
+            self.visit(*to, next)?;
         }
         Ok(())
     }
@@ -96,7 +96,7 @@ pub fn delay_ends(
         todo: Vec::new(alloc),
         is_full: false,
     };
-    walk.come(text.flow.start, None)?;
+    walk.visit(text.flow.start, None)?;
     for _ in 0..u64::MAX {
         let Some((place, arrival)) = walk.todo.pop() else {
             break;

@@ -111,7 +111,7 @@ pub struct Cone {
 
 impl Cone {
     /// Comes to a signal.
-    fn come(&mut self, signal: usize, from: usize) -> Result<(), AllocError> {
+    fn add_signal(&mut self, signal: usize, from: usize) -> Result<(), AllocError> {
         if set_mark(&mut self.signals, signal) {
             if let Some(entry) = self.from.get_mut(signal) {
                 *entry = from;
@@ -122,9 +122,9 @@ impl Cone {
     }
 
     /// Comes to signals.
-    fn come_all(&mut self, signals: &[usize], from: usize) -> Result<(), AllocError> {
+    fn add_signals(&mut self, signals: &[usize], from: usize) -> Result<(), AllocError> {
         for signal in signals {
-            self.come(*signal, from)?;
+            self.add_signal(*signal, from)?;
         }
         Ok(())
     }
@@ -139,7 +139,7 @@ impl Cone {
         for number in facts.drivers_of(signal) {
             if set_mark(&mut self.assigns, *number) {
                 if let Some(assign) = facts.design.assigns().get(*number) {
-                    self.come_all(&read_by(alloc, assign)?, signal)?;
+                    self.add_signals(&read_by(alloc, assign)?, signal)?;
                 }
             }
         }
@@ -158,10 +158,10 @@ impl Cone {
             return Ok(());
         };
         for term in &text.terms {
-            self.come(term.term.range.signal, signal)?;
+            self.add_signal(term.term.range.signal, signal)?;
         }
         for point in &text.points {
-            self.come_all(&point.reads, signal)?;
+            self.add_signals(&point.reads, signal)?;
         }
         Ok(())
     }
@@ -323,7 +323,7 @@ impl<'d> Facts<'d> {
             blocks: vec![in alloc; false; self.texts.len()]?,
         };
         for signal in from {
-            cone.come(*signal, *signal)?;
+            cone.add_signal(*signal, *signal)?;
         }
         for next in 0..self.design.signals().len() {
             let Some(signal) = cone.order.get(next).copied() else {

@@ -225,7 +225,7 @@ struct Walk {
 
 impl Walk {
     /// Comes to a statement.
-    fn come(&mut self, place: usize, arrival: Arrival) -> Result<(), AllocError> {
+    fn visit(&mut self, place: usize, arrival: Arrival) -> Result<(), AllocError> {
         let Some(moment) = self.moments.get_mut(place) else {
             return Ok(());
         };
@@ -268,7 +268,7 @@ impl Walk {
         let must_enter = must_iterate(statement, reading) && arrival != Arrival::Late;
         for (index, to) in nexts.iter().enumerate() {
             if index == 0 || !must_enter {
-                self.come(*to, next)?;
+                self.visit(*to, next)?;
             }
         }
         Ok(())
@@ -288,7 +288,7 @@ pub(crate) fn moments_by(
         after_time: vec![in alloc; false; points.len()]?,
         todo: Vec::new(alloc),
     };
-    walk.come(flow.start, Arrival::Start)?;
+    walk.visit(flow.start, Arrival::Start)?;
     for _ in 0..u64::MAX {
         let Some((place, arrival)) = walk.todo.pop() else {
             break;

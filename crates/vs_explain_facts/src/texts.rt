@@ -120,7 +120,7 @@ struct WriteWalk {
 
 impl WriteWalk {
     /// Comes to what a statement leads to, behind a write.
-    fn come(&mut self, flow: &Flow, place: usize, write: usize) -> Result<(), AllocError> {
+    fn visit_next(&mut self, flow: &Flow, place: usize, write: usize) -> Result<(), AllocError> {
         let Some(nexts) = flow.nexts.get(place) else {
             return Ok(());
         };
@@ -149,7 +149,7 @@ impl<'d> TextFacts<'d> {
         };
         for (number, point) in self.points.iter().enumerate() {
             if point.writes_signal(signal) {
-                walk.come(&self.ways, number, number)?;
+                walk.visit_next(&self.ways, number, number)?;
             }
         }
         for _ in 0..u64::MAX {
@@ -159,7 +159,7 @@ impl<'d> TextFacts<'d> {
             match self.points.get(place) {
                 Some(point) if point.writes_signal(signal) => return Ok(Some((write, place))),
                 Some(point) if point.is_delay() || point.is_event() => {}
-                _ => walk.come(&self.ways, place, write)?,
+                _ => walk.visit_next(&self.ways, place, write)?,
             }
         }
         Ok(None)

@@ -88,7 +88,7 @@ fn place_of(facts: &Facts, driver: Part) -> usize {
 
 impl Walk {
     /// Comes to a driver of what another one reads.
-    fn come(&mut self, facts: &Facts, driver: Part, hop: Hop) -> Result<(), AllocError> {
+    fn visit(&mut self, facts: &Facts, driver: Part, hop: Hop) -> Result<(), AllocError> {
         if let Some(from) = self.from.get_mut(place_of(facts, driver)) {
             if from.is_none() {
                 *from = Some(hop);
@@ -113,13 +113,13 @@ impl Walk {
         for number in facts.drivers_of(range.signal) {
             let other = Part::Assign(*number);
             if writes_of(alloc, facts, other, range)? {
-                self.come(facts, other, hop)?;
+                self.visit(facts, other, hop)?;
             }
         }
         if let Some(number) = facts.block_of(range.signal) {
             let other = Part::Process(number);
             if other != driver {
-                self.come(facts, other, hop)?;
+                self.visit(facts, other, hop)?;
             }
         }
         Ok(())

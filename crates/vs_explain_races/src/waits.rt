@@ -303,7 +303,7 @@ pub(crate) fn mixed_lists<'q>(question: Question<'q>) -> Option<&'q [Vec<u64>]> 
 }
 
 /// Whether an edge of a signal can come at a residue of one of some lists.
-fn comes_at(
+fn may_fire_at(
     alloc: Global,
     question: Question,
     signal: usize,
@@ -333,7 +333,7 @@ fn arrival_of(
     lists: &[Vec<u64>],
 ) -> Result<Option<usize>, AllocError> {
     for (index, term) in text.terms.iter().enumerate() {
-        if comes_at(alloc, question, term.term.range.signal, lists)? {
+        if may_fire_at(alloc, question, term.term.range.signal, lists)? {
             return Ok(Some(index));
         }
     }

@@ -15,13 +15,13 @@ no_fall xs rises i j h within = elim (cases i j h) [
 ]
 
 -- what a search by halves tells of a number that it doesn't find
-abbrev pub Told : List ℕ → ℕ → Result ℕ ℕ → Type 0
-Told xs x r = MatchResult r (λ i. (i < length xs) × (get_or xs i 0 ≡ x)) (λ i. (i ≤ length xs) × ((k : ℕ) → k < i → get_or xs k 0 < x)
+abbrev pub IsNotFound : List ℕ → ℕ → Result ℕ ℕ → Type 0
+IsNotFound xs x r = MatchResult r (λ i. (i < length xs) × (get_or xs i 0 ≡ x)) (λ i. (i ≤ length xs) × ((k : ℕ) → k < i → get_or xs k 0 < x)
     × ((k : ℕ) → i ≤ k → k < length xs → x < get_or xs k 0))
 
-pub not_there : (xs : List ℕ) (x i : ℕ) (r : Result ℕ ℕ) → r ≡ Err i → Told xs x r → IsPlaceOf xs x None
+pub not_there : (xs : List ℕ) (x i : ℕ) (r : Result ℕ ℕ) → r ≡ Err i → IsNotFound xs x r → IsPlaceOf xs x None
 not_there xs x i r is told k within =
-    let h = subst (Told xs x) is told in
+    let h = subst (IsNotFound xs x) is told in
     ne_eqb (get_or xs k 0) x (λ e. elim (cases_lt k i) [
       | inl l ↦ let c = h.1 k l in omega (arith, c, e)
       | inr m ↦ let c = h.2 k m within in omega (arith, c, e)

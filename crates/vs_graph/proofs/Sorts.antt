@@ -7,7 +7,7 @@ use Rattle.std.proofs.lemmas.List.{length-set, length-replicate}
 use Rattle.std.proofs.lemmas.List.Elements.{Contains-append_left, Contains-append_right, Contains-append_cases, Contains-push, Contains-push_cases}
 use Rattle.std.proofs.lemmas.Bool.{cases_eq}
 use Rattle.std.proofs.lemmas.Option.{slice_get_within, get_or_from_slice_get, slice_get-get_or, same_Some}
-use Rattle.vs_graph.specs.Order.{Needs, ComesBefore, Lacks, IsSorted}
+use Rattle.vs_graph.specs.Order.{Needs, Precedes, Lacks, IsSorted}
 use Rattle.vs_graph.specs.Rows.{AreRows, row}
 use Rattle.vs_graph.specs.Sorting.{IsPlaced, AreSorted, LacksOne, GoesOn, IsTried, IsPlacing, ArePlacing, LacksAt, AreTriedAt, AreUsers}
 use Rattle.vs_graph.proofs.RowLemmas.{below_or}
@@ -119,7 +119,7 @@ one_more table order marks x row s within new is all = record {
   each i j y (inr a) (inl b) = absurd (new (s.marked x (contains_at order j x (b ∙ ap (λ t. Some t) (sym a.1)))))
   each i j y (inr a) (inr b) = a.0 ∙ sym b.0
 
-  behind : (i y z : ℕ) → Needs table y z → (slice_get order i ≡ Some y) ⊎ ((i ≡ length order) × (x ≡ y)) → ComesBefore (order ++ x ∷ []) i z
+  behind : (i y z : ℕ) → Needs table y z → (slice_get order i ≡ Some y) ⊎ ((i ≡ length order) × (x ≡ y)) → Precedes (order ++ x ∷ []) i z
   behind i y z n (inl a) = let b = s.after i y z a n in record { place = b.place; before = b.before; is = append_keeps order (x ∷ []) b.place z b.is }
   behind i y z n (inr e) =
       let row_is : row ≡ n.list = same_Some row n.list (sym is ∙ ap (slice_get table) e.1 ∙ n.is) in

@@ -11,7 +11,7 @@ pub record Needs (table : List (Vec ℕ Global)) (x y : ℕ) : Type 0 where
   pub has : Contains list.items y
 
 -- a thing stands at an earlier place of an order
-pub record ComesBefore (order : List ℕ) (i y : ℕ) : Type 0 where
+pub record Precedes (order : List ℕ) (i y : ℕ) : Type 0 where
   pub place : ℕ
   pub before : place < i
   pub is : slice_get order place ≡ Some y
@@ -26,5 +26,5 @@ pub record Lacks (table : List (Vec ℕ Global)) (order : List ℕ) (x : ℕ) : 
 pub record IsSorted (table : List (Vec ℕ Global)) (order : List ℕ) : Type 0 where
   pub within : (x : ℕ) → Contains order x → x < length table
   pub once : (i j x : ℕ) → slice_get order i ≡ Some x → slice_get order j ≡ Some x → i ≡ j
-  pub after : (i x y : ℕ) → slice_get order i ≡ Some x → Needs table x y → ComesBefore order i y
+  pub after : (i x y : ℕ) → slice_get order i ≡ Some x → Needs table x y → Precedes order i y
   pub lacks : (x : ℕ) → x < length table → (Contains order x → ⊥) → Lacks table order x

@@ -3,7 +3,7 @@ use Rattle.std.specs.Prelude.{ℕ, ◌≡◌, ◌<◌, ◌⊎◌, ◌++◌, Bool
 use Rattle.std.specs.List.{Contains}
 use Rattle.std.specs.declared.vec.Vec.{Vec}
 use Rattle.std.specs.declared.alloc.Global.{Global}
-use Rattle.vs_graph.specs.Order.{Needs, ComesBefore, Lacks}
+use Rattle.vs_graph.specs.Order.{Needs, Precedes, Lacks}
 use Rattle.vs_graph.specs.Rows.{row}
 
 abbrev pub IsPlaced : List Bool → ℕ → Type 0
@@ -15,7 +15,7 @@ pub record AreSorted (table : List (Vec ℕ Global)) (order : List ℕ) (placed 
   pub marked : (x : ℕ) → Contains order x → IsPlaced placed x
   pub there : (x : ℕ) → IsPlaced placed x → Contains order x
   pub once : (i j x : ℕ) → slice_get order i ≡ Some x → slice_get order j ≡ Some x → i ≡ j
-  pub after : (i x y : ℕ) → slice_get order i ≡ Some x → Needs table x y → ComesBefore order i y
+  pub after : (i x y : ℕ) → slice_get order i ≡ Some x → Needs table x y → Precedes order i y
 
 -- one of some things isn't placed
 pub record LacksOne (placed : List Bool) (needed : List ℕ) : Type 0 where

@@ -43,10 +43,10 @@ use Rattle.vs_rules.specs.vs_process.proofs.ThreadLinks.{root_bit}
 use Rattle.vs_independence.proofs.Early.{found_waits, timed_hears}
 use Rattle.vs_independence.proofs.Firing.{one_writer, one_second, writes_as, Rooted, rooted, none_fires, fires_at, view_bit, same_digits}
 use Rattle.vs_independence.proofs.Lasts.{Last, Bitwise, bit_iterate}
-use Rattle.vs_independence.proofs.Texts.{writes_now, writes_later}
+use Rattle.vs_rules.proofs.Texts.{writes_now, writes_later}
 use Rattle.vs_independence.proofs.Threads.{waiting_timed, heard_term, hears_edges, hears_level, zero_or, Opened, opened, thread_walks, writes_walks, makes_walks, Looks, no_looks, reads_walks, Reading, reading}
 use Rattle.vs_independence.proofs.Resumed.{Resumed, resumed, resumed_mixed, resumed_runs, resumed_waits}
-use Rattle.vs_independence.proofs.Walks.{At, at_zero, at_later, Here, Heard, Stands, Wrote, Made}
+use Rattle.vs_independence.proofs.Walks.{At, at_zero, at_later, Here, Heard, IsAtPlace, Wrote, Made}
 
 -- ---- two that write one signal are one
 
@@ -182,7 +182,7 @@ fired_by d c b g clocks i u r th is seq looks rd up root own slot = by_input is.
       | inr rests ↦ no_reads th.place rests.1 looks
     ])
     by_input (Some f) e may same =
-        let heard : Heard d i may.terms (erased may.todo) = subst (Stands d c i b.time) may.at (stands_found d c b g i seq) in
+        let heard : Heard d i may.terms (erased may.todo) = subst (IsAtPlace d c i b.time) may.at (stands_found d c b g i seq) in
         let has = heard_term d i may.terms (erased may.todo) may.term heard may.is in
         (f, e, same_signal f (opened d c b g clocks i f seq may.term has may.fires (λ first. found_waits d blocks b first i may.terms may.todo may.at)))
       where
@@ -196,11 +196,11 @@ fired_by d c b g clocks i u r th is seq looks rd up root own slot = by_input is.
 -- ---- roots
 
 -- the terms of a text stand at its points: left
-abbrev pub HeardStands : Parts → Type 0
-HeardStands d = (i : ℕ) (p : Process) (v : ℕ) → slice_get d.processes i ≡ Some p → listens p.body v ≡ true → (t : EventTerm) × HasTerm d i t × (t.range.signal ≡ v)
+abbrev pub HeardAtPoints : Parts → Type 0
+HeardAtPoints d = (i : ℕ) (p : Process) (v : ℕ) → slice_get d.processes i ≡ Some p → listens p.body v ≡ true → (t : EventTerm) × HasTerm d i t × (t.range.signal ≡ v)
 
 -- the root of a signal that is heard is one that the certificate names
-root_claimed : (d : Parts) (c : Claims) (b : State) → Begun d c b → HeardStands d → (root : ℕ) → IsRoot d (blocks_of d c) root → (v : ℕ) × Rooted d c root v
+root_claimed : (d : Parts) (c : Claims) (b : State) → Begun d c b → HeardAtPoints d → (root : ℕ) → IsRoot d (blocks_of d c) root → (v : ℕ) × Rooted d c root v
 root_claimed d c b g stands root h =
     let i = h.heard.number in
     let seq = sequential_of d c g.rules i h.heard.process h.heard.is h.heard.other in
@@ -220,7 +220,7 @@ stopped_none d c b g still i th is = by_input is.input is.may is.is
     by_input (Some f) may e = absurd (Rattle.vs_independence.proofs.RulesFire.stopped_writes d c b g still may.fires.writer may.fires.root may.fires.by may.fires.timed may.fires.writes)
 
 -- a root is written by a process that waits for nothing where the slot begins
-root_timed : (d : Parts) (c : Claims) (b : State) → Begun d c b → ClockTurns d c b → HeardStands d → (i root : ℕ) (th : Thread) → IsRoot d (blocks_of d c) root → IsThread d (blocks_of d c) b i th → writes th root ≡ true →
+root_timed : (d : Parts) (c : Claims) (b : State) → Begun d c b → ClockTurns d c b → HeardAtPoints d → (i root : ℕ) (th : Thread) → IsRoot d (blocks_of d c) root → IsThread d (blocks_of d c) b i th → writes th root ≡ true →
     is_timed (found (blocks_of d c) b i) ≡ true
 root_timed d c b g clocks heard i root th h is w = by_first g.begin.first
   where
@@ -241,7 +241,7 @@ root_timed d c b g clocks heard i root th h is w = by_first g.begin.first
     by_first (inr (inr still)) = absurd (false≢true (subst (λ t. writes t root ≡ true) (stopped_none d c b g still i th is) w))
 
 -- and by no `<=`
-root_now : (d : Parts) (c : Claims) (b : State) → Begun d c b → ClockTurns d c b → HeardStands d → (i root : ℕ) (th : Thread) → IsRoot d (blocks_of d c) root → IsThread d (blocks_of d c) b i th → any_names th.made root ≡ true → ⊥
+root_now : (d : Parts) (c : Claims) (b : State) → Begun d c b → ClockTurns d c b → HeardAtPoints d → (i root : ℕ) (th : Thread) → IsRoot d (blocks_of d c) root → IsThread d (blocks_of d c) b i th → any_names th.made root ≡ true → ⊥
 root_now d c b g clocks heard i root th h is m = by_at made.here.at
   where
     walking : Walking d c i b.time th
@@ -267,7 +267,7 @@ root_now d c b g clocks heard i root th h is m = by_at made.here.at
     ]
 
 -- with one value
-root_once : (d : Parts) (c : Claims) (b : State) → Begun d c b → HeardStands d → (i root : ℕ) (th later : Thread) → IsRoot d (blocks_of d c) root → IsTimed (blocks_of d c) b i th → IsTimed (blocks_of d c) b i later →
+root_once : (d : Parts) (c : Claims) (b : State) → Begun d c b → HeardAtPoints d → (i root : ℕ) (th later : Thread) → IsRoot d (blocks_of d c) root → IsTimed (blocks_of d c) b i th → IsTimed (blocks_of d c) b i later →
     writes th root ≡ true → writes later root ≡ true → slice_get th.view root ≡ slice_get later.view root
 root_once d c b g heard i root th later h is that w x = by_at (zero_or b.time)
   where
@@ -286,7 +286,7 @@ root_once d c b g heard i root th later h is that w x = by_at (zero_or b.time)
     first : Thread
     first = opening blocks b i None
 
-    stands : Stands d c i b.time first.place
+    stands : IsAtPlace d c i b.time first.place
     stands = stands_found d c b g i seq
 
     bit : Rattle.vs_rules.specs.vs_process.specs.Edges.IsBit d root
@@ -347,7 +347,7 @@ unfired d c b g clocks i th f is w other = elim (timed_walks d c b g i th is) [
         seq = walking.sequential
 
         has : HasTerm d i w.term
-        has = heard_term d i w.terms (erased w.todo) w.term (subst (Stands d c i b.time) w.at walking.walked.stands) w.is
+        has = heard_term d i w.terms (erased w.todo) w.term (subst (IsAtPlace d c i b.time) w.at walking.walked.stands) w.is
 
         level : is_level w.term ≡ false
         level = hears_level d c g.rules i w.term seq has
@@ -385,7 +385,7 @@ waits_found ended h = absurd (false≢true (sym h))
 -- a process is fired by terms of one signal
 opened_by : (d : Parts) (c : Claims) (b : State) → Begun d c b → ClockTurns d c b → (i : ℕ) (th : Thread) (f : Fired) → is_timed (found (blocks_of d c) b i) ≡ false → IsThread d (blocks_of d c) b i th → Awaits d (blocks_of d c) b th f → Opened d c b i f
 opened_by d c b g clocks i th f waits is w = elim (thread_walks d c b g clocks i th is) [
-  | inl walking ↦ opened d c b g clocks i f walking.sequential w.term (heard_term d i w.terms (erased w.todo) w.term (subst (Stands d c i b.time) w.at walking.walked.stands) w.is) w.fires
+  | inl walking ↦ opened d c b g clocks i f walking.sequential w.term (heard_term d i w.terms (erased w.todo) w.term (subst (IsAtPlace d c i b.time) w.at walking.walked.stands) w.is) w.fires
       (λ first. let at = waits_found (found (blocks_of d c) b i) waits in found_waits d (blocks_of d c) b first i at.0 at.1 at.2)
   | inr idle ↦ absurd (Rattle.vs_independence.proofs.Threads.ended_waits w.terms w.todo (sym (ap (λ (t : Thread). t.place) idle.0 ∙ idle.1) ∙ w.at))
 ]
@@ -501,7 +501,7 @@ reads_rested d c b g clocks i k u r th is reads blk goes puts reach = by_at rd.h
         no_block_there d c i k one.sequential ((g.rules.first_slot i).alone rd.k r k one.sequential s rd.reads (subst (Writes d k) same (out_writes d k u puts))) blk
 
 -- the processes of a slot that begins keep apart
-pub keeps_apart : (d : Parts) (c : Claims) (b : State) → Begun d c b → ClockTurns d c b → ControlNames d c → HeardStands d → KeepsApart d (blocks_of d c) b
+pub keeps_apart : (d : Parts) (c : Claims) (b : State) → Begun d c b → ClockTurns d c b → ControlNames d c → HeardAtPoints d → KeepsApart d (blocks_of d c) b
 keeps_apart d c b g clocks names heard = record {
   only = λ i k v th other is that x y.
       let wx = (writes_walks d c b g clocks i v th is x).walked.wrote v x in

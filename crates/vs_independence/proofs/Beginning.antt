@@ -26,7 +26,7 @@ use Rattle.vs_rules.specs.Slots.{Ends, DelayEnds, EdgeEnds, RunsByDelays, RunsBy
 use Rattle.vs_rules.specs.Rules.{K7, K8}
 use Rattle.vs_rules.specs.vs_process.specs.Threads.{is_timed}
 use Rattle.vs_independence.proofs.Boundary.{IsSteady}
-use Rattle.vs_independence.proofs.Walks.{point_on, at_zero, Heard, Delayed, delayed_here, Stands, Closed, stands_active, stands_step, stands_roused}
+use Rattle.vs_independence.proofs.Walks.{point_on, at_zero, Heard, Delayed, delayed_here, IsAtPlace, Closed, stands_active, stands_step, stands_roused}
 
 -- ---- paths lead to points
 
@@ -106,13 +106,13 @@ resumes_active d c i time [] h = tt
 resumes_active d c i time (x ∷ rest) h = h
 
 -- what has stopped, at the next slot
-woken_stands : (d : Parts) (c : Claims) (i time t : ℕ) (p : Place) → is_stopped p ≡ true → is_after t p ≡ true → Stands d c i time p → Stands d c i t (woken_at t p) × Resumes d c i t (woken_at t p)
+woken_stands : (d : Parts) (c : Claims) (i time t : ℕ) (p : Place) → is_stopped p ≡ true → is_after t p ≡ true → IsAtPlace d c i time p → IsAtPlace d c i t (woken_at t p) × Resumes d c i t (woken_at t p)
 woken_stands d c i time t (going gait k) still up h = absurd (false≢true still)
 woken_stands d c i time t (inactive k) still up h = absurd (false≢true still)
 woken_stands d c i time t (waiting terms k) still up h = (h, tt)
 woken_stands d c i time t ended still up h = (tt, tt)
 woken_stands d c i time t (sleeping due k) still up h =
-    cond_both (due == t) (active_at Woken k) (sleeping due k) (λ p. Stands d c i t p × Resumes d c i t p)
+    cond_both (due == t) (active_at Woken k) (sleeping due k) (λ p. IsAtPlace d c i t p × Resumes d c i t p)
     (λ e. let is : due ≡ t = eqb-true due t e in
     let less : time < due = h.up in
     let later : 0 < t = omega (arith, is, less) in
@@ -125,7 +125,7 @@ woken_stands d c i time t (sleeping due k) still up h =
 -- ---- a process of kind delay
 
 -- it waits for no event
-pub delay_timed : (d : Parts) (c : Claims) (i time : ℕ) → IsDelay d c i → K8 d c i → (p : Place) → Stands d c i time p → is_timed p ≡ true
+pub delay_timed : (d : Parts) (c : Claims) (i time : ℕ) → IsDelay d c i → K8 d c i → (p : Place) → IsAtPlace d c i time p → is_timed p ≡ true
 delay_timed d c i time kind r (going gait k) h = refl
 delay_timed d c i time kind r (inactive k) h = refl
 delay_timed d c i time kind r (sleeping due k) h = refl
@@ -133,7 +133,7 @@ delay_timed d c i time kind r (waiting terms k) h = absurd (r.no_event h.control
 delay_timed d c i time kind r ended h = refl
 
 -- so it stands where the rules say in every execution
-pub delay_steady : (d : Parts) (c : Claims) (i : ℕ) → IsDelay d c i → Closed d c i → K8 d c i → IsSteady (Stands d c i)
+pub delay_steady : (d : Parts) (c : Claims) (i : ℕ) → IsDelay d c i → Closed d c i → K8 d c i → IsSteady (IsAtPlace d c i)
 delay_steady d c i kind closed r = record {
   steps = λ time gait k store h. stands_step d c i closed time gait k store h;
   rouses = λ time p h. stands_roused d c i time p h;
@@ -141,7 +141,7 @@ delay_steady d c i kind closed r = record {
   goes_on = λ time t p still up h. (woken_stands d c i time t p still up h).0;
 }
   where
-    wakes : (time : ℕ) (old new : Store) (p : Place) → Stands d c i time p → Stands d c i time (wakened old new p)
+    wakes : (time : ℕ) (old new : Store) (p : Place) → IsAtPlace d c i time p → IsAtPlace d c i time (wakened old new p)
     wakes time old new (going gait k) h = h
     wakes time old new (inactive k) h = h
     wakes time old new (sleeping due k) h = h
@@ -218,7 +218,7 @@ start_begins [] i = tt
 start_begins (p ∷ ps) zero = active_begins Fresh (flat p.body) (erased_flat p.body)
 start_begins (p ∷ ps) (suc i) = start_begins ps i
 
-beginning_stands : (d : Parts) (c : Claims) (i : ℕ) (p : Place) → get_or (start d).places i ended ≡ p → IsBeginning p → Stands d c i 0 p
+beginning_stands : (d : Parts) (c : Claims) (i : ℕ) (p : Place) → get_or (start d).places i ended ≡ p → IsBeginning p → IsAtPlace d c i 0 p
 beginning_stands d c i (going gait k) e b =
     let first : first_todo d i ≡ erased k = ap todo_of e ∙ sym b in
     record { point = subst (IsPoint d i) first Point.begins; at = at_zero refl (subst (PathBy (nexts_by (is_wide c)) is_zero_time (first_todo d i)) first begins) }
@@ -234,14 +234,14 @@ beginning_timed (waiting terms k) b = absurd b
 beginning_timed (inactive k) b = absurd b
 beginning_timed ended b = refl
 
-beginning_placed : (d : Parts) (c : Claims) (i : ℕ) (p : Place) → Stands d c i 0 p → IsBeginning p → Placed d i 0 p
+beginning_placed : (d : Parts) (c : Claims) (i : ℕ) (p : Place) → IsAtPlace d c i 0 p → IsBeginning p → Placed d i 0 p
 beginning_placed d c i (going gait k) h b = h.point
 beginning_placed d c i (sleeping due k) h b = absurd b
 beginning_placed d c i (waiting terms k) h b = absurd b
 beginning_placed d c i (inactive k) h b = absurd b
 beginning_placed d c i ended h b = tt
 
-pub start_stands : (d : Parts) (c : Claims) (i : ℕ) → Stands d c i 0 (get_or (start d).places i ended)
+pub start_stands : (d : Parts) (c : Claims) (i : ℕ) → IsAtPlace d c i 0 (get_or (start d).places i ended)
 start_stands d c i = beginning_stands d c i (get_or (start d).places i ended) refl (start_begins d.processes i)
 
 first_of : (d : Parts) (i : ℕ) (gait : Gait) (k : Todo) → get_or (start d).places i ended ≡ going gait k → IsBeginning (going gait k) → first_todo d i ≡ erased k
@@ -264,7 +264,7 @@ abbrev pub AllStopped : State → Type 0
 AllStopped b = (i : ℕ) → is_stopped (get_or b.places i ended) ≡ true
 
 pub record Beginning (d : Parts) (c : Claims) (b : State) : Type 0 where
-  pub stands : (i : ℕ) → IsSequential d c i → Stands d c i b.time (get_or b.places i ended)
+  pub stands : (i : ℕ) → IsSequential d c i → IsAtPlace d c i b.time (get_or b.places i ended)
   -- it is the first slot, or a later one, or all have stopped for good
   pub first : (b ≡ start d) ⊎ ((0 < b.time) ⊎ AllStopped b)
   pub resumes : (i : ℕ) → IsSequential d c i → (b ≡ start d → ⊥) → Resumes d c i b.time (get_or b.places i ended)
@@ -300,17 +300,17 @@ first_behind s e up = at_next (ends s) (next_time s) refl
     at_next false (Some t) is = let less : s.time < t = up t is in inl (omega (arith, less))
 
 -- where a slot has ended with each process where the rules say, the next one begins so
-pub next_beginning : (d : Parts) (c : Claims) (s : State) → AtEnd s → ((t : ℕ) → next_time s ≡ Some t → s.time < t) → ((i : ℕ) → IsSequential d c i → Stands d c i s.time (get_or s.places i ended)) → Beginning d c (after_slot s)
+pub next_beginning : (d : Parts) (c : Claims) (s : State) → AtEnd s → ((t : ℕ) → next_time s ≡ Some t → s.time < t) → ((i : ℕ) → IsSequential d c i → IsAtPlace d c i s.time (get_or s.places i ended)) → Beginning d c (after_slot s)
 next_beginning d c s e up h = record {
   stands = λ i seq. (at_next i (h i seq) (ends s) (next_time s) refl).0;
   first = inr (first_behind s e up);
   resumes = λ i seq ne. (at_next i (h i seq) (ends s) (next_time s) refl).1;
 }
   where
-    at_next : (i : ℕ) → Stands d c i s.time (get_or s.places i ended) → (over : Bool) (next : Option ℕ) → next_time s ≡ next →
-        Stands d c i (time_at over next s.time) (get_or (places_at over next s.places) i ended) × Resumes d c i (time_at over next s.time) (get_or (places_at over next s.places) i ended)
+    at_next : (i : ℕ) → IsAtPlace d c i s.time (get_or s.places i ended) → (over : Bool) (next : Option ℕ) → next_time s ≡ next →
+        IsAtPlace d c i (time_at over next s.time) (get_or (places_at over next s.places) i ended) × Resumes d c i (time_at over next s.time) (get_or (places_at over next s.places) i ended)
     at_next i h true next is = (h, stopped_resumes d c i s.time (get_or s.places i ended) (still_at_end s e i))
     at_next i h false None is = (h, stopped_resumes d c i s.time (get_or s.places i ended) (still_at_end s e i))
     at_next i h false (Some t) is =
-        subst (λ p. Stands d c i t p × Resumes d c i t p) (sym (get_or-map (woken_at t) s.places i ended))
+        subst (λ p. IsAtPlace d c i t p × Resumes d c i t p) (sym (get_or-map (woken_at t) s.places i ended))
         (woken_stands d c i s.time t (get_or s.places i ended) (still_at_end s e i) (get_from_all (is_after t) s.places ended refl (after_next s t is) i) h)

@@ -25,7 +25,7 @@ use Rattle.vs_independence.specs.RuleLaws.{TimeRises}
 use Rattle.vs_independence.proofs.RulesFire.{bit_digit}
 use Rattle.vs_independence.proofs.Gave.{step_gives}
 use Rattle.vs_independence.proofs.Seconds.{LedAt, RootOf, led_at, alone_now, updates_miss}
-use Rattle.vs_independence.proofs.Texts.{writes_now}
+use Rattle.vs_rules.proofs.Texts.{writes_now}
 use Rattle.vs_independence.proofs.Turning.{Turner, begins_todo, pauses_todo, turns_todo, guard_of, Stepped, IsBefore, Clocked, clocked_watched, BitIn, bit_known, Early, early_any, early_is, early_goes_on}
 use Rattle.vs_independence.proofs.Watch.{IsWatched, IsLeft, Seen, seen_after}
 use Rattle.vs_independence.proofs.Words.{step_now}

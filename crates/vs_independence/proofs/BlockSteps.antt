@@ -16,7 +16,7 @@ use Rattle.vs_independence.proofs.Running.{Follow, AllPlaced, threads_of, Source
 use Rattle.vs_process.specs.declared.gait.Gait.{Gait}
 use Rattle.std.proofs.lemmas.Option.{get_or_from_slice_get}
 use Rattle.std.specs.List.{list_any}
-use Rattle.vs_process.proofs.ThreadAssigns.{assigns_behind, places_behind}
+use Rattle.vs_process.proofs.ThreadAssigns.{assigns_after_write, places_after_write}
 use Rattle.vs_process.specs.Edges.{itself, through}
 use Rattle.vs_process.proofs.ThreadLinks.{link_driven, link_state}
 use Rattle.vs_independence.proofs.Edges.{root_source, edges_touched}
@@ -76,17 +76,17 @@ goes_awake d blocks b store places th k t gait todo is (inr awake) = awake
 
 rests_step : (d : Parts) (blocks : ℕ → Bool) → Exclusive d blocks → (b : State) (store : Store) → shape store ≡ shape (start_store d) → (places : List Place) (th : ℕ → Thread) (k : ℕ) (o : Option Write) (p : Place) → blocks k ≡ true →
     ((k : ℕ) → blocks k ≡ true → Text d k) → ((w : Write) → o ≡ Some w → LiesIn (outputs d k) w) → IsAwake d blocks b th k →
-    Rests d blocks b store places th → Rests d blocks b (store_after store o) (slice_set (places_behind store o places) k p) th
+    Rests d blocks b store places th → Rests d blocks b (store_after store o) (slice_set (places_after_write store o places) k p) th
 rests_step d blocks exclusive b store started places th k o p is texts lies awake rests l at_l =
     elim (cases_eq l k) [
       | inl e ↦ inr (subst (IsAwake d blocks b th) (sym e) awake)
       | inr ne ↦ elim (by_write o lies l at_l) [
-        | inl rested ↦ inl (get_or-set_other (places_behind store o places) k l p ended ne ∙ rested.0, rested.1)
+        | inl rested ↦ inl (get_or-set_other (places_after_write store o places) k l p ended ne ∙ rested.0, rested.1)
         | inr wakes ↦ inr wakes
       ]
     ]
   where
-    by_write : (o : Option Write) → ((w : Write) → o ≡ Some w → LiesIn (outputs d k) w) → Rests d blocks b (store_after store o) (places_behind store o places) th
+    by_write : (o : Option Write) → ((w : Write) → o ≡ Some w → LiesIn (outputs d k) w) → Rests d blocks b (store_after store o) (places_after_write store o places) th
     by_write None lies = rests
     by_write (Some w) lies =
         rests_written d blocks b store places th th w texts (λ q changed. awake q (changed_puts d k store started w q (lies w refl) changed)) (λ i u h. h)
@@ -105,8 +105,8 @@ lies_edges d blocks b apart own k is store w lies root v r (through m n before l
 -- what holds of processes and of chains behind a step of a block that may write
 record Leaves (d : Parts) (blocks : ℕ → Bool) (b : State) (store : Store) (assigns : List AssignState) (places : List Place) (th : ℕ → Thread) (o : Option Write) : Type 0 where
   stands : AllPlaced d blocks b (store_after store o) th
-  follow : (i : ℕ) → blocks i ≡ false → get_or (places_behind store o places) i ended ≡ get_or places i ended
-  edges : Edges d blocks b (store_after store o) (assigns_behind store o assigns) th
+  follow : (i : ℕ) → blocks i ≡ false → get_or (places_after_write store o places) i ended ≡ get_or places i ended
+  edges : Edges d blocks b (store_after store o) (assigns_after_write store o assigns) th
 
 block_leaves : (d : Parts) (blocks : ℕ → Bool) (b : State) → Apart d blocks b → OutputsUndriven d blocks → (k : ℕ) → blocks k ≡ true → (store : Store) (assigns : List AssignState) (places : List Place) (th : ℕ → Thread) → (o : Option Write) →
     ((w : Write) → o ≡ Some w → LiesIn (outputs d k) w) → AssignsSound d store assigns → AllPlaced d blocks b store th → Follow blocks places th → Sources d blocks b store th → Sources d blocks b (store_after store o) th →
@@ -131,12 +131,12 @@ block_runs d blocks texts exclusive own b s th apart r k is gait todo out at_k m
       slot = record {
         time = r.slot.time;
         over = r.slot.over;
-        count = length-set (places_behind s.store out.write s.places) k (place_after_step (going gait todo) s.time out.next) ∙ length_behind s.store out.write s.places ∙ r.slot.count;
+        count = length-set (places_after_write s.store out.write s.places) k (place_after_step (going gait todo) s.time out.next) ∙ length_behind s.store out.write s.places ∙ r.slot.count;
       };
       sound = behind_sound d s out.write (sound_behind d s out.write undriven r.sound);
       stands = leaves.stands;
       places = λ i other.
-          get_or-set_other (places_behind s.store out.write s.places) k i (place_after_step (going gait todo) s.time out.next) ended (λ e. true≢false (sym is ∙ ap blocks (sym e) ∙ other))
+          get_or-set_other (places_after_write s.store out.write s.places) k i (place_after_step (going gait todo) s.time out.next) ended (λ e. true≢false (sym is ∙ ap blocks (sym e) ∙ other))
           ∙ leaves.follow i other ∙ r.places i other;
       sources = behind;
       mades = subst (λ us. Mades d blocks b us th) (sym (updates_same k s.time out.update s.updates made.update)) r.mades;

@@ -25,7 +25,7 @@ use Rattle.std.proofs.lemmas.Bool.{cases_eq, false≢true, not-true, or_parts, t
 use Rattle.std.proofs.Math.ListN.{get_or-map}
 use Rattle.std.proofs.lemmas.List.{get_or-set_other, get_or-set_same}
 use Rattle.std.proofs.lemmas.Option.{get_or_from_slice_get, slice_get_within}
-use Rattle.vs_process.proofs.ThreadAssigns.{places_behind}
+use Rattle.vs_process.proofs.ThreadAssigns.{places_after_write}
 use Rattle.vs_process.proofs.Stores.{shape-put}
 use Rattle.vs_process.specs.Threads.{store_after}
 use Rattle.vs_design.specs.declared.range.BitRange.{BitRange}
@@ -70,7 +70,7 @@ blocks_still d roles z late ran time store places at_them = record {
 }
 
 pub blocks_of_else : (d : Parts) (roles : Roles) (z : Blocked d roles) (late : Bool) (ran : ℕ → Bool) (time : ℕ) (store : Store) (places : List Place) (o : Option Write) → ((w : Write) → o ≡ Some w → IsFree d roles w) → NoneInside roles places →
-    BlocksAt d roles z late ran time store places → BlocksAt d roles z late (woken_more ran (places_behind store o places)) time (store_after store o) (places_behind store o places)
+    BlocksAt d roles z late ran time store places → BlocksAt d roles z late (woken_more ran (places_after_write store o places)) time (store_after store o) (places_after_write store o places)
 blocks_of_else d roles z late ran time store places None free out at_them = blocks_still d roles z late ran time store places at_them
 blocks_of_else d roles z late ran time store places (Some w) free out at_them = record {
   fares = λ k is. subst (λ p. Fares d (roles.inputs k) k (text_at d roles z k is) late (ran k || is_awake p) time (put store w) p) (sym (get_or-map (wakened store (put store w)) places k ended))
@@ -94,7 +94,7 @@ pub blocks_stepped : (d : Parts) (roles : Roles) (z : Blocked d roles) (late : B
     BlocksAt d roles z late (woken_more ran (performed s i place out).places) s.time (performed s i place out).store (performed s i place out).places
 blocks_stepped d roles z late ran s i place out other free none at_them =
     subst (λ (t : State). BlocksAt d roles z late (woken_more ran t.places) s.time t.store t.places) (sym (performed_is s i place out))
-    (blocks_set d roles z late ran s.time (store_after s.store out.write) (places_behind s.store out.write s.places) i (place_after_step place s.time out.next) other
+    (blocks_set d roles z late ran s.time (store_after s.store out.write) (places_after_write s.store out.write s.places) i (place_after_step place s.time out.next) other
     (blocks_of_else d roles z late ran s.time s.store s.places out.write free none at_them))
 
 -- a step of a block: what it makes
@@ -123,7 +123,7 @@ blocks_own d roles z late ran s k is gait todo at_k none at_them =
         (get_or_from_slice_get s.places k (going gait todo) ended at_k) (at_them.fares k is)
 
     behind : List Place
-    behind = places_behind s.store out.write s.places
+    behind = places_after_write s.store out.write s.places
 
     next : Place
     next = place_after_step (going gait todo) s.time out.next
@@ -132,7 +132,7 @@ blocks_own d roles z late ran s k is gait todo at_k none at_them =
     within = subst (λ n. k < n) (sym (length_behind s.store out.write s.places)) (slice_get_within s.places k (going gait todo) at_k)
 
     other_at : (o : Option Write) → ((w : Write) → o ≡ Some w → LiesIn (outputs d k) w) → (l : ℕ) (at_l : roles.blocks l ≡ true) → (l ≡ k → ⊥) →
-        Fares d (roles.inputs l) l (text_at d roles z l at_l) late (ran l || is_awake (get_or (places_behind s.store o s.places) l ended)) s.time (store_after s.store o) (get_or (places_behind s.store o s.places) l ended)
+        Fares d (roles.inputs l) l (text_at d roles z l at_l) late (ran l || is_awake (get_or (places_after_write s.store o s.places) l ended)) s.time (store_after s.store o) (get_or (places_after_write s.store o s.places) l ended)
     other_at None lies l at_l ne = fares_still d (roles.inputs l) l (text_at d roles z l at_l) late (ran l) s.time s.store (get_or s.places l ended) (at_them.fares l at_l)
     other_at (Some w) lies l at_l ne =
         subst (λ p. Fares d (roles.inputs l) l (text_at d roles z l at_l) late (ran l || is_awake p) s.time (put s.store w) p) (sym (get_or-map (wakened s.store (put s.store w)) s.places l ended))
@@ -187,9 +187,9 @@ blocks_mapped d roles z late ran time store places f last goes waits at_them = r
 pub performed_place : (s : State) (i : ℕ) (place : Place) (out : Out) (k : ℕ) → (k ≡ i → ⊥) → get_or (performed s i place out).places k ended ≡ place_after s.store out.write (get_or s.places k ended)
 performed_place s i place out k ne =
     ap (λ (t : State). get_or t.places k ended) (performed_is s i place out)
-    ∙ get_or-set_other (places_behind s.store out.write s.places) i k (place_after_step place s.time out.next) ended ne ∙ by_write out.write
+    ∙ get_or-set_other (places_after_write s.store out.write s.places) i k (place_after_step place s.time out.next) ended ne ∙ by_write out.write
   where
-    by_write : (o : Option Write) → get_or (places_behind s.store o s.places) k ended ≡ place_after s.store o (get_or s.places k ended)
+    by_write : (o : Option Write) → get_or (places_after_write s.store o s.places) k ended ≡ place_after s.store o (get_or s.places k ended)
     by_write None = refl
     by_write (Some w) = get_or-map (wakened s.store (put s.store w)) s.places k ended
 
@@ -197,7 +197,7 @@ performed_place s i place out k ne =
 pub performed_own : (s : State) (i : ℕ) (place old : Place) (out : Out) → slice_get s.places i ≡ Some old → get_or (performed s i place out).places i ended ≡ place_after_step place s.time out.next
 performed_own s i place old out is =
     ap (λ (t : State). get_or t.places i ended) (performed_is s i place out)
-    ∙ get_or-set_same (places_behind s.store out.write s.places) i (place_after_step place s.time out.next) ended
+    ∙ get_or-set_same (places_after_write s.store out.write s.places) i (place_after_step place s.time out.next) ended
     (subst (λ n. i < n) (sym (length_behind s.store out.write s.places)) (slice_get_within s.places i old is))
 
 -- ---- exclusion

@@ -17,7 +17,7 @@ use Rattle.vs_independence.specs.vs_process.proofs.Ranges.{covers_signal}
 use Rattle.vs_rules.specs.vs_process.specs.BlockDrivers.{home, woken_on, IsRun, StartsCold}
 use Rattle.vs_rules.specs.vs_process.specs.Threads.{Thread, turn, turn_at, moved, store_after}
 use Rattle.vs_rules.specs.vs_process.proofs.ThreadLists.{contains_at}
-use Rattle.vs_rules.specs.vs_process.proofs.Texts.{Text, text_of, Stands, goes_on, arrives}
+use Rattle.vs_rules.specs.vs_process.proofs.Texts.{Text, text_of, GoesOrWaits, goes_on, arrives}
 use Rattle.vs_rules.specs.vs_process.proofs.BlockRuns.{run_facts}
 use Rattle.vs_rules.specs.Claims.{Claims, cold, HasStart}
 use Rattle.vs_rules.specs.Paths.{Writes, writes_of}
@@ -85,7 +85,7 @@ comes d k (suc most) first new th gait todo run place h = by_next (λ th gait to
 
 -- a block that waits, waits at its control
 at_home : (d : Parts) (k : ℕ) (t : Text d k) (p : Place) (terms : List EventTerm) (rest : Todo) → p ≡ waiting terms rest →
-    (p ≡ going Woken (todo_of (home d k))) ⊎ Stands d k t Inside p → p ≡ home d k
+    (p ≡ going Woken (todo_of (home d k))) ⊎ GoesOrWaits d k t Inside p → p ≡ home d k
 at_home d k t p terms rest is (inl e) = let f : waiting terms rest ≡ going Woken (todo_of (home d k)) = sym is ∙ e in cc
 at_home d k t p terms rest is (inr (goes_on todo way e)) = let f : waiting terms rest ≡ going Inside todo = sym is ∙ e in cc
 at_home d k t p terms rest is (inr (arrives e)) = e

@@ -18,7 +18,7 @@ use Rattle.vs_process.specs.Steps.{Next, on, after, wait, is_default}
 use Rattle.vs_rules.specs.Controls.{controls_in, controls_step}
 use Rattle.vs_rules.specs.Points.{Goes}
 use Rattle.vs_rules.specs.Paths.{inner_step}
-use Rattle.vs_independence.proofs.Texts.{Sub, sub_left, sub_right, Collects, todo_all, layer_is, AllBy, one_of, all_append}
+use Rattle.vs_rules.proofs.Texts.{Sub, sub_left, sub_right, Collects, todo_all, layer_of, layer_is, AllBy, one_of, all_append}
 
 -- ---- two more things that texts have
 
@@ -38,7 +38,7 @@ terms_inner (Statement-F.Repeat n signed e body) = λ a c. c
 terms_inner (Statement-F.Forever n body) = λ a c. c
 
 pub terms_collect : Collects EventTerm event_terms_step
-terms_collect = record { block = λ v. refl; inner = terms_inner }
+terms_collect = record { block = λ v. refl; inner = λ f. terms_inner (layer_of event_terms_step f) }
 
 delays_inner : (x : Statement-F (List ℕ)) → Sub (inner_step x) (controls_step x)
 delays_inner (Statement-F.Null n) = λ a c. c
@@ -56,7 +56,7 @@ delays_inner (Statement-F.Repeat n signed e body) = λ a c. c
 delays_inner (Statement-F.Forever n body) = λ a c. c
 
 pub delays_collect : Collects ℕ controls_step
-delays_collect = record { block = λ v. refl; inner = delays_inner }
+delays_collect = record { block = λ v. refl; inner = λ f. delays_inner (layer_of controls_step f) }
 
 -- ---- a way through a control goes through one of the text
 

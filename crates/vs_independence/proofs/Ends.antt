@@ -23,7 +23,7 @@ use Rattle.vs_process.proofs.Calls.{of, SameCalls}
 use Rattle.vs_independence.proofs.Making.{Making, is_settled, none_makes, none_activated, none_get}
 use Rattle.vs_independence.proofs.Times.{is_future, same_next}
 use Rattle.vs_independence.proofs.Running.{Apart, same_made}
-use Rattle.vs_independence.proofs.Inner.{Before, Behind, Moment, Setting, only_sources}
+use Rattle.vs_independence.proofs.Inner.{Before, LateBlocks, Moment, Setting, only_sources}
 use Rattle.vs_process.proofs.Assigns.{drives}
 use Rattle.vs_independence.proofs.FirstQuiet.{Anything, agree_back, covers_all}
 use Rattle.vs_design.specs.declared.range.BitRange.{BitRange}
@@ -47,7 +47,7 @@ use Rattle.vs_independence.proofs.InnerMoves.{AtEnd, at_end, all_idle, sure, qui
 
 -- the last state of a slot
 pub record Ends (d : Parts) (roles : Roles) (set : Setting d roles) (b s : State) (ran0 ran : ℕ → Bool) : Type 0 where
-  pub behind : Behind d roles b s ran0 true ran
+  pub behind : LateBlocks d roles b s ran0 true ran
   pub blocks : BlocksAt d roles set.z true ran s.time s.store s.places
   pub none : list_any (λ (u : Update). u.active) s.updates ≡ false
   pub idle : AllIdle s.assigns
@@ -63,7 +63,7 @@ slot_ends d roles set b s ran0 late ran apart mo h = by_phase q.phase
     q : Moment d roles set b s ran0 true (sure roles ran)
     q = quiet_moment d roles set b s ran0 late ran e.quiet mo
 
-    behind_none : (x : Before d roles b s ran0 true (sure roles ran)) → Behind d roles b s ran0 true (sure roles ran)
+    behind_none : (x : Before d roles b s ran0 true (sure roles ran)) → LateBlocks d roles b s ran0 true (sure roles ran)
     behind_none x =
         let next = none_makes d roles.blocks b s apart x.th x.runs e.quiet.going e.inactive (all_idle s.assigns e.quiet.assigns) (ap (λ t. list_any (is_due t) s.updates) (sym x.runs.slot.time) ∙ e.due) in
         let same : map (activated b.time) s.updates ≡ s.updates = none_activated b.time s.updates x.runs.mades.waiting (ap (λ t. list_any (is_due t) s.updates) (sym x.runs.slot.time) ∙ e.due) in
@@ -78,7 +78,7 @@ slot_ends d roles set b s ran0 late ran apart mo h = by_phase q.phase
           bits = λ at_start k is s_k mo. inr (level_bit d roles s.store s.assigns k is s_k mo (stops_of d roles.blocks b s next.0 at_start mo.writer) (x.level at_start));
         }
 
-    by_phase : (Before d roles b s ran0 true (sure roles ran) ⊎ Behind d roles b s ran0 true (sure roles ran)) → Ends d roles set b s ran0 (sure roles ran)
+    by_phase : (Before d roles b s ran0 true (sure roles ran) ⊎ LateBlocks d roles b s ran0 true (sure roles ran)) → Ends d roles set b s ran0 (sure roles ran)
     by_phase (inl x) = record { behind = behind_none x; blocks = q.blocks; none = e.quiet.updates; idle = all_idle s.assigns e.quiet.assigns; going = e.quiet.going; begun = q.begun }
     by_phase (inr x) = record { behind = x; blocks = q.blocks; none = e.quiet.updates; idle = all_idle s.assigns e.quiet.assigns; going = e.quiet.going; begun = q.begun }
 

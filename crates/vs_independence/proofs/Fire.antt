@@ -25,7 +25,7 @@ use Rattle.vs_process.specs.Threads.{Thread, Fired, found, given, opening, is_ti
 use Rattle.vs_process.proofs.ThreadLists.{contains_at, place_of}
 use Rattle.vs_process.proofs.Threads.{timed_of, unmoved, thread_opens}
 use Rattle.vs_process.proofs.ThreadLinks.{copies_bit, bit_in, link_driven, shown_none}
-use Rattle.vs_independence.proofs.Running.{Apart, Stands, given_value}
+use Rattle.vs_independence.proofs.Running.{Apart, FiringAgrees, given_value}
 
 -- ---- waking
 
@@ -161,7 +161,7 @@ shows_itself d root _ (itself bit undriven) un = (refl, shown_none)
 shows_itself d root v (through m n copies link bit) un = absurd (true≢false (sym (link_driven d m v link) ∙ un))
 
 -- what a thread wrote itself is in the store, and doesn't change any more
-own_stays : (d : Parts) (blocks : ℕ → Bool) (b : State) (old new : Store) → Apart d blocks b → (i : ℕ) (th : Thread) (s : Stands d blocks b old i th) (t : EventTerm) → (w : IsWoken d blocks b old new th t) →
+own_stays : (d : Parts) (blocks : ℕ → Bool) (b : State) (old new : Store) → Apart d blocks b → (i : ℕ) (th : Thread) (s : FiringAgrees d blocks b old i th) (t : EventTerm) → (w : IsWoken d blocks b old new th t) →
     ((v : ℕ) → writes th v ≡ true → slice_get old v ≡ slice_get th.view v) → is_timed (found blocks b i) ≡ true → wakes old new t ≡ true → writes th w.fired.signal ≡ true → ⊥
 own_stays d blocks b old new apart i th s t w own timed wake wrote =
     true≢false (sym wake ∙ no_wake old new t (subst (λ n. slice_get new n ≡ slice_get old n) w.signal same))
@@ -196,7 +196,7 @@ own_stays d blocks b old new apart i th s t w own timed wake wrote =
     same = w.value ∙ sym fires.value ∙ itself_is.1 (slice_get fires.by.view fires.root) ∙ ap (slice_get fires.by.view) itself_is.0 ∙ sym views ∙ sym (own w.fired.signal wrote)
 
 -- a process that a change of the store wakes stands where the slot found it
-pub woken_opening : (d : Parts) (blocks : ℕ → Bool) (b : State) (old new : Store) → Apart d blocks b → (i : ℕ) (th : Thread) (s : Stands d blocks b old i th) (t : EventTerm) → IsWoken d blocks b old new th t →
+pub woken_opening : (d : Parts) (blocks : ℕ → Bool) (b : State) (old new : Store) → Apart d blocks b → (i : ℕ) (th : Thread) (s : FiringAgrees d blocks b old i th) (t : EventTerm) → IsWoken d blocks b old new th t →
     ((v : ℕ) → writes th v ≡ true → slice_get old v ≡ slice_get th.view v) → wakes old new t ≡ true → th ≡ opening blocks b i None
 woken_opening d blocks b old new apart i th s t w own wake = by_input s.is.input refl
   where
@@ -227,7 +227,7 @@ pub record IsFiredNow (d : Parts) (blocks : ℕ → Bool) (b : State) (i : ℕ) 
 -- a process behind a change of the store: where the change leaves it, and what its thread is then
 pub record After (d : Parts) (blocks : ℕ → Bool) (b : State) (old new : Store) (i : ℕ) (th : Thread) : Type 0 where
   pub thread : Thread
-  pub stands : Stands d blocks b new i thread
+  pub stands : FiringAgrees d blocks b new i thread
   pub place : thread.place ≡ wakened old new th.place
   pub log : thread.log ≡ th.log
   pub made : thread.made ≡ th.made
@@ -249,8 +249,8 @@ fired_kept d blocks b old new h i f may was =
     ]
 
 -- a process that the change doesn't wake stays, and what is said of its firing holds still
-kept_stands : (d : Parts) (blocks : ℕ → Bool) (b : State) (old new : Store) → Change d blocks b old new → (i : ℕ) (th : Thread) (s : Stands d blocks b old i th) →
-    ((terms : List EventTerm) (todo : Todo) → th.place ≡ waiting terms todo → wake_any terms old new ≡ false) → Stands d blocks b new i th
+kept_stands : (d : Parts) (blocks : ℕ → Bool) (b : State) (old new : Store) → Change d blocks b old new → (i : ℕ) (th : Thread) (s : FiringAgrees d blocks b old i th) →
+    ((terms : List EventTerm) (todo : Todo) → th.place ≡ waiting terms todo → wake_any terms old new ≡ false) → FiringAgrees d blocks b new i th
 kept_stands d blocks b old new h i th s asleep = record {
   is = s.is;
   unfired = λ none terms todo at_b t among.
@@ -271,7 +271,7 @@ same_terms a b k l e = cc
 abbrev pub fired_is : (d : Parts) (blocks : ℕ → Bool) (b : State) (i : ℕ) (f : Fired) → MayOpen d blocks b i (Some f) → IsThread d blocks b i (opening blocks b i (Some f))
 fired_is d blocks b i f may = record { count = 0; input = Some f; may = may; is = refl }
 
-pub after_at : (d : Parts) (blocks : ℕ → Bool) (b : State) (old new : Store) → Change d blocks b old new → (i : ℕ) (th : Thread) → Stands d blocks b old i th →
+pub after_at : (d : Parts) (blocks : ℕ → Bool) (b : State) (old new : Store) → Change d blocks b old new → (i : ℕ) (th : Thread) → FiringAgrees d blocks b old i th →
     ((v : ℕ) → writes th v ≡ true → slice_get old v ≡ slice_get th.view v) → After d blocks b old new i th
 after_at d blocks b old new h i th s own = by_place th.place refl
   where

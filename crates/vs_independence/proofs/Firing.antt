@@ -42,7 +42,7 @@ use Rattle.vs_rules.specs.vs_process.proofs.ThreadLinks.{copies_bit, copies_sett
 use Rattle.vs_independence.proofs.Lasts.{Last, Bitwise, bit_iterate}
 use Rattle.vs_independence.proofs.Inverses.{odd, same_root, parity_of, seen_of, seen, seen_level, edge_seen}
 use Rattle.vs_independence.proofs.Roots.{entry_root, copies_signal}
-use Rattle.vs_independence.proofs.Texts.{writes_now}
+use Rattle.vs_rules.proofs.Texts.{writes_now}
 use Rattle.vs_independence.proofs.Walks.{At, at_zero, at_later, Here}
 
 -- ---- writers

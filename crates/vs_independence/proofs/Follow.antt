@@ -57,7 +57,7 @@ use Rattle.vs_independence.proofs.Shapes.{Shape, first_is}
 use Rattle.vs_independence.proofs.Controls.{next_in, delays_collect, terms_collect}
 use Rattle.vs_rules.specs.vs_process.proofs.Bits.{bit_there, missing}
 use Rattle.vs_independence.proofs.Surely.{step_sure, sure_writes}
-use Rattle.vs_independence.proofs.Texts.{Sub, reads_text, now_text, todo_all, point_sub, all_there}
+use Rattle.vs_rules.proofs.Texts.{Sub, reads_text, now_text, todo_all, point_sub, all_there}
 use Rattle.vs_independence.proofs.Walks.{point_on}
 use Rattle.vs_independence.proofs.Words.{lists_signal, step_now}
 

@@ -25,7 +25,7 @@ use Rattle.vs_design.specs.vs_logic4.proofs.Basics.{element_of as any_at, none_i
 use Rattle.vs_rules.specs.vs_process.proofs.ThreadLists.{contains_at}
 use Rattle.vs_rules.specs.Points.{Goes, Point, first_todo}
 use Rattle.vs_rules.specs.Points as r
-use Rattle.vs_independence.proofs.Apart.{HeardStands}
+use Rattle.vs_independence.proofs.Apart.{HeardAtPoints}
 use Rattle.vs_independence.proofs.Shapes.{first_is}
 
 -- an event control with this term stands at a point
@@ -151,7 +151,7 @@ terms_stand : (s : Statement) → TermsStand s
 terms_stand s = ind-Statement TermsStand (λ x y is. subst (λ z. TermsStand (roll-Statement z)) is (layer y)) s
 
 -- what an event control of a process names, an event control at one of its points names
-pub heard_stands : (d : Parts) → HeardStands d
+pub heard_stands : (d : Parts) → HeardAtPoints d
 heard_stands d i p v is h =
     let found = any_at (λ (t : EventTerm). is_of v t.range) (event_terms p.body) h in
     let at = terms_stand p.body (first_todo d i) []

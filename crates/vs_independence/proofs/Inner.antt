@@ -78,7 +78,7 @@ pub record Before (d : Parts) (roles : Roles) (b s : State) (ran0 : ℕ → Bool
   pub era : FirstEra d roles b ran0 late th ⊎ LateEra roles late ran
 
 -- once they are
-pub record Behind (d : Parts) (roles : Roles) (b s : State) (ran0 : ℕ → Bool) (late : Bool) (ran : ℕ → Bool) : Type 0 where
+pub record LateBlocks (d : Parts) (roles : Roles) (b s : State) (ran0 : ℕ → Bool) (late : Bool) (ran : ℕ → Bool) : Type 0 where
   pub making : Making d roles.blocks b s
   pub mid : ℕ → Bool
   pub past : History d roles b making.th ran0 mid
@@ -89,7 +89,7 @@ pub record Behind (d : Parts) (roles : Roles) (b s : State) (ran0 : ℕ → Bool
 
 pub record Moment (d : Parts) (roles : Roles) (set : Setting d roles) (b s : State) (ran0 : ℕ → Bool) (late : Bool) (ran : ℕ → Bool) : Type 0 where
   pub blocks : BlocksAt d roles set.z late ran s.time s.store s.places
-  pub phase : Before d roles b s ran0 late ran ⊎ Behind d roles b s ran0 late ran
+  pub phase : Before d roles b s ran0 late ran ⊎ LateBlocks d roles b s ran0 late ran
   pub begun : (b ≡ start d) ⊎ AllStarted roles ran0
 
 -- ---- eras
@@ -154,7 +154,7 @@ thread_moment d roles set b s ran0 late ran apart none i other p is goes m = by_
     not_this : (k : ℕ) → roles.blocks k ≡ true → k ≡ i → ⊥
     not_this k at_k e = true≢false (sym at_k ∙ ap roles.blocks e ∙ other)
 
-    by_phase : (Before d roles b s ran0 late ran ⊎ Behind d roles b s ran0 late ran) → Moment d roles set b t ran0 late (woken_more ran t.places)
+    by_phase : (Before d roles b s ran0 late ran ⊎ LateBlocks d roles b s ran0 late ran) → Moment d roles set b t ran0 late (woken_more ran t.places)
     by_phase (inr x) = absurd (not_going p (stopped_at d roles.blocks b s x.making i other p is) goes)
     by_phase (inl x) = record {
       blocks = subst (λ n. BlocksAt d roles set.z late (woken_more ran t.places) n t.store t.places) (sym (ap (λ (u : State). u.time) (performed_is s i p out)))
@@ -215,7 +215,7 @@ pub record Kept (d : Parts) (roles : Roles) (s t : State) (late : Bool) (ran new
 pub phase_kept : (d : Parts) (roles : Roles) → Setting d roles → (b s t : State) (ran0 : ℕ → Bool) (late : Bool) (ran new : ℕ → Bool) → Kept d roles s t late ran new →
     ((th : ℕ → Thread) → Running d roles.blocks b s th → RunsOn d roles.blocks b t th) →
     ((m : Making d roles.blocks b s) → GoesOn d roles.blocks b s m t) →
-    (Before d roles b s ran0 late ran ⊎ Behind d roles b s ran0 late ran) → Before d roles b t ran0 late new ⊎ Behind d roles b t ran0 late new
+    (Before d roles b s ran0 late ran ⊎ LateBlocks d roles b s ran0 late ran) → Before d roles b t ran0 late new ⊎ LateBlocks d roles b t ran0 late new
 phase_kept d roles set b s t ran0 late ran new kept runs makes (inl x) =
     let on = runs x.th x.runs in
     inl (record {

@@ -22,7 +22,7 @@ use Rattle.vs_process.proofs.Threads.{not_inactive, rouse_thread, is_stopped, no
 use Rattle.vs_process.proofs.Settle.{AllIdle}
 use Rattle.vs_independence.proofs.Making.{Making, is_settled, activate_makes, make_makes, evaluate_makes, propagate_makes, stopped_at, GoesFrom, GoesOn, none_get}
 use Rattle.vs_independence.proofs.Running.{Apart, is_waiting}
-use Rattle.vs_independence.proofs.Inner.{AllCold, Before, Behind, FirstEra, LateEra, Moment, Setting, block_moment, down_still, down_written, first_writes, late_more, more_up, only_sources, phase_kept, thread_moment}
+use Rattle.vs_independence.proofs.Inner.{AllCold, Before, LateBlocks, FirstEra, LateEra, Moment, Setting, block_moment, down_still, down_written, first_writes, late_more, more_up, only_sources, phase_kept, thread_moment}
 use Rattle.vs_process.proofs.Assigns.{AssignsSound}
 use Rattle.vs_independence.proofs.FirstQuiet.{AtFirst, first_quiet, is_cold}
 use Rattle.vs_design.specs.declared.range.BitRange.{BitRange}
@@ -101,7 +101,7 @@ all_idle xs h j x is =
 
 -- ---- moves that change the store or an assignment alone
 
-phase_sound : (d : Parts) (roles : Roles) (b s : State) (ran0 : ℕ → Bool) (late : Bool) (ran : ℕ → Bool) → (Before d roles b s ran0 late ran ⊎ Behind d roles b s ran0 late ran) → AssignsSound d s.store s.assigns
+phase_sound : (d : Parts) (roles : Roles) (b s : State) (ran0 : ℕ → Bool) (late : Bool) (ran : ℕ → Bool) → (Before d roles b s ran0 late ran ⊎ LateBlocks d roles b s ran0 late ran) → AssignsSound d s.store s.assigns
 phase_sound d roles b s ran0 late ran (inl x) = x.runs.sound
 phase_sound d roles b s ran0 late ran (inr x) = x.making.sound
 
@@ -165,7 +165,7 @@ propagate_moment d roles set b s ran0 late ran apart none j x digits is waits m 
     other u e v source = undriven u e v source.undriven
 
 make_moment : (d : Parts) (roles : Roles) (set : Setting d roles) (b s : State) (ran0 : ℕ → Bool) (late : Bool) (ran : ℕ → Bool) → Apart d roles.blocks b → (b ≡ start d) ⊎ AllStarted roles ran0 → NoneInside roles s.places → BlocksAt d roles set.z late ran s.time s.store s.places →
-    (x : Behind d roles b s ran0 late ran) → (i : ℕ) (u : Update) → slice_get s.updates i ≡ Some u → is_first s.updates i u ≡ true → Moment d roles set b (make s i (Some u)) ran0 late (woken_more ran (make s i (Some u)).places)
+    (x : LateBlocks d roles b s ran0 late ran) → (i : ℕ) (u : Update) → slice_get s.updates i ≡ Some u → is_first s.updates i u ≡ true → Moment d roles set b (make s i (Some u)) ran0 late (woken_more ran (make s i (Some u)).places)
 make_moment d roles set b s ran0 late ran apart begun none at_them x i u is first = record {
   blocks = blocks_of_else d roles set.z late ran s.time s.store s.places (Some u.what) free none at_them;
   phase = inr (record {
@@ -296,7 +296,7 @@ quiet_moment d roles set b s ran0 late ran q m = by_phase m.phase
     }
     by_era x (inr later) = record { blocks = blocks_late later; phase = inl (before_late x); begun = m.begun }
 
-    by_phase : (Before d roles b s ran0 late ran ⊎ Behind d roles b s ran0 late ran) → Moment d roles set b s ran0 true (sure roles ran)
+    by_phase : (Before d roles b s ran0 late ran ⊎ LateBlocks d roles b s ran0 late ran) → Moment d roles set b s ran0 true (sure roles ran)
     by_phase (inl x) = by_era x x.era
     by_phase (inr x) = record {
       blocks = blocks_late x.era;
@@ -376,23 +376,23 @@ activate_moment d roles set b s ran0 ran apart begun idle none_going none_inacti
 -- ---- moves
 
 -- what is said of blocks behind a move
-abbrev pub late_behind : Bool → Move → Bool
-late_behind late (Step i) = late
-late_behind late (Evaluate j) = late
-late_behind late (Propagate j) = late
-late_behind late (Make i) = late
-late_behind late Rouse = true
-late_behind late Activate = true
-late_behind late EndSlot = true
+abbrev pub late_after_move : Bool → Move → Bool
+late_after_move late (Step i) = late
+late_after_move late (Evaluate j) = late
+late_after_move late (Propagate j) = late
+late_after_move late (Make i) = late
+late_after_move late Rouse = true
+late_after_move late Activate = true
+late_after_move late EndSlot = true
 
-abbrev pub ran_behind : Roles → (ℕ → Bool) → Move → List Place → ℕ → Bool
-ran_behind roles ran (Step i) places = woken_more ran places
-ran_behind roles ran (Evaluate j) places = woken_more ran places
-ran_behind roles ran (Propagate j) places = woken_more ran places
-ran_behind roles ran (Make i) places = woken_more ran places
-ran_behind roles ran Rouse places = woken_more (sure roles ran) places
-ran_behind roles ran Activate places = woken_more (sure roles ran) places
-ran_behind roles ran EndSlot places = woken_more (sure roles ran) places
+abbrev pub ran_after_move : Roles → (ℕ → Bool) → Move → List Place → ℕ → Bool
+ran_after_move roles ran (Step i) places = woken_more ran places
+ran_after_move roles ran (Evaluate j) places = woken_more ran places
+ran_after_move roles ran (Propagate j) places = woken_more ran places
+ran_after_move roles ran (Make i) places = woken_more ran places
+ran_after_move roles ran Rouse places = woken_more (sure roles ran) places
+ran_after_move roles ran Activate places = woken_more (sure roles ran) places
+ran_after_move roles ran EndSlot places = woken_more (sure roles ran) places
 
 -- a block inside its run keeps out all but its own steps
 abbrev pub KeepsOut : Roles → List Place → Move → Type 0
@@ -424,7 +424,7 @@ step_moment d roles set b s ran0 late ran apart i out p is goes m =
 
 -- every move within a slot keeps what holds there
 pub inner_kept : (d : Parts) (roles : Roles) (set : Setting d roles) (b s : State) (ran0 : ℕ → Bool) (late : Bool) (ran : ℕ → Bool) → Apart d roles.blocks b → (m : Move) → IsInner m → is_enabled s m ≡ true →
-    KeepsOut roles s.places m → Moment d roles set b s ran0 late ran → Moment d roles set b (apply m s) ran0 (late_behind late m) (ran_behind roles ran m (apply m s).places)
+    KeepsOut roles s.places m → Moment d roles set b s ran0 late ran → Moment d roles set b (apply m s) ran0 (late_after_move late m) (ran_after_move roles ran m (apply m s).places)
 inner_kept d roles set b s ran0 late ran apart (Step i) inner h out mo =
     let p = some_of is_going (slice_get s.places i) h in
     subst (λ (o : Option Place). Moment d roles set b (stepped s i o) ran0 late (woken_more ran (stepped s i o).places)) (sym p.1) (step_moment d roles set b s ran0 late ran apart i out p.0 p.1 p.2 mo)
@@ -442,7 +442,7 @@ inner_kept d roles set b s ran0 late ran apart (Make i) inner h out mo = by_phas
     u : (u : Update) × (slice_get s.updates i ≡ Some u) × (is_first s.updates i u ≡ true)
     u = some_of (is_first s.updates i) (slice_get s.updates i) h
 
-    by_phase : (Before d roles b s ran0 late ran ⊎ Behind d roles b s ran0 late ran) → Moment d roles set b (make s i (slice_get s.updates i)) ran0 late (woken_more ran (make s i (slice_get s.updates i)).places)
+    by_phase : (Before d roles b s ran0 late ran ⊎ LateBlocks d roles b s ran0 late ran) → Moment d roles set b (make s i (slice_get s.updates i)) ran0 late (woken_more ran (make s i (slice_get s.updates i)).places)
     by_phase (inl x) =
         let active = (and_parts u.0.active _ u.2).0 in
         let waits = and_parts (not u.0.active && leb b.time u.0.due) (names_some u.0.what) (all_get (is_waiting b.time) s.updates i u.0 u.1 x.runs.mades.waiting) in
@@ -458,7 +458,7 @@ inner_kept d roles set b s ran0 late ran apart Rouse inner h out mo = by_phase q
     q : Moment d roles set b s ran0 true (sure roles ran)
     q = quiet_moment d roles set b s ran0 late ran a.quiet mo
 
-    by_phase : (Before d roles b s ran0 true (sure roles ran) ⊎ Behind d roles b s ran0 true (sure roles ran)) → Moment d roles set b (record s { places = map roused s.places }) ran0 true (woken_more (sure roles ran) (map roused s.places))
+    by_phase : (Before d roles b s ran0 true (sure roles ran) ⊎ LateBlocks d roles b s ran0 true (sure roles ran)) → Moment d roles set b (record s { places = map roused s.places }) ran0 true (woken_more (sure roles ran) (map roused s.places))
     by_phase (inl x) = rouse_moment d roles set b s ran0 (sure roles ran) q.begun q.blocks x
     by_phase (inr x) =
         let p = any_at is_inactive s.places a.inactive in
@@ -474,7 +474,7 @@ inner_kept d roles set b s ran0 late ran apart Activate inner h out mo = by_phas
     q : Moment d roles set b s ran0 true (sure roles ran)
     q = quiet_moment d roles set b s ran0 late ran a.quiet mo
 
-    by_phase : (Before d roles b s ran0 true (sure roles ran) ⊎ Behind d roles b s ran0 true (sure roles ran)) → Moment d roles set b (record s { updates = map (activated s.time) s.updates }) ran0 true (woken_more (sure roles ran) s.places)
+    by_phase : (Before d roles b s ran0 true (sure roles ran) ⊎ LateBlocks d roles b s ran0 true (sure roles ran)) → Moment d roles set b (record s { updates = map (activated s.time) s.updates }) ran0 true (woken_more (sure roles ran) s.places)
     by_phase (inl x) = activate_moment d roles set b s ran0 (sure roles ran) apart q.begun (all_idle s.assigns a.quiet.assigns) a.quiet.going a.inactive q.blocks x
     by_phase (inr x) =
         let u = any_at (is_due s.time) s.updates a.due in

@@ -18,7 +18,7 @@ use Rattle.vs_rules.specs.Blocks.{K5, K11}
 use Rattle.vs_rules.specs.Verdict.{Rule, k1, k2, k3, k4, k5, k6, k7, k8, k9, k10, k11, signal, assign, process, listed, numbers, subjects, Keeps, KeepsAll, Disciplined, Keeping}
 use Rattle.vs_design.specs.vs_logic4.proofs.Basics.{none_in, map_at}
 use Rattle.vs_independence.proofs.Beginning.{path_point}
-use Rattle.vs_independence.proofs.Texts.{writes_now}
+use Rattle.vs_rules.proofs.Texts.{writes_now}
 use Rattle.vs_independence.proofs.Variables.{writes_variable}
 
 -- ---- the subjects

@@ -16,7 +16,7 @@ use Rattle.vs_rules.specs.Claims.{Claims}
 use Rattle.vs_rules.specs.Constants.{bit_of, Gives}
 use Rattle.vs_rules.specs.Paths.{WritesNow}
 use Rattle.vs_independence.proofs.Gave.{step_gives, still_digit}
-use Rattle.vs_independence.proofs.Walks.{Here, Stands, Closed, walked_iterate}
+use Rattle.vs_independence.proofs.Walks.{Here, IsAtPlace, Closed, walked_iterate}
 use Rattle.vs_independence.proofs.Words.{step_now}
 
 -- the point of the last write: where it gives a constant, the signal has it
@@ -35,20 +35,20 @@ same_digit : (store : Store) (w : Write) (v : ℕ) → names w v ≡ false → d
 same_digit store w v h = ap (λ o. digit_in (word_in o 0) 0) (put_other store w v h)
 
 -- the log and the view behind a step
-record Behind (d : Parts) (c : Claims) (i time v : ℕ) (log : List Write) (store : Store) : Type 0 where
+record LogAfterStep (d : Parts) (c : Claims) (i time v : ℕ) (log : List Write) (store : Store) : Type 0 where
   digit : Digit
   there : digit_of store v 0 0 ≡ Some digit
   last : list_any (λ w. names w v) log ≡ true → Last d c i time v store
 
-behind_step : (d : Parts) (c : Claims) (i time v : ℕ) (k : Todo) (store : Store) (log : List Write) → Here d c i time (erased k) → Behind d c i time v log store → (o : Option Write) → (step k store time).write ≡ o →
-    Behind d c i time v (log_after log o) (store_after store o)
+behind_step : (d : Parts) (c : Claims) (i time v : ℕ) (k : Todo) (store : Store) (log : List Write) → Here d c i time (erased k) → LogAfterStep d c i time v log store → (o : Option Write) → (step k store time).write ≡ o →
+    LogAfterStep d c i time v (log_after log o) (store_after store o)
 behind_step d c i time v k store log here h None is = h
 behind_step d c i time v k store log here h (Some w) is = at_name (cases_Bool (names w v))
   where
     new : (z : Digit) × (digit_of (put store w) v 0 0 ≡ Some z)
     new = still_digit store w v h.digit h.there
 
-    at_name : (names w v ≡ true) ⊎ (names w v ≡ false) → Behind d c i time v (w ∷ log) (put store w)
+    at_name : (names w v ≡ true) ⊎ (names w v ≡ false) → LogAfterStep d c i time v (w ∷ log) (put store w)
     at_name (inl hit) = record {
       digit = new.0;
       there = new.1;
@@ -70,7 +70,7 @@ behind_step d c i time v k store log here h (Some w) is = at_name (cases_Bool (n
       ];
     }
 
-bit_turn : (d : Parts) (c : Claims) (i time v : ℕ) (p : Place) (th : Thread) → Stands d c i time p → Bitwise d c i time v th → Bitwise d c i time v (turn_at time i p th)
+bit_turn : (d : Parts) (c : Claims) (i time v : ℕ) (p : Place) (th : Thread) → IsAtPlace d c i time p → Bitwise d c i time v th → Bitwise d c i time v (turn_at time i p th)
 bit_turn d c i time v (going gait k) th h b =
     let r = behind_step d c i time v k th.view th.log h (record { digit = b.digit; there = b.there; last = b.last }) (step k th.view time).write refl in
     record { digit = r.digit; there = r.there; last = r.last }
@@ -80,7 +80,7 @@ bit_turn d c i time v (waiting terms k) th h b = b
 bit_turn d c i time v ended th h b = b
 
 -- a thread knows where it wrote a signal of one bit last
-pub bit_iterate : (d : Parts) (c : Claims) (i : ℕ) → Closed d c i → (time n v : ℕ) (th : Thread) (y : Digit) → th.log ≡ [] → th.made ≡ [] → Stands d c i time th.place → digit_of th.view v 0 0 ≡ Some y →
+pub bit_iterate : (d : Parts) (c : Claims) (i : ℕ) → Closed d c i → (time n v : ℕ) (th : Thread) (y : Digit) → th.log ≡ [] → th.made ≡ [] → IsAtPlace d c i time th.place → digit_of th.view v 0 0 ≡ Some y →
     Bitwise d c i time v (iterate n (turn time i) th)
 bit_iterate d c i closed time zero v th y no_log no_made h is =
     record { digit = y; there = is; last = λ w. absurd (false≢true (subst (λ (log : List Write). list_any (λ w. names w v) log ≡ true) no_log w)) }

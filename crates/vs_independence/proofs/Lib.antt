@@ -31,7 +31,6 @@ pub mod Walks
 pub mod Boundary
 pub mod Beginning
 pub mod Early
-pub mod Texts
 pub mod Gave
 pub mod Roots
 pub mod Lasts

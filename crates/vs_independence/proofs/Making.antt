@@ -25,7 +25,7 @@ use Rattle.vs_process.specs.Edges.{IsLink, itself, through, IsRoot}
 use Rattle.vs_process.specs.Threads.{Thread, any_names, store_after}
 use Rattle.vs_process.proofs.ThreadStores.{put_swap, names_some, put_active, put_active_local, by, left, filter_miss}
 use Rattle.vs_process.proofs.Threads.{is_stopped, stopped_from}
-use Rattle.vs_process.proofs.ThreadAssigns.{DrivesWell, assigns_behind, places_behind}
+use Rattle.vs_process.proofs.ThreadAssigns.{DrivesWell, assigns_after_write, places_after_write}
 use Rattle.vs_process.proofs.ThreadLists.{filter_none}
 use Rattle.vs_design.specs.vs_logic4.proofs.Basics.{filter_some}
 use Rattle.vs_process.proofs.Settle.{AllIdle}
@@ -359,9 +359,9 @@ stopped_at d blocks b s m i other p is =
 
 -- what a step of a block that may write leaves
 record StillLeaves (d : Parts) (blocks : ℕ → Bool) (b s : State) (m : Making d blocks b s) (o : Option Write) : Type 0 where
-  follow : (i : ℕ) → blocks i ≡ false → get_or (places_behind s.store o s.places) i ended ≡ get_or m.before.places i ended
+  follow : (i : ℕ) → blocks i ≡ false → get_or (places_after_write s.store o s.places) i ended ≡ get_or m.before.places i ended
   edges : SameEdges d blocks s.store (store_after s.store o)
-  links : LinksIdle d blocks (assigns_behind s.store o s.assigns)
+  links : LinksIdle d blocks (assigns_after_write s.store o s.assigns)
 
 still_leaves : (d : Parts) (blocks : ℕ → Bool) → OutputsUndriven d blocks → (b s : State) → Apart d blocks b → (m : Making d blocks b s) → (k : ℕ) → blocks k ≡ true → (o : Option Write) →
     ((w : Write) → o ≡ Some w → LiesIn (outputs d k) w) → StillLeaves d blocks b s m o
@@ -386,12 +386,12 @@ block_makes d blocks own b s apart m k is place out step_made = (
     slot = subst (WithinSlot b) back (record {
       time = m.slot.time;
       over = m.slot.over;
-      count = length-set (places_behind s.store out.write s.places) k (place_after_step place s.time out.next) ∙ length_behind s.store out.write s.places ∙ m.slot.count;
+      count = length-set (places_after_write s.store out.write s.places) k (place_after_step place s.time out.next) ∙ length_behind s.store out.write s.places ∙ m.slot.count;
     });
     sound = subst (λ (t : State). AssignsSound d t.store t.assigns) back (behind_sound d s out.write (sound_behind d s out.write undriven m.sound));
     places = λ i other.
         ap (λ (t : State). get_or t.places i ended) (performed_is s k place out)
-        ∙ get_or-set_other (places_behind s.store out.write s.places) k i (place_after_step place s.time out.next) ended (λ e. true≢false (sym is ∙ ap blocks (sym e) ∙ other))
+        ∙ get_or-set_other (places_after_write s.store out.write s.places) k i (place_after_step place s.time out.next) ended (λ e. true≢false (sym is ∙ ap blocks (sym e) ∙ other))
         ∙ leaves.follow i other;
     finishing = ap (λ (t : State). t.finishing) (performed_is s k place out) ∙ or_false s.finishing out.finish step_made.finish ∙ m.finishing;
     calls = ap (λ (t : State). t.calls) (performed_is s k place out) ∙ calls_same k out.call s.calls step_made.call ∙ m.calls;

@@ -26,8 +26,8 @@ use Rattle.vs_process.proofs.ThreadStores.{by}
 use Rattle.vs_process.proofs.StepReads.{step_reads, IsPlain, step_plain}
 use Rattle.vs_process.proofs.Threads.{rouse_thread, thread_rouses, unmoved}
 use Rattle.vs_process.proofs.ThreadLinks.{link_state}
-use Rattle.vs_process.proofs.ThreadAssigns.{DrivesWell, assigns_behind, behind_is, places_behind}
-use Rattle.vs_independence.proofs.Running.{Apart, AllThreads, Stands, threads_of, Sources, Mades, Finishes, Asks, Written, Running, reads_agree, Rests, BlockBare, Stirred, IsCalm, IsStirred}
+use Rattle.vs_process.proofs.ThreadAssigns.{DrivesWell, assigns_after_write, behind_is, places_after_write}
+use Rattle.vs_independence.proofs.Running.{Apart, AllThreads, FiringAgrees, threads_of, Sources, Mades, Finishes, Asks, Written, Running, reads_agree, Rests, BlockBare, Stirred, IsCalm, IsStirred}
 use Rattle.vs_independence.proofs.Fire.{Change, After, IsFiredNow, after_at, fired_kept}
 use Rattle.vs_independence.proofs.Edges.{Advancing, write_advances, propagate_advances, change_of, edges_touched, edges_grow, edges_settled, edges_evaluated}
 use Rattle.vs_independence.proofs.Steps.{at_this, sources_step, mades_step, asks_step, finishes_step}
@@ -57,15 +57,15 @@ runs_as d blocks b s th r = record { th = th; runs = r; same = λ k timed. refl;
 abbrev pub performed_at : State → ℕ → Place → Out → State
 performed_at s i place out = record s {
   store = store_after s.store out.write;
-  places = slice_set (places_behind s.store out.write s.places) i (place_after_step place s.time out.next);
-  assigns = assigns_behind s.store out.write s.assigns;
+  places = slice_set (places_after_write s.store out.write s.places) i (place_after_step place s.time out.next);
+  assigns = assigns_after_write s.store out.write s.assigns;
   updates = updates_after i s.time out.update s.updates;
   calls = calls_after i out.call s.calls;
   finishing = s.finishing || out.finish;
 }
 
 -- the continuous assignments do not ask where processes are
-pub behind_sound : (d : Parts) (s : State) (o : Option Write) → AssignsSound d (written_after s o).store (written_after s o).assigns → AssignsSound d (store_after s.store o) (assigns_behind s.store o s.assigns)
+pub behind_sound : (d : Parts) (s : State) (o : Option Write) → AssignsSound d (written_after s o).store (written_after s o).assigns → AssignsSound d (store_after s.store o) (assigns_after_write s.store o s.assigns)
 behind_sound d s None h = h
 behind_sound d s (Some w) h = h
 
@@ -78,7 +78,7 @@ performed_is s i place out =
       finishing = s.finishing || out.finish;
     }) (behind_is s out.write)
 
-pub length_behind : (store : Store) (o : Option Write) (places : List Place) → length (places_behind store o places) ≡ length places
+pub length_behind : (store : Store) (o : Option Write) (places : List Place) → length (places_after_write store o places) ≡ length places
 length_behind store None places = refl
 length_behind store (Some w) places = length-map places (wakened store (put store w))
 
@@ -100,7 +100,7 @@ source_free d blocks w sources k v is hit =
 rests_behind : (d : Parts) (blocks : ℕ → Bool) (b : State) (store : Store) (places : List Place) (th more : ℕ → Thread) (o : Option Write) →
     ((k : ℕ) → blocks k ≡ true → Text d k) → ((w : Write) → o ≡ Some w → (q : BitRange) → is_changed store (put store w) q ≡ true → Stirred d blocks b more q) →
     ((i u : ℕ) → writes (th i) u ≡ true → writes (more i) u ≡ true) → ((w : Write) → o ≡ Some w → (k v : ℕ) → blocks k ≡ true → puts_out d k v ≡ true → names w v ≡ false) →
-    Rests d blocks b store places th → Rests d blocks b (store_after store o) (places_behind store o places) more
+    Rests d blocks b store places th → Rests d blocks b (store_after store o) (places_after_write store o places) more
 rests_behind d blocks b store places th more None texts wrote grows free rests k is = elim (rests k is) [
   | inl rested ↦ inl rested
   | inr awake ↦ inr (awake_more d blocks b th more grows k awake)
@@ -177,8 +177,8 @@ abbrev pub thread_moves : (d : Parts) (blocks : ℕ → Bool) (b : State) (i : �
 thread_moves d blocks b i th tn h turned = record { count = suc h.count; input = h.input; may = h.may; is = ap (turn b.time i) h.is ∙ turned }
 
 -- a process that goes isn't one that waits since the slot began
-mover_stands : (d : Parts) (blocks : ℕ → Bool) (b : State) (old new : Store) (i : ℕ) (th tn : Thread) (s : Stands d blocks b old i th) → (gait : Gait) (todo : Todo) → th.place ≡ going gait todo → (turned : turn b.time i th ≡ tn) →
-    ((f : Fired) → s.is.input ≡ Some f → slice_get new f.signal ≡ Some f.value) → Stands d blocks b new i tn
+mover_stands : (d : Parts) (blocks : ℕ → Bool) (b : State) (old new : Store) (i : ℕ) (th tn : Thread) (s : FiringAgrees d blocks b old i th) → (gait : Gait) (todo : Todo) → th.place ≡ going gait todo → (turned : turn b.time i th ≡ tn) →
+    ((f : Fired) → s.is.input ≡ Some f → slice_get new f.signal ≡ Some f.value) → FiringAgrees d blocks b new i tn
 mover_stands d blocks b old new i th tn s gait todo at_i turned fired = record {
   is = thread_moves d blocks b i th tn s.is turned;
   unfired = λ none terms rest at_b t among.
@@ -201,7 +201,7 @@ quiet_runs d blocks texts b s th apart r i other gait todo out here plain at_i t
     count = length-set s.places i next ∙ r.slot.count;
   };
   sound = r.sound;
-  stands = at_each (Stands d blocks b s.store) th i tn own (λ k ne. r.stands k);
+  stands = at_each (FiringAgrees d blocks b s.store) th i tn own (λ k ne. r.stands k);
   places = at_each (λ k t. blocks k ≡ false → get_or (slice_set s.places i next) k ended ≡ t.place) th i tn
       (λ mine. get_or-set_same s.places i next ended (slice_get_within s.places i (going gait todo) here) ∙ ap (λ t. place_after_step (going gait todo) t out.next) r.slot.time)
       (λ k ne mine. get_or-set_other s.places i k next ended ne ∙ r.places k mine);
@@ -234,7 +234,7 @@ quiet_runs d blocks texts b s th apart r i other gait todo out here plain at_i t
     grows : (k u : ℕ) → writes (th k) u ≡ true → writes (at th i tn k) u ≡ true
     grows k u = at_each (λ k t. writes (th k) u ≡ true → writes t u ≡ true) th i tn (λ h. h) (λ k ne h. h) k
 
-    own : Stands d blocks b s.store i tn
+    own : FiringAgrees d blocks b s.store i tn
     own = mover_stands d blocks b s.store s.store i (th i) tn (r.stands i) gait todo at_i turned (r.stands i).fired
 
 -- a step that writes: all processes behind it, with those that it wakes
@@ -254,7 +254,7 @@ write_runs d blocks texts b s th apart r i other gait todo out w here plain at_i
       count = length-set (map (wakened s.store new) s.places) i next ∙ length-map s.places (wakened s.store new) ∙ r.slot.count;
     };
     sound = sound_behind d s (Some w) undriven r.sound;
-    stands = at_each (Stands d blocks b new) others i tn own (λ k ne. (af k).stands);
+    stands = at_each (FiringAgrees d blocks b new) others i tn own (λ k ne. (af k).stands);
     places = at_each (λ k t. blocks k ≡ false → get_or (slice_set (map (wakened s.store new) s.places) i next) k ended ≡ t.place) others i tn
         (λ mine. get_or-set_same (map (wakened s.store new) s.places) i next ended within ∙ ap (λ t. place_after_step (going gait todo) t out.next) r.slot.time)
         (λ k ne mine. get_or-set_other (map (wakened s.store new) s.places) i k next ended ne ∙ get_or-map (wakened s.store new) s.places k ended
@@ -268,7 +268,7 @@ write_runs d blocks texts b s th apart r i other gait todo out w here plain at_i
     nets = nets_behind d blocks b s.store s.assigns th final r.sound (Some w) undriven stirs grows r.nets;
     bare = bare_behind d blocks s.store (Some w) free r.bare;
     rests = rests_set d blocks b new (map (wakened s.store new) s.places) final i next other (rests_behind d blocks b s.store s.places th final (Some w) texts stirs grows free r.rests);
-    edges = edges_grow d blocks b new (assigns_behind s.store (Some w) s.assigns) mid final (written_same mid final alike)
+    edges = edges_grow d blocks b new (assigns_after_write s.store (Some w) s.assigns) mid final (written_same mid final alike)
         (edges_touched d blocks b s.store new s.assigns th mid advancing (λ m n l x at_x. (link_state d s.store s.assigns r.sound m n l x at_x).1) r.edges);
   };
 }
@@ -329,7 +329,7 @@ write_runs d blocks texts b s th apart r i other gait todo out w here plain at_i
     final : ℕ → Thread
     final = at others i tn
 
-    own : Stands d blocks b new i tn
+    own : FiringAgrees d blocks b new i tn
     own = mover_stands d blocks b s.store new i (th i) tn (r.stands i) gait todo at_i turned
         (λ f e. fired_kept d blocks b s.store new change i f (subst (MayOpen d blocks b i) e (r.stands i).is.may) ((r.stands i).fired f e))
 
@@ -527,7 +527,7 @@ propagate_runs d blocks well texts outputs b s apart th r j x digits is waits = 
 -- ---- the inactive processes become active
 
 -- a process that is roused isn't one that waits
-rouse_stands : (d : Parts) (blocks : ℕ → Bool) (b : State) (store : Store) (i : ℕ) (th : Thread) → Stands d blocks b store i th → Stands d blocks b store i (rouse_thread th)
+rouse_stands : (d : Parts) (blocks : ℕ → Bool) (b : State) (store : Store) (i : ℕ) (th : Thread) → FiringAgrees d blocks b store i th → FiringAgrees d blocks b store i (rouse_thread th)
 rouse_stands d blocks b store i th s = record { is = thread_rouses d blocks b i th s.is; unfired = s.unfired; fired = s.fired }
 
 -- a block at its control is not inactive

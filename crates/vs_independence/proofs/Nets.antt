@@ -24,7 +24,7 @@ use Rattle.vs_process.proofs.Assigns.{AssignsSound, link_of, assign_driven, assi
 use Rattle.vs_process.specs.Feeds.{writes_into}
 use Rattle.vs_process.specs.Threads.{store_after, Thread, writes}
 use Rattle.vs_independence.specs.Discipline.{here, through, past}
-use Rattle.vs_process.proofs.ThreadAssigns.{DrivesWell, assigns_behind}
+use Rattle.vs_process.proofs.ThreadAssigns.{DrivesWell, assigns_after_write}
 use Rattle.vs_process.proofs.Feeds.{changed_into}
 use Rattle.vs_process.proofs.ThreadLists.{contains_at}
 use Rattle.vs_independence.proofs.Running.{Stirred, IsCalm, IsStirred, Nets, by_write, by_start, IsAwake, Rests, by_rest, IsRested}
@@ -102,7 +102,7 @@ nets_written d blocks b store assigns th more sound w undriven wrote grows nets 
 
 pub nets_behind : (d : Parts) (blocks : ℕ → Bool) (b : State) (store : Store) (assigns : List AssignState) (th more : ℕ → Thread) → AssignsSound d store assigns → (o : Option Write) → ((w : Write) → o ≡ Some w → IsUndriven d w) →
     ((w : Write) → o ≡ Some w → (q : BitRange) → is_changed store (put store w) q ≡ true → Stirred d blocks b more q) → ((i u : ℕ) → writes (th i) u ≡ true → writes (more i) u ≡ true) →
-    Nets d blocks b store assigns th → Nets d blocks b (store_after store o) (assigns_behind store o assigns) more
+    Nets d blocks b store assigns th → Nets d blocks b (store_after store o) (assigns_after_write store o assigns) more
 nets_behind d blocks b store assigns th more sound None undriven wrote grows nets j x is = elim (nets j x is) [
   | inl calm ↦ inl calm
   | inr stirred ↦ inr (all_stirred_more d blocks b th more grows x stirred)

@@ -11,7 +11,7 @@ use Rattle.vs_independence.specs.vs_process.proofs.Stores.{put_other}
 use Rattle.vs_rules.specs.vs_process.specs.Threads.{Thread, store_after, log_after, turn_at, turn, iterate, writes}
 use Rattle.vs_rules.specs.Claims.{Claims, IsWriter}
 use Rattle.vs_rules.specs.Rules.{IsSoundRoot}
-use Rattle.vs_independence.proofs.Walks.{HotAt, Stands, Closed, Walked, walked_iterate}
+use Rattle.vs_independence.proofs.Walks.{HotAt, IsAtPlace, Closed, Walked, walked_iterate}
 use Rattle.vs_independence.proofs.Words.{step_now}
 
 pub iterate_more : {A : Type 0} (f : A → A) (x : A) (n j : ℕ) → iterate (n + j) f x ≡ iterate j f (iterate n f x)
@@ -49,7 +49,7 @@ once_turn d c i time root sound writer (going gait k) th e w wrote = by_write (s
     by_write None is = refl
     by_write (Some x) is = elim (cases_Bool (names x root)) [
       | inl hit ↦
-          absurd (sound.once i (erased k) writer (subst (Stands d c i time) e w.stands).point (inl (step_now d k th.view time x root is hit)) (subst (HotAt d c i root) e (w.hot root wrote)))
+          absurd (sound.once i (erased k) writer (subst (IsAtPlace d c i time) e w.stands).point (inl (step_now d k th.view time x root is hit)) (subst (HotAt d c i root) e (w.hot root wrote)))
       | inr miss ↦ put_other th.view x root miss
     ]
 once_turn d c i time root sound writer (inactive k) th e w wrote = refl
@@ -57,7 +57,7 @@ once_turn d c i time root sound writer (sleeping due k) th e w wrote = refl
 once_turn d c i time root sound writer (waiting terms k) th e w wrote = refl
 once_turn d c i time root sound writer ended th e w wrote = refl
 
-once_iterate : (d : Parts) (c : Claims) (i : ℕ) → Closed d c i → (time root : ℕ) → IsSoundRoot d c root → IsWriter d c root i → (n j : ℕ) (first : Thread) → first.log ≡ [] → first.made ≡ [] → Stands d c i time first.place →
+once_iterate : (d : Parts) (c : Claims) (i : ℕ) → Closed d c i → (time root : ℕ) → IsSoundRoot d c root → IsWriter d c root i → (n j : ℕ) (first : Thread) → first.log ≡ [] → first.made ≡ [] → IsAtPlace d c i time first.place →
     writes (iterate n (turn time i) first) root ≡ true → slice_get (iterate j (turn time i) (iterate n (turn time i) first)).view root ≡ slice_get (iterate n (turn time i) first).view root
 once_iterate d c i closed time root sound writer n zero first no_log no_made stands wrote = refl
 once_iterate d c i closed time root sound writer n (suc j) first no_log no_made stands wrote =
@@ -68,7 +68,7 @@ once_iterate d c i closed time root sound writer n (suc j) first no_log no_made 
     ∙ once_iterate d c i closed time root sound writer n j first no_log no_made stands wrote
 
 -- two threads of one opening that have written a root have one value of it
-pub one_value : (d : Parts) (c : Claims) (i : ℕ) → Closed d c i → (time root : ℕ) → IsSoundRoot d c root → IsWriter d c root i → (n m : ℕ) (first : Thread) → first.log ≡ [] → first.made ≡ [] → Stands d c i time first.place →
+pub one_value : (d : Parts) (c : Claims) (i : ℕ) → Closed d c i → (time root : ℕ) → IsSoundRoot d c root → IsWriter d c root i → (n m : ℕ) (first : Thread) → first.log ≡ [] → first.made ≡ [] → IsAtPlace d c i time first.place →
     writes (iterate n (turn time i) first) root ≡ true → writes (iterate m (turn time i) first) root ≡ true →
     slice_get (iterate n (turn time i) first).view root ≡ slice_get (iterate m (turn time i) first).view root
 one_value d c i closed time root sound writer n m first no_log no_made stands wn wm =

@@ -25,7 +25,7 @@ use Rattle.vs_rules.specs.Points.{Point, first_todo, nexts_by}
 use Rattle.vs_rules.proofs.Points.{step_goes}
 use Rattle.vs_rules.specs.Claims.{Claims, is_block_kind, blocks_of, HasStart, IsWriter, IsSecond, IsSequential, is_wide, sources}
 use Rattle.vs_rules.specs.Paths.{Bit, PathBy, begins, goes, is_plain, IsPrologue, WritesNow, Writes, writes_of}
-use Rattle.vs_rules.specs.Drivers.{Driver, assign, block, driver_name, ComesBefore, IsSource, WritesBit}
+use Rattle.vs_rules.specs.Drivers.{Driver, assign, block, driver_name, Precedes, IsSource, WritesBit}
 use Rattle.vs_rules.specs.Rules.{K2, K4, needs}
 use Rattle.vs_rules.specs.Blocks.{K11}
 use Rattle.vs_independence.specs.Discipline.{Reaches, IsOrdered}
@@ -34,7 +34,7 @@ use Rattle.vs_independence.proofs.Beginning.{path_point, start_first}
 use Rattle.vs_independence.proofs.Cones.{ControlNames, is_block, out_writes, into_writes, source_of, reach_cone}
 use Rattle.vs_independence.proofs.RulesFire.{Begun, role}
 use Rattle.vs_independence.proofs.Firing.{one_writer}
-use Rattle.vs_independence.proofs.Texts.{writes_now}
+use Rattle.vs_rules.proofs.Texts.{writes_now}
 use Rattle.vs_independence.specs.RuleLaws.{roles_of}
 use Rattle.vs_independence.proofs.Walks.{Leads, log_cases}
 use Rattle.vs_independence.proofs.Words.{step_now}
@@ -48,14 +48,14 @@ rank_in order (Some name) = place_of name order
 abbrev rank_of : Parts → Claims → Driver → ℕ
 rank_of d c x = rank_in c.order (driver_name d x)
 
-before_less : (d : Parts) (c : Claims) (x y : Driver) → ComesBefore d c x y → rank_of d c x < rank_of d c y
+before_less : (d : Parts) (c : Claims) (x y : Driver) → Precedes d c x y → rank_of d c x < rank_of d c y
 before_less d c x y h =
     let low : rank_of d c x ≡ place_of h.one c.order = ap (rank_in c.order) h.is in
     let high : rank_of d c y ≡ place_of h.other c.order = ap (rank_in c.order) h.other_is in
     let less : place_of h.one c.order < place_of h.other c.order = h.before in
     omega (arith, less, low, high)
 
-never_self : (d : Parts) (c : Claims) (x y : Driver) → ⊥ ⊎ ComesBefore d c y x → rank_of d c y < rank_of d c x
+never_self : (d : Parts) (c : Claims) (x y : Driver) → ⊥ ⊎ Precedes d c y x → rank_of d c y < rank_of d c x
 never_self d c x y (inl never) = absurd never
 never_self d c x y (inr h) = before_less d c y x h
 

@@ -43,7 +43,7 @@ use Rattle.vs_independence.proofs.Clocks.{Bared, bare_flat, flat_inside, not_bot
 use Rattle.vs_independence.proofs.RulesFire.{zero_less, bit_digit, seq_found}
 use Rattle.vs_rules.specs.vs_process.proofs.ThreadLinks.{root_bit}
 use Rattle.vs_independence.proofs.Firing.{one_writer, one_second}
-use Rattle.vs_independence.proofs.Walks.{At, at_zero, at_later, Here, Stands}
+use Rattle.vs_independence.proofs.Walks.{At, at_zero, at_later, Here, IsAtPlace}
 use Rattle.vs_independence.proofs.Seconds.{LedAt, RootOf, led_at, alone_now, role_now, updates_miss}
 use Rattle.vs_independence.proofs.Turned.{turned, Phase, turn_sized, bare_sound}
 use Rattle.vs_independence.proofs.Turning.{IsBefore, Turner, Guard, guard_of, SetAt, Clocked, clocked_watched, Setter, Before, bit_put, set_gives, before_is, before_goes_on, BitIn, Early, early_any, early_is, early_goes_on, HasAtEnd, Has, thread_has, Ahead}
@@ -61,7 +61,7 @@ use Rattle.vs_rules.proofs.Points.{step_goes}
 use Rattle.vs_rules.specs.Verdict.{Keeping}
 use Rattle.vs_independence.proofs.Inverses.{copies_root}
 use Rattle.vs_independence.proofs.Roots.{whole_writes}
-use Rattle.vs_independence.proofs.Texts.{writes_now}
+use Rattle.vs_rules.proofs.Texts.{writes_now}
 use Rattle.vs_rules.specs.vs_process.proofs.Filled.{body_sound as process_sound}
 
 -- ---- texts
@@ -211,9 +211,9 @@ first_seen grain d c T root up writer S j second first =
         by_at (at_zero same s) = (root.rules.writers T.root).first_alone j T.process k second writer s now
         by_at (at_later later late slot) = zero_less time later z
 
-    stands : (moves : List Move) → Legal grain d moves → Stands d c T.process (reached d moves).time (get_or (reached d moves).places T.process ended)
+    stands : (moves : List Move) → Legal grain d moves → IsAtPlace d c T.process (reached d moves).time (get_or (reached d moves).places T.process ended)
     stands moves l =
-        holds_after grain d (Stands d c T.process) (delay_steady d c T.process kind (closed_of d c T.process (inr (inl kind)) (root.rules.edges T.process) (root.rules.residues T.process)) (root.rules.residues T.process)) T.process
+        holds_after grain d (IsAtPlace d c T.process) (delay_steady d c T.process kind (closed_of d c T.process (inr (inl kind)) (root.rules.edges T.process) (root.rules.residues T.process)) (root.rules.residues T.process)) T.process
         (start_stands d c T.process) moves l
 
     stays : (moves : List Move) → Legal grain d moves → (time i : ℕ) (gait : Gait) (k : Todo) (p : Place) (store : Store) (w : Write) → (reached d moves).time ≡ time → slice_get (reached d moves).places i ≡ Some (going gait k) →
@@ -227,7 +227,7 @@ first_seen grain d c T root up writer S j second first =
         by_role z (inl other) =
             let same : i ≡ T.process = one_writer d c root.formed T.root i T.process other writer in
             let place : get_or (reached d moves).places T.process ended ≡ going gait k = ap (λ n. get_or (reached d moves).places n ended) (sym same) ∙ get_or_from_slice_get (reached d moves).places i (going gait k) ended is in
-            silent (reached d moves).time (erased k) (subst (Stands d c T.process (reached d moves).time) place (stands moves l)) now (at ∙ z)
+            silent (reached d moves).time (erased k) (subst (IsAtPlace d c T.process (reached d moves).time) place (stands moves l)) now (at ∙ z)
     stays moves l time i gait k (sleeping due todo) store w at is now ne h = absurd h
     stays moves l time i gait k (inactive todo) store w at is now ne h = absurd h
     stays moves l time i gait k (waiting terms todo) store w at is now ne h = absurd h

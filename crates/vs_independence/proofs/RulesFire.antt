@@ -34,7 +34,7 @@ use Rattle.vs_rules.specs.Slots.{counts, phase}
 use Rattle.vs_rules.specs.vs_process.specs.Edges.{one_bit}
 use Rattle.vs_rules.specs.Verdict.{Keeping}
 use Rattle.vs_independence.proofs.Beginning.{Beginning, AllStopped, closed_of}
-use Rattle.vs_independence.proofs.Walks.{Stands, Closed, Walked, walked_iterate}
+use Rattle.vs_independence.proofs.Walks.{IsAtPlace, Closed, Walked, walked_iterate}
 
 -- ---- what is known where a slot begins
 
@@ -118,8 +118,8 @@ pub zero_less : (n : ℕ) → 0 < n → n ≡ 0 → ⊥
 zero_less n up z = omega (arith, up, z)
 
 -- where the slot finds it, a process stands as the rules say
-pub stands_found : (d : Parts) (c : Claims) (b : State) → Begun d c b → (i : ℕ) → IsSequential d c i → Stands d c i b.time (found (blocks_of d c) b i)
-stands_found d c b g i seq = subst (Stands d c i b.time) (sym (seq_found d c b i seq)) (g.begin.stands i seq)
+pub stands_found : (d : Parts) (c : Claims) (b : State) → Begun d c b → (i : ℕ) → IsSequential d c i → IsAtPlace d c i b.time (found (blocks_of d c) b i)
+stands_found d c b g i seq = subst (IsAtPlace d c i b.time) (sym (seq_found d c b i seq)) (g.begin.stands i seq)
 
 -- ---- threads that do nothing
 

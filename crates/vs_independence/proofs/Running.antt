@@ -65,13 +65,13 @@ AllThreads d blocks b th = (i : ℕ) → IsThread d blocks b i (th i)
 
 -- the process i, and what the store says of its firing: where nothing has fired it and it waits since the slot began, no term wakes; where something
 -- has, the store has what fired it
-pub record Stands (d : Parts) (blocks : ℕ → Bool) (b : State) (store : Store) (i : ℕ) (th : Thread) : Type 0 where
+pub record FiringAgrees (d : Parts) (blocks : ℕ → Bool) (b : State) (store : Store) (i : ℕ) (th : Thread) : Type 0 where
   pub is : IsThread d blocks b i th
   pub unfired : is.input ≡ None → (terms : List EventTerm) (todo : Todo) → found blocks b i ≡ waiting terms todo → (t : EventTerm) → Contains terms t → wakes b.store store t ≡ false
   pub fired : (f : Fired) → is.input ≡ Some f → slice_get store f.signal ≡ Some f.value
 
 abbrev pub AllPlaced : Parts → (ℕ → Bool) → State → Store → (ℕ → Thread) → Type 0
-AllPlaced d blocks b store th = (i : ℕ) → Stands d blocks b store i (th i)
+AllPlaced d blocks b store th = (i : ℕ) → FiringAgrees d blocks b store i (th i)
 
 abbrev pub threads_of : (d : Parts) (blocks : ℕ → Bool) (b : State) (store : Store) (th : ℕ → Thread) → AllPlaced d blocks b store th → AllThreads d blocks b th
 threads_of d blocks b store th all i = (all i).is
@@ -181,7 +181,7 @@ fired_or_not d blocks b i th is v = by_input is.input refl
         same_fired f g e = cc
 
 -- the store has what a process found of the signal that fired it
-pub own_opened : (d : Parts) (blocks : ℕ → Bool) (b : State) → Apart d blocks b → (store : Store) (i : ℕ) (th : Thread) (h : Stands d blocks b store i th) (v : ℕ) → IsFiredBy d blocks b i th h.is v → slice_get store v ≡ slice_get (opening blocks b i h.is.input).view v
+pub own_opened : (d : Parts) (blocks : ℕ → Bool) (b : State) → Apart d blocks b → (store : Store) (i : ℕ) (th : Thread) (h : FiringAgrees d blocks b store i th) (v : ℕ) → IsFiredBy d blocks b i th h.is v → slice_get store v ≡ slice_get (opening blocks b i h.is.input).view v
 own_opened d blocks b apart store i th h v (f, e, own) =
     ap (slice_get store) (sym own) ∙ h.fired f e ∙ sym (given_value d blocks b apart i f (subst (MayOpen d blocks b i) e h.is.may))
     ∙ ap (slice_get (opening blocks b i (Some f)).view) own ∙ ap (λ o. slice_get (opening blocks b i o).view v) (sym e)

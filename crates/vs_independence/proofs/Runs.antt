@@ -28,7 +28,7 @@ use Rattle.vs_independence.specs.Discipline.{IsAtStart, BeginsSlot, KeepsApart}
 use Rattle.vs_independence.proofs.BlocksAt.{BlocksAt, blocks_mapped, blocks_still, kept_out, text_at, woken_more}
 use Rattle.vs_independence.proofs.Ends.{Ends, all_future, all_started, slot_ends}
 use Rattle.vs_independence.proofs.Inner.{Moment, Setting}
-use Rattle.vs_independence.proofs.InnerMoves.{IsInner, KeepsOut, at_end, inner_kept, late_behind, sure}
+use Rattle.vs_independence.proofs.InnerMoves.{IsInner, KeepsOut, at_end, inner_kept, late_after_move, sure}
 use Rattle.vs_independence.proofs.Making.{Making, none_get}
 use Rattle.vs_independence.proofs.Running.{Apart, BlockBare, is_waiting}
 use Rattle.vs_independence.proofs.Starters.{Level, level_start}
@@ -47,7 +47,7 @@ use Rattle.vs_independence.proofs.Heard.{heard_stands}
 use Rattle.vs_independence.proofs.Phases.{clock_turns}
 use Rattle.vs_independence.proofs.Shapes.{control_names}
 use Rattle.vs_independence.proofs.Threads.{thread_walks}
-use Rattle.vs_independence.proofs.Walks.{Stands}
+use Rattle.vs_independence.proofs.Walks.{IsAtPlace}
 
 -- what the rules give of a design before any slot but the first is known
 pub record Static (grain : Grain) (d : Parts) (c : Claims) : Type 0 where
@@ -147,12 +147,12 @@ first_held grain d c h = record {
 }
 
 -- where a slot ends, each process is where a thread of it is, and so stands as the rules say
-ends_stand : (d : Parts) (c : Claims) (b s : State) → Begun d c b → ClockTurns d c b → Making d (blocks_of d c) b s → (i : ℕ) → IsSequential d c i → Stands d c i s.time (get_or s.places i ended)
+ends_stand : (d : Parts) (c : Claims) (b s : State) → Begun d c b → ClockTurns d c b → Making d (blocks_of d c) b s → (i : ℕ) → IsSequential d c i → IsAtPlace d c i s.time (get_or s.places i ended)
 ends_stand d c b s g clocks m i seq =
-    subst (λ t. Stands d c i t (get_or s.places i ended)) (sym m.slot.time)
-    (subst (Stands d c i b.time) (sym (m.places i (not_block d c i seq) ∙ m.runs.places i (not_block d c i seq))) (elim (thread_walks d c b g clocks i (m.th i) (m.runs.stands i).is) [
+    subst (λ t. IsAtPlace d c i t (get_or s.places i ended)) (sym m.slot.time)
+    (subst (IsAtPlace d c i b.time) (sym (m.places i (not_block d c i seq) ∙ m.runs.places i (not_block d c i seq))) (elim (thread_walks d c b g clocks i (m.th i) (m.runs.stands i).is) [
       | inl walking ↦ walking.walked.stands
-      | inr idle ↦ subst (Stands d c i b.time) (sym (ap (λ (t : Thread). t.place) idle.0 ∙ idle.1)) tt
+      | inr idle ↦ subst (IsAtPlace d c i b.time) (sym (ap (λ (t : Thread). t.place) idle.0 ∙ idle.1)) tt
     ]))
 
 -- its blocks are at their controls
@@ -224,7 +224,7 @@ inner_held grain d c h first m moves inner l x = record {
   legal = x.legal;
   at_start = x.at_start;
   begins = x.begins;
-  late = late_behind x.late m;
+  late = late_after_move x.late m;
   moment = inner_kept d (roles_of d c) h.set (reached d first) s (ran_after d (roles_of d c) first) x.late (ran_after d (roles_of d c) moves) x.begins.apart m inner (enabled_of grain d s m l.1).1 out x.moment;
 }
   where

@@ -34,7 +34,7 @@ use Rattle.vs_independence.proofs.Boundary.{IsSteady, holds_after}
 use Rattle.vs_independence.proofs.Beginning.{IsBeginning, start_begins}
 use Rattle.vs_independence.proofs.RulesFire.{zero_less}
 use Rattle.vs_independence.proofs.Firing.{one_writer}
-use Rattle.vs_independence.proofs.Texts.{writes_now, writes_later}
+use Rattle.vs_rules.proofs.Texts.{writes_now, writes_later}
 use Rattle.vs_independence.proofs.Walks.{Leads, from_wide, late_on, late_behind, made_cases, point_on}
 use Rattle.vs_independence.proofs.Words.{step_later}
 

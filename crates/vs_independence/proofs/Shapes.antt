@@ -34,7 +34,7 @@ use Rattle.vs_design.specs.Statements.{event_terms, event_terms_step, has_contro
 use Rattle.vs_rules.specs.Controls.{controls_in, controls_step}
 use Rattle.std.proofs.lemmas.List.{append-nil}
 use Rattle.vs_independence.proofs.Controls.{no_controls}
-use Rattle.vs_independence.proofs.Texts.{layer_is}
+use Rattle.vs_rules.proofs.Texts.{layer_is}
 
 active_todo : (gait : Gait) (k : Todo) → todo_of (active_at gait k) ≡ k
 active_todo gait [] = refl

@@ -12,10 +12,10 @@ use Rattle.vs_independence.proofs.Firing.{one_writer}
 use Rattle.vs_independence.proofs.Follow.{control_covers}
 use Rattle.vs_independence.proofs.Gave.{assignment_gives, gives_names}
 use Rattle.vs_independence.proofs.Shapes.{Shape}
-use Rattle.vs_independence.proofs.Texts.{writes_now}
+use Rattle.vs_rules.proofs.Texts.{writes_now}
 use Rattle.vs_independence.proofs.Threads.{makes_walks, writes_walks}
 use Rattle.vs_independence.proofs.Variables.{writes_variable}
-use Rattle.vs_independence.proofs.Walks.{At, Here, Made, Stands, Wrote, at_later, at_zero, late_behind, late_on, walked_iterate}
+use Rattle.vs_independence.proofs.Walks.{At, Here, Made, IsAtPlace, Wrote, at_later, at_zero, late_behind, late_on, walked_iterate}
 use Rattle.vs_independence.proofs.Words.{step_later}
 use Rattle.vs_rules.specs.Blocks.{Begins, CopiesWhole, IsStarted, MayStart, Missing, NamesBit, itself, statement_update, todo_update}
 use Rattle.vs_rules.specs.Claims.{Claims, HasKind, IsSecond, IsSequential, IsWriter, blocks_of, claim_of, is_block_kind, is_wide}
@@ -270,7 +270,7 @@ fared_step d c i g w h gait k th e here fared = by_update (step k th.view 0).upd
       ]
     ]
 
-fared_turn : (d : Parts) (c : Claims) (i g w : ℕ) → Starting d c i g w → (p : Place) (th : Thread) → th.place ≡ p → Stands d c w 0 p → Fared d c i g w th → Fared d c i g w (turn_at 0 w p th)
+fared_turn : (d : Parts) (c : Claims) (i g w : ℕ) → Starting d c i g w → (p : Place) (th : Thread) → th.place ≡ p → IsAtPlace d c w 0 p → Fared d c i g w th → Fared d c i g w (turn_at 0 w p th)
 fared_turn d c i g w h (going gait k) th e stands fared = fared_step d c i g w h gait k th e stands fared
 fared_turn d c i g w h (inactive k) th e stands fared = elim fared [
   | inl m ↦ inl (missing_active d c i g w h Woken k (subst (MissingAt d i g w) e m))
@@ -295,7 +295,7 @@ fared_iterate d c i g w h (suc n) =
     let blocks = blocks_of d c in
     let one = iterate n (turn 0 w) (opening blocks (start d) w None) in
     let seq = seq_of d c g w h.rule.may in
-    let stands = subst (Stands d c w 0) (sym (seq_found d c (start d) w seq)) (start_stands d c w) in
+    let stands = subst (IsAtPlace d c w 0) (sym (seq_found d c (start d) w seq)) (start_stands d c w) in
     let walked = walked_iterate d c w (closed d c (start d) h.begun w seq) 0 n (opening blocks (start d) w None) refl refl stands in
     fared_turn d c i g w h one.place one refl walked.stands (fared_iterate d c i g w h n)
 

@@ -21,7 +21,7 @@ use Rattle.vs_design.specs.vs_logic4.proofs.Basics.{element_of as any_at, same_l
 use Rattle.vs_process.specs.vs_eval.specs.Targets.{assigned}
 use Rattle.vs_process.proofs.Ranges.{assigned_names}
 use Rattle.vs_process.specs.Steps.{assignment}
-use Rattle.vs_process.proofs.ThreadAssigns.{assigns_behind}
+use Rattle.vs_process.proofs.ThreadAssigns.{assigns_after_write}
 use Rattle.std.proofs.lemmas.Bool.{cases_Bool, false_from_ne_true, true≢false}
 use Rattle.vs_independence.proofs.Awake.{changed_awake}
 use Rattle.vs_process.proofs.ThreadLists.{contains_at}
@@ -72,7 +72,7 @@ level_written d roles store assigns w free l = record {
 }
 
 pub level_behind : (d : Parts) (roles : Roles) (store : Store) (assigns : List AssignState) (o : Option Write) → ((w : Write) → o ≡ Some w → (n : ℕ) → Shown d roles n → names w n ≡ false) → Level d roles store assigns →
-    Level d roles (store_after store o) (assigns_behind store o assigns)
+    Level d roles (store_after store o) (assigns_after_write store o assigns)
 level_behind d roles store assigns None free l = l
 level_behind d roles store assigns (Some w) free l = level_written d roles store assigns w (free w refl) l
 

@@ -14,7 +14,7 @@ use Rattle.vs_process.specs.Threads.{Thread, Fired, is_timed, opening, MayOpen, 
 use Rattle.vs_process.proofs.ThreadLists.{contains_at}
 use Rattle.vs_process.proofs.Threads.{thread_opens, unmoved}
 use Rattle.vs_process.proofs.ThreadLinks.{root_itself}
-use Rattle.vs_independence.proofs.Running.{Apart, AllThreads, Stands, Follow, Sources}
+use Rattle.vs_independence.proofs.Running.{Apart, AllThreads, FiringAgrees, Follow, Sources}
 use Rattle.vs_independence.proofs.Fire.{no_wake, wakes_alike}
 use Rattle.vs_independence.proofs.Edges.{Advancing}
 
@@ -45,7 +45,7 @@ heard_root : (d : Parts) (blocks : ℕ → Bool) (b : State) → Apart d blocks 
 heard_root d blocks b apart v heard = let r = apart.edges v heard in (r.0, record { signal = v; heard = heard; copies = r.1 }, r.1)
 
 -- what is said of firing
-pub stands_still : (d : Parts) (blocks : ℕ → Bool) (b : State) (old new : Store) → Apart d blocks b → SameEdges d blocks old new → (i : ℕ) (th : Thread) → Stands d blocks b old i th → Stands d blocks b new i th
+pub stands_still : (d : Parts) (blocks : ℕ → Bool) (b : State) (old new : Store) → Apart d blocks b → SameEdges d blocks old new → (i : ℕ) (th : Thread) → FiringAgrees d blocks b old i th → FiringAgrees d blocks b new i th
 stands_still d blocks b old new apart same i th s = record {
   is = s.is;
   unfired = λ none terms todo at_b t among.

@@ -28,7 +28,7 @@ use Rattle.vs_independence.proofs.Beginning.{edge_ends}
 use Rattle.vs_independence.proofs.RulesFire.{Begun, Walking, role, closed, stands_found, stopped_iterate}
 use Rattle.vs_independence.proofs.Early.{LedFrom, found_waits}
 use Rattle.vs_independence.proofs.Firing.{none_fires, fires_at}
-use Rattle.vs_independence.proofs.Walks.{point_on, late_behind, after_slot, at_later, Here, Heard, HotAt, Stands, Walked, walked_iterate, stands_active}
+use Rattle.vs_independence.proofs.Walks.{point_on, late_behind, after_slot, at_later, Here, Heard, HotAt, IsAtPlace, Walked, walked_iterate, stands_active}
 
 -- ---- what waits
 
@@ -80,9 +80,9 @@ opened d c b g clocks i f seq t has w late = at_time (zero_or b.time)
     at_time (inr up) = record { edge = hears_edges d c g.rules i t seq has; up = up; term = t; has = has; of = w.term; fires = fires_at d c b g clocks i t f has level w up }
 
 triggered_stands : (d : Parts) (c : Claims) (b : State) → Begun d c b → ClockTurns d c b → (i : ℕ) (f : Fired) → IsSequential d c i → (p : Place) (terms : List EventTerm) (k : Todo) (t : EventTerm) → p ≡ waiting terms k →
-    Stands d c i b.time p → Contains terms t → Wakes d (blocks_of d c) b t f → (b ≡ start d → ⊥) → Stands d c i b.time (triggered p)
+    IsAtPlace d c i b.time p → Contains terms t → Wakes d (blocks_of d c) b t f → (b ≡ start d → ⊥) → IsAtPlace d c i b.time (triggered p)
 triggered_stands d c b g clocks i f seq p terms k t e stands is w late =
-    subst (λ (q : Place). Stands d c i b.time (triggered q)) (sym e)
+    subst (λ (q : Place). IsAtPlace d c i b.time (triggered q)) (sym e)
     (stands_active d c i b.time Woken k (record {
       point = point_on d i heard.control next heard.point heard.way;
       at = at_later o.up (late_behind d i heard.control next heard.point heard.way refl)
@@ -91,7 +91,7 @@ triggered_stands d c b g clocks i f seq p terms k t e stands is w late =
     }))
   where
     heard : Heard d i terms (erased k)
-    heard = subst (Stands d c i b.time) e stands
+    heard = subst (IsAtPlace d c i b.time) e stands
 
     next : Next
     next = wait heard.number terms (erased k)
@@ -167,7 +167,7 @@ pub record Reading (d : Parts) (c : Claims) (i time : ℕ) (r : BitRange) (p : P
   pub hot : (u : ℕ) → HotAt d c i u p → IsHot d (is_wide c) i u k
   pub led : (from : Todo) → LedFrom from p → PathBy (nexts_by true) is_zero_time from k
 
-pub reading : (d : Parts) (c : Claims) (i time : ℕ) (r : BitRange) (p : Place) → Stands d c i time p → Looks c p r → Reading d c i time r p
+pub reading : (d : Parts) (c : Claims) (i time : ℕ) (r : BitRange) (p : Place) → IsAtPlace d c i time p → Looks c p r → Reading d c i time r p
 reading d c i time r (going gait k) h (inl reads) = record {
   k = erased k;
   here = h;

@@ -136,7 +136,7 @@ set_goes_on d T time t (waiting terms k) store still less h = absurd h
 set_goes_on d T time t ended store still less h = absurd h
 
 -- the process behind a step: it has gone on, and the signal is in phase
-pub record Behind (d : Parts) (T : Turner d) (time : ℕ) (gait : Gait) (k : Todo) (store : Store) (out : Out) : Type 0 where
+pub record TurnedAfterStep (d : Parts) (T : Turner d) (time : ℕ) (gait : Gait) (k : Todo) (store : Store) (out : Out) : Type 0 where
   pub at : SetAt d T time (place_after_step (going gait k) time out.next) (store_after store out.write)
   pub has : Has d T time (store_after store out.write)
 
@@ -146,13 +146,13 @@ plus_none n m z = omega (arith, z)
 more : (time half : ℕ) → 0 < half → 0 < time + half
 more time half h = omega (arith, h)
 
-pub set_steps : (d : Parts) (T : Turner d) (time : ℕ) (gait : Gait) (k : Todo) (store : Store) → GoesOn d T time k store → Behind d T time gait k store (step k store time)
+pub set_steps : (d : Parts) (T : Turner d) (time : ℕ) (gait : Gait) (k : Todo) (store : Store) → GoesOn d T time k store → TurnedAfterStep d T time gait k store (step k store time)
 set_steps d T time gait k store (inl (inl e, guard, has)) =
-    subst (λ (l : Todo). Behind d T time gait l store (step l store time)) (sym e)
-    (subst (Behind d T time gait (begins_todo d T) store) (sym (T.loop.begins [] store time)) (record { at = inl (inr refl, guard, has); has = has }))
+    subst (λ (l : Todo). TurnedAfterStep d T time gait l store (step l store time)) (sym e)
+    (subst (TurnedAfterStep d T time gait (begins_todo d T) store) (sym (T.loop.begins [] store time)) (record { at = inl (inr refl, guard, has); has = has }))
 set_steps d T time gait k store (inl (inr e, guard, has)) =
-    subst (λ (l : Todo). Behind d T time gait l store (step l store time)) (sym e)
-    (subst (Behind d T time gait (pauses_todo d T) store) (sym (T.loop.pauses (begins_todo d T) store time)) (record { at = sleeps; has = has }))
+    subst (λ (l : Todo). TurnedAfterStep d T time gait l store (step l store time)) (sym e)
+    (subst (TurnedAfterStep d T time gait (pauses_todo d T) store) (sym (T.loop.pauses (begins_todo d T) store time)) (record { at = sleeps; has = has }))
   where
     sleeps : SetAt d T time (paused time T.half (turns_todo d T)) store
     sleeps =
@@ -160,8 +160,8 @@ set_steps d T time gait k store (inl (inr e, guard, has)) =
         (λ none. let zero_half : T.half ≡ 0 = eqb-true T.half 0 none in let some : 0 < T.half = T.loop.above in absurd (omega (arith, zero_half, some)))
         (λ some. (refl, guard, record { up = more time T.half T.loop.above; z = has.z; is = has.is; phase = phase_turns T.digit T.offset T.half time has.z T.known has.phase }))
 set_steps d T time gait k store (inr (e, owes)) =
-    subst (λ (l : Todo). Behind d T time gait l store (step l store time)) (sym e)
-    (subst (Behind d T time gait (turns_todo d T) store) (sym (T.loop.writes (begins_todo d T) store time))
+    subst (λ (l : Todo). TurnedAfterStep d T time gait l store (step l store time)) (sym e)
+    (subst (TurnedAfterStep d T time gait (turns_todo d T) store) (sym (T.loop.writes (begins_todo d T) store time))
     (record { at = inl (inl refl, inl owes.up, has); has = has }))
   where
     has : Has d T time (put store (assignment T.loop.target T.loop.value store time))
@@ -171,7 +171,7 @@ set_steps d T time gait k store (inr (e, owes)) =
 
 -- what a step of it leads to: nothing is written, or the signal is set
 abbrev pub Stepped : (d : Parts) → Turner d → (ℕ → Place → Store → Type 0) → ℕ → Gait → Todo → Store → Out → Type 0
-Stepped d T P time gait k store out = (P time (place_after_step (going gait k) time out.next) store × (out.write ≡ None)) ⊎ Behind d T time gait k store out
+Stepped d T P time gait k store out = (P time (place_after_step (going gait k) time out.next) store × (out.write ≡ None)) ⊎ TurnedAfterStep d T time gait k store out
 
 -- a property of the process before that
 pub record IsBefore (d : Parts) (T : Turner d) (P : ℕ → Place → Store → Type 0) : Type 0 where

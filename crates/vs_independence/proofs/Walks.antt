@@ -60,12 +60,12 @@ pub record Heard (d : Parts) (i : ℕ) (terms : List EventTerm) (k : Todo) : Typ
   pub point : IsPoint d i control
   pub way : Goes control (wait number terms k)
 
-abbrev pub Stands : Parts → Claims → ℕ → ℕ → Place → Type 0
-Stands d c i time (going gait k) = Here d c i time (erased k)
-Stands d c i time (inactive k) = Here d c i time (erased k)
-Stands d c i time (sleeping due k) = Asleep d c i time due (erased k)
-Stands d c i time (waiting terms k) = Heard d i terms (erased k)
-Stands d c i time ended = Unit {0}
+abbrev pub IsAtPlace : Parts → Claims → ℕ → ℕ → Place → Type 0
+IsAtPlace d c i time (going gait k) = Here d c i time (erased k)
+IsAtPlace d c i time (inactive k) = Here d c i time (erased k)
+IsAtPlace d c i time (sleeping due k) = Asleep d c i time due (erased k)
+IsAtPlace d c i time (waiting terms k) = Heard d i terms (erased k)
+IsAtPlace d c i time ended = Unit {0}
 
 -- a process's controls end at the residues at which the rules say that they can
 pub record Closed (d : Parts) (c : Claims) (i : ℕ) : Type 0 where
@@ -97,7 +97,7 @@ slot_on d c i k l r h g = record { at = h.at; next = h.next; point = h.point; go
 pub after_slot : (d : Parts) (c : Claims) (i : ℕ) (k : Todo) (next : Next) (r : ℕ) → IsPoint d i k → Goes k next → Ends d c i (kind_of d c i) next r → HasSlot d c i (todo_after next) r
 after_slot d c i k next r p g e = record { at = k; next = next; point = p; goes = g; starts = e; path = begins }
 
-pub stands_active : (d : Parts) (c : Claims) (i time : ℕ) (gait : Gait) (k : Todo) → Here d c i time (erased k) → Stands d c i time (active_at gait k)
+pub stands_active : (d : Parts) (c : Claims) (i time : ℕ) (gait : Gait) (k : Todo) → Here d c i time (erased k) → IsAtPlace d c i time (active_at gait k)
 stands_active d c i time gait [] h = tt
 stands_active d c i time gait (x ∷ rest) h = h
 
@@ -146,14 +146,14 @@ asleep_after d c i closed time number ticks k l up h g = record {
     ends_of (at_later later late slot) =
         subst (Ends d c i (kind_of d c i) (after number ticks l)) (mod_sum time ticks c.modulus) (closed.from_residue k l number ticks (time % c.modulus) slot g)
 
-stands_paused : (d : Parts) (c : Claims) (i : ℕ) → Closed d c i → (time number ticks : ℕ) (k l : Todo) → Here d c i time k → Leads c k (after number ticks (erased l)) → Stands d c i time (paused time ticks l)
+stands_paused : (d : Parts) (c : Claims) (i : ℕ) → Closed d c i → (time number ticks : ℕ) (k l : Todo) → Here d c i time k → Leads c k (after number ticks (erased l)) → IsAtPlace d c i time (paused time ticks l)
 stands_paused d c i closed time number ticks k l h g =
-    cond_both (ticks == 0) (inactive l) (sleeping (time + ticks) l) (Stands d c i time)
+    cond_both (ticks == 0) (inactive l) (sleeping (time + ticks) l) (IsAtPlace d c i time)
     (λ e. here_zero d c i closed time number k (erased l) h (subst (λ n. Leads c k (after number n (erased l))) (eqb-true ticks 0 e) g))
     (λ e. let ne : ticks ≡ 0 → ⊥ = eqb-false ticks 0 e in asleep_after d c i closed time number ticks k (erased l) (omega (arith, ne)) h (by_goes (is_wide c) k (after number ticks (erased l)) g))
 
 stands_behind : (d : Parts) (c : Claims) (i : ℕ) → Closed d c i → (time : ℕ) (gait : Gait) (k : Todo) (next : Next) → Here d c i time (erased k) → Leads c (erased k) (erased_next next) →
-    Stands d c i time (place_after_step (going gait k) time next)
+    IsAtPlace d c i time (place_after_step (going gait k) time next)
 stands_behind d c i closed time gait k (on l) h g = stands_active d c i time (stepped_gait gait) l (here_on d c i time (erased k) (erased l) h g)
 stands_behind d c i closed time gait k (after number ticks l) h g = stands_paused d c i closed time number ticks (erased k) l h g
 stands_behind d c i closed time gait k (wait number terms l) h g =
@@ -161,10 +161,10 @@ stands_behind d c i closed time gait k (wait number terms l) h g =
 
 -- a process that takes a step stands where it can be
 pub stands_step : (d : Parts) (c : Claims) (i : ℕ) → Closed d c i → (time : ℕ) (gait : Gait) (k : Todo) (store : Store) → Here d c i time (erased k) →
-    Stands d c i time (place_after_step (going gait k) time (step k store time).next)
+    IsAtPlace d c i time (place_after_step (going gait k) time (step k store time).next)
 stands_step d c i closed time gait k store h = stands_behind d c i closed time gait k (step k store time).next h (step_goes (is_wide c) k store time)
 
-pub stands_roused : (d : Parts) (c : Claims) (i time : ℕ) (p : Place) → Stands d c i time p → Stands d c i time (roused p)
+pub stands_roused : (d : Parts) (c : Claims) (i time : ℕ) (p : Place) → IsAtPlace d c i time p → IsAtPlace d c i time (roused p)
 stands_roused d c i time (going gait k) h = h
 stands_roused d c i time (inactive k) h = stands_active d c i time Woken k h
 stands_roused d c i time (sleeping due k) h = h
@@ -221,7 +221,7 @@ pub record Made (d : Parts) (c : Claims) (i time v : ℕ) : Type 0 where
 
 -- a thread is where the rules say, and so it was where it wrote
 pub record Walked (d : Parts) (c : Claims) (i time : ℕ) (th : Thread) : Type 0 where
-  pub stands : Stands d c i time th.place
+  pub stands : IsAtPlace d c i time th.place
   pub wrote : (v : ℕ) → writes th v ≡ true → Wrote d c i time v
   pub hot : (v : ℕ) → writes th v ≡ true → HotAt d c i v th.place
   pub made : (v : ℕ) → any_names th.made v ≡ true → Made d c i time v
@@ -266,9 +266,9 @@ walked_turn d c i closed time (going gait k) th e w = record {
     out = step k th.view time
 
     here : Here d c i time (erased k)
-    here = subst (Stands d c i time) e w.stands
+    here = subst (IsAtPlace d c i time) e w.stands
 walked_turn d c i closed time (inactive k) th e w = record {
-  stands = stands_active d c i time Woken k (subst (Stands d c i time) e w.stands);
+  stands = stands_active d c i time Woken k (subst (IsAtPlace d c i time) e w.stands);
   wrote = w.wrote;
   hot = λ v h. hot_active d c i v Woken k (subst (HotAt d c i v) e (w.hot v h));
   made = w.made;
@@ -278,7 +278,7 @@ walked_turn d c i closed time (waiting terms k) th e w = w
 walked_turn d c i closed time ended th e w = w
 
 -- a thread that has begun where it can be, with nothing written, is where it can be after any turns
-pub walked_iterate : (d : Parts) (c : Claims) (i : ℕ) → Closed d c i → (time n : ℕ) (th : Thread) → th.log ≡ [] → th.made ≡ [] → Stands d c i time th.place → Walked d c i time (iterate n (turn time i) th)
+pub walked_iterate : (d : Parts) (c : Claims) (i : ℕ) → Closed d c i → (time n : ℕ) (th : Thread) → th.log ≡ [] → th.made ≡ [] → IsAtPlace d c i time th.place → Walked d c i time (iterate n (turn time i) th)
 walked_iterate d c i closed time zero th no_log no_made h = record {
   stands = h;
   wrote = λ v is. absurd (false≢true (subst (λ (log : List Write). list_any (λ w. names w v) log ≡ true) no_log is));

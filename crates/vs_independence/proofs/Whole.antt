@@ -22,10 +22,10 @@ use Rattle.vs_process.proofs.Idle.{IsSound, after_sound}
 use Rattle.vs_process.specs.Threads.{any_names, found, opening}
 use Rattle.vs_independence.specs.Discipline.{here, IsAtStart, KeepsApart, Disciplined, DisciplineMakesIndependent}
 use Rattle.vs_process.proofs.Threads.{thread_opens}
-use Rattle.vs_independence.proofs.Running.{WithinSlot, Apart, Stands, Running, BlockBare, is_waiting, by_start, by_rest}
+use Rattle.vs_independence.proofs.Running.{WithinSlot, Apart, FiringAgrees, Running, BlockBare, is_waiting, by_start, by_rest}
 use Rattle.vs_process.proofs.Calls.{SameCalls, same_lines}
 use Rattle.vs_independence.proofs.Making.{Making, none_get}
-use Rattle.vs_independence.proofs.InnerMoves.{IsInner, inner_kept, late_behind, ran_behind, sure, KeepsOut}
+use Rattle.vs_independence.proofs.InnerMoves.{IsInner, inner_kept, late_after_move, ran_after_move, sure, KeepsOut}
 use Rattle.vs_independence.proofs.Ends.{Ends, slot_ends, all_future, Alike, SameRan, same_calls, ends_unique, behind_alike, ends_rested}
 use Rattle.vs_independence.proofs.Times.{is_later, all_from_get, later_thread, later_start, goes_on}
 use Rattle.vs_process.proofs.Events.{after_heard, heard_at}
@@ -34,7 +34,7 @@ use Rattle.vs_process.specs.Edges.{shown, Copies, inverses, IsRoot}
 use Rattle.vs_independence.proofs.Fire.{no_wake}
 use Rattle.vs_process.proofs.Feeds.{into_named}
 use Rattle.vs_independence.proofs.WellFormed.{drives_well, sound_thread}
-use Rattle.vs_independence.proofs.Inner.{Before, Behind, Moment, Setting}
+use Rattle.vs_independence.proofs.Inner.{Before, LateBlocks, Moment, Setting}
 use Rattle.vs_design.specs.declared.range.BitRange.{BitRange}
 use Rattle.vs_independence.proofs.BlocksAt.{Blocked, BlocksAt, kept_out, mapped_place, text_at, woken_more}
 use Rattle.vs_process.specs.BlockDrivers.{Roles, puts_out}
@@ -112,11 +112,11 @@ setting grain d fits = record {
 -- whether the first quiet moment is past, and which blocks have been woken, or start cold, behind an execution
 abbrev pub is_past : List Move → Bool
 is_past [] = false
-is_past (m ∷ moves) = late_behind (is_past moves) m
+is_past (m ∷ moves) = late_after_move (is_past moves) m
 
 abbrev pub ran_after : Parts → Roles → List Move → ℕ → Bool
 ran_after d roles [] = λ k. false
-ran_after d roles (m ∷ moves) = ran_behind roles (ran_after d roles moves) m (after d (m ∷ moves)).places
+ran_after d roles (m ∷ moves) = ran_after_move roles (ran_after d roles moves) m (after d (m ∷ moves)).places
 
 -- ---- the beginning of a slot
 
@@ -134,7 +134,7 @@ start_blocks d roles z = record {
 }
 
 -- where a slot begins, nothing has fired
-begin_stands : (d : Parts) (blocks : ℕ → Bool) (b : State) (i : ℕ) → Stands d blocks b b.store i (opening blocks b i None)
+begin_stands : (d : Parts) (blocks : ℕ → Bool) (b : State) (i : ℕ) → FiringAgrees d blocks b b.store i (opening blocks b i None)
 begin_stands d blocks b i = record {
   is = thread_opens d blocks b i;
   unfired = λ none terms todo at t among. no_wake b.store b.store t refl;
@@ -307,8 +307,8 @@ keeps_out grain d fits s m free k is inside_it =
     kept_out d fits.dis.roles (setting grain d fits).z s m (subst (λ g. is_free g d s m ≡ true) (fits.dis.grained k is) free) k is inside_it
 
 inner_moment : (grain : Grain) (d : Parts) (fits : Fits grain d) → (moves : List Move) → Legal grain d moves → (m : Move) → IsInner m → allowed grain d (after d moves) m ≡ true → Holds grain d fits moves →
-    Moment d fits.dis.roles (setting grain d fits) (after d (cut moves)) (apply m (after d moves)) (ran_after d fits.dis.roles (cut moves)) (late_behind (is_past moves) m)
-    (ran_behind fits.dis.roles (ran_after d fits.dis.roles moves) m (apply m (after d moves)).places)
+    Moment d fits.dis.roles (setting grain d fits) (after d (cut moves)) (apply m (after d moves)) (ran_after d fits.dis.roles (cut moves)) (late_after_move (is_past moves) m)
+    (ran_after_move fits.dis.roles (ran_after d fits.dis.roles moves) m (apply m (after d moves)).places)
 inner_moment grain d fits moves l m inner h holds =
     let s = after d moves in
     inner_kept d fits.dis.roles (setting grain d fits) (after d (cut moves)) s (ran_after d fits.dis.roles (cut moves)) (is_past moves) (ran_after d fits.dis.roles moves)
@@ -358,7 +358,7 @@ same_slot grain d fits moves h = by_phase h.moment.phase
     s : State
     s = after d moves
 
-    by_phase : (Before d fits.dis.roles b s (ran_after d fits.dis.roles (cut moves)) (is_past moves) (ran_after d fits.dis.roles moves) ⊎ Behind d fits.dis.roles b s (ran_after d fits.dis.roles (cut moves)) (is_past moves) (ran_after d fits.dis.roles moves)) →
+    by_phase : (Before d fits.dis.roles b s (ran_after d fits.dis.roles (cut moves)) (is_past moves) (ran_after d fits.dis.roles moves) ⊎ LateBlocks d fits.dis.roles b s (ran_after d fits.dis.roles (cut moves)) (is_past moves) (ran_after d fits.dis.roles moves)) →
         WithinSlot b s
     by_phase (inl x) = x.runs.slot
     by_phase (inr x) = x.making.slot

@@ -6,6 +6,7 @@ ghost use Rattle.vs_kernel.specs.Leaving.{changed_each};
 ghost use Rattle.vs_kernel.specs.Making.{WritesUpdate};
 ghost use Rattle.vs_kernel.specs.Running.{IsActive, IsMade, IsSingle, move_of, region_move};
 ghost use Rattle.vs_run_active.specs.ProcessPlaces as standings;
+ghost use Rattle.vs_run_steps.specs.MembersMade.{AreDone};
 ghost use Rattle.vs_run_steps.specs.Runs.{Agrees, IsRunOf, Keeps, marks_of, plan_of, state_of};
 ghost use Rattle.vs_run_steps.specs.Prints.{lines_text};
 ghost use Rattle.vs_run_steps.specs.Turns.{AreMade, EventTurned, EventTurnedPart};
@@ -84,11 +85,8 @@ fn make_updates<Q: EventQueue<Due>>(run: &mut RunState<Q>, limit: u64) -> Result
     requires limit { 0 < limit }
     requires run { IsRunOf run.old.design.now run.old }
     requires active { IsActive run.old Event.Updates }
-    ensures run { OnOk result (IsRunOf run.old.design.now run.new) }
     ensures some { IfOk result (λ taken. 0 < taken) }
-    ensures within { IfOk result (λ taken. taken ≤ limit) }
-    ensures made { IfOk result (λ taken. AreMade taken (state_of run.old) (state_of run.new)) }
-    ensures marked { OnOk result (MarkChanges (marks_of run.old) (marks_of run.new) (state_of run.old).store (state_of run.new).store) }
+    ensures done { IfOk result (λ taken. AreDone run.old.design.now limit run.old taken run.new) }
 {
     let mut taken = 0;
     while taken < limit {

@@ -274,36 +274,7 @@ impl<'a, Q: EventQueue<Due>> Run<'a, Q> {
         first_event(&mut self.running)
     }
 
-    /// Makes the one move of an active event that a policy has chosen, whose list follows: how many.
-    #[inline(never)]
-    fn make_chosen<L: Sink>(
-        &mut self,
-        event: Event,
-        limit: u64,
-        lines: &mut L,
-    ) -> Result<u64, WriterFault>
-        requires run { IsSnapshot self.old }
-        requires chooses { self.old.chooses ≡ true }
-        requires limit { 0 < limit }
-        requires going { (state_of self.old.running).over ≡ false }
-        requires early { (state_of self.old.running).time < 2 ^ 62 }
-        requires active { IsActive self.old.running event }
-        requires single { IsSingle event }
-        requires free { is_step_of_any self.old.inside (move_of self.old.running event) ≡ true }
-        ensures run { OnOk result (IsSnapshot self.new) }
-        ensures same { OnOk result (self.new ≡ record self.old { running = self.new.running; inside = self.new.inside }) }
-        ensures some { IfOk result (λ taken. 0 < taken) }
-        ensures ok { IfOk result (λ taken. HasMoved limit taken self.old self.new (L.bytes lines.old) (L.bytes lines.new)) }
-        ensures err { OnErr result (HasMovedPart limit self.old (L.bytes lines.old) (L.bytes lines.new)) }
-        ensures failures { L.failed lines.new ≡ failed_after (is_write_fault result) (L.failed lines.old) }
-    {
-        run_event(&mut self.running, &self.forms, event, 1, lines)?;
-        self.inside = self.inside_after(event);
-        self.follow(event)?;
-        Ok(1)
-    }
-
-    /// Makes the moves of an active event, at most so many, and one where a policy chooses: how many.
+    /// Makes the moves of an active event, at most so many, and one where a policy chooses, whose list follows: how many.
     #[inline(always)]
     fn make<L: Sink>(
         &mut self,
@@ -328,7 +299,10 @@ impl<'a, Q: EventQueue<Due>> Run<'a, Q> {
         ensures failures { L.failed lines.new ≡ failed_after (is_write_fault result) (L.failed lines.old) }
     {
         if chooses {
-            return self.make_chosen(event, limit, lines);
+            run_event(&mut self.running, &self.forms, event, 1, lines)?;
+            self.inside = self.inside_after(event);
+            self.follow(event)?;
+            return Ok(1);
         }
         let taken = run_event(&mut self.running, &self.forms, event, limit, lines)?;
         Ok(taken)

@@ -28,10 +28,10 @@ use Rattle.vs_laws.proofs.Race.{reads_number, reads_operand, size_number, size_o
 use Rattle.vs_rules.specs.Claims.{HasKind, has_both, Mode, Name, Start, cold, sources, starter, combinational, nonblocking, all_names, claim_of, edge_names, process_names, signal_names, times_in, writer_in, IsProcessNamed, IsWriter, IsBlock, IsSequential}
 use Rattle.vs_rules.specs.Constants.{bit_of, one}
 use Rattle.vs_rules.specs.Controls.{controls_of}
-use Rattle.vs_rules.specs.Drivers.{Driver, assign, block as block_driver, DriverReads, IsDriver, IsSource, ComesBefore, WritesBit}
+use Rattle.vs_rules.specs.Drivers.{Driver, assign, block as block_driver, DriverReads, IsDriver, IsSource, Precedes, WritesBit}
 use Rattle.vs_rules.specs.Paths.{Bit, Has, HasTerm, IsPoint, IsSlot0, ReadsNow, Writes, WritesAny}
 use Rattle.vs_rules.specs.Points.{Goes, Point}
-use Rattle.vs_rules.specs.Rules.{K1_Signal, K1_Assign, K1_Process, K1_Name, K2, K3, K4, K6, K7, K8, K9, K10_Signal, K10_Process, IsAsModeSays, IsListed, IsCovered, IsSelf, Reads}
+use Rattle.vs_rules.specs.Rules.{K1_Signal, K1_Assign, K1_Process, K1_Name, K2, K3, K4, K6, K7, K8, K9, K10_Signal, K10_Process, IsAsModeSays, IsOnlyIn, IsCovered, IsSelf, Reads}
 use Rattle.vs_rules.specs.Copies.{IsCopy}
 use Rattle.vs_rules.specs.Blocks.{K5, K11, Begins, CopiesWhole, IsCold, IsStarted, Missing, StaysCold, Starts, copy, itself, run_alone}
 use Rattle.vs_rules.specs.Limits.{IsCertificate}
@@ -105,7 +105,7 @@ formed g true = record {
 -- ---- the rules
 
 abbrev Listed : Bool → Start → Name → Type 0
-Listed net start name = IsListed name (signal_names (block_claims net start)) (block_claims net start).order (process_names (block_claims net start))
+Listed net start name = IsOnlyIn name (signal_names (block_claims net start)) (block_claims net start).order (process_names (block_claims net start))
 
 names_signals : (g : Global) (net : Bool) (start : Start) (v : ℕ) → K1_Signal (following g net) (block_claims net start) v
 names_signals g false start zero name is = subst (Listed false start) (same_Some (signal_in_t 97) name is) (record { once = refl; nowhere = refl; nowhere_else = refl })
@@ -117,7 +117,7 @@ names_signals g true start (suc (suc zero)) name is = subst (Listed true start) 
 names_signals g true start (suc (suc (suc v))) name is = absurd (none-some name is)
 
 abbrev ListedAssign : Start → Name → Type 0
-ListedAssign start name = IsListed name (block_claims true start).order (signal_names (block_claims true start)) (process_names (block_claims true start))
+ListedAssign start name = IsOnlyIn name (block_claims true start).order (signal_names (block_claims true start)) (process_names (block_claims true start))
 
 names_assigns : (g : Global) (net : Bool) (start : Start) (j : ℕ) → K1_Assign (following g net) (block_claims net start) j
 names_assigns g false start j = record { listed = λ name is. absurd (none-some name is); no_edge = λ name is. refl }
@@ -128,7 +128,7 @@ names_assigns g true start zero = record {
 names_assigns g true start (suc j) = record { listed = λ name is. absurd (none-some name is); no_edge = λ name is. refl }
 
 abbrev ListedProcess : Bool → Start → Name → Type 0
-ListedProcess net start name = IsListed name (process_names (block_claims net start)) (signal_names (block_claims net start)) (edge_names (block_claims net start))
+ListedProcess net start name = IsOnlyIn name (process_names (block_claims net start)) (signal_names (block_claims net start)) (edge_names (block_claims net start))
 
 process_listed : (g : Global) (net : Bool) (start : Start) (i : ℕ) (name : Name) → IsProcessNamed (following g net) i name → ListedProcess net start name
 process_listed g false start zero name is = subst (ListedProcess false start) (same_Some (process_in_t 48) name is) (record { once = refl; nowhere = refl; nowhere_else = refl })
@@ -261,12 +261,12 @@ order g net start (block_driver i) = record {
 
     -- the other driver is the block itself, or the continuous assignment, which is earlier
     earlier_at : (through : Bool) (y : Driver) (b : Bit) → IsBlock (following g through) (block_claims through start) i → IsDriver (following g through) (block_claims through start) y → WritesBit (following g through) y b →
-        IsSelf (block_driver i) y ⊎ ComesBefore (following g through) (block_claims through start) y (block_driver i)
+        IsSelf (block_driver i) y ⊎ Precedes (following g through) (block_claims through start) y (block_driver i)
     earlier_at through (block_driver k) b is other writes = inl (block_is g through start k other ∙ sym (block_is g through start i is))
     earlier_at false (assign j) b is other writes = absurd (none-some writes.writes.0 writes.writes.1)
     earlier_at true (assign j) b is other writes =
-        inr (subst (λ n. ComesBefore (following g true) (block_claims true start) (assign n) (block_driver i)) (sym (assign_bit g j b writes).0)
-        (subst (λ n. ComesBefore (following g true) (block_claims true start) (assign 0) (block_driver n)) (sym (block_is g true start i is))
+        inr (subst (λ n. Precedes (following g true) (block_claims true start) (assign n) (block_driver i)) (sym (assign_bit g j b writes).0)
+        (subst (λ n. Precedes (following g true) (block_claims true start) (assign 0) (block_driver n)) (sym (block_is g true start i is))
         (record { one = assign_in_t 48; other = process_in_t 49; is = refl; other_is = refl; before = lit< tt })))
 
 blocks : (g : Global) (net : Bool) (start : Start) (i : ℕ) → K5 (following g net) (block_claims net start) i

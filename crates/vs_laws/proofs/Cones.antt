@@ -9,7 +9,7 @@ use Rattle.vs_elab_statements.specs.vs_elab_signals.specs.Outlines.{Declared}
 use Rattle.vs_process.specs.BlockDrivers.{outputs_for}
 use Rattle.vs_rules.specs.Claims.{Claims}
 use Rattle.vs_rules.specs.Controls.{controls_at, controls_of}
-use Rattle.vs_rules.specs.Drivers.{Driver, assign, block, IsDriver, DriverWrites, DriverReads, Names, DriverNeeds, driver_name, ComesBefore, IsSource, IsBlocking, InCone, Passes, WritesBit}
+use Rattle.vs_rules.specs.Drivers.{Driver, assign, block, IsDriver, DriverWrites, DriverReads, Names, DriverNeeds, driver_name, Precedes, IsSource, IsBlocking, InCone, Passes, WritesBit}
 use Rattle.vs_rules.specs.Paths.{Bit, IsBit, reads_for, reads_of, writes_of, Writes}
 use Rattle.vs_laws.proofs.Designs.{AlikeProcess, Twins, back, processes_alike, signal_there, assign_there, meets_same}
 use Rattle.vs_laws.proofs.Done.{lists_same, listed_as, writes_now_as}
@@ -83,7 +83,7 @@ driver_names_same : {d d' : Parts} → Twins d d' → (x : Driver) → driver_na
 driver_names_same t (assign j) = assign_names_same t j
 driver_names_same t (block i) = process_names_same t i
 
-pub stands_before_as : {d d' : Parts} → Twins d d' → (c : Claims) (x y : Driver) → ComesBefore d c x y → ComesBefore d' c x y
+pub stands_before_as : {d d' : Parts} → Twins d d' → (c : Claims) (x y : Driver) → Precedes d c x y → Precedes d' c x y
 stands_before_as t c x y h = record {
   one = h.one;
   other = h.other;

@@ -24,7 +24,7 @@ use Rattle.vs_rules.specs.Claims.{Name, EdgeClaim, Kind, blocking, all_names, cl
 use Rattle.vs_rules.specs.Controls.{controls_of, list_of}
 use Rattle.vs_rules.specs.Drivers.{Driver, assign, block as block_driver, InCone}
 use Rattle.vs_rules.specs.Paths.{IsHot, Path, Writes, WritesAny, is_zero_time}
-use Rattle.vs_rules.specs.Rules.{K1_Signal, K1_Assign, K1_Process, K1_Name, K2, K3, K4, K6, K7, K8, K9, K10_Signal, K10_Process, AreEdges, AreApart, IsAsModeSays, IsEdgeSignal, IsListed, IsSoundRoot, Reads}
+use Rattle.vs_rules.specs.Rules.{K1_Signal, K1_Assign, K1_Process, K1_Name, K2, K3, K4, K6, K7, K8, K9, K10_Signal, K10_Process, AreEdges, AreApart, IsAsModeSays, IsEdgeSignal, IsOnlyIn, IsSoundRoot, Reads}
 use Rattle.vs_rules.specs.Copies.{CopiesRoot, itself}
 use Rattle.vs_rules.specs.Blocks.{K5}
 use Rattle.vs_rules.specs.Slots.{Ends, Fires}
@@ -201,7 +201,7 @@ third_at g grain _ r _ _ is (Way.rests i) ends = absurd (subst (λ n. EndsAt g g
 -- ---- the rules
 
 abbrev Listed : Grain → Name → Type 0
-Listed grain name = IsListed name (signal_names (reading_late_claims grain)) (reading_late_claims grain).order (process_names (reading_late_claims grain))
+Listed grain name = IsOnlyIn name (signal_names (reading_late_claims grain)) (reading_late_claims grain).order (process_names (reading_late_claims grain))
 
 names_signals : (g : Global) (grain : Grain) (v : ℕ) → K1_Signal (reading_late g) (reading_late_claims grain) v
 names_signals g grain zero name is = subst (Listed grain) (same_Some (signal_in_t 97) name is) (record { once = refl; nowhere = refl; nowhere_else = refl })
@@ -213,7 +213,7 @@ names_assigns : (g : Global) (grain : Grain) (j : ℕ) → K1_Assign (reading_la
 names_assigns g grain j = record { listed = λ name is. absurd (none-some name is); no_edge = λ name is. absurd (none-some name is) }
 
 abbrev ListedProcess : Grain → Name → Type 0
-ListedProcess grain name = IsListed name (process_names (reading_late_claims grain)) (signal_names (reading_late_claims grain)) (edge_names (reading_late_claims grain))
+ListedProcess grain name = IsOnlyIn name (process_names (reading_late_claims grain)) (signal_names (reading_late_claims grain)) (edge_names (reading_late_claims grain))
 
 abbrev Unordered : Grain → Name → Type 0
 Unordered grain name = times_in name (reading_late_claims grain).order ≡ 0

@@ -305,33 +305,33 @@ controls_c g = controls_delay g 0 (ticks_before 2) (copies g) ∙ ap (λ ns. 0 �
 
 -- ---- where a process runs once its delay has ended
 
-pub data Behind (g : Global) : Todo → Type 0 where
-  sets_a : Behind g (set g 0)
-  copies_there : Behind g (copying g)
-  rests : Behind g []
+pub data AfterDelay (g : Global) : Todo → Type 0 where
+  sets_a : AfterDelay g (set g 0)
+  copies_there : AfterDelay g (copying g)
+  rests : AfterDelay g []
 
-behind_on : (g : Global) (l : Todo) (next : Next) → Behind g l → Goes l next → Behind g (todo_after next)
+behind_on : (g : Global) (l : Todo) (next : Next) → AfterDelay g l → Goes l next → AfterDelay g (todo_after next)
 unfolding out-Statement denote.Hole.Carrier.out
-behind_on g _ next Behind.sets_a h = only (λ n. Behind g (todo_after n)) next _ h Behind.rests
-behind_on g _ next Behind.copies_there h = only (λ n. Behind g (todo_after n)) next _ h Behind.rests
-behind_on g _ next Behind.rests h = only (λ n. Behind g (todo_after n)) next _ h Behind.rests
+behind_on g _ next AfterDelay.sets_a h = only (λ n. AfterDelay g (todo_after n)) next _ h AfterDelay.rests
+behind_on g _ next AfterDelay.copies_there h = only (λ n. AfterDelay g (todo_after n)) next _ h AfterDelay.rests
+behind_on g _ next AfterDelay.rests h = only (λ n. AfterDelay g (todo_after n)) next _ h AfterDelay.rests
 
-behind_path : (g : Global) (l k : Todo) → Behind g l → Path is_plain l k → Behind g k
-behind_path g l k s path = closed_paths (Behind g) is_plain l s (λ m next s h may. behind_on g m next s h) k path
+behind_path : (g : Global) (l k : Todo) → AfterDelay g l → Path is_plain l k → AfterDelay g k
+behind_path g l k s path = closed_paths (AfterDelay g) is_plain l s (λ m next s h may. behind_on g m next s h) k path
 
-pub behind_plain : (g : Global) (k : Todo) (next : Next) → Behind g k → Goes k next → on [] ≡ next
+pub behind_plain : (g : Global) (k : Todo) (next : Next) → AfterDelay g k → Goes k next → on [] ≡ next
 unfolding out-Statement denote.Hole.Carrier.out
-behind_plain g _ next Behind.sets_a h = only (λ n. on [] ≡ n) next _ h refl
-behind_plain g _ next Behind.copies_there h = only (λ n. on [] ≡ n) next _ h refl
-behind_plain g _ next Behind.rests h = only (λ n. on [] ≡ n) next _ h refl
+behind_plain g _ next AfterDelay.sets_a h = only (λ n. on [] ≡ n) next _ h refl
+behind_plain g _ next AfterDelay.copies_there h = only (λ n. on [] ≡ n) next _ h refl
+behind_plain g _ next AfterDelay.rests h = only (λ n. on [] ≡ n) next _ h refl
 
 pub runs_behind : (g : Global) (i : ℕ) (c k : Todo) (next : Next) → Way g i c next → (lists : List (List ℕ)) (r : ℕ) →
-    DelayEnds (reading_late g) i lists next r → Path is_plain (todo_after next) k → Behind g k
-runs_behind g _ _ k _ Way.delays_a lists r ends path = behind_path g (set g 0) k Behind.sets_a path
+    DelayEnds (reading_late g) i lists next r → Path is_plain (todo_after next) k → AfterDelay g k
+runs_behind g _ _ k _ Way.delays_a lists r ends path = behind_path g (set g 0) k AfterDelay.sets_a path
 runs_behind g _ _ k _ Way.sets_a lists r ends path = absurd ends
 runs_behind g _ _ k _ Way.listens_there lists r ends path = absurd ends
 runs_behind g _ _ k _ Way.sets_b lists r ends path = absurd ends
-runs_behind g _ _ k _ Way.delays_c lists r ends path = behind_path g (copying g) k Behind.copies_there path
+runs_behind g _ _ k _ Way.delays_c lists r ends path = behind_path g (copying g) k AfterDelay.copies_there path
 runs_behind g _ _ k _ Way.copies_there lists r ends path = absurd ends
 runs_behind g _ _ k _ (Way.rests i) lists r ends path = absurd ends
 

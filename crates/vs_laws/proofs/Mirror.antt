@@ -52,7 +52,7 @@ use Rattle.vs_process.specs.vs_eval.specs.Targets.{assigned}
 use Rattle.vs_independence.proofs.Whole.{independent}
 use Rattle.vs_independence.proofs.Moves.{length_behind, performed_is}
 use Rattle.std.proofs.lemmas.Option.{none-some}
-use Rattle.vs_process.proofs.ThreadAssigns.{places_behind}
+use Rattle.vs_process.proofs.ThreadAssigns.{places_after_write}
 use Rattle.vs_laws.specs.Rise.{terms}
 use Rattle.vs_design.specs.vs_logic4.proofs.Basics.{declared_at}
 use Rattle.vs_design.proofs.FormLemmas.{numbers_Assign as numbers_assign, numbers_Forever, numbers_Event, sound_Assign as sound_assign, sound_Forever}
@@ -254,7 +254,7 @@ stepped_length : (s : State) (i : ℕ) (o : Option Place) → length (stepped s 
 stepped_length s i None = refl
 stepped_length s i (Some p) =
     let out = step (todo_of p) s.store s.time in
-    ap (λ (t : State). length t.places) (performed_is s i p out) ∙ length-set (places_behind s.store out.write s.places) i (place_after_step p s.time out.next) ∙ length_behind s.store out.write s.places
+    ap (λ (t : State). length t.places) (performed_is s i p out) ∙ length-set (places_after_write s.store out.write s.places) i (place_after_step p s.time out.next) ∙ length_behind s.store out.write s.places
 
 evaluated_length : (s : State) (j : ℕ) (o : Option AssignState) → length (evaluate s j o).places ≡ length s.places
 evaluated_length s j None = refl

@@ -27,7 +27,7 @@ use Rattle.vs_rules.specs.Drivers.{Driver, assign, block as block_driver, IsDriv
 use Rattle.vs_rules.specs.Paths.{Bit, Has, HasTerm, IsBit, IsSlot0, Lists, ReadsNow, Writes, is_plain, reads_of}
 use Rattle.vs_rules.specs.Points.{Goes}
 use Rattle.vs_independence.specs.vs_process.proofs.Ranges.{covers_signal}
-use Rattle.vs_rules.specs.Rules.{K1_Signal, K1_Assign, K1_Process, K1_Name, K2, K3, K4, K6, K7, K8, K9, K10_Signal, K10_Process, IsAsModeSays, IsCovered, IsListed, IsSelf, Reads}
+use Rattle.vs_rules.specs.Rules.{K1_Signal, K1_Assign, K1_Process, K1_Name, K2, K3, K4, K6, K7, K8, K9, K10_Signal, K10_Process, IsAsModeSays, IsCovered, IsOnlyIn, IsSelf, Reads}
 use Rattle.vs_rules.specs.Blocks.{K5, K11, IsCold, StaysCold, Starts, Unwritten, run_alone}
 use Rattle.vs_rules.specs.Limits.{IsCertificate}
 use Rattle.vs_rules.specs.Verdict.{Keeping}
@@ -82,7 +82,7 @@ formed g = record {
 -- ---- the rules
 
 abbrev Listed : Start → Name → Type 0
-Listed start name = IsListed name (signal_names (mixing_claims start)) (mixing_claims start).order (process_names (mixing_claims start))
+Listed start name = IsOnlyIn name (signal_names (mixing_claims start)) (mixing_claims start).order (process_names (mixing_claims start))
 
 names_signals : (g : Global) (start : Start) (v : ℕ) → K1_Signal (mixing g) (mixing_claims start) v
 names_signals g start zero name is = subst (Listed start) (same_Some (signal_in_m 97) name is) (record { once = refl; nowhere = refl; nowhere_else = refl })
@@ -96,7 +96,7 @@ names_assigns : (g : Global) (start : Start) (j : ℕ) → K1_Assign (mixing g) 
 names_assigns g start j = record { listed = λ name is. absurd (none-some name is); no_edge = λ name is. refl }
 
 abbrev ListedProcess : Start → Name → Type 0
-ListedProcess start name = IsListed name (process_names (mixing_claims start)) (signal_names (mixing_claims start)) (edge_names (mixing_claims start))
+ListedProcess start name = IsOnlyIn name (process_names (mixing_claims start)) (signal_names (mixing_claims start)) (edge_names (mixing_claims start))
 
 process_listed : (g : Global) (start : Start) (i : ℕ) (name : Name) → IsProcessNamed (mixing g) i name → ListedProcess start name
 process_listed g start zero name is = subst (ListedProcess start) (same_Some (process_in_m 48) name is) (record { once = refl; nowhere = refl; nowhere_else = refl })

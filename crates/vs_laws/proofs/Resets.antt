@@ -37,7 +37,7 @@ use Rattle.vs_rules.specs.Drivers.{Driver, assign, block as block_driver, here, 
 use Rattle.vs_rules.specs.Paths.{Bit, Has, IsHeardAtStart, IsHot, IsLate, IsPoint, IsSlot0, PathBy, Writes, WritesAny, WritesLater, WritesNow, any_way, is_zero_time}
 use Rattle.vs_rules.specs.Points.{Among, Goes, nexts_by}
 use Rattle.vs_rules.proofs.Points.{by_path}
-use Rattle.vs_rules.specs.Rules.{K1_Assign, K1_Name, K2, K3, K4, K6, K7, K8, K9, K10_Signal, K10_Process, AreApart, AreEdges, Arrives, BlockNeeds, FiresNone, IsAsModeSays, IsEdgeSignal, IsListed, IsOwnEdge, IsOwnRead, IsSoundRoot, Reads}
+use Rattle.vs_rules.specs.Rules.{K1_Assign, K1_Name, K2, K3, K4, K6, K7, K8, K9, K10_Signal, K10_Process, AreApart, AreEdges, Arrives, BlockNeeds, FiresNone, IsAsModeSays, IsEdgeSignal, IsOnlyIn, IsOwnEdge, IsOwnRead, IsSoundRoot, Reads}
 use Rattle.vs_rules.specs.Blocks.{K5}
 use Rattle.vs_rules.specs.Slots.{DelayEnds, EdgeEnds, Ends, Fires, HasSlot, HasWriteSlot}
 use Rattle.vs_rules.specs.Limits.{IsWideCertificate}
@@ -131,7 +131,7 @@ formed g digit = record {
 -- ---- the rules
 
 abbrev Listed : Grain → Name → Type 0
-Listed grain name = IsListed name (signal_names (reset_claims grain)) (reset_claims grain).order (process_names (reset_claims grain))
+Listed grain name = IsOnlyIn name (signal_names (reset_claims grain)) (reset_claims grain).order (process_names (reset_claims grain))
 
 signal_listed : (grain : Grain) (v : ℕ) (name : Name) → NameAt v name → Listed grain name
 signal_listed grain _ _ name_c = record { once = refl; nowhere = refl; nowhere_else = refl }
@@ -143,26 +143,26 @@ signal_listed grain _ _ name_n = record { once = refl; nowhere = refl; nowhere_e
 names_assigns : (g : Global) (digit : Digit) (grain : Grain) (j : ℕ) → K1_Assign (resetting g digit) (reset_claims grain) j
 names_assigns g digit grain zero = record {
   listed = λ name is.
-      subst (λ n. IsListed n (reset_claims grain).order (signal_names (reset_claims grain)) (process_names (reset_claims grain))) (same_Some (assign_in_t 48) name is)
+      subst (λ n. IsOnlyIn n (reset_claims grain).order (signal_names (reset_claims grain)) (process_names (reset_claims grain))) (same_Some (assign_in_t 48) name is)
       (record { once = refl; nowhere = refl; nowhere_else = refl });
   no_edge = λ name is. subst (λ n. times_in n (edge_names (reset_claims grain)) ≡ 0) (same_Some (assign_in_t 48) name is) refl;
 }
 names_assigns g digit grain (suc j) = record { listed = λ name is. absurd (none-some name is); no_edge = λ name is. absurd (none-some name is) }
 
 -- the name of a process stands once among those of processes, and nowhere else
-record IsListedProcess (grain : Grain) (name : Name) : Type 0 where
-  listed : IsListed name (process_names (reset_claims grain)) (signal_names (reset_claims grain)) (edge_names (reset_claims grain))
+record IsProcessName (grain : Grain) (name : Name) : Type 0 where
+  listed : IsOnlyIn name (process_names (reset_claims grain)) (signal_names (reset_claims grain)) (edge_names (reset_claims grain))
   unordered : times_in name (reset_claims grain).order ≡ 0
 
-process_listed : (g : Global) (digit : Digit) (grain : Grain) (i : ℕ) (name : Name) → IsProcessNamed (resetting g digit) i name → IsListedProcess grain name
+process_listed : (g : Global) (digit : Digit) (grain : Grain) (i : ℕ) (name : Name) → IsProcessNamed (resetting g digit) i name → IsProcessName grain name
 process_listed g digit grain zero name is =
-    subst (IsListedProcess grain) (same_Some (process_in_t 48) name is) (record { listed = record { once = refl; nowhere = refl; nowhere_else = refl }; unordered = refl })
+    subst (IsProcessName grain) (same_Some (process_in_t 48) name is) (record { listed = record { once = refl; nowhere = refl; nowhere_else = refl }; unordered = refl })
 process_listed g digit grain (suc zero) name is =
-    subst (IsListedProcess grain) (same_Some (process_in_t 49) name is) (record { listed = record { once = refl; nowhere = refl; nowhere_else = refl }; unordered = refl })
+    subst (IsProcessName grain) (same_Some (process_in_t 49) name is) (record { listed = record { once = refl; nowhere = refl; nowhere_else = refl }; unordered = refl })
 process_listed g digit grain (suc (suc zero)) name is =
-    subst (IsListedProcess grain) (same_Some (process_in_t 50) name is) (record { listed = record { once = refl; nowhere = refl; nowhere_else = refl }; unordered = refl })
+    subst (IsProcessName grain) (same_Some (process_in_t 50) name is) (record { listed = record { once = refl; nowhere = refl; nowhere_else = refl }; unordered = refl })
 process_listed g digit grain (suc (suc (suc zero))) name is =
-    subst (IsListedProcess grain) (same_Some (process_in_t 51) name is) (record { listed = record { once = refl; nowhere = refl; nowhere_else = refl }; unordered = refl })
+    subst (IsProcessName grain) (same_Some (process_in_t 51) name is) (record { listed = record { once = refl; nowhere = refl; nowhere_else = refl }; unordered = refl })
 process_listed g digit grain (suc (suc (suc (suc i)))) name is = absurd (none-some name is)
 
 names_known : (g : Global) (digit : Digit) (grain : Grain) (n : ℕ) (name : Name) → slice_get (all_names (reset_claims grain)) n ≡ Some name →

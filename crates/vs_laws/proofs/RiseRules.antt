@@ -26,7 +26,7 @@ use Rattle.vs_rules.specs.Controls.{controls_of, list_of}
 use Rattle.vs_rules.specs.Drivers.{Driver, assign, block as block_driver}
 use Rattle.vs_rules.specs.Paths.{IsHot, IsPoint, IsPrologue, IsSlot0, ListsSignal, Path, ReadsNow, ShowsNow, Writes, WritesAny, WritesLater, WritesNow, HasTerm, is_plain, is_zero_time, reads_of}
 use Rattle.vs_rules.specs.Points.{Among, Goes, Point, first_todo}
-use Rattle.vs_rules.specs.Rules.{K1_Signal, K1_Assign, K1_Process, K1_Name, K2, K3, K4, K6, K7, K8, K9, K10_Signal, K10_Process, AreEdges, IsAsModeSays, IsListed, IsSoundRoot, IsEdgeSignal, IsOwnEdge, NeverNow, Reads}
+use Rattle.vs_rules.specs.Rules.{K1_Signal, K1_Assign, K1_Process, K1_Name, K2, K3, K4, K6, K7, K8, K9, K10_Signal, K10_Process, AreEdges, IsAsModeSays, IsOnlyIn, IsSoundRoot, IsEdgeSignal, IsOwnEdge, NeverNow, Reads}
 use Rattle.vs_rules.specs.Copies.{CopiesRoot, itself}
 use Rattle.vs_rules.specs.Blocks.{K5}
 use Rattle.vs_rules.specs.Slots.{DelayEnds}
@@ -76,9 +76,9 @@ data Early (g : Global) : ℕ → Todo → Type 0 where
   rests : (i : ℕ) → Early g i []
 
 -- those at which the first process runs later
-data Behind (g : Global) : Todo → Type 0 where
-  sets : Behind g (set g)
-  rests : Behind g []
+data RunsLater (g : Global) : Todo → Type 0 where
+  sets : RunsLater g (set g)
+  rests : RunsLater g []
 
 way_at : (g : Global) (i : ℕ) (k : Todo) (next : Next) → Spot g i k → Goes k next → Way g i k next
 unfolding out-Statement denote.Hole.Carrier.out
@@ -282,20 +282,20 @@ controls : (g : Global) → controls_of (rising g) 0 ≡ 0 ∷ []
 controls g = controls_delay g 0 one_tick (set_to g 1 One) ∙ ap (λ ns. 0 ∷ ns) (controls_assign 1 (target g 0) (e.Number (One ∷ [])))
 
 -- once it has ended no control stands
-behind_pause : (g : Global) (k : Todo) → Path is_plain (set g) k → Behind g k
+behind_pause : (g : Global) (k : Todo) → Path is_plain (set g) k → RunsLater g k
 unfolding out-Statement denote.Hole.Carrier.out
-behind_pause g k path = closed_paths (Behind g) is_plain (set g) Behind.sets (λ l next s h may. goes_on l next s h) k path
+behind_pause g k path = closed_paths (RunsLater g) is_plain (set g) RunsLater.sets (λ l next s h may. goes_on l next s h) k path
   where
-    goes_on : (l : Todo) (next : Next) → Behind g l → Goes l next → Behind g (todo_after next)
-    goes_on _ next Behind.sets h = only (λ n. Behind g (todo_after n)) next _ h Behind.rests
-    goes_on _ next Behind.rests h = only (λ n. Behind g (todo_after n)) next _ h Behind.rests
+    goes_on : (l : Todo) (next : Next) → RunsLater g l → Goes l next → RunsLater g (todo_after next)
+    goes_on _ next RunsLater.sets h = only (λ n. RunsLater g (todo_after n)) next _ h RunsLater.rests
+    goes_on _ next RunsLater.rests h = only (λ n. RunsLater g (todo_after n)) next _ h RunsLater.rests
 
-behind_plain : (g : Global) (k : Todo) (next : Next) → Behind g k → Goes k next → on [] ≡ next
+behind_plain : (g : Global) (k : Todo) (next : Next) → RunsLater g k → Goes k next → on [] ≡ next
 unfolding out-Statement denote.Hole.Carrier.out
-behind_plain g _ next Behind.sets h = only (λ n. on [] ≡ n) next _ h refl
-behind_plain g _ next Behind.rests h = only (λ n. on [] ≡ n) next _ h refl
+behind_plain g _ next RunsLater.sets h = only (λ n. on [] ≡ n) next _ h refl
+behind_plain g _ next RunsLater.rests h = only (λ n. on [] ≡ n) next _ h refl
 
-runs_behind : (g : Global) (i : ℕ) (c k : Todo) (next : Next) → Way g i c next → (lists : List (List ℕ)) (r : ℕ) → DelayEnds (rising g) i lists next r → Path is_plain (todo_after next) k → Behind g k
+runs_behind : (g : Global) (i : ℕ) (c k : Todo) (next : Next) → Way g i c next → (lists : List (List ℕ)) (r : ℕ) → DelayEnds (rising g) i lists next r → Path is_plain (todo_after next) k → RunsLater g k
 runs_behind g _ _ k _ Way.delays lists r ends path = behind_pause g k path
 runs_behind g _ _ k _ Way.sets lists r ends path = absurd ends
 runs_behind g _ _ k _ Way.listens lists r ends path = absurd ends
@@ -395,7 +395,7 @@ root_is g mode grain root v h = at_place h.place h.is
 -- ---- the rules
 
 abbrev Listed : Mode → Grain → Name → Type 0
-Listed mode grain name = IsListed name (signal_names (rise_claims mode grain)) [] (process_names (rise_claims mode grain))
+Listed mode grain name = IsOnlyIn name (signal_names (rise_claims mode grain)) [] (process_names (rise_claims mode grain))
 
 names_signals : (g : Global) (mode : Mode) (grain : Grain) (v : ℕ) → K1_Signal (rising g) (rise_claims mode grain) v
 names_signals g mode grain zero name is = subst (Listed mode grain) (same_Some (signal_in_t 97) name is) (record { once = refl; nowhere = refl; nowhere_else = refl })
@@ -406,7 +406,7 @@ no_assign : (g : Global) (mode : Mode) (grain : Grain) (j : ℕ) → K1_Assign (
 no_assign g mode grain j = record { listed = λ name is. absurd (none-some name is); no_edge = λ name is. absurd (none-some name is) }
 
 abbrev ListedProcess : Mode → Grain → Name → Type 0
-ListedProcess mode grain name = IsListed name (process_names (rise_claims mode grain)) (signal_names (rise_claims mode grain)) (edge_names (rise_claims mode grain))
+ListedProcess mode grain name = IsOnlyIn name (process_names (rise_claims mode grain)) (signal_names (rise_claims mode grain)) (edge_names (rise_claims mode grain))
 
 names_processes : (g : Global) (mode : Mode) (grain : Grain) (i : ℕ) → K1_Process (rising g) (rise_claims mode grain) i
 names_processes g mode grain i = record {

@@ -29,7 +29,7 @@ use Rattle.vs_rules.specs.Claims.{Mode, Name, EdgeClaim, Kind, blocking, all_nam
 use Rattle.vs_rules.specs.Controls.{controls_of, list_of}
 use Rattle.vs_rules.specs.Drivers.{Driver, assign, block as block_driver, DriverReads, IsDriver, IsSource, WritesBit}
 use Rattle.vs_rules.specs.Paths.{Bit, Has, IsHot, Path, Writes, WritesAny, is_zero_time}
-use Rattle.vs_rules.specs.Rules.{K1_Signal, K1_Assign, K1_Process, K1_Name, K2, K3, K4, K6, K7, K8, K9, K10_Signal, K10_Process, AreEdges, IsAsModeSays, IsEdgeSignal, IsListed, IsOwnEdge, IsSoundRoot, Reads}
+use Rattle.vs_rules.specs.Rules.{K1_Signal, K1_Assign, K1_Process, K1_Name, K2, K3, K4, K6, K7, K8, K9, K10_Signal, K10_Process, AreEdges, IsAsModeSays, IsEdgeSignal, IsOnlyIn, IsOwnEdge, IsSoundRoot, Reads}
 use Rattle.vs_rules.specs.Copies.{CopiesRoot, copy, itself, IsCopy}
 use Rattle.vs_rules.specs.Blocks.{K5}
 use Rattle.vs_rules.specs.Slots.{Ends, Fires, FiresOf, HasWriteSlot}
@@ -222,7 +222,7 @@ second_at g grain _ r _ _ is (Way.rests i) ends = absurd (subst (λ n. Ends (two
 -- ---- the rules
 
 abbrev Listed : Grain → Name → Type 0
-Listed grain name = IsListed name (signal_names (two_rises_claims grain)) (two_rises_claims grain).order (process_names (two_rises_claims grain))
+Listed grain name = IsOnlyIn name (signal_names (two_rises_claims grain)) (two_rises_claims grain).order (process_names (two_rises_claims grain))
 
 names_signals : (g : Global) (grain : Grain) (v : ℕ) → K1_Signal (two_rises g) (two_rises_claims grain) v
 names_signals g grain zero name is = subst (Listed grain) (same_Some (signal_in_t 97) name is) (record { once = refl; nowhere = refl; nowhere_else = refl })
@@ -231,7 +231,7 @@ names_signals g grain (suc (suc zero)) name is = subst (Listed grain) (same_Some
 names_signals g grain (suc (suc (suc v))) name is = absurd (none-some name is)
 
 abbrev ListedAssign : Grain → Name → Type 0
-ListedAssign grain name = IsListed name (two_rises_claims grain).order (signal_names (two_rises_claims grain)) (process_names (two_rises_claims grain))
+ListedAssign grain name = IsOnlyIn name (two_rises_claims grain).order (signal_names (two_rises_claims grain)) (process_names (two_rises_claims grain))
 
 abbrev InNoEdge : Grain → Name → Type 0
 InNoEdge grain name = times_in name (edge_names (two_rises_claims grain)) ≡ 0
@@ -244,7 +244,7 @@ names_assigns g grain zero = record {
 names_assigns g grain (suc j) = record { listed = λ name is. absurd (none-some name is); no_edge = λ name is. absurd (none-some name is) }
 
 abbrev ListedProcess : Grain → Name → Type 0
-ListedProcess grain name = IsListed name (process_names (two_rises_claims grain)) (signal_names (two_rises_claims grain)) (edge_names (two_rises_claims grain))
+ListedProcess grain name = IsOnlyIn name (process_names (two_rises_claims grain)) (signal_names (two_rises_claims grain)) (edge_names (two_rises_claims grain))
 
 abbrev Unordered : Grain → Name → Type 0
 Unordered grain name = times_in name (two_rises_claims grain).order ≡ 0

@@ -25,7 +25,7 @@ use Rattle.vs_rules.specs.Constants.{zero as known_zero}
 use Rattle.vs_rules.specs.Controls.{controls_of, list_of}
 use Rattle.vs_rules.specs.Drivers.{Driver, assign, block as block_driver, here, through, InCone}
 use Rattle.vs_rules.specs.Paths.{IsHot, IsLate, IsSlot0, Writes, WritesAny, is_plain, is_zero_time}
-use Rattle.vs_rules.specs.Rules.{K1_Signal, K1_Name, K2, K3, K4, K6, K7, K8, K9, K10_Signal, K10_Process, AreApart, AreEdges, BlockNeeds, FiresNone, IsAsModeSays, IsEdgeSignal, IsListed, IsOwnEdge, IsOwnRead, IsSoundRoot}
+use Rattle.vs_rules.specs.Rules.{K1_Signal, K1_Name, K2, K3, K4, K6, K7, K8, K9, K10_Signal, K10_Process, AreApart, AreEdges, BlockNeeds, FiresNone, IsAsModeSays, IsEdgeSignal, IsOnlyIn, IsOwnEdge, IsOwnRead, IsSoundRoot}
 use Rattle.vs_rules.specs.Copies.{CopiesRoot, itself}
 use Rattle.vs_rules.proofs.Copies.{seen_plain}
 use Rattle.vs_rules.specs.Blocks.{K5}
@@ -53,7 +53,7 @@ formed_later g =
 -- ---- the rules
 
 abbrev Listed : Grain → Name → Type 0
-Listed grain name = IsListed name (signal_names (swap_claims grain)) [] (process_names (swap_claims grain))
+Listed grain name = IsOnlyIn name (signal_names (swap_claims grain)) [] (process_names (swap_claims grain))
 
 names_signals : (g : Global) (grain : Grain) (v : ℕ) → K1_Signal (swapping_later g) (swap_claims grain) v
 names_signals g grain zero name is = subst (Listed grain) (same_Some (signal_in_t 99) name is) (record { once = refl; nowhere = refl; nowhere_else = refl })
@@ -62,7 +62,7 @@ names_signals g grain (suc (suc zero)) name is = subst (Listed grain) (same_Some
 names_signals g grain (suc (suc (suc v))) name is = absurd (none-some name is)
 
 abbrev ListedProcess : Grain → Name → Type 0
-ListedProcess grain name = IsListed name (process_names (swap_claims grain)) (signal_names (swap_claims grain)) (edge_names (swap_claims grain))
+ListedProcess grain name = IsOnlyIn name (process_names (swap_claims grain)) (signal_names (swap_claims grain)) (edge_names (swap_claims grain))
 
 process_listed : (g : Global) (grain : Grain) (i : ℕ) (name : Name) → IsProcessNamed (swapping_later g) i name → ListedProcess grain name
 process_listed g grain zero name is = subst (ListedProcess grain) (same_Some (process_in_t 48) name is) (record { once = refl; nowhere = refl; nowhere_else = refl })

@@ -20,7 +20,8 @@ use Rattle.vs_maps.specs.Laws.{IsBegun}
 use Rattle.vs_maps.specs.Reaches.{IsPlace, is_turned, passes, stops_along}
 use Rattle.vs_maps.specs.Exact.{AreBegun, TextsAreExact}
 use Rattle.vs_maps.proofs.Join.{same_place, path_from_exact, tos_along}
-use Rattle.vs_maps.proofs.Texts.{PathAlong, reached_same, pause_here, along_is, alike, ok_of, begins_with, place_of, place_back, from_on, from_back}
+use Rattle.vs_rules.proofs.Texts.{begins_with}
+use Rattle.vs_maps.proofs.Texts.{PathAlong, reached_same, pause_here, along_is, alike, ok_of, place_of, place_back, from_on, from_back}
 use Rattle.vs_maps.proofs.EachWalk.{PathFromAlong}
 
 -- once a way of some sort has been gone

@@ -11,4 +11,6 @@ pub mod ReadingLemmas
 pub mod EachWalk
 pub mod SignalLemmas
 pub mod SiteLemmas
+pub mod TermLemmas
+pub mod UseLemmas
 pub mod LateLemmas

@@ -1,5 +1,5 @@
 -- What walks on the map of a process lead to, as paths of its text.
-use Rattle.std.proofs.Common.{◌≡◌, ℕ, zero, suc, ◌++◌, ◌&&◌, Bool, true, false, Some, List, [], ◌∷◌, map, get_or, slice_get, refl, sym, ◌∙◌, ap, subst, if◌then◌else◌}
+use Rattle.std.proofs.Common.{◌≡◌, ℕ, ◌++◌, ◌&&◌, Bool, true, false, Some, List, [], ◌∷◌, map, slice_get, refl, sym, ◌∙◌, ap, subst, if◌then◌else◌}
 use Rattle.std.specs.List.{Contains}
 use Rattle.vs_design.specs.declared.design.Process.{Process}
 use Rattle.vs_design.specs.declared.statement.Statement.{Statement}
@@ -7,16 +7,15 @@ use Rattle.vs_design.specs.Parts.{Parts}
 use Rattle.vs_design.specs.declared.statement.Statement.TheOpen.{Statement-F}
 use Rattle.vs_design.specs.declared.statement.Statement.TheViews.{out-Statement}
 use Rattle.std.proofs.lemmas.Bool.{false≢true}
-use Rattle.std.proofs.lemmas.Option.{none-some, same_Some}
-use Rattle.vs_process.specs.declared.gait.Gait.TheVariants.{Fresh}
 use Rattle.vs_process.specs.Nexts.{statement_nexts}
 use Rattle.vs_process.specs.Landings.{todo_after}
-use Rattle.vs_process.specs.Places.{perform, turns, Todo, active_at, ended, flat, start_place, todo_of}
+use Rattle.vs_process.specs.Places.{perform, turns, Todo, flat}
 use Rattle.vs_process.specs.Steps.{Next, after, wait}
 use Rattle.vs_process.specs.Ways.{Pause, none, delay, event, next_by}
 use Rattle.vs_process.specs.Maps.{statement_pause, todo_pause}
 use Rattle.vs_process.specs.Stops.{Stop, stop_at, stop_statement, stops_tos, stops_next, next_statement, IsText}
 use Rattle.vs_rules.specs.Points.{Among, Goes, Point, first_todo, nexts_by, todo_turns}
+use Rattle.vs_rules.proofs.Texts.{begins_with}
 use Rattle.vs_rules.specs.Paths.{PathBy, IsPoint, any_way, is_plain, is_zero_time}
 use Rattle.vs_graph.specs.Reached.{Reached, begins, goes_on}
 use Rattle.vs_maps.specs.declared.along.Along.{Along}
@@ -91,20 +90,6 @@ walk_on body stops start t along p l h =
     (y.0, reached_same (tos_along (is_turned along) (passes along) t.at (stops_tos stops)) (stops_along along stops) (p ∷ []) (λ p. sym (along_is body stops start t along p)) y.0 y.1, y.2)
 
 -- ---- of a process
-
-active_todo : (k : Todo) → todo_of (active_at Fresh k) ≡ k
-active_todo [] = refl
-active_todo (x ∷ k) = refl
-
-first_is : (ps : List Process) (i : ℕ) (q : Process) → slice_get ps i ≡ Some q →
-    todo_of (get_or (map (λ (p : Process). start_place p.body) ps) i ended) ≡ flat q.body
-first_is [] i q is = absurd (none-some q is)
-first_is (p ∷ ps) zero q is = active_todo (flat p.body) ∙ ap (λ (x : Process). flat x.body) (same_Some p q is)
-first_is (p ∷ ps) (suc i) q is = first_is ps i q is
-
--- what a process does first is its text
-pub begins_with : (d : Parts) (i : ℕ) (q : Process) → slice_get d.processes i ≡ Some q → first_todo d i ≡ flat q.body
-begins_with d i q is = first_is d.processes i q is
 
 pub place_of : (d : Parts) (i : ℕ) (q : Process) (stops : List Stop) (start : ℕ) (t : IsText q.body stops start) → slice_get d.processes i ≡ Some q → (k : Todo) → IsPoint d i k →
     (p : ℕ) × IsPlace (record { stops = stops; start = start }) p × (t.at p ≡ k)

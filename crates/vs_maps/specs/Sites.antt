@@ -1,6 +1,7 @@
 -- Sites: what the points of the texts of a design do with which ranges.
-use Rattle.std.specs.Prelude.{ℕ, ◌≡◌, ◌<◌, ◌↔◌, Some, List, [], ◌∷◌, length, slice_get}
+use Rattle.std.specs.Prelude.{ℕ, ◌≡◌, ◌<◌, ◌↔◌, Bool, false, Some, List, [], ◌∷◌, length, slice_get}
 use Rattle.std.specs.List.{Contains}
+use Rattle.vs_design.specs.vs_logic4.specs.declared.edge.Edge.{Edge}
 use Rattle.vs_design.specs.declared.range.BitRange.{BitRange}
 use Rattle.vs_design.specs.declared.statement.EventTerm.{EventTerm}
 use Rattle.vs_graph.specs.Rows.{row, with_one}
@@ -31,6 +32,11 @@ abbrev pub IsWrite : Use → Type 0
 IsWrite Now = Unit {0}
 IsWrite Later = Unit {0}
 IsWrite _ = ⊥
+
+-- a use waits for a change that passes a test
+abbrev pub waits_by : (Edge → Bool) → Use → Bool
+waits_by test (Waits edge) = test edge
+waits_by test _ = false
 
 -- rows of the sites of each signal
 pub record AreSites (x : Texts) (signals : List (List Site)) : Type 0 where

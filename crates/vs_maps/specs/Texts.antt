@@ -1,13 +1,12 @@
--- Which texts write, read and wait for a signal, and at which of their points.
+-- The maps of the texts of a design, and rules of the points that write or read a signal.
 use Rattle.std.specs.Prelude.{ℕ, ◌≡◌, ◌<◌, Bool, Some, List, [], get_or, length, slice_get}
 use Rattle.std.specs.declared.vec.Vec.{Vec}
 use Rattle.std.specs.declared.alloc.Global.{Global}
-use Rattle.vs_design.specs.declared.statement.EventTerm.{EventTerm}
+use Rattle.vs_design.specs.declared.design.Process.{Process}
 use Rattle.vs_design.specs.Parts.{Parts}
 use Rattle.vs_design.specs.Tables.{rows}
-use Rattle.vs_rules.specs.Paths.{reads_of, writes_of}
-use Rattle.vs_graph.specs.Rows.{AreRows}
-use Rattle.vs_maps.specs.Ranges.{HasSignal, HasTermAt, now_at, later_at}
+use Rattle.vs_process.specs.Stops.{IsText}
+use Rattle.vs_maps.specs.Ranges.{HasSignal, now_at, later_at, reads_at}
 use Rattle.vs_maps.specs.Reaches.{Chart, IsPlace, places}
 use Rattle.vs_maps.specs.Walks.{AreMarked, InLate}
 
@@ -19,10 +18,10 @@ pub record Texts : Type 0 where
 abbrev pub texts_of : Parts → List Chart → Texts
 texts_of d charts = record { design = d; charts = charts }
 
--- an event control of a process's text names the signal
-abbrev pub WaitsFor : List Chart → ℕ → ℕ → Type 0
-WaitsFor charts i v =
-    (t : Chart) × (slice_get charts i ≡ Some t) × ((term : EventTerm) × HasTermAt t term × (term.range.signal ≡ v))
+-- there is a chart for each process, and each is a map of its process's text
+pub record AreCharts (d : Parts) (charts : List Chart) : Type 0 where
+  pub as_many : length charts ≡ length d.processes
+  pub each : (i : ℕ) (q : Process) (t : Chart) → slice_get d.processes i ≡ Some q → slice_get charts i ≡ Some t → IsText q.body t.stops t.start
 
 -- the marks of a process
 abbrev pub marks_of : List (Vec Bool Global) → ℕ → List Bool
@@ -33,18 +32,13 @@ abbrev pub AreLate : List Chart → List (Vec Bool Global) → ℕ → Type 0
 AreLate charts table n =
     (i : ℕ) (t : Chart) → i < n → slice_get charts i ≡ Some t → AreMarked (InLate t) (places t) (marks_of table i)
 
--- the processes whose texts write, read and wait for each signal, and the late places of each map
-pub record AreUses (x : Texts) (writers readers waiters : List (List ℕ)) (late : List (Vec Bool Global)) : Type 0 where
-  pub late_are : AreLate x.charts late (length x.charts)
-  pub rows : (length writers ≡ length x.design.signals) × (length readers ≡ length x.design.signals) ×
-      (length waiters ≡ length x.design.signals)
-  pub writers_are : AreRows (λ i v. HasSignal (writes_of x.design i) v) (length x.design.processes) (length x.design.signals) writers
-  pub readers_are : AreRows (λ i v. HasSignal (reads_of x.design i) v) (length x.design.processes) (length x.design.signals) readers
-  pub waiters_are : AreRows (WaitsFor x.charts) (length x.charts) (length x.design.signals) waiters
-
 -- all points with a write of the signal, of the one sort, keep a rule
 abbrev pub AllNow : Texts → ℕ → (ℕ → ℕ → Type 0) → Type 0
 AllNow x v keeps = (i p : ℕ) (t : Chart) → slice_get x.charts i ≡ Some t → IsPlace t p → HasSignal (now_at t p) v → keeps i p
 
 abbrev pub AllLater : Texts → ℕ → (ℕ → ℕ → Type 0) → Type 0
 AllLater x v keeps = (i p : ℕ) (t : Chart) → slice_get x.charts i ≡ Some t → IsPlace t p → HasSignal (later_at t p) v → keeps i p
+
+-- all that read it do
+abbrev pub AllReads : Texts → ℕ → (ℕ → ℕ → Type 0) → Type 0
+AllReads x v keeps = (i p : ℕ) (t : Chart) → slice_get x.charts i ≡ Some t → IsPlace t p → HasSignal (reads_at t p) v → keeps i p

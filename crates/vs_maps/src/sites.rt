@@ -1,10 +1,10 @@
 //! The table of sites: what the points of the texts of a design do with which ranges.
-ghost use Rattle.std.specs.Prelude.{ℕ, ◌≡◌, ◌<◌, ◌↔◌, ◌⊎◌, ◌++◌, length, map, IfOk, OnOk, IsTrue};
-ghost use Rattle.std.specs.List.{Contains};
+ghost use Rattle.std.specs.Prelude.{ℕ, ◌≡◌, ◌<◌, ◌↔◌, ◌⊎◌, ◌++◌, Some, true, length, map, IfOk, OnOk, IsTrue};
+ghost use Rattle.std.specs.List.{Contains, list_any};
 ghost use Rattle.vs_maps.specs.Reaches.{IsPlace};
 ghost use Rattle.vs_maps.specs.declared.sites.Site.{Site};
 ghost use Rattle.vs_maps.specs.declared.sites.Use.TheVariants.{Now};
-ghost use Rattle.vs_maps.specs.Sites.{IsSite, IsWrite, UsesAt, all_filed, site_of, waiting_of};
+ghost use Rattle.vs_maps.specs.Sites.{IsSite, IsWrite, UsesAt, all_filed, site_of, waiting_of, waits_by};
 ghost use Rattle.vs_maps.specs.Texts.{AreLate, texts_of};
 
 use crate::tables::Tables;
@@ -50,6 +50,26 @@ pub trait SiteRule {
     /// Whether a place of a process's map keeps it.
     fn test(&self, process: usize, place: usize) -> bool
         ensures { IsTrue result ↔ keeps self.now process place };
+}
+
+/// The process is one of two that may be there.
+#[derive(Drop)]
+pub struct OneOf {
+    /// The one.
+    pub one: Option<usize>,
+    /// The other.
+    pub other: Option<usize>,
+}
+
+impl SiteRule for OneOf {
+    ghost keeps = { λ f i p. (f.one ≡ Some i) ⊎ (f.other ≡ Some i) };
+
+    fn test(&self, process: usize, _place: usize) -> bool {
+        if self.one == Some(process) {
+            return true;
+        }
+        self.other == Some(process)
+    }
 }
 
 // Puts the sites of a place that uses some ranges alike.
@@ -190,6 +210,13 @@ impl<'a> Sites<'a> {
         })
     }
 
+    /// The design.
+    pub fn design(&self) -> &'a Design
+        ensures { result.now ≡ self.now.design }
+    {
+        self.design
+    }
+
     /// The tables of the processes.
     pub fn tables(&self) -> &'a [Tables<'a>]
         ensures { result.now ≡ self.now.charts }
@@ -213,6 +240,35 @@ pub fn is_now(usage: Use) -> bool
     usage == Use::Now
 }
 
+/// Whether one of some sites is a write by `=`.
+pub fn any_now(sites: &[Site]) -> bool
+    ensures { IsTrue result ↔ ((s : Site) × Contains sites.now s × (s.usage ≡ Now)) }
+{
+    for site in sites {
+        if site.usage == Use::Now {
+            return true;
+        }
+    }
+    false
+}
+
+// Whether a use waits.
+fn is_wait(usage: Use) -> bool
+    ensures { result ≡ waits_by (λ edge. true) usage }
+{
+    match usage {
+        Use::Waits(_) => true,
+        Use::Now | Use::Later | Use::Reads | Use::Shows => false,
+    }
+}
+
+/// Whether one of some sites waits.
+pub fn any_waits(sites: &[Site]) -> bool
+    ensures { result ≡ list_any (λ s. waits_by (λ edge. true) s.usage) sites.now }
+{
+    sites.iter().any(|site| is_wait(site.usage))
+}
+
 /// Whether a use is a write, by `=` or by `<=`.
 pub fn is_write(usage: Use) -> bool
     ensures { IsTrue result ↔ IsWrite usage }
@@ -232,6 +288,32 @@ pub fn is_write_of(site: Site, process: usize) -> bool
     } else {
         false
     }
+}
+
+/// Whether one of some sites is a write of a process.
+pub fn any_write_of(sites: &[Site], process: usize) -> bool
+    ensures { IsTrue result ↔ ((s : Site) × Contains sites.now s × (s.process ≡ process) × IsWrite s.usage) }
+{
+    for site in sites {
+        if is_write_of(*site, process) {
+            return true;
+        }
+    }
+    false
+}
+
+/// The processes of those of some sites that are writes, in their order.
+pub fn writers(alloc: Global, sites: &[Site]) -> Result<Vec<usize>, AllocError>
+    ensures { IfOk result (λ all. (i : ℕ) → (Contains all.items i ↔
+        ((s : Site) × Contains sites.now s × (s.process ≡ i) × IsWrite s.usage))) }
+{
+    let mut all = Vec::new(alloc);
+    for site in sites {
+        if is_write(site.usage) {
+            all.push(site.process)?;
+        }
+    }
+    Ok(all)
 }
 
 /// The places of those of some sites that are writes of a process, in their order.

@@ -1,26 +1,19 @@
-//! For each signal the texts that write it, read it and wait for it, and the points that write it.
+//! The points that use each signal, and the places past a control.
 ghost use Rattle.std.specs.Prelude.{ℕ, ◌≡◌, ◌<◌, ◌↔◌, Some, length, slice_get, IfOk, IsTrue};
-ghost use Rattle.std.specs.List.{Contains};
-ghost use Rattle.vs_rules.specs.Paths.{ListsSignal, Writes, reads_of};
-ghost use Rattle.vs_maps.specs.Texts.{AllNow, AllLater, WaitsFor, marks_of, texts_of};
+ghost use Rattle.vs_maps.specs.Texts.{AllNow, AllLater, AllReads, marks_of, texts_of};
 ghost use Rattle.vs_maps.specs.Reaches.{Chart, places};
 ghost use Rattle.vs_maps.specs.Walks.{AreMarked, InLate};
 
 use crate::Tables;
-use crate::families::{Reading, Waiting, Writing};
 use crate::sites::{SiteRule, Sites, Use, all_keep, late_marks};
 use std::alloc::{AllocError, Global};
 use std::marker::Model;
 use vs_design::Design;
-use vs_graph::{Rows, index_of};
 
 /// The uses of the signals of a design, with the tables of its processes. A contract sees the design and the maps.
 #[derive(Drop)]
 pub struct Uses<'a> {
     sites: Sites<'a>,
-    writers: Rows<usize>,
-    readers: Rows<usize>,
-    waiters: Rows<usize>,
     late: Vec<Vec<bool>>,
 }
 
@@ -28,7 +21,8 @@ impl<'a> Model for Uses<'a> {
     ghost use Rattle.std.specs.Coded.{codes};
     ghost use Rattle.vs_design.specs.contracts.expression.Typed as expression;
     ghost use Rattle.vs_design.specs.contracts.statement.Statement as statement;
-    ghost use Rattle.vs_maps.specs.Texts.{Texts, AreUses};
+    ghost use Rattle.std.specs.Prelude.{length};
+    ghost use Rattle.vs_maps.specs.Texts.{Texts, AreLate};
 
     ghost Value = { Texts };
 
@@ -36,7 +30,7 @@ impl<'a> Model for Uses<'a> {
 
     ghost view = { λ u. u.sites };
 
-    ghost invariant = { λ u. AreUses u.sites u.writers u.readers u.waiters u.late.items };
+    ghost invariant = { λ u. AreLate u.sites.charts u.late.items (length u.sites.charts) };
 }
 
 // The marks of a number.
@@ -58,20 +52,9 @@ impl<'a> Uses<'a> {
     ) -> Result<Uses<'a>, AllocError>
         ensures { IfOk result (λ u. u ≡ texts_of design.entry.now tables.entry.now) }
     {
-        let signals = design.signals().len();
-        let processes = design.processes().len();
-        let writers = index_of(alloc, &Writing { design: &*design }, processes, signals)?;
-        let readers = index_of(alloc, &Reading { design: &*design }, processes, signals)?;
-        let waiters = index_of(alloc, &Waiting { tables: &*tables }, tables.len(), signals)?;
         let late = late_marks(alloc, &*tables)?;
         let sites = Sites::new(alloc, design, tables)?;
-        Ok(Uses {
-            sites,
-            writers,
-            readers,
-            waiters,
-            late,
-        })
+        Ok(Uses { sites, late })
     }
 
     /// The sites of the design.
@@ -79,30 +62,6 @@ impl<'a> Uses<'a> {
         ensures { result.now ≡ self.now }
     {
         &self.sites
-    }
-
-    /// The processes whose texts write a signal.
-    pub fn writers(&self, v: usize) -> &[usize]
-        requires { v < length self.now.design.signals }
-        ensures { (i : ℕ) → (Contains result.now i ↔ Writes self.now.design i v) }
-    {
-        self.writers.row(v)
-    }
-
-    /// Those whose texts read it.
-    pub fn readers(&self, v: usize) -> &[usize]
-        requires { v < length self.now.design.signals }
-        ensures { (i : ℕ) → (Contains result.now i ↔ ListsSignal self.now.design (reads_of self.now.design i) v) }
-    {
-        self.readers.row(v)
-    }
-
-    /// Those of which an event control names it.
-    pub fn waiters(&self, v: usize) -> &[usize]
-        requires { v < length self.now.design.signals }
-        ensures { (i : ℕ) → (Contains result.now i ↔ WaitsFor self.now.charts i v) }
-    {
-        self.waiters.row(v)
     }
 
     /// The places of a process's map to which a path leads once a control has been passed: a mark for each.
@@ -126,5 +85,24 @@ impl<'a> Uses<'a> {
         ensures { IsTrue result ↔ AllLater self.now v (R.keeps rule.now) }
     {
         all_keep(self.sites.of_signal(v), Use::Later, rule)
+    }
+
+    /// Whether all with a write of it, of either sort, do.
+    pub fn all_writes<R: SiteRule>(&self, v: usize, rule: &R) -> bool
+        requires { v < length self.now.design.signals }
+        ensures { IsTrue result ↔ (AllNow self.now v (R.keeps rule.now) × AllLater self.now v (R.keeps rule.now)) }
+    {
+        if !self.all_now(v, rule) {
+            return false;
+        }
+        self.all_later(v, rule)
+    }
+
+    /// Whether all that read it do.
+    pub fn all_reads<R: SiteRule>(&self, v: usize, rule: &R) -> bool
+        requires { v < length self.now.design.signals }
+        ensures { IsTrue result ↔ AllReads self.now v (R.keeps rule.now) }
+    {
+        all_keep(self.sites.of_signal(v), Use::Reads, rule)
     }
 }

@@ -18,15 +18,15 @@ abbrev pub name_and_locals : Grammar
 name_and_locals = name · many local_declaration
 
 -- what stands behind the word of a declaration
-abbrev pub behind_word : LocalWord → Grammar
-behind_word l.Reg = form · comma_list a_local
-behind_word l.Integer = comma_list a_local
+abbrev pub rest_after_word : LocalWord → Grammar
+rest_after_word l.Reg = form · comma_list a_local
+rest_after_word l.Integer = comma_list a_local
 
 pub local_goes : (ts after : List Symbol) (k : LocalWord) → ts ≡ a_word (local_word k) ∷ after → goes local_declaration ts ≡ true
 local_goes ts after l.Reg e = ap (goes local_declaration) e
 local_goes ts after l.Integer e = ap (goes local_declaration) e
 
-pub local_stuck : (depth : ℕ) (deep : Bool) (ts after at : List Symbol) (k k' : LocalWord) → k ≡ k' → ts ≡ a_word (local_word k) ∷ after → Stuck (behind_word k') depth deep after at → Stuck local_declaration depth deep ts at
+pub local_stuck : (depth : ℕ) (deep : Bool) (ts after at : List Symbol) (k k' : LocalWord) → k ≡ k' → ts ≡ a_word (local_word k) ∷ after → Stuck (rest_after_word k') depth deep after at → Stuck local_declaration depth deep ts at
 local_stuck depth deep ts after at l.Reg l.Reg i e s =
     let none : 0 ≤ depth = omega arith in
     rw e (stuck_left refl none (stuck_second (gets_token refl) s))
@@ -35,7 +35,7 @@ local_stuck depth deep ts after at l.Integer l.Integer i e s =
     rw e (stuck_right refl none (stuck_second (gets_token refl) s))
 local_stuck depth deep ts after at _ _ i e s = cc
 
-pub local_read : (depth : ℕ) (ts after rest : List Symbol) (k k' : LocalWord) (x : Tree) → k ≡ k' → ts ≡ a_word (local_word k) ∷ after → Gets (behind_word k') depth after x rest → Gets local_declaration depth ts (both (leaf (a_word (local_word k'))) x) rest
+pub local_read : (depth : ℕ) (ts after rest : List Symbol) (k k' : LocalWord) (x : Tree) → k ≡ k' → ts ≡ a_word (local_word k) ∷ after → Gets (rest_after_word k') depth after x rest → Gets local_declaration depth ts (both (leaf (a_word (local_word k'))) x) rest
 local_read depth ts after rest l.Reg l.Reg x i e p = rw e (gets_left refl (gets_seq (gets_token refl) p))
 local_read depth ts after rest l.Integer l.Integer x i e p = rw e (gets_right refl (gets_seq (gets_token refl) p))
 local_read depth ts after rest _ _ x i e p = cc

@@ -21,23 +21,23 @@ use Rattle.vs_parse_expressions.proofs.Forms.{present_stuck, present_read}
 use Rattle.vs_parse_expressions.proofs.Parts.{beyond_fails}
 
 -- a declaration assignment, the range of words, or neither
-abbrev pub told : Grammar
-told = mark m.Assign · part an_expr or range or nothing
+abbrev pub declarator_rest : Grammar
+declarator_rest = mark m.Assign · part an_expr or range or nothing
 
-pub no_value : (depth : ℕ) (ts rest : List Symbol) (x : Tree) → goes (mark m.Assign) ts ≡ false → Gets (range or nothing) depth ts x rest → Gets told depth ts x rest
+pub no_value : (depth : ℕ) (ts rest : List Symbol) (x : Tree) → goes (mark m.Assign) ts ≡ false → Gets (range or nothing) depth ts x rest → Gets declarator_rest depth ts x rest
 no_value depth ts rest x h p = gets_right h p
 
-pub range_stuck : (depth : ℕ) (deep : Bool) (ts at : List Symbol) → goes (mark m.Assign) ts ≡ false → Stuck (range or nothing) depth deep ts at → Stuck told depth deep ts at
+pub range_stuck : (depth : ℕ) (deep : Bool) (ts at : List Symbol) → goes (mark m.Assign) ts ≡ false → Stuck (range or nothing) depth deep ts at → Stuck declarator_rest depth deep ts at
 range_stuck depth deep ts at h s =
     let none : 0 ≤ depth = omega arith in
     stuck_right h none s
 
-pub value_stuck : (depth : ℕ) (deep : Bool) (ts after at : List Symbol) → ts ≡ a_mark m.Assign ∷ after → Stuck (part an_expr) depth deep after at → Stuck told depth deep ts at
+pub value_stuck : (depth : ℕ) (deep : Bool) (ts after at : List Symbol) → ts ≡ a_mark m.Assign ∷ after → Stuck (part an_expr) depth deep after at → Stuck declarator_rest depth deep ts at
 value_stuck depth deep ts after at e s =
     let none : 0 ≤ depth = omega arith in
     rw e (stuck_left refl none (stuck_second (gets_token refl) s))
 
-pub value_read : (depth : ℕ) (ts after rest : List Symbol) (x : Tree) → ts ≡ a_mark m.Assign ∷ after → Gets (part an_expr) depth after x rest → Gets told depth ts (both (leaf (a_mark m.Assign)) x) rest
+pub value_read : (depth : ℕ) (ts after rest : List Symbol) (x : Tree) → ts ≡ a_mark m.Assign ∷ after → Gets (part an_expr) depth after x rest → Gets declarator_rest depth ts (both (leaf (a_mark m.Assign)) x) rest
 value_read depth ts after rest x e p = rw e (gets_left refl (gets_seq (gets_token refl) p))
 
 -- what stands behind a name without a declaration assignment
@@ -45,7 +45,7 @@ pub told_range : (r : Option Range) → range_tree r ≡ declarator_rest_tree r 
 told_range None = refl
 told_range (Some r) = refl
 
-pub value_beyond : (depth : ℕ) (ts after : List Symbol) → ts ≡ a_mark m.Assign ∷ after → Beyond (part an_expr) told (both (leaf (a_mark m.Assign))) depth ts after
+pub value_beyond : (depth : ℕ) (ts after : List Symbol) → ts ≡ a_mark m.Assign ∷ after → Beyond (part an_expr) declarator_rest (both (leaf (a_mark m.Assign))) depth ts after
 value_beyond depth ts after e = record { reads = λ y at p. value_read depth ts after at y e p; stops = λ deep at s. value_stuck depth deep ts after at e s }
 
 -- what stands behind a token that may be absent

@@ -38,22 +38,22 @@ some_same : (xs rest : List ℕ) → ◌≡◌ {A = Option (List ℕ)} (Some xs)
 some_same xs rest e = cc
 
 -- what an option holds stands at the end of the bytes
-abbrev pub IfBehind : Option (List ℕ) → List ℕ → Type 0
-IfBehind o bytes = (rest : List ℕ) → o ≡ Some rest → IsSuffix rest bytes
+abbrev pub IfSuffix : Option (List ℕ) → List ℕ → Type 0
+IfSuffix o bytes = (rest : List ℕ) → o ≡ Some rest → IsSuffix rest bytes
 
-pub close_behind : (c d : ℕ) (bytes : List ℕ) → IfBehind (after_close c d bytes) bytes
+pub close_behind : (c d : ℕ) (bytes : List ℕ) → IfSuffix (after_close c d bytes) bytes
 close_behind c d [] = λ rest e. none_some rest e
 close_behind c d (x ∷ []) = λ rest e. none_some rest e
-close_behind c d (x ∷ y ∷ ys) = elim (x == c && y == d) as (λ v. IfBehind (if v then Some ys else after_close c d (y ∷ ys)) (x ∷ y ∷ ys)) [
+close_behind c d (x ∷ y ∷ ys) = elim (x == c && y == d) as (λ v. IfSuffix (if v then Some ys else after_close c d (y ∷ ys)) (x ∷ y ∷ ys)) [
   | true ↦ λ rest e. (x ∷ y ∷ [], ap (λ z. x ∷ y ∷ z) (some_same ys rest e))
   | false ↦ λ rest e. behind_one x rest (y ∷ ys) (close_behind c d (y ∷ ys) rest e)
 ]
 
-pub quote_behind : (escaped : Bool) (bytes : List ℕ) → IfBehind (after_quote escaped bytes) bytes
+pub quote_behind : (escaped : Bool) (bytes : List ℕ) → IfSuffix (after_quote escaped bytes) bytes
 quote_behind escaped [] = λ rest e. none_some rest e
-quote_behind escaped (b ∷ bs) = elim (b == 10) as (λ v. IfBehind (if v then None else (if not escaped && b == 34 then Some bs else after_quote (not escaped && b == 92) bs)) (b ∷ bs)) [
+quote_behind escaped (b ∷ bs) = elim (b == 10) as (λ v. IfSuffix (if v then None else (if not escaped && b == 34 then Some bs else after_quote (not escaped && b == 92) bs)) (b ∷ bs)) [
   | true ↦ λ rest e. none_some rest e
-  | false ↦ elim (not escaped && b == 34) as (λ v. IfBehind (if v then Some bs else after_quote (not escaped && b == 92) bs) (b ∷ bs)) [
+  | false ↦ elim (not escaped && b == 34) as (λ v. IfSuffix (if v then Some bs else after_quote (not escaped && b == 92) bs) (b ∷ bs)) [
     | true ↦ λ rest e. (b ∷ [], ap (λ z. b ∷ z) (some_same bs rest e))
     | false ↦ λ rest e. behind_one b rest bs (quote_behind (not escaped && b == 92) bs rest e)
   ]
@@ -64,7 +64,7 @@ pub either_behind : (v : Bool) (x y : Cut) (bytes : List ℕ) → IsSuffix x.1 b
 either_behind true x y bytes h k = h
 either_behind false x y bytes h k = k
 
-pub reached_block : (o : Option (List ℕ)) (bytes : List ℕ) → IfBehind o bytes → IsSuffix (block_cut o).1 bytes
+pub reached_block : (o : Option (List ℕ)) (bytes : List ℕ) → IfSuffix o bytes → IsSuffix (block_cut o).1 bytes
 reached_block None bytes h = behind_all bytes
 reached_block (Some rest) bytes h = h rest refl
 
@@ -77,7 +77,7 @@ slash_behind (b ∷ bs) =
     (behind_one b (block_cut (after_close 42 47 bs)).1 bs (reached_block (after_close 42 47 bs) bs (close_behind 42 47 bs)))
     (behind_none (b ∷ bs)))
 
-pub text_behind : (o : Option (List ℕ)) (after : List ℕ) → IfBehind o after → IsSuffix (text_cut after o).1 after
+pub text_behind : (o : Option (List ℕ)) (after : List ℕ) → IfSuffix o after → IsSuffix (text_cut after o).1 after
 text_behind None after h = run_behind in_line after
 text_behind (Some rest) after h = h rest refl
 

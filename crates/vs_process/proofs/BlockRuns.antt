@@ -21,7 +21,7 @@ use Rattle.vs_process.proofs.Named.{processes}
 use Rattle.vs_process.specs.Threads.{Thread, iterate, moved, store_after, turn, turn_at}
 use Rattle.vs_process.specs.BlockDrivers.{home, outputs, outputs_for, puts_out, sizes, woken_on, IsRun, IsBlock}
 use Rattle.vs_process.proofs.Free.{flat_free}
-use Rattle.vs_process.proofs.Texts.{Text, OnWay, within, Stands, goes_on, arrives, stands_next}
+use Rattle.vs_process.proofs.Texts.{Text, OnWay, within, GoesOrWaits, goes_on, arrives, stands_next}
 
 -- what a process still has to do behind a step
 pub todo_next : (gait : Gait) (todo : Todo) (time : ℕ) (next : Next) → todo_of (place_after_step (going gait todo) time next) ≡ todo_after next
@@ -53,14 +53,14 @@ left_home d k t =
 -- ---- a run
 
 pub record RunFacts (d : Parts) (k : ℕ) (t : Text d k) (store : Store) (th : Thread) : Type 0 where
-  pub stands : (th.place ≡ going Woken (todo_of (home d k))) ⊎ Stands d k t Inside th.place
+  pub stands : (th.place ≡ going Woken (todo_of (home d k))) ⊎ GoesOrWaits d k t Inside th.place
   pub left : IsLeft t.process.body (todo_of th.place)
   pub keeps : (v : ℕ) → puts_out d k v ≡ false → slice_get th.view v ≡ slice_get store v
   pub bare : (v w n : ℕ) → list_any (covers v w n) (outputs d k) ≡ false → digit_of th.view v w n ≡ digit_of store v w n
   pub sized : sizes th.view ≡ sizes store
 
 -- on its way
-pub on_way : (d : Parts) (k : ℕ) (t : Text d k) (gait : Gait) (todo : Todo) (p : Place) → p ≡ going gait todo → ((p ≡ going Woken (todo_of (home d k))) ⊎ Stands d k t Inside p) → OnWay d k t todo × (stepped_gait gait ≡ Inside)
+pub on_way : (d : Parts) (k : ℕ) (t : Text d k) (gait : Gait) (todo : Todo) (p : Place) → p ≡ going gait todo → ((p ≡ going Woken (todo_of (home d k))) ⊎ GoesOrWaits d k t Inside p) → OnWay d k t todo × (stepped_gait gait ≡ Inside)
 on_way d k t gait todo p is (inl first) =
     let e : going gait todo ≡ going Woken (todo_of (home d k)) = sym is ∙ first in
     let g : gait ≡ Woken = cc in
@@ -92,7 +92,7 @@ facts_turn d k t time store th (going gait todo) is f =
     let way = on_way d k t gait todo th.place is f.stands in
     let left : IsLeft t.process.body todo = subst (λ q. IsLeft t.process.body (todo_of q)) is f.left in
     record {
-      stands = inr (subst (λ g. Stands d k t g (place_after_step (going gait todo) time (step todo th.view time).next)) way.1 (stands_next d k t gait todo th.view time way.0));
+      stands = inr (subst (λ g. GoesOrWaits d k t g (place_after_step (going gait todo) time (step todo th.view time).next)) way.1 (stands_next d k t gait todo th.view time way.0));
       left = subst (IsLeft t.process.body) (sym (todo_next gait todo time (step todo th.view time).next)) (behind todo th.view time left);
       keeps = λ v other. view_keeps th.view store (step todo th.view time).write v (λ w e. (step_lies d k t todo th.view time w left e).signals v other) (f.keeps v other);
       bare = λ v n i none. view_bare th.view store (step todo th.view time).write v n i (λ w e. (step_lies d k t todo th.view time w left e).digits th.view v n i none) (f.bare v n i none);

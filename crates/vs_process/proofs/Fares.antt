@@ -19,7 +19,7 @@ use Rattle.vs_process.specs.Threads.{Thread, moved, store_after, turn_at}
 use Rattle.vs_process.specs.BlockDrivers.{home, control, outputs, puts_out, sizes, woken_on, AgreeOn, Arrives, IsBlock, IsRun, SameOutputs}
 use Rattle.vs_process.proofs.Bits.{by_bit}
 use Rattle.vs_process.proofs.Contents.{unchanged_covered}
-use Rattle.vs_process.proofs.Texts.{Text, OnWay, Stands, goes_on, arrives, stands_next, home_stays, home_wakes}
+use Rattle.vs_process.proofs.Texts.{Text, OnWay, GoesOrWaits, goes_on, arrives, stands_next, home_stays, home_wakes}
 use Rattle.vs_process.proofs.BlockRuns.{BlockStep, RunFacts, on_way, run_facts, run_step, run_begins, run_turns, still_step}
 use Rattle.vs_process.proofs.ProcessLists.{none_at}
 use Rattle.std.proofs.lemmas.Map.Keys.{any_passes_from_place as at_any}
@@ -161,7 +161,7 @@ run_goes : (d : Parts) (inputs : List BitRange) (k : ℕ) (t : Text d k) → IsB
     IsRun d k time from th → sizes from ≡ sizes (start_store d) → th.place ≡ going gait todo → OwnStep d inputs k t late ran time th.view gait todo
 run_goes d inputs k t block late ran time from th gait todo some run sized at = record {
   made = run_step d k t inputs block time from th gait todo run at;
-  fares = by_stand (subst (λ g. Stands d k t g next.place) way.1 (stands_next d k t gait todo th.view time way.0));
+  fares = by_stand (subst (λ g. GoesOrWaits d k t g next.place) way.1 (stands_next d k t gait todo th.view time way.0));
 }
   where
     out : Out
@@ -179,7 +179,7 @@ run_goes d inputs k t block late ran time from th gait todo some run sized at = 
     facts : RunFacts d k t from next
     facts = run_facts d k t time from next next_run
 
-    by_stand : Stands d k t Inside next.place → Fares d inputs k t late (ran || is_awake next.place) time next.view next.place
+    by_stand : GoesOrWaits d k t Inside next.place → Fares d inputs k t late (ran || is_awake next.place) time next.view next.place
     by_stand (goes_on other on_it is) = inside other from next is next_run sized refl refl (or_some ran (is_awake next.place) some)
     by_stand (arrives is) = fed is (record {
       time = time;

@@ -1,3 +1,4 @@
+pub mod ChosenLemmas
 pub mod Codes
 pub mod ControlLemmas
 pub mod Drafts

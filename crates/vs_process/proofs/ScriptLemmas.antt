@@ -33,6 +33,8 @@ use Rattle.vs_process.specs.declared.script.Action.{Action}
 use Rattle.vs_process.specs.declared.script.Action.TheVariants as a
 use Rattle.vs_process.specs.declared.script.Instruction.{Instruction}
 use Rattle.vs_process.specs.Choices.{index_of, case_index, repeat_lands, turns_lands}
+use Rattle.vs_process.specs.ChosenPlaces.{chosen_value, chosen_write}
+use Rattle.vs_process.proofs.ChosenLemmas.{chosen_assigned}
 use Rattle.vs_process.specs.Codes.{IsCode, IsFormatOf, IsFormatFor, links_of, link_of, job_of}
 use Rattle.vs_process.specs.Extras.{format_in, starts_in}
 use Rattle.vs_process.specs.Instructions.{IsActionOf, IsAssign, IsBranch, IsCall, IsCase, IsDelay, IsInstructionOf, IsOfTask, IsRepeat, IsTurns, IsUpdate, IsWait, next_place, IsCaseIn}
@@ -123,6 +125,13 @@ does_assign c i next t e (a.Assign spot r) takes h = (
       (h.0.writes (value_of e store time) store time
       ∙ ap (λ (v : Typed). spot_write spot (resized false spot.width (value_of v store time))) (sym (ap (λ (m : Meaning). m.expression) h.1)))),
 )
+does_assign c i next t e (a.AssignChosen place r) takes h = (
+  record { inside = h.0.inside; signals = ap (λ (m : Meaning). m.signals) h.1 },
+  steps_as c i (λ cs store time. record (goes (on (todo_on c cs next))) { write = Some (assignment t e store time) })
+      (λ cs store time. record (goes (on (todo_on c cs next))) { write = Some (chosen_write place (chosen_value place r store time) store time) }) takes
+      (λ cs store time.
+      ap (λ (w : Write). record (goes (on (todo_on c cs next))) { write = Some w }) (chosen_assigned c.signals t e place r store time h.0 h.1)),
+)
 does_assign c i next t e (a.AssignAny target x) takes h =
     steps_as c i (λ cs store time. record (goes (on (todo_on c cs next))) { write = Some (assignment t e store time) })
     (λ cs store time. record (goes (on (todo_on c cs next))) { write = Some (assignment target.now x.now store time) }) takes
@@ -139,6 +148,14 @@ does_update c i next ticks t e (a.Update spot r) takes h = (
       ap₂ (λ (n : ℕ) (w : Write). record (goes (on (todo_on c cs next))) { update = Some (n, w) }) h.0
       (h.1.writes (value_of e store time) store time
       ∙ ap (λ (v : Typed). spot_write spot (resized false spot.width (value_of v store time))) (sym (ap (λ (m : Meaning). m.expression) h.2)))),
+)
+does_update c i next ticks t e (a.UpdateChosen place r) takes h = (
+  record { inside = h.1.inside; signals = ap (λ (m : Meaning). m.signals) h.2 },
+  steps_as c i (λ cs store time. record (goes (on (todo_on c cs next))) { update = Some (ticks.count, assignment t e store time) })
+      (λ cs store time. record (goes (on (todo_on c cs next))) { update = Some (0, chosen_write place (chosen_value place r store time) store time) }) takes
+      (λ cs store time.
+      ap₂ (λ (n : ℕ) (w : Write). record (goes (on (todo_on c cs next))) { update = Some (n, w) }) h.0
+      (chosen_assigned c.signals t e place r store time h.1 h.2)),
 )
 does_update c i next ticks t e (a.UpdateAny k target x) takes h =
     steps_as c i (λ cs store time. record (goes (on (todo_on c cs next))) { update = Some (ticks.count, assignment t e store time) })

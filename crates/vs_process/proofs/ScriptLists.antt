@@ -63,11 +63,13 @@ made_more signals count (z ∷ ops) (y ∷ ys) x ins h k = (h.0, made_more signa
 
 assign_free : (signals : List Signal) (t : Target) (e : Typed) (action : Action) → IsAssign signals t e action → action_control action ≡ None
 assign_free signals t e (a.Assign spot r) h = refl
+assign_free signals t e (a.AssignChosen place r) h = refl
 assign_free signals t e (a.AssignAny target x) h = refl
 assign_free signals t e _ h = absurd h
 
 update_free : (signals : List Signal) (ticks : Ticks) (t : Target) (e : Typed) (action : Action) → IsUpdate signals ticks t e action → action_control action ≡ None
 update_free signals ticks t e (a.Update spot r) h = refl
+update_free signals ticks t e (a.UpdateChosen place r) h = refl
 update_free signals ticks t e (a.UpdateAny k target x) h = refl
 update_free signals ticks t e _ h = absurd h
 

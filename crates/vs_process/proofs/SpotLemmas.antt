@@ -15,13 +15,14 @@ use Rattle.vs_design.specs.declared.signal.Signal.{Signal}
 use Rattle.vs_design.specs.declared.statement.Aim.{Aim}
 use Rattle.vs_design.specs.declared.statement.Aim.TheVariants.{Fixed}
 use Rattle.vs_design.specs.declared.statement.Target.{Target}
+use Rattle.vs_design.specs.declared.write.Part.{Part}
 use Rattle.vs_design.specs.InOrder.{IsStoreOf, numbered_word, sizes_of_signals, word_sizes, words_before, words_in_order}
 use Rattle.vs_design.specs.Stores.{Store, changed_at, overlaid}
 use Rattle.vs_design.specs.Writes.{Write}
 use Rattle.vs_strobe.specs.vs_eval.specs.Targets.{parts_from}
 use Rattle.vs_design.proofs.InOrderLemmas.{word_numbered, head_long}
 use Rattle.vs_process.specs.declared.spot.Spot.{Spot}
-use Rattle.vs_process.specs.Spots.{IsSpotIn, IsSpotOf, SpotHolds}
+use Rattle.vs_process.specs.Spots.{IsSpotIn, IsSpotOf, SpotHolds, spot_write}
 use Rattle.vs_process.proofs.Quick.{selected_whole}
 
 -- ---- one word of all
@@ -89,7 +90,7 @@ mask_grows low width h =
 pub found_there : {A : Type 0} (xs : List A) (i : ℕ) (x : A) → true ≡ ltb i (length xs) → x ≡ get_or xs i x → slice_get xs i ≡ Some x
 found_there xs i x within is = slice_get-get_or xs i x (ltb-true i (length xs) (sym within)) ∙ ap Some (sym is)
 
-abbrev part_of : ℕ → ℕ → ℤ → List Digit → Write
+abbrev pub part_of : ℕ → ℕ → ℤ → List Digit → Write
 part_of signal word low digits = record { signal = signal; word = word; low = low; digits = digits } ∷ []
 
 -- one fixed place with its bits in a word is the spot of it
@@ -112,3 +113,12 @@ pub spot_is : (signals : List Signal) (t : Target) (s : Slice) (o : Option Spot)
     IfSome o (λ spot. IsSpotOf signals t spot)
 spot_is signals t s None parts wide inside low width signal word = tt
 spot_is signals t s (Some spot) parts wide inside low width signal word = fixed_spot signals t s spot parts wide inside low width signal word
+
+-- ---- writes
+
+-- a write of one part, all in range, is the write to its spot
+pub spot_written : (w : Write) (part : Part) (spot : Spot) → w ≡ part ∷ [] → part.low ≡ pos spot.shift → spot.signal ≡ part.signal → spot.word ≡ part.word → w ≡ spot_write spot part.digits
+spot_written w part spot one low signal word =
+    one
+    ∙ ap (λ (z : ℤ). part_of part.signal part.word z part.digits) low
+    ∙ ap₂ (λ (n k : ℕ). part_of n k (pos spot.shift) part.digits) (sym signal) (sym word)

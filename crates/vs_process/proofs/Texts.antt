@@ -98,9 +98,9 @@ pub data OnWay (d : Parts) (k : ℕ) (t : Text d k) (todo : Todo) : Type 0 where
   before : todo ≡ perform t.event ∷ perform t.process.body ∷ [] → OnWay d k t todo
 
 -- it goes on its way, or has come to its control
-pub data Stands (d : Parts) (k : ℕ) (t : Text d k) (gait : Gait) (place : Place) : Type 0 where
-  goes_on : (todo : Todo) → OnWay d k t todo → place ≡ going gait todo → Stands d k t gait place
-  arrives : place ≡ home d k → Stands d k t gait place
+pub data GoesOrWaits (d : Parts) (k : ℕ) (t : Text d k) (gait : Gait) (place : Place) : Type 0 where
+  goes_on : (todo : Todo) → OnWay d k t todo → place ≡ going gait todo → GoesOrWaits d k t gait place
+  arrives : place ≡ home d k → GoesOrWaits d k t gait place
 
 active_tail : (gait : Gait) (front : Todo) (s : Statement) → active_at gait (front ++ perform s ∷ []) ≡ going gait (front ++ perform s ∷ [])
 active_tail gait [] s = refl
@@ -108,7 +108,7 @@ active_tail gait (i ∷ front) s = refl
 
 -- behind a step of it
 pub stands_next : (d : Parts) (k : ℕ) (t : Text d k) (gait : Gait) (todo : Todo) (store : Store) (time : ℕ) → OnWay d k t todo →
-    Stands d k t (stepped_gait gait) (place_after_step (going gait todo) time (step todo store time).next)
+    GoesOrWaits d k t (stepped_gait gait) (place_after_step (going gait todo) time (step todo store time).next)
 stands_next d k t gait todo store time (within [] free is) =
     goes_on (perform t.event ∷ perform t.process.body ∷ []) (before refl)
     (ap (λ l. place_after_step (going gait l) time (step l store time).next) is

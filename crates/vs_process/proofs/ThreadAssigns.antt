@@ -13,17 +13,17 @@ pub record DrivesWell (d : Parts) : Type 0 where
   pub places : DrivesApart d
 
 -- the places of processes behind a step that may write
-abbrev pub places_behind : Store → Option Write → List Place → List Place
-places_behind store None places = places
-places_behind store (Some w) places = map (wakened store (put store w)) places
+abbrev pub places_after_write : Store → Option Write → List Place → List Place
+places_after_write store None places = places
+places_after_write store (Some w) places = map (wakened store (put store w)) places
 
 -- the continuous assignments behind a step that may write
-abbrev pub assigns_behind : Store → Option Write → List AssignState → List AssignState
-assigns_behind store None assigns = assigns
-assigns_behind store (Some w) assigns = map (touched store (put store w)) assigns
+abbrev pub assigns_after_write : Store → Option Write → List AssignState → List AssignState
+assigns_after_write store None assigns = assigns
+assigns_after_write store (Some w) assigns = map (touched store (put store w)) assigns
 
 -- a state behind a step that may write, written out
 pub behind_is : (s : State) (o : Option Write) →
-    written_after s o ≡ record s { store = store_after s.store o; places = places_behind s.store o s.places; assigns = assigns_behind s.store o s.assigns }
+    written_after s o ≡ record s { store = store_after s.store o; places = places_after_write s.store o s.places; assigns = assigns_after_write s.store o s.assigns }
 behind_is s None = refl
 behind_is s (Some w) = refl

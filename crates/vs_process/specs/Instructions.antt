@@ -23,6 +23,7 @@ use Rattle.vs_process.specs.declared.script.Action.TheVariants as a
 use Rattle.vs_process.specs.declared.script.Instruction.{Instruction}
 use Rattle.vs_process.specs.declared.switch.Switch.{Switch}
 use Rattle.vs_process.specs.Choices.{index_of}
+use Rattle.vs_process.specs.ChosenPlaces.{IsChosenOf}
 use Rattle.vs_process.specs.Extras.{format_in}
 use Rattle.vs_eval.specs.Meant.{Meaning}
 use Rattle.vs_process.specs.Spots.{IsSpotOf}
@@ -34,12 +35,14 @@ meaning signals e = record { signals = signals; expression = e }
 -- of a blocking assignment
 abbrev pub IsAssign : List Signal → Target → Typed → Action → Type 0
 IsAssign signals t e (a.Assign spot r) = IsSpotOf signals t spot × (r ≡ meaning signals e)
+IsAssign signals t e (a.AssignChosen place r) = IsChosenOf signals t place × (r ≡ meaning signals e)
 IsAssign signals t e (a.AssignAny target x) = (target.now ≡ t) × (x.now ≡ e)
 IsAssign signals t e _ = ⊥
 
 -- of a nonblocking assignment
 abbrev pub IsUpdate : List Signal → Ticks → Target → Typed → Action → Type 0
 IsUpdate signals ticks t e (a.Update spot r) = (ticks.count ≡ 0) × IsSpotOf signals t spot × (r ≡ meaning signals e)
+IsUpdate signals ticks t e (a.UpdateChosen place r) = (ticks.count ≡ 0) × IsChosenOf signals t place × (r ≡ meaning signals e)
 IsUpdate signals ticks t e (a.UpdateAny due target x) = (due.count ≡ ticks.count) × (target.now ≡ t) × (x.now ≡ e)
 IsUpdate signals ticks t e _ = ⊥
 

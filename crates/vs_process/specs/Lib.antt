@@ -1,4 +1,5 @@
 pub mod Changes
+pub mod ChosenPlaces
 pub mod Choices
 pub mod Codes
 pub mod Drafts

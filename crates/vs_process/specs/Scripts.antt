@@ -9,12 +9,14 @@ use Rattle.vs_design.specs.declared.statement.Statement.{Statement}
 use Rattle.vs_design.specs.Stores.{Store}
 use Rattle.vs_strobe.specs.vs_eval.specs.Values.{value_of}
 use Rattle.vs_strobe.specs.Lines.{full_line}
+use Rattle.vs_process.specs.declared.chosen_place.ChosenPlace.{ChosenPlace}
 use Rattle.vs_process.specs.declared.script.Action.{Action}
 use Rattle.vs_process.specs.declared.script.Action.TheVariants as a
 use Rattle.vs_process.specs.declared.script.Instruction.{Instruction}
 use Rattle.vs_process.specs.declared.spot.Spot.{Spot}
 use Rattle.vs_process.specs.declared.switch.Switch.{Switch}
 use Rattle.vs_process.specs.Choices.{index_of, case_index, repeat_lands, turns_lands}
+use Rattle.vs_process.specs.ChosenPlaces.{IsChosenIn, chosen_value, chosen_write}
 use Rattle.vs_process.specs.Landings.{Landing}
 use Rattle.vs_process.specs.Links.{todo_at}
 use Rattle.vs_eval.specs.Meant.{Meaning}
@@ -54,6 +56,11 @@ pub record AreOf (c : Text) (spot : Spot) (r : Meaning) : Type 0 where
   pub inside : IsSpotIn c.signals spot
   pub signals : r.signals ≡ c.signals
 
+-- so are a place that indices choose and a resolved expression
+pub record AreChosenOf (c : Text) (place : ChosenPlace) (r : Meaning) : Type 0 where
+  pub inside : IsChosenIn c.signals place
+  pub signals : r.signals ≡ c.signals
+
 -- `case`s are of a design with these signals
 abbrev pub AreSwitchesOf : List Signal → List Switch → Type 0
 AreSwitchesOf signals all = All (λ (s : Switch). s.subject.signals ≡ signals) all
@@ -69,11 +76,17 @@ Does c here a.Nothing next = Steps c here (λ counters store time. goes (on (tod
 Does c here (a.Assign spot r) next = AreOf c spot r
     × Steps c here (λ counters store time.
     record (goes (on (todo_on c counters next))) { write = Some (spot_write spot (spot_value spot r store time)) })
+Does c here (a.AssignChosen place r) next = AreChosenOf c place r
+    × Steps c here (λ counters store time.
+    record (goes (on (todo_on c counters next))) { write = Some (chosen_write place (chosen_value place r store time) store time) })
 Does c here (a.AssignAny t e) next = Steps c here (λ counters store time.
     record (goes (on (todo_on c counters next))) { write = Some (assignment t.now e.now store time) })
 Does c here (a.Update spot r) next = AreOf c spot r
     × Steps c here (λ counters store time.
     record (goes (on (todo_on c counters next))) { update = Some (0, spot_write spot (spot_value spot r store time)) })
+Does c here (a.UpdateChosen place r) next = AreChosenOf c place r
+    × Steps c here (λ counters store time.
+    record (goes (on (todo_on c counters next))) { update = Some (0, chosen_write place (chosen_value place r store time) store time) })
 Does c here (a.UpdateAny ticks t e) next = Steps c here (λ counters store time.
     record (goes (on (todo_on c counters next))) { update = Some (ticks.count, assignment t.now e.now store time) })
 Does c here (a.Branch r other) next = (r.signals ≡ c.signals)

@@ -5,6 +5,8 @@
 mod changes;
 mod choice;
 mod choices;
+mod chosen;
+mod chosen_place;
 mod code;
 mod combinational;
 mod cursor;
@@ -25,6 +27,7 @@ mod writing_laws;
 
 pub use changes::{Change, make};
 pub use choice::{Case, Repeat, Turns};
+pub use chosen_place::{ChosenPlace, Index};
 pub use code::{Code, compile};
 pub use combinational::is_combinational;
 pub use cursor::Cursor;
@@ -40,7 +43,7 @@ pub use process_laws::{
 pub use reading_laws::{processes_read_what_is_named, steps_read_what_is_named};
 pub use script::{Action, Instruction, Script, case_of};
 pub use spot::Spot;
-pub use spots::{spot_of, spots_hold};
+pub use spots::{spot_of, spot_of_part, spot_of_write, spots_hold};
 pub use statements::statement_writes;
 pub use stops::{Stop, TextMap};
 pub use switch::Switch;

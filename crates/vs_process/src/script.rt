@@ -11,6 +11,8 @@ ghost use Rattle.vs_process.specs.declared.switch.Switch as switch;
 ghost use Rattle.vs_process.specs.Scripts.{IsScriptOf, StartsWith, led_by};
 
 use crate::choice::{Case, Repeat, Turns, index_of};
+use crate::chosen::chosen_of;
+use crate::chosen_place::ChosenPlace;
 use crate::code::Code;
 use crate::draft::{Extra, Op, Task};
 use crate::spot::Spot;
@@ -30,10 +32,14 @@ pub enum Action<'a> {
     Nothing,
     /// A blocking assignment (IEEE 1364-2005, clause 9.2.1).
     Assign(Spot, Resolved<'a>),
+    /// One to a place that indices choose.
+    AssignChosen(ChosenPlace<'a>, Resolved<'a>),
     /// One to any other target.
     AssignAny(&'a Target, &'a Typed),
     /// A nonblocking assignment without a delay (clause 9.2.2).
     Update(Spot, Resolved<'a>),
+    /// One of a place that indices choose, without a delay too.
+    UpdateChosen(ChosenPlace<'a>, Resolved<'a>),
     /// Any other, whose update is due in so many ticks.
     UpdateAny(Ticks, &'a Target, &'a Typed),
     /// A condition, and the index where it goes on where this isn't true.
@@ -63,6 +69,22 @@ pub struct Instruction<'a> {
     pub next: usize,
 }
 
+// What a blocking assignment does to a target that is no fixed place.
+fn chosen_assign_action<'a>(
+    alloc: Global,
+    design: &'a Design,
+    target: &'a Target,
+    e: &'a Typed,
+) -> Result<Action<'a>, AllocError>
+    ensures { IfOk result (λ action. IsAssign design.entry.now.signals target.entry.now e.entry.now action) }
+{
+    let Some(place) = chosen_of(alloc, design, target)? else {
+        return Ok(Action::AssignAny(target, e));
+    };
+    let resolved = Resolved::new(alloc, design, e)?;
+    Ok(Action::AssignChosen(place, resolved))
+}
+
 // What a blocking assignment does.
 fn assign_action<'a>(
     alloc: Global,
@@ -77,8 +99,26 @@ fn assign_action<'a>(
             let resolved = Resolved::new(alloc, design, e)?;
             Ok(Action::Assign(spot, resolved))
         }
-        None => Ok(Action::AssignAny(target, e)),
+        None => chosen_assign_action(alloc, design, target, e),
     }
+}
+
+// What a nonblocking assignment does to a target that is no fixed place, whose update is due in the slot in which it is made.
+fn chosen_update_action<'a>(
+    alloc: Global,
+    design: &'a Design,
+    ticks: Ticks,
+    target: &'a Target,
+    e: &'a Typed,
+) -> Result<Action<'a>, AllocError>
+    requires { ticks.count ≡ 0 }
+    ensures { IfOk result (λ action. IsUpdate design.entry.now.signals ticks target.entry.now e.entry.now action) }
+{
+    let Some(place) = chosen_of(alloc, design, target)? else {
+        return Ok(Action::UpdateAny(ticks, target, e));
+    };
+    let resolved = Resolved::new(alloc, design, e)?;
+    Ok(Action::UpdateChosen(place, resolved))
 }
 
 // What a nonblocking assignment does whose update is due in the slot in which it is made.
@@ -97,7 +137,7 @@ fn update_action<'a>(
             let resolved = Resolved::new(alloc, design, e)?;
             Ok(Action::Update(spot, resolved))
         }
-        None => Ok(Action::UpdateAny(ticks, target, e)),
+        None => chosen_update_action(alloc, design, ticks, target, e),
     }
 }
 

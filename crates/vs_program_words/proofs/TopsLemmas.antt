@@ -7,16 +7,16 @@ use Rattle.vs_program_words.specs.targets_passes.Names.{AreIndexed}
 
 module _ (names : List (List ℕ)) (ms : List Module) where
   -- the names of those that were told are names too, and those of the others are still to be told
-  abbrev pub AreTold : List (List ℕ) → ℕ → List (List ℕ × Bool) → Type 0
-  AreTold told i index = AreIndexed (names ++ told) index × (told ++ tops_among (names ++ told) (drop i ms) ≡ tops_among names ms)
+  abbrev pub AreReported : List (List ℕ) → ℕ → List (List ℕ × Bool) → Type 0
+  AreReported told i index = AreIndexed (names ++ told) index × (told ++ tops_among (names ++ told) (drop i ms) ≡ tops_among names ms)
 
-  pub none_told : (told : List (List ℕ)) (index : List (List ℕ × Bool)) → told ≡ [] → AreIndexed names index → AreTold told 0 index
+  pub none_told : (told : List (List ℕ)) (index : List (List ℕ × Bool)) → told ≡ [] → AreIndexed names index → AreReported told 0 index
   none_told told index none all =
       let same : names ++ told ≡ names = ap (λ (l : List (List ℕ)). names ++ l) none ∙ append-nil names in
       (subst (λ (l : List (List ℕ)). AreIndexed l index) (sym same) all, λ j. none j ++ tops_among (same j) ms)
 
-  pub one_told : (old new : List (List ℕ)) (i : ℕ) (m : Module) (before after : List (List ℕ × Bool)) → i < length ms → m ≡ get_or ms i m → AreTold old i before
-      → new ≡ old ++ own_top (names ++ old) m → AreIndexed ((names ++ old) ++ own_top (names ++ old) m) after → AreTold new (i + 1) after
+  pub one_told : (old new : List (List ℕ)) (i : ℕ) (m : Module) (before after : List (List ℕ × Bool)) → i < length ms → m ≡ get_or ms i m → AreReported old i before
+      → new ≡ old ++ own_top (names ++ old) m → AreIndexed ((names ++ old) ++ own_top (names ++ old) m) after → AreReported new (i + 1) after
   one_told old new i m before after within here so_far added all =
       let own = own_top (names ++ old) m in
       let rest = drop (i + 1) ms in
@@ -27,6 +27,6 @@ module _ (names : List (List ℕ)) (ms : List Module) where
             ∙ ap (λ (l : List Module). old ++ tops_among (names ++ old) l) (sym split) ∙ so_far.1,
       )
 
-  pub all_told : (told : List (List ℕ)) (i : ℕ) (index : List (List ℕ × Bool)) → length ms ≤ i → AreTold told i index → told ≡ tops_among names ms
+  pub all_told : (told : List (List ℕ)) (i : ℕ) (index : List (List ℕ × Bool)) → length ms ≤ i → AreReported told i index → told ≡ tops_among names ms
   all_told told i index end so_far =
       sym (append-nil told) ∙ ap (λ (l : List Module). told ++ tops_among (names ++ told) l) (sym (drop_all i ms end)) ∙ so_far.1

@@ -234,7 +234,7 @@ pub record NamesOutputs (words : Values) (o : Outputs) : Type 0 where
 
 -- the words, which have no fault by the table of options in which the top and the moment may be left out, name a subcommand, with these values of its
 -- options
-pub record AreTaken (words : List (List ℕ)) : Type 0 where
+pub record AreAccepted (words : List (List ℕ)) : Type 0 where
   pub app : App
   pub options : AreOptions false app
   pub taken : fault_of app words ≡ []
@@ -243,13 +243,13 @@ pub record AreTaken (words : List (List ℕ)) : Type 0 where
   pub found : subcommand_of app words ≡ Some (name, rows)
 
 -- the words of the options, and their other values
-abbrev pub words_of : {words : List (List ℕ)} → AreTaken words → Values
+abbrev pub words_of : {words : List (List ℕ)} → AreAccepted words → Values
 words_of t = λ option. first_of option t.rows
 
-abbrev pub values_of : {words : List (List ℕ)} → AreTaken words → Values
+abbrev pub values_of : {words : List (List ℕ)} → AreAccepted words → Values
 values_of t = λ option. one_of option t.rows
 
-abbrev pub lists_of : {words : List (List ℕ)} → AreTaken words → Lists
+abbrev pub lists_of : {words : List (List ℕ)} → AreAccepted words → Lists
 lists_of t = λ option. all_of option t.rows
 
 -- a call without files names its top and its moment, and the moment in ticks
@@ -274,22 +274,22 @@ pub record AsksFor (name : Name) (words values : Values) (all : Lists) (call : a
 
 -- the words, which have no fault by the table of options, ask for this: so the values of the subcommand that they name do
 pub record WordsAsk (words : List (List ℕ)) (call : asked.Call) : Type 0 where
-  pub taken : AreTaken words
+  pub taken : AreAccepted words
   pub asks : AsksFor (name_of taken.name) (words_of taken) (values_of taken) (lists_of taken) call
 
 -- the words, which have no fault by the table of options, ask for nothing, with this fault of the values
 pub record WordsAskInVain (words : List (List ℕ)) (f : WordsFault) : Type 0 where
-  pub taken : AreTaken words
+  pub taken : AreAccepted words
   pub vain : AskInVain f (name_of taken.name) (words_of taken) (values_of taken)
 
 -- the words, which have no fault by the table of options, have values that can't be read
 pub record WordsUnread (words : List (List ℕ)) : Type 0 where
-  pub taken : AreTaken words
+  pub taken : AreAccepted words
   pub unread : AreUnread (name_of taken.name) (words_of taken) (lists_of taken)
 
 -- the words, which have no fault by the table of options, have such values
 pub record WordsGive (words : List (List ℕ)) (Gives : Values → Type 0) : Type 0 where
-  pub taken : AreTaken words
+  pub taken : AreAccepted words
   pub gives : Gives (words_of taken)
 
 -- the words have a fault by the table in which the top and the moment may be left out

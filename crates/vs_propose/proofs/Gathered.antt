@@ -10,12 +10,12 @@ use Rattle.vs_design.specs.Parts.{Parts}
 use Rattle.vs_design.specs.Uses.{covers, has_bit, has_word, is_of}
 use Rattle.vs_process.specs.declared.moves.Grain.TheVariants.{Block}
 use Rattle.vs_drivers.specs.vs_rules.specs.Claims.{Claims}
-use Rattle.vs_drivers.specs.vs_rules.specs.Drivers.{Driver, IsDriver, DriverReads, DriverWrites, DriverNeeds}
+use Rattle.vs_drivers.specs.vs_rules.specs.Drivers.{Driver, IsDriver, DriverWrites, DriverNeeds}
 use Rattle.vs_drivers.specs.vs_rules.specs.Drivers as drivers
 use Rattle.vs_graph.specs.Order.{Needs}
 use Rattle.vs_graph.proofs.Sorts.{push_cases}
 use Rattle.vs_drivers.specs.declared.writers.Written.{Written}
-use Rattle.vs_drivers.specs.Names.{AreMaps}
+use Rattle.vs_drivers.specs.vs_maps.specs.Texts.{AreCharts}
 use Rattle.vs_drivers.specs.Wires.{Wiring, wiring, driver_at, IsWiringOf}
 use Rattle.vs_drivers.specs.Ranges.{Share}
 use Rattle.vs_design.specs.vs_logic4.proofs.Basics.{below_or, there as get_at}
@@ -90,7 +90,7 @@ pub wired_of : (d : Parts) (y : Wiring) → d.processes ≡ [] → y ≡ wiring 
 wired_of d y still is = subst (IsWiringOf d nothing) (sym is) (wired d still)
 
 -- no text has a map
-pub no_maps : (d : Parts) → d.processes ≡ [] → AreMaps d []
+pub no_maps : (d : Parts) → d.processes ≡ [] → AreCharts d []
 no_maps d still = record { as_many = sym (ap length still); each = λ i q t is at. absurd (none-some t at) }
 
 -- the driver of a number is a continuous assignment

@@ -26,7 +26,7 @@ use Rattle.vs_drivers.specs.vs_rules.specs.Claims.{IsRoot}
 use Rattle.vs_drivers.specs.vs_rules.specs.Claims as k
 use Rattle.vs_drivers.specs.vs_rules.specs.Limits.{IsCertificate}
 use Rattle.vs_drivers.specs.vs_rules.specs.Paths.{Bit, IsBit, Has, Writes, HasTerm}
-use Rattle.vs_drivers.specs.vs_rules.specs.Drivers.{Driver, IsDriver, DriverReads, WritesBit, IsSource, ComesBefore}
+use Rattle.vs_drivers.specs.vs_rules.specs.Drivers.{Driver, IsDriver, DriverReads, WritesBit, IsSource, Precedes}
 use Rattle.vs_drivers.specs.vs_rules.specs.Drivers as x
 use Rattle.vs_drivers.specs.vs_rules.specs.Rules.{K1_Signal, K1_Assign, K1_Process, K1_Name, K2, K3, IsAsModeSays, K4, IsSelf, IsCovered, IsDriven, K6, K7, K8, K9, BlockNeeds, K10_Signal, K10_Process}
 use Rattle.vs_drivers.specs.vs_rules.specs.Blocks.{K5, K11}
@@ -216,9 +216,9 @@ known_alike d c e still r (inr (inr covered)) = inr (inr (λ b is has. driven b 
     alike (x.block i) is = absurd (no_block d e still i is)
 
 -- what is read from stands before
-comes_before : (d : Parts) (c e : Claims) (order : List ℕ) → WellFormed d → IsPlain d c order → IsOrder d order → Settles d e → (j y : ℕ) → j < length d.assigns → ReadsFrom d j y →
-    ComesBefore d c (x.assign y) (x.assign j)
-comes_before d c e order formed plain o s j y within reads =
+precedes : (d : Parts) (c e : Claims) (order : List ℕ) → WellFormed d → IsPlain d c order → IsOrder d order → Settles d e → (j y : ℕ) → j < length d.assigns → ReadsFrom d j y →
+    Precedes d c (x.assign y) (x.assign j)
+precedes d c e order formed plain o s j y within reads =
     let a = get_at d.assigns j within in
     let b = reads.writes.0 in
     let named : IsAssignNamed d j a.0.name.items = ap assign_name a.1 in
@@ -238,9 +238,9 @@ keeps_order d c e order formed still plain o s (x.assign j) = record {
   known = λ r is reads. known_alike d c e still r ((s.order j).known r tt reads);
   earlier = λ r b y is reads bit has driver writes. by r b y reads bit has driver writes;
 } where
-  by : (r : BitRange) (b : Bit) (y : Driver) → DriverReads d (x.assign j) r → IsBit d b → Has r b → IsDriver d c y → WritesBit d y b → IsSelf (x.assign j) y ⊎ ComesBefore d c y (x.assign j)
+  by : (r : BitRange) (b : Bit) (y : Driver) → DriverReads d (x.assign j) r → IsBit d b → Has r b → IsDriver d c y → WritesBit d y b → IsSelf (x.assign j) y ⊎ Precedes d c y (x.assign j)
   by r b (x.block i) reads bit has driver writes = absurd (no_block d c still i driver)
-  by r b (x.assign y) reads bit has driver writes = inr (comes_before d c e order formed plain o s j y (slice_get_within d.assigns j reads.0 reads.1) (record {
+  by r b (x.assign y) reads bit has driver writes = inr (precedes d c e order formed plain o s j y (slice_get_within d.assigns j reads.0 reads.1) (record {
     read = r;
     reads = reads;
     written = writes.range;

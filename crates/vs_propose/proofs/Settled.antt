@@ -10,7 +10,7 @@ use Rattle.vs_design.specs.Parts.{Parts}
 use Rattle.vs_design.specs.WellFormed.{WellFormed}
 use Rattle.vs_drivers.specs.vs_rules.specs.Certificates.{name_from, signal_claim, claims_of}
 use Rattle.vs_drivers.specs.vs_rules.specs.Claims.{Name, Claims, SignalClaim, place_of, assign_name, signal_name, signal_names, IsSignalNamed, IsAssignNamed}
-use Rattle.vs_drivers.specs.vs_rules.specs.Drivers.{assign, ComesBefore}
+use Rattle.vs_drivers.specs.vs_rules.specs.Drivers.{assign, Precedes}
 use Rattle.vs_drivers.specs.vs_rules.specs.Rules.{K4}
 use Rattle.vs_design.specs.vs_logic4.proofs.Basics.{map_at as mapped}
 use Rattle.vs_propose.specs.Claimed.{HasTexts}
@@ -69,7 +69,7 @@ place_in (Some name) order = place_of name order
 abbrev pub rank : Parts → Claims → ℕ → ℕ
 rank d c j = place_in (assign_name (slice_get d.assigns j)) c.order
 
-ranked : (d : Parts) (c : Claims) (x y : ℕ) → ComesBefore d c (assign y) (assign x) → rank d c y < rank d c x
+ranked : (d : Parts) (c : Claims) (x y : ℕ) → Precedes d c (assign y) (assign x) → rank d c y < rank d c x
 ranked d c x y s =
     let one : rank d c y ≡ place_of s.one c.order = ap (λ o. place_in o c.order) s.is in
     let other : rank d c x ≡ place_of s.other c.order = ap (λ o. place_in o c.order) s.other_is in
@@ -79,7 +79,7 @@ ranked d c x y s =
 before : (d : Parts) (c : Claims) (x y : ℕ) → K4 d c (assign x) → ReadsFrom d x y → rank d c y < rank d c x
 before d c x y keeps r = by (keeps.earlier r.read r.share.bit (assign y) tt r.reads r.share.is r.share.has tt (record { range = r.written; writes = r.writes; has = r.share.other_has }))
   where
-    by : ⊥ ⊎ ComesBefore d c (assign y) (assign x) → rank d c y < rank d c x
+    by : ⊥ ⊎ Precedes d c (assign y) (assign x) → rank d c y < rank d c x
     by (inl h) = absurd h
     by (inr s) = ranked d c x y s
 

@@ -1,7 +1,7 @@
 //! Trial runs of combinational blocks on the store in which executions begin.
 
 use std::alloc::{AllocError, Global};
-use vs_cert_check::vs_rules_of_starts::{comes_back, make_all};
+use vs_cert_check::vs_rules_of_starts::{make_all, returns_to_control};
 use vs_design::{BitRange, Design, Part, Store};
 use vs_process::compile;
 
@@ -69,7 +69,7 @@ impl<'a> Trial<'a> {
             return Ok(false);
         };
         let code = compile(alloc, &process.body)?;
-        let mut stays = comes_back(alloc, &code, &mut self.settled, MAX_STEPS)?;
+        let mut stays = returns_to_control(alloc, &code, &mut self.settled, MAX_STEPS)?;
         for range in written {
             if !self.put_back(range.signal) {
                 stays = false;

@@ -6,6 +6,7 @@ ghost use Rattle.vs_drivers.specs.Wires.{wiring};
 
 use std::alloc::{AllocError, Global};
 use vs_design::{BitRange, Design};
+use vs_drivers::vs_maps::Sites;
 use vs_drivers::{Cones, Written, share};
 use vs_graph::sorted;
 
@@ -71,7 +72,8 @@ pub(crate) fn assign_order(alloc: Global, design: &Design) -> Result<Vec<usize>,
     requires { design.now.processes ≡ [] }
     ensures { IfOk result (λ order. IsOrder design.now order.items) }
 {
-    let cones = Cones::new(alloc, design, &[], &[])?;
+    let sites = Sites::new(alloc, design, &[])?;
+    let cones = Cones::new(alloc, &sites, &[])?;
     let needs = needs_of(alloc, design, &cones)?;
     let order = sorted(alloc, &needs)?;
     Ok(order)

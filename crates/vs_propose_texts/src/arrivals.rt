@@ -145,7 +145,7 @@ impl Walk {
     }
 
     // Comes to a place.
-    fn come(&mut self, place: usize, arrival: Arrival) -> Result<(), AllocError> {
+    fn visit(&mut self, place: usize, arrival: Arrival) -> Result<(), AllocError> {
         let most = self.most;
         let is_new = match self.rows.get_mut(place) {
             None => Some(false),
@@ -160,9 +160,9 @@ impl Walk {
     }
 
     // Comes to a place at some residues.
-    fn come_at(&mut self, place: usize, residues: &[u64]) -> Result<(), AllocError> {
+    fn visit_at(&mut self, place: usize, residues: &[u64]) -> Result<(), AllocError> {
         for residue in residues {
-            self.come(place, Arrival::Residue(*residue))?;
+            self.visit(place, Arrival::Residue(*residue))?;
         }
         Ok(())
     }
@@ -175,7 +175,7 @@ impl Walk {
         firings: &Firings,
     ) -> Result<(), AllocError> {
         for term in terms {
-            self.come_at(place, firings.of(*term))?;
+            self.visit_at(place, firings.of(*term))?;
         }
         Ok(())
     }
@@ -222,7 +222,7 @@ impl Walk {
         };
         let next = arrival_after(stop.statement, arrival, modulus);
         for to in tos_by_turn(self.is_by_turn(place), &stop.tos) {
-            self.come(*to, next)?;
+            self.visit(*to, next)?;
         }
         Ok(())
     }
@@ -251,7 +251,7 @@ pub(crate) fn all_arrivals(
     let places = map.stops.len().saturating_add(1);
     let turns = turns_by(alloc, map, rules)?;
     let mut walk = Walk::new(alloc, places, turns, most_arrivals(rules))?;
-    walk.come(map.start, Arrival::Start)?;
+    walk.visit(map.start, Arrival::Start)?;
     walk.wake_all(map, firings)?;
     for _ in 0..u64::MAX {
         let Some((place, arrival)) = walk.todo.pop() else {

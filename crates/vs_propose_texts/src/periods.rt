@@ -82,7 +82,7 @@ struct Clocked {
 
 impl Clocked {
     // Comes to a place. Where it has been there, the turn between is a multiple of the period.
-    fn come(&mut self, place: usize, time: u64) -> Result<(), AllocError> {
+    fn visit(&mut self, place: usize, time: u64) -> Result<(), AllocError> {
         let Some(entry) = self.times.get_mut(place) else {
             return Ok(());
         };
@@ -116,7 +116,7 @@ impl Clocked {
         for to in &stop.tos {
             // The end of a text leads nowhere.
             if *to != 0 {
-                self.come(*to, time)?;
+                self.visit(*to, time)?;
             }
         }
         Ok(())
@@ -145,7 +145,7 @@ pub(crate) fn timing_of(alloc: Global, map: &TextMap) -> Result<Timing, AllocErr
         period: 0,
         last: 0,
     };
-    walk.come(map.start, 0)?;
+    walk.visit(map.start, 0)?;
     for _ in 0..u64::MAX {
         let Some(place) = walk.todo.pop() else {
             break;

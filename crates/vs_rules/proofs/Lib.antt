@@ -1,4 +1,5 @@
 pub mod Points
+pub mod Texts
 pub mod Past
 pub mod Places
 pub mod Copies

@@ -60,7 +60,7 @@ erased_reads (turns n s ∷ rest) = refl
 among_on : (t l : Todo) (nexts : List Next) → t ≡ l → Among (on l) nexts → Among (on t) nexts
 among_on t l nexts e h = subst (λ k. Among (on k) nexts) (sym e) h
 
-among_left : (n : Next) (xs ys : List Next) → Among n xs → Among n (xs ++ ys)
+pub among_left : (n : Next) (xs ys : List Next) → Among n xs → Among n (xs ++ ys)
 among_left n _ ys (Among.first xs) = Among.first (xs ++ ys)
 among_left n _ ys (Among.further y xs h) = Among.further y (xs ++ ys) (among_left n xs ys h)
 

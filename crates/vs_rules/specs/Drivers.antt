@@ -46,7 +46,7 @@ driver_name d (assign j) = assign_name (slice_get d.assigns j)
 driver_name d (block i) = process_name (slice_get d.processes i)
 
 -- a driver stands in the order before another one
-pub record ComesBefore (d : Parts) (c : Claims) (x y : Driver) : Type 0 where
+pub record Precedes (d : Parts) (c : Claims) (x y : Driver) : Type 0 where
   pub one : Name
   pub other : Name
   pub is : driver_name d x ≡ Some one

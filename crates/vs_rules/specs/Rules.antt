@@ -20,7 +20,7 @@ use Rattle.vs_rules.specs.Points.{Goes, nexts_by}
 use Rattle.vs_rules.specs.Claims.{Claims, IsSignalNamed, IsProcessNamed, IsAssignNamed, claim_of, IsWriter, IsSecond, HasMode, HasKind, IsBlock, IsEdge, HasLists, IsDelay, HasMixedLists, IsMixed, WaitsForEdges, WaitsForTimes, IsSequential, IsLater, IsWide, is_wide}
 use Rattle.vs_rules.specs.Claims.{signal_names, process_names, edge_names, edge_signals, IsRootOf, IsRoot}
 use Rattle.vs_rules.specs.Paths.{Bit, IsBit, Has, ListsSignal, WritesNow, WritesLater, WritesAny, ReadsNow, ShowsNow, IsPoint, IsSlot0, IsPrologue, IsLate, IsHot, PathBy, is_zero_time, Writes, reads_of, HasTerm, IsHeardAtStart}
-use Rattle.vs_rules.specs.Drivers.{Driver, block, IsDriver, DriverReads, DriverNeeds, ComesBefore, WritesBit, IsSource, IsBlocking, InCone}
+use Rattle.vs_rules.specs.Drivers.{Driver, block, IsDriver, DriverReads, DriverNeeds, Precedes, WritesBit, IsSource, IsBlocking, InCone}
 use Rattle.vs_rules.specs.Constants.{bit_of, Gives, IsKnown}
 use Rattle.vs_rules.specs.Copies.{CopiesRoot, SeenAs}
 use Rattle.vs_rules.specs.Slots.{DelayEnds, EdgeEnds, RunsByDelays, RunsByEdges, HasSlot, HasWriteSlot, FiresOf}
@@ -28,23 +28,23 @@ use Rattle.vs_rules.specs.Slots.{DelayEnds, EdgeEnds, RunsByDelays, RunsByEdges,
 -- ---- K1: each list names what it is a list of, each once, and nothing else
 
 -- a name stands once in one list, and in neither of two others
-pub record IsListed (name : Name) (own one other : List Name) : Type 0 where
+pub record IsOnlyIn (name : Name) (own one other : List Name) : Type 0 where
   pub once : times_in name own ≡ 1
   pub nowhere : times_in name one ≡ 0
   pub nowhere_else : times_in name other ≡ 0
 
 -- of a signal
 abbrev pub K1_Signal : Parts → Claims → ℕ → Type 0
-K1_Signal d c v = (name : Name) → IsSignalNamed d v name → IsListed name (signal_names c) c.order (process_names c)
+K1_Signal d c v = (name : Name) → IsSignalNamed d v name → IsOnlyIn name (signal_names c) c.order (process_names c)
 
 -- of a continuous assignment
 pub record K1_Assign (d : Parts) (c : Claims) (j : ℕ) : Type 0 where
-  pub listed : (name : Name) → IsAssignNamed d j name → IsListed name c.order (signal_names c) (process_names c)
+  pub listed : (name : Name) → IsAssignNamed d j name → IsOnlyIn name c.order (signal_names c) (process_names c)
   pub no_edge : (name : Name) → IsAssignNamed d j name → times_in name (edge_names c) ≡ 0
 
 -- of a process: one of kind comb stands once in the order too
 pub record K1_Process (d : Parts) (c : Claims) (i : ℕ) : Type 0 where
-  pub listed : (name : Name) → IsProcessNamed d i name → IsListed name (process_names c) (signal_names c) (edge_names c)
+  pub listed : (name : Name) → IsProcessNamed d i name → IsOnlyIn name (process_names c) (signal_names c) (edge_names c)
   pub block_ordered : (name : Name) → IsProcessNamed d i name → IsBlock d c i → times_in name c.order ≡ 1
   pub not_ordered : (name : Name) → IsProcessNamed d i name → (IsBlock d c i → ⊥) → times_in name c.order ≡ 0
 
@@ -127,7 +127,7 @@ pub record K4 (d : Parts) (c : Claims) (x : Driver) : Type 0 where
   pub known : (r : BitRange) → IsDriver d c x → DriverReads d x r → HasKind false d r.signal ⊎ (IsSource d c r.signal ⊎ IsCovered d c r)
   -- of each bit of the design that is driven the driver is earlier, where it isn't the block itself
   pub earlier : (r : BitRange) (b : Bit) (y : Driver) → IsDriver d c x → DriverReads d x r → IsBit d b → Has r b →
-      IsDriver d c y → WritesBit d y b → IsSelf x y ⊎ ComesBefore d c y x
+      IsDriver d c y → WritesBit d y b → IsSelf x y ⊎ Precedes d c y x
 
 -- ---- K6: the signals of edge terms, each of one bit, copy a root, which changes at most once in a slot
 

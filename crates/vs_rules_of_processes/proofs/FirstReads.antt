@@ -1,10 +1,8 @@
 -- Variables that a process may read in the first slot.
-use Rattle.std.proofs.Common.{◌≡◌, ℕ, ◌<◌, ◌≤◌, ◌==◌, ◌⊎◌, ◌↔◌, inl, inr, Bool, true, false, not, IsTrue, Some, List, [], length, get_or, slice_get, refl, sym, ◌∙◌, ap, subst, arith}
+use Rattle.std.proofs.Common.{◌≡◌, ℕ, ◌==◌, ◌⊎◌, ◌↔◌, inl, inr, Bool, true, false, not, IsTrue, Some, List, [], slice_get, refl, sym, ◌∙◌, ap, subst, arith}
 use Rattle.std.specs.List.{Contains}
 use Rattle.std.proofs.lemmas.Bool.{cases_Bool, eqb-false, eqb-true, false≢true, not-true}
-use Rattle.std.proofs.lemmas.List.Elements.{Contains-get_or}
 use Rattle.std.proofs.lemmas.Option.{same_Some, slice_get_cases, slice_get_within}
-use Rattle.std.proofs.lemmas.List.{get_or_default as get_or_same}
 use Rattle.vs_design.specs.declared.design.Process.{Process}
 use Rattle.vs_design.specs.declared.signal.Signal.{Signal}
 use Rattle.vs_design.specs.Kinds.{is_variable}
@@ -94,63 +92,34 @@ past_told charts i j p b other told = (
 
 -- ---- blocks
 
--- the first of some processes are this one, or no blocks
-abbrev pub OthersSoFar : Parts → Claims → List ℕ → ℕ → ℕ → Type 0
-OthersSoFar d c row i n = (k : ℕ) → k < n → k < length row → (get_or row k 0 ≡ i) ⊎ (IsBlock d c (get_or row k 0) → ⊥)
-
-abbrev pub AreNoBlocks : Parts → Claims → List ℕ → ℕ → Type 0
-AreNoBlocks d c row i = (j : ℕ) → Contains row j → (j ≡ i) ⊎ (IsBlock d c j → ⊥)
-
-pub block_among : (d : Parts) (c : Claims) (row : List ℕ) (i n : ℕ) → n < length row → (get_or row n 0 ≡ i → ⊥) → IsBlock d c (get_or row n 0) → (IsTrue false ↔ AreNoBlocks d c row i)
-block_among d c row i n within other block = (
-  λ h. absurd (false≢true h),
-  λ all. elim (all (get_or row n 0) (Contains-get_or row n 0 within)) [ inl same ↦ absurd (other same) | inr none ↦ absurd (none block) ],
-)
-
-pub none_among : (d : Parts) (c : Claims) (row : List ℕ) (i n : ℕ) → length row ≤ n → OthersSoFar d c row i n → (IsTrue true ↔ AreNoBlocks d c row i)
-none_among d c row i n past all = (
-  λ t j h. subst (λ (k : ℕ). (k ≡ i) ⊎ (IsBlock d c k → ⊥)) (get_or_same row h.0 0 j h.1 ∙ h.2) (all h.0 (omega (arith, h.1, past)) h.1),
-  λ h. refl,
-)
+-- who writes the variable is this process, or no block
+abbrev pub NoBlocks : Case → ℕ → ℕ → Type 0
+NoBlocks k i v = (j : ℕ) → Writes k.design j v → (j ≡ i) ⊎ (IsBlock k.design k.claims j → ⊥)
 
 -- what is tested of the processes that write the variable, and of its writes
-pub first_not : (k x : Case) (t : Texts) (row : List ℕ) (i v : ℕ) → x ≡ k → t ≡ texts_of x.design x.charts → ((j : ℕ) → (Contains row j ↔ Writes t.design j v)) →
-    (IsTrue false ↔ AreNoBlocks x.design x.claims row i) → (IsTrue false ↔ IsFirst k i v)
-first_not k x t row i v same of rows h = (
-  λ no. absurd (false≢true no),
-  λ f. h.1 (λ j m. subst (λ (y : Case). (j ≡ i) ⊎ (IsBlock y.design y.claims j → ⊥)) (sym same)
-      (f.others j (subst (λ (y : Case). Writes y.design j v) same (subst (λ (z : Texts). Writes z.design j v) of ((rows j).0 m))))),
-)
+pub first_not : (k x : Case) (i v : ℕ) → x ≡ k → (IsTrue false ↔ NoBlocks x i v) → (IsTrue false ↔ IsFirst k i v)
+first_not k x i v same h = subst (λ (y : Case). (IsTrue false ↔ IsFirst y i v)) same (λ no. absurd (false≢true no), λ f. h.1 f.others)
 
-pub first_is : (k x : Case) (t : Texts) (row : List ℕ) (i v : ℕ) (b : Bool) → x ≡ k → t ≡ texts_of x.design x.charts → ((j : ℕ) → (Contains row j ↔ Writes t.design j v)) →
-    (IsTrue true ↔ AreNoBlocks x.design x.claims row i) → (IsTrue b ↔ AllNow t v (IsPast x.charts i)) → (IsTrue b ↔ IsFirst k i v)
-first_is k x t row i v b same of rows h now = subst (λ (y : Case). (IsTrue b ↔ IsFirst y i v)) same (
-  λ is. record {
-    others = λ j w. h.0 refl j ((rows j).1 (subst (λ (z : Texts). Writes z.design j v) (sym of) w));
-    now = subst (λ (z : Texts). AllNow z v (IsPast x.charts i)) of (now.0 is);
-  },
+pub first_is : (k x : Case) (t : Texts) (i v : ℕ) (b : Bool) → x ≡ k → t ≡ texts_of x.design x.charts → (IsTrue true ↔ NoBlocks x i v) → (IsTrue b ↔ AllNow t v (IsPast x.charts i)) →
+    (IsTrue b ↔ IsFirst k i v)
+first_is k x t i v b same of h now = subst (λ (y : Case). (IsTrue b ↔ IsFirst y i v)) same (
+  λ is. record { others = h.0 refl; now = subst (λ (z : Texts). AllNow z v (IsPast x.charts i)) of (now.0 is) },
   λ f. now.1 (subst (λ (z : Texts). AllNow z v (IsPast x.charts i)) (sym of) f.now),
 )
 
 -- ---- variables
 
 -- of versions 1 and 2
-pub own_narrow : (d : Parts) (c : Claims) (i v : ℕ) (s : Signal) (row : List ℕ) (b : Bool) → is_wide c ≡ false → slice_get d.signals v ≡ Some s → is_variable s.kind ≡ true →
-    ((j : ℕ) → (Contains row j ↔ Writes d j v)) → (IsTrue b ↔ (Contains row i × ((j : ℕ) → Contains row j → j ≡ i))) → (IsTrue b ↔ IsOwn d c i v)
-own_narrow d c i v s row b narrow is kind row_is sole = (
+pub own_narrow : (d : Parts) (c : Claims) (i v : ℕ) (s : Signal) (b : Bool) → is_wide c ≡ false → slice_get d.signals v ≡ Some s → is_variable s.kind ≡ true →
+    (IsTrue b ↔ (Writes d i v × ((j : ℕ) → Writes d j v → j ≡ i))) → (IsTrue b ↔ IsOwn d c i v)
+own_narrow d c i v s b narrow is kind sole = (
   λ t. let y = sole.0 t in record {
     variable = (s, is, kind);
-    written = λ version. (row_is i).0 y.0;
-    alone = λ j w. inl (y.1 j ((row_is j).1 w));
+    written = λ version. y.0;
+    alone = λ j w. inl (y.1 j w);
     first = λ j l wide slot now. absurd (no_wide c narrow wide);
   },
-  λ o. sole.1 (
-    (row_is i).1 (o.written (no_wide c narrow)),
-    λ j h. elim (o.alone j ((row_is j).0 h)) [
-      | inl same ↦ same
-      | inr other ↦ absurd (no_wide c narrow other.0)
-    ],
-  ),
+  λ o. sole.1 (o.written (no_wide c narrow), λ j w. elim (o.alone j w) [ inl same ↦ same | inr other ↦ absurd (no_wide c narrow other.0) ]),
 )
 
 -- of version 3

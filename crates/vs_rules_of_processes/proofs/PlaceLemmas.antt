@@ -1,5 +1,5 @@
 -- Ranges of variables of a process's own, and places past the end of a map.
-use Rattle.std.proofs.Common.{◌≡◌, ℕ, zero, suc, ◌+◌, ◌<◌, ◌≤◌, ◌↔◌, inl, inr, Bool, true, false, IsTrue, Some, None, List, [], length, get_or, slice_get, refl, sym, ◌∙◌, ap, subst, arith}
+use Rattle.std.proofs.Common.{◌≡◌, ℕ, zero, suc, ◌+◌, ◌<◌, ◌≤◌, ◌↔◌, inl, inr, true, false, IsTrue, Some, None, List, [], length, get_or, slice_get, refl, sym, ◌∙◌, ap, subst, arith}
 use Rattle.std.specs.List.{Contains}
 use Rattle.std.proofs.lemmas.Bool.{false≢true}
 use Rattle.std.proofs.lemmas.List.Elements.{Contains-get_or}
@@ -17,21 +17,6 @@ use Rattle.vs_drivers.specs.vs_maps.specs.Ranges.{ranges_of, now_at, reads_at, s
 use Rattle.vs_drivers.specs.vs_maps.specs.Reaches.{Chart, places}
 use Rattle.vs_design.specs.vs_logic4.proofs.Basics.{below_or}
 use Rattle.vs_rules_of_processes.specs.FirstSlot.{IsOwn, AreOwn, Hangs, NoneHangs, ReadsOwn}
-
--- ---- rows
-
--- a row that isn't empty has one number, where all of it are that
-pub sole : (row : List ℕ) (i : ℕ) → 0 < length row → (b : Bool) → (IsTrue b ↔ ((j : ℕ) → Contains row j → j ≡ i)) → (IsTrue b ↔ (Contains row i × ((j : ℕ) → Contains row j → j ≡ i)))
-sole row i some b e = (
-  λ t.
-      let all = e.0 t in
-      let first = Contains-get_or row 0 0 some in
-      (subst (Contains row) (all (get_or row 0 0) first) first, all),
-  λ y. e.1 y.1,
-)
-
-pub none_same : (row : List ℕ) (i : ℕ) → row ≡ [] → (IsTrue false ↔ (Contains row i × ((j : ℕ) → Contains row j → j ≡ i)))
-none_same row i is = (λ h. absurd (false≢true h), λ y. absurd (let c = subst (λ (l : List ℕ). Contains l i) is y.0 in omega (arith, c.1)))
 
 -- ---- own variables
 

@@ -1,7 +1,7 @@
 //! What processes do in the first slot.
 ghost use Rattle.std.specs.Prelude.{ℕ, ◌≡◌, ◌<◌, ◌↔◌, ◌⊎◌, false, length, IfOk, IsTrue};
-ghost use Rattle.std.specs.List.{Contains};
 ghost use Rattle.vs_maps.specs.vs_rules.specs.Claims.{IsBlock, IsSequential, is_wide};
+ghost use Rattle.vs_maps.specs.vs_rules.specs.Paths.{Writes};
 ghost use Rattle.vs_maps.specs.vs_rules.specs.Rules.{K10_Process};
 ghost use Rattle.vs_drivers.specs.Wires.{IsWiringOf};
 ghost use Rattle.vs_drivers.specs.vs_maps.specs.Ranges.{now_at};
@@ -15,8 +15,8 @@ use vs_claims::Facts;
 use vs_design::BitRange;
 use vs_drivers::vs_maps::Tables;
 use vs_drivers::{Cones, is_variable};
-use vs_graph::{Rule, all_are, all_keep, is_marked};
-use vs_maps::SiteRule;
+use vs_graph::{Rule, all_keep, is_marked};
+use vs_maps::{OneOf, SiteRule, any_write_of};
 
 /// What the rule K10 asks of processes. A contract sees the facts.
 #[derive(Drop)]
@@ -42,27 +42,22 @@ impl<'a> Model for FirstSlot<'a> {
     ghost invariant = { λ s. AreFirst s.facts.now s.hung.items };
 }
 
-// Whether a row has a number, and no other one.
-fn is_sole(row: &[usize], i: usize) -> bool
-    ensures { IsTrue result ↔ (Contains row.now i × ((j : ℕ) → Contains row.now j → j ≡ i)) }
-{
-    if row.is_empty() {
-        return false;
-    }
-    all_are(row, i)
+// A point is of this process, or of no block.
+#[derive(Drop)]
+struct NoOtherBlock<'a> {
+    facts: &'a Facts<'a>,
+    reader: usize,
 }
 
-// Whether none of some processes but this one is a block.
-fn others_are_no_blocks<'a>(facts: &'a Facts<'a>, row: &[usize], i: usize) -> bool
-    ensures { IsTrue result ↔ ((j : ℕ) → Contains row.now j →
-        (j ≡ i) ⊎ (IsBlock facts.entry.now.design facts.entry.now.claims j → ⊥)) }
-{
-    for j in row {
-        if *j != i && facts.is_block(*j) {
-            return false;
+impl<'a> SiteRule for NoOtherBlock<'a> {
+    ghost keeps = { λ f i p. (i ≡ f.reader) ⊎ (IsBlock f.facts.now.design f.facts.now.claims i → ⊥) };
+
+    fn test(&self, process: usize, _place: usize) -> bool {
+        if process == self.reader {
+            return true;
         }
+        !self.facts.is_block(process)
     }
-    true
 }
 
 // A point is of this process, or isn't done in the first slot, by the paths of version 3.
@@ -110,11 +105,28 @@ impl<'a> FirstSlot<'a> {
         ensures { IsTrue result ↔ IsFirst self.now i v }
     {
         let facts = self.facts;
+        facts.maps();
         let uses = facts.uses();
-        if !others_are_no_blocks(facts, uses.writers(v), i) {
+        if !uses.all_writes(v, &NoOtherBlock { facts, reader: i }) {
             return false;
         }
         uses.all_now(v, &IsPast { facts, reader: i })
+    }
+
+    // Whether a process writes a signal, and no other one does.
+    fn is_sole(&self, i: usize, v: usize) -> bool
+        requires { v < length self.now.design.signals }
+        ensures { IsTrue result ↔ (Writes self.now.design i v × ((j : ℕ) → Writes self.now.design j v → j ≡ i)) }
+    {
+        self.facts.maps();
+        if !any_write_of(self.facts.sites().of_signal(v), i) {
+            return false;
+        }
+        let this = OneOf {
+            one: Some(i),
+            other: None,
+        };
+        self.facts.uses().all_writes(v, &this)
     }
 
     // Whether a signal is a variable that a process writes, and no other one; in version 3 one that no other process writes in the first slot by `=`,
@@ -133,7 +145,7 @@ impl<'a> FirstSlot<'a> {
                 if self.is_wide() {
                     return self.is_first(i, v);
                 }
-                is_sole(self.facts.uses().writers(v), i)
+                self.is_sole(i, v)
             }
         }
     }

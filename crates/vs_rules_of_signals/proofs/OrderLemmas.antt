@@ -11,7 +11,7 @@ use Rattle.vs_design.specs.Uses.{reads}
 use Rattle.vs_design.specs.declared.design.Process.{Process}
 use Rattle.std.proofs.lemmas.List.Elements.{Contains-get_or}
 use Rattle.vs_drivers.specs.vs_rules.specs.Claims.{Claims, HasKind, IsBlock}
-use Rattle.vs_drivers.specs.vs_rules.specs.Drivers.{Driver, assign, block, IsDriver, DriverReads, DriverWrites, IsSource, ComesBefore, WritesBit}
+use Rattle.vs_drivers.specs.vs_rules.specs.Drivers.{Driver, assign, block, IsDriver, DriverReads, DriverWrites, IsSource, Precedes, WritesBit}
 use Rattle.vs_drivers.specs.vs_rules.specs.Paths.{Bit, IsBit, Has, reads_for, text_reads}
 use Rattle.vs_drivers.specs.vs_rules.specs.Rules.{K4, IsSelf, IsCovered}
 use Rattle.vs_drivers.specs.vs_maps.proofs.RangeLemmas.{later_in, in_either}
@@ -138,7 +138,7 @@ pub earlier_is : (d : Parts) (c : Claims) (reader : ℕ) (r : BitRange) (row : L
 earlier_is d c reader r row are good h = (
   λ t b y is has driver writes.
       let l = listed d c r.signal row are b is (sym (parted r b.signal b.word b.place has).of) y driver writes in
-      subst (λ (x : Driver). IsSelf (driver_at d reader) x ⊎ ComesBefore d c x (driver_at d reader)) l.1
+      subst (λ (x : Driver). IsSelf (driver_at d reader) x ⊎ Precedes d c x (driver_at d reader)) l.1
       (h.0 t (record { driver = l.0; range = writes.range }) l.2 (record { bit = b; is = is; has = has; other_has = writes.has })),
   λ all. h.1 (λ w at share. let x = (are w.driver w.range).0 at in
       all share.bit (driver_at d w.driver) share.is share.has x.2 (record { range = w.range; writes = x.3; has = share.other_has })),

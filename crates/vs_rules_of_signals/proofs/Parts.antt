@@ -16,10 +16,6 @@ use Rattle.vs_rules_of_signals.proofs.Here.{Here, named_here, of_one, now_here, 
 
 -- ---- answers
 
--- a part is refused
-pub refused : (K P : Type 0) → (K → P) → (P → IsTrue false) → (IsTrue false ↔ K)
-refused K P part not = (λ h. absurd (false≢true h), λ k. not (part k))
-
 -- nothing is asked
 pub granted : (K : Type 0) → K → (IsTrue true ↔ K)
 granted K k = (λ h. k, λ h. refl)
@@ -138,24 +134,14 @@ some_later d c charts s j v x e g h second writer not alone =
 pub with_part : (A B X : Type 0) → A → (b : Bool) → (IsTrue b ↔ X) → (X ↔ B) → (IsTrue b ↔ (A × B))
 with_part A B X a b f g = (λ h. (a, g.0 (f.0 h)), λ y. f.1 (g.1 y.1))
 
-pub all_as : (S T P : ℕ → Type 0) → ((i : ℕ) → (S i ↔ T i)) → (b : Bool) → (IsTrue b ↔ ((i : ℕ) → S i → P i)) → (IsTrue b ↔ ((i : ℕ) → T i → P i))
-all_as S T P same b f = (λ h i t. f.0 h i ((same i).1 t), λ all. f.1 (λ i s. all i ((same i).0 s)))
-
-pub none_as : (S T : ℕ → Type 0) → ((i : ℕ) → (S i ↔ T i)) → (b : Bool) → (IsTrue b ↔ ((i : ℕ) → S i → ⊥)) → (IsTrue b ↔ ((i : ℕ) → T i → ⊥))
-none_as S T same b f = (λ h i t. f.0 h i ((same i).1 t), λ all. f.1 (λ i s. all i ((same i).0 s)))
-
 -- who writes is named
-pub named_as : (S T A B : ℕ → Type 0) (writer second : Option ℕ) → ((i : ℕ) → (S i ↔ T i)) → ((i : ℕ) → (A i ↔ writer ≡ Some i)) → ((i : ℕ) → (B i ↔ second ≡ Some i)) → (b : Bool) →
-    (IsTrue b ↔ ((i : ℕ) → S i → (writer ≡ Some i) ⊎ (second ≡ Some i))) → (IsTrue b ↔ ((i : ℕ) → T i → A i ⊎ B i))
-named_as S T A B writer second same is_writer is_second b f = (
-  λ h i t. elim (f.0 h i ((same i).1 t)) [ inl x ↦ inl ((is_writer i).1 x) | inr y ↦ inr ((is_second i).1 y) ],
-  λ all. f.1 (λ i s. elim (all i ((same i).0 s)) [ inl x ↦ inl ((is_writer i).0 x) | inr y ↦ inr ((is_second i).0 y) ]),
+pub named_as : (S A B : ℕ → Type 0) (writer second : Option ℕ) → ((i : ℕ) → (A i ↔ writer ≡ Some i)) → ((i : ℕ) → (B i ↔ second ≡ Some i)) → (b : Bool) →
+    (IsTrue b ↔ ((i : ℕ) → S i → (writer ≡ Some i) ⊎ (second ≡ Some i))) → (IsTrue b ↔ ((i : ℕ) → S i → A i ⊎ B i))
+named_as S A B writer second is_writer is_second b f = (
+  λ h i s. elim (f.0 h i s) [ inl x ↦ inl ((is_writer i).1 x) | inr y ↦ inr ((is_second i).1 y) ],
+  λ all. f.1 (λ i s. elim (all i s) [ inl x ↦ inl ((is_writer i).0 x) | inr y ↦ inr ((is_second i).0 y) ]),
 )
 
 -- who writes is no block
-pub blocks_as : (S T B C : ℕ → Type 0) (second : ℕ) → C second → ((j : ℕ) → (S j ↔ T j)) → (b : Bool) → (IsTrue b ↔ ((j : ℕ) → S j → B j → ⊥)) →
-    (IsTrue b ↔ ((i j : ℕ) → C i → B j → T j → ⊥))
-blocks_as S T B C second is same b f = (
-  λ h i j s block t. f.0 h j ((same j).1 t) block,
-  λ all. f.1 (λ j s block. all second j is block ((same j).0 s)),
-)
+pub blocks_as : (S B C : ℕ → Type 0) (second : ℕ) → C second → (b : Bool) → (IsTrue b ↔ ((j : ℕ) → S j → B j → ⊥)) → (IsTrue b ↔ ((i j : ℕ) → C i → B j → S j → ⊥))
+blocks_as S B C second is b f = (λ h i j second block s. f.0 h j s block, λ all. f.1 (λ j s block. all second j is block s))

@@ -1,30 +1,18 @@
 -- Who reads a signal.
-use Rattle.std.proofs.Common.{◌≡◌, ℕ, zero, suc, ◌==◌, ◌≤◌, ◌↔◌, inl, inr, Bool, true, false, IsTrue, Some, List, [], ◌∷◌, ◌++◌, length, map, slice_get, refl, sym, ◌∙◌, ap, subst, arith, if◌then◌else◌}
+use Rattle.std.proofs.Common.{◌≡◌, ℕ, zero, suc, ◌==◌, ◌↔◌, inl, inr, Bool, true, false, IsTrue, Some, List, [], ◌∷◌, ◌++◌, length, slice_get, refl, sym, ◌∙◌, ap, subst, arith, if◌then◌else◌}
 use Rattle.std.specs.List.{Contains}
 use Rattle.std.proofs.lemmas.Bool.{false≢true, eqb-true, eq-eqb}
-use Rattle.std.proofs.lemmas.List.{get_or_past, length-map}
-use Rattle.std.proofs.lemmas.Option.{slice_get_cases, slice_get_within, none-some, same_Some}
+use Rattle.std.proofs.lemmas.Option.{none-some, same_Some}
 use Rattle.vs_design.specs.declared.design.Assign.{Assign}
-use Rattle.vs_design.specs.declared.design.Process.{Process}
 use Rattle.vs_design.specs.declared.range.BitRange.{BitRange}
 use Rattle.vs_design.specs.declared.readers.Reader.{Reader}
-use Rattle.vs_design.specs.declared.statement.EventTerm.{EventTerm}
 use Rattle.vs_design.specs.Parts.{Parts}
 use Rattle.vs_design.specs.Readers.{readings, readers_from, readers}
 use Rattle.vs_design.specs.Uses.{reads, is_of}
-use Rattle.vs_process.specs.Places.{Todo, ended, start_place, todo_of}
-use Rattle.vs_process.specs.Steps.{Next, on, after, wait}
-use Rattle.vs_maps.specs.vs_rules.specs.Points.{Among, Goes, Point, first_todo}
-use Rattle.vs_maps.specs.vs_rules.specs.Points as r
-use Rattle.vs_maps.specs.vs_rules.specs.Paths.{ListsSignal, HasTerm}
+use Rattle.vs_maps.specs.vs_rules.specs.Paths.{ListsSignal}
 use Rattle.vs_claims.specs.vs_maps.specs.Ranges.{HasSignal}
-use Rattle.vs_claims.specs.vs_maps.specs.Reaches.{Chart}
-use Rattle.vs_claims.specs.vs_maps.proofs.EachWalk.{terms_exact}
 use Rattle.vs_claims.specs.vs_maps.proofs.RangeLemmas.{later_in, in_either, lists_signal}
-use Rattle.vs_claims.specs.Facts.{AreCharts}
-use Rattle.vs_maps.specs.Texts.{WaitsFor}
 use Rattle.vs_graph.proofs.RowLemmas.{head_in as first_in}
-use Rattle.vs_rules_of_signals.proofs.Here.{here}
 
 -- ---- continuous assignments
 
@@ -89,48 +77,7 @@ no_readers d v = (
   λ f. from_none 0 d.assigns v (λ j a is w. f j a is ((lists_signal d (reads a.source) v).0 w)),
 )
 
--- ---- terms
-
-on_only : (next : Next) → Among next (on [] ∷ []) → next ≡ on []
-on_only _ (Among.first _) = refl
-on_only next (Among.further _ _ h) = elim h [ ]
-
-empty_point : (k : Todo) → Point [] k → k ≡ []
-empty_point _ r.begins = refl
-empty_point _ (r.goes_on k l h g) = let e : on l ≡ on [] = on_only (on l) (subst (λ (z : Todo). Goes z (on l)) (empty_point k h) g) in cc
-empty_point _ (r.waits k l number ticks h g) = let e : after number ticks l ≡ on [] = on_only (after number ticks l) (subst (λ (z : Todo). Goes z (after number ticks l)) (empty_point k h) g) in absurd (cc)
-empty_point _ (r.listens k l number terms h g) = let e : wait number terms l ≡ on [] = on_only (wait number terms l) (subst (λ (z : Todo). Goes z (wait number terms l)) (empty_point k h) g) in absurd (cc)
-empty_point _ (r.skips i rest h) = let e : i ∷ rest ≡ [] = empty_point (i ∷ rest) h in absurd (cc)
-
-past_todo : (d : Parts) (j : ℕ) → length d.processes ≤ j → first_todo d j ≡ []
-past_todo d j past = ap todo_of (get_or_past (map (λ (p : Process). start_place p.body) d.processes) j ended (omega (arith, past, length-map d.processes (λ (p : Process). start_place p.body))))
-
-no_term : (d : Parts) (j : ℕ) (t : EventTerm) → length d.processes ≤ j → HasTerm d j t → ⊥
-no_term d j t past h =
-    let e : h.control ≡ [] = empty_point h.control (subst (λ (f : Todo). Point f h.control) (past_todo d j past) h.point) in
-    let f : wait h.number h.terms h.behind ≡ on [] = on_only (wait h.number h.terms h.behind) (subst (λ (z : Todo). Goes z (wait h.number h.terms h.behind)) e h.goes) in
-    cc
-
--- nothing waits for the signal
-pub no_waiters : (d : Parts) (charts : List Chart) (v : ℕ) → AreCharts d charts →
-    (((j : ℕ) → WaitsFor charts j v → ⊥) ↔ ((j : ℕ) (t : EventTerm) → HasTerm d j t → t.range.signal ≡ v → ⊥))
-no_waiters d charts v maps = (
-  λ none j t has of. elim ((slice_get_cases d.processes j).1) [
-    | inl x ↦ let h = here d charts maps j x.0 x.2 in
-        none j (h.chart, h.at, (t, (terms_exact d j h.process h.chart.stops h.chart.start h.text h.is t).1 has, of))
-    | inr past ↦ no_term d j t past.0 has
-  ],
-  λ none j w. elim ((slice_get_cases d.processes j).1) [
-    | inl x ↦ none j w.2.0 ((terms_exact d j x.0 w.0.stops w.0.start (maps.each j x.0 w.0 x.2 w.1) x.2 w.2.0).0 w.2.1) w.2.2
-    | inr past ↦ absurd (omega (arith, past.0, maps.as_many, slice_get_within charts j w.0 w.1))
-  ],
-)
-
 -- ---- tests of rows
-
-pub none_in : (row : List ℕ) (b : Bool) → b ≡ (length row == 0) → (IsTrue b ↔ ((j : ℕ) → Contains row j → ⊥))
-none_in [] b e = (λ h j c. omega (arith, c.1), λ f. e)
-none_in (x ∷ row) b e = (λ h. absurd (omega (arith, eqb-true (length (x ∷ row)) 0 (sym e ∙ h))), λ f. absurd (f x (first_in x row)))
 
 pub is_empty : (rs : List Reader) (b : Bool) → b ≡ (length rs == 0) → (IsTrue b ↔ (rs ≡ []))
 is_empty [] b e = (λ h. refl, λ f. e)

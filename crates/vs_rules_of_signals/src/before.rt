@@ -1,7 +1,7 @@
 //! Which of two drivers stands in the order before the other.
 ghost use Rattle.std.specs.Prelude.{ℕ, ◌≡◌, ◌⊎◌, ◌↔◌, IsTrue, option_map};
 ghost use Rattle.vs_drivers.specs.vs_rules.specs.Claims.{place_of};
-ghost use Rattle.vs_drivers.specs.vs_rules.specs.Drivers.{driver_name, ComesBefore};
+ghost use Rattle.vs_drivers.specs.vs_rules.specs.Drivers.{driver_name, Precedes};
 ghost use Rattle.vs_drivers.specs.vs_rules.specs.Rules.{IsSelf};
 ghost use Rattle.vs_drivers.specs.Wires.{driver_at};
 
@@ -21,8 +21,8 @@ fn place(facts: &Facts, driver: usize) -> Option<usize>
 }
 
 // Whether one driver stands in the order before another one.
-fn comes_before(facts: &Facts, one: usize, other: usize) -> bool
-    ensures { IsTrue result ↔ ComesBefore facts.now.design facts.now.claims
+fn precedes(facts: &Facts, one: usize, other: usize) -> bool
+    ensures { IsTrue result ↔ Precedes facts.now.design facts.now.claims
         (driver_at facts.now.design one) (driver_at facts.now.design other) }
 {
     match place(facts, one) {
@@ -44,7 +44,7 @@ fn is_self(facts: &Facts, one: usize, other: usize) -> bool
 /// Whether a driver may read what another one writes: that is the process itself, or stands in the order before it.
 pub(crate) fn may_read(facts: &Facts, reader: usize, writer: usize) -> bool
     ensures { IsTrue result ↔ (IsSelf (driver_at facts.now.design reader) (driver_at facts.now.design writer)
-        ⊎ ComesBefore facts.now.design facts.now.claims (driver_at facts.now.design writer) (driver_at facts.now.design reader)) }
+        ⊎ Precedes facts.now.design facts.now.claims (driver_at facts.now.design writer) (driver_at facts.now.design reader)) }
 {
-    is_self(facts, reader, writer) || comes_before(facts, writer, reader)
+    is_self(facts, reader, writer) || precedes(facts, writer, reader)
 }

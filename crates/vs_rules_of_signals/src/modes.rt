@@ -1,6 +1,5 @@
 //! The rule K3, on how a signal is written.
 ghost use Rattle.std.specs.Prelude.{ℕ, ◌≡◌, ◌<◌, ◌↔◌, Some, true, false, length, slice_get, IsTrue};
-ghost use Rattle.std.specs.List.{Contains};
 ghost use Rattle.vs_maps.specs.vs_rules.specs.Certificates.{mode_from};
 ghost use Rattle.vs_maps.specs.vs_rules.specs.Claims.{IsBlock, IsSequential, IsWide};
 ghost use Rattle.vs_design.specs.declared.design.Assign.{Assign};
@@ -14,14 +13,7 @@ use crate::writers::Claimed;
 use vs_claims::Facts;
 use vs_claims::vs_certificate::SignalMode;
 use vs_drivers::is_net;
-use vs_graph::all_are;
-
-// Whether there are none.
-fn are_none(row: &[usize]) -> bool
-    ensures { IsTrue result ↔ ((j : ℕ) → Contains row.now j → ⊥) }
-{
-    row.is_empty()
-}
+use vs_maps::{OneOf, any_waits};
 
 // Whether a process is of kind delay, or mixed, or in versions 2 and 3 of kind edge.
 fn may_block<'a>(facts: &'a Facts<'a>, i: usize) -> bool
@@ -45,7 +37,12 @@ impl<'a> Claimed<'a> {
         requires { v < length self.now.facts.now.design.signals }
         ensures { IsTrue result ↔ ((i : ℕ) → Writes self.now.facts.now.design i v → ⊥) }
     {
-        are_none(self.uses.writers(v))
+        self.facts.maps();
+        let none = OneOf {
+            one: None,
+            other: None,
+        };
+        self.uses.all_writes(v, &none)
     }
 
     fn is_combinational(&self, v: usize) -> bool
@@ -94,7 +91,12 @@ impl<'a> Claimed<'a> {
         ensures { IsTrue result ↔ ((j : ℕ) →
             ListsSignal self.now.facts.now.design (reads_of self.now.facts.now.design j) v → j ≡ i) }
     {
-        all_are(self.uses.readers(v), i)
+        self.facts.maps();
+        let this = OneOf {
+            one: Some(i),
+            other: None,
+        };
+        self.uses.all_reads(v, &this)
     }
 
     // Whether no continuous assignment does.
@@ -111,7 +113,7 @@ impl<'a> Claimed<'a> {
         ensures { IsTrue result ↔ ((j : ℕ) (t : EventTerm) → HasTerm self.now.facts.now.design j t → t.range.signal ≡ v → ⊥) }
     {
         self.facts.maps();
-        are_none(self.uses.waiters(v))
+        !any_waits(self.facts.sites().of_signal(v))
     }
 
     fn is_private_of(&self, v: usize, i: usize) -> bool

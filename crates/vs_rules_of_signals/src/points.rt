@@ -1,7 +1,9 @@
 //! Rules of the points of one process.
 ghost use Rattle.std.specs.Prelude.{ℕ, ◌≡◌, ◌<◌, ◌↔◌, false, slice_index_or, IsTrue};
+ghost use Rattle.vs_maps.specs.vs_rules.specs.Claims.{IsBlock};
 ghost use Rattle.vs_claims.specs.vs_maps.specs.Reaches.{places, InSlot0};
 
+use vs_claims::Facts;
 use vs_claims::vs_maps::Tables;
 use vs_maps::SiteRule;
 
@@ -16,6 +18,20 @@ impl SiteRule for NotOf {
 
     fn test(&self, process: usize, _place: usize) -> bool {
         process != self.process
+    }
+}
+
+/// A point is none of a block.
+#[derive(Drop)]
+pub(crate) struct NotOfBlock<'a> {
+    pub(crate) facts: &'a Facts<'a>,
+}
+
+impl<'a> SiteRule for NotOfBlock<'a> {
+    ghost keeps = { λ f i p. IsBlock f.facts.now.design f.facts.now.claims i → ⊥ };
+
+    fn test(&self, process: usize, _place: usize) -> bool {
+        !self.facts.is_block(process)
     }
 }
 

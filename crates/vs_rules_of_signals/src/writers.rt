@@ -1,14 +1,12 @@
 //! The rule K2, on the writer and the second of a signal.
-ghost use Rattle.std.specs.Prelude.{ℕ, ◌≡◌, ◌<◌, ◌↔◌, ◌⊎◌, Some, length, IsTrue};
-ghost use Rattle.std.specs.List.{Contains};
-ghost use Rattle.vs_maps.specs.vs_rules.specs.Claims.{IsBlock};
+ghost use Rattle.std.specs.Prelude.{ℕ, ◌≡◌, ◌<◌, ◌↔◌, Some, length, IsTrue};
+ghost use Rattle.vs_maps.specs.vs_rules.specs.Paths.{Writes};
 ghost use Rattle.vs_maps.specs.vs_rules.specs.Rules.{K2};
 ghost use Rattle.vs_rules_of_signals.specs.Writers.{texts_in, AreNamed, WriterWrites, SecondWrites, NoBlock, IsEarly, FirstAlone, FirstAloneLater};
 
-use crate::points::{NotInSlot0, NotMarked, NotOf};
+use crate::points::{NotInSlot0, NotMarked, NotOf, NotOfBlock};
 use vs_claims::Facts;
-use vs_graph::has;
-use vs_maps::Uses;
+use vs_maps::{OneOf, Uses, any_write_of};
 
 /// What a certificate claims of a design, and the uses of the design's signals.
 #[derive(Clone, Copy)]
@@ -18,70 +16,29 @@ pub(crate) struct Claimed<'a> {
     pub(crate) ghost same: { uses.now ≡ texts_in facts.now },
 }
 
-// Whether a process is this one.
-fn is_one(one: Option<usize>, i: usize) -> bool
-    ensures { IsTrue result ↔ (one ≡ Some i) }
-{
-    match one {
-        None => false,
-        Some(j) => j == i,
-    }
-}
-
-// Whether a process is one of two that may be there.
-fn is_named(writer: Option<usize>, second: Option<usize>, i: usize) -> bool
-    ensures { IsTrue result ↔ ((writer ≡ Some i) ⊎ (second ≡ Some i)) }
-{
-    if is_one(writer, i) {
-        return true;
-    }
-    is_one(second, i)
-}
-
-// Whether each of some processes is.
-fn are_named(row: &[usize], writer: Option<usize>, second: Option<usize>) -> bool
-    ensures { IsTrue result ↔ ((i : ℕ) → Contains row.now i → (writer ≡ Some i) ⊎ (second ≡ Some i)) }
-{
-    for i in row {
-        if !is_named(writer, second, *i) {
-            return false;
-        }
-    }
-    true
-}
-
-// Whether one that may be there is one of some processes.
-fn has_one(row: &[usize], one: Option<usize>) -> bool
-    ensures { IsTrue result ↔ ((i : ℕ) × (one ≡ Some i) × Contains row.now i) }
-{
-    match one {
-        None => false,
-        Some(i) => has(row, i),
-    }
-}
-
-// Whether none of some processes is a block.
-fn has_no_block<'a>(facts: &'a Facts<'a>, row: &[usize]) -> bool
-    ensures { IsTrue result ↔ ((j : ℕ) → Contains row.now j → IsBlock facts.entry.now.design facts.entry.now.claims j → ⊥) }
-{
-    for j in row {
-        if facts.is_block(*j) {
-            return false;
-        }
-    }
-    true
-}
-
 impl<'a> Claimed<'a> {
     fn are_named(&self, v: usize) -> bool
         requires { v < length self.now.facts.now.design.signals }
         ensures { IsTrue result ↔ AreNamed self.now.facts.now.design self.now.facts.now.claims v }
     {
-        are_named(
-            self.uses.writers(v),
-            self.facts.writer(v),
-            self.facts.second(v),
-        )
+        self.facts.maps();
+        let named = OneOf {
+            one: self.facts.writer(v),
+            other: self.facts.second(v),
+        };
+        self.uses.all_writes(v, &named)
+    }
+
+    // Whether a process that may be there writes a signal.
+    fn has_writer(&self, v: usize, one: Option<usize>) -> bool
+        requires { v < length self.now.facts.now.design.signals }
+        ensures { IsTrue result ↔ ((i : ℕ) × (one ≡ Some i) × Writes self.now.facts.now.design i v) }
+    {
+        self.facts.maps();
+        match one {
+            None => false,
+            Some(i) => any_write_of(self.facts.sites().of_signal(v), i),
+        }
     }
 
     fn writer_writes(&self, v: usize) -> bool
@@ -91,7 +48,7 @@ impl<'a> Claimed<'a> {
         if !self.facts.names_writer(v) {
             return true;
         }
-        has_one(self.uses.writers(v), self.facts.writer(v))
+        self.has_writer(v, self.facts.writer(v))
     }
 
     fn second_writes(&self, v: usize) -> bool
@@ -101,17 +58,18 @@ impl<'a> Claimed<'a> {
         if !self.facts.names_second(v) {
             return true;
         }
-        has_one(self.uses.writers(v), self.facts.second(v))
+        self.has_writer(v, self.facts.second(v))
     }
 
     fn no_block(&self, v: usize) -> bool
         requires { v < length self.now.facts.now.design.signals }
         ensures { IsTrue result ↔ NoBlock self.now.facts.now.design self.now.facts.now.claims v }
     {
+        self.facts.maps();
         let Some(_) = self.facts.second(v) else {
             return true;
         };
-        has_no_block(self.facts, self.uses.writers(v))
+        self.uses.all_writes(v, &NotOfBlock { facts: self.facts })
     }
 
     fn is_early(&self, v: usize) -> bool
@@ -126,10 +84,7 @@ impl<'a> Claimed<'a> {
             process,
             marks: self.uses.late(process),
         };
-        if !self.uses.all_now(v, &rule) {
-            return false;
-        }
-        self.uses.all_later(v, &rule)
+        self.uses.all_writes(v, &rule)
     }
 
     fn first_alone(&self, v: usize) -> bool

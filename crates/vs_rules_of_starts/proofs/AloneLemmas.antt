@@ -9,7 +9,7 @@ use Rattle.vs_rules.specs.vs_process.specs.Steps.{Next, on, after, wait, step, h
 use Rattle.std.proofs.lemmas.Option.{same_Some}
 use Rattle.vs_rules.specs.vs_process.specs.Threads as threads
 use Rattle.vs_rules.specs.Blocks.{arrived, run_alone}
-use Rattle.vs_rules_of_starts.specs.Alone.{Arrival, arrives, arrival, arrived_if, store_if, ComesTo}
+use Rattle.vs_rules_of_starts.specs.Alone.{Arrival, arrives, arrival, arrived_if, store_if, ReachesControl}
 
 -- ---- a run
 
@@ -76,7 +76,7 @@ same_arrival k l a b e =
 
 -- where it waits after two steps
 pub came : (most : ℕ) (waits : Bool) → waits ≡ true → (start mid behind : Todo) (old here : Store) (body : Statement) → start ≡ flat body →
-    arrived_if waits mid here ≡ arrival 2 start old → ComesTo body old behind →
+    arrived_if waits mid here ≡ arrival 2 start old → ReachesControl body old behind →
     (b : Bool) (k : Todo) (new : Store) → arrived_if b k new ≡ arrival most mid here → store_if b new ≡ run_alone most behind old
 came most waits is start mid behind old here body begins told comes b k new again =
     let same = same_arrival mid behind here old (ap (λ (w : Bool). arrived_if w mid here) (sym is) ∙ told ∙ ap (λ (t : Todo). arrival 2 t old) begins ∙ comes.is) in

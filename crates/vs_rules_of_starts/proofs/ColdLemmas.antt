@@ -14,11 +14,11 @@ use Rattle.vs_rules.specs.vs_process.specs.BlockDrivers.{sizes}
 use Rattle.vs_rules.specs.vs_process.specs.Threads.{store_after}
 use Rattle.vs_rules.specs.Points.{Point}
 use Rattle.vs_rules.specs.Blocks.{arrived, run_alone, StaysCold}
-use Rattle.vs_maps.proofs.Texts.{begins_with}
+use Rattle.vs_rules.proofs.Texts.{begins_with}
 use Rattle.vs_design.specs.vs_logic4.proofs.Basics.{inside}
-use Rattle.vs_rules_of_starts.specs.Alone.{store_if, ComesTo}
+use Rattle.vs_rules_of_starts.specs.Alone.{store_if, ReachesControl}
 use Rattle.vs_rules_of_starts.specs.Cold.{SameWritten, StaysWithin, StaysAtEach, IsAfterControl, AreFirst}
-use Rattle.vs_rules_of_starts.proofs.ControlLemmas.{IsLoop, loop_of, behind_of, waits_once, waits_there, comes_in_two}
+use Rattle.vs_rules_of_starts.proofs.ControlLemmas.{IsLoop, loop_of, todo_after_control, waits_once, waits_there, comes_in_two}
 
 -- ---- sizes
 
@@ -43,10 +43,10 @@ alone_sized (suc most) k store new h =
 pub process_at : (xs ys : List Process) (i : ℕ) (q : Process) → ys ≡ xs → i < length xs → q ≡ get_or ys i q → slice_get xs i ≡ Some q
 process_at xs ys i q same lt is = slice_get-get_or xs i q lt ∙ ap (λ x. Some x) (sym (is ∙ ap (λ l. get_or l i q) same))
 
-behind_is : (d : Parts) (i : ℕ) (q : Process) → slice_get d.processes i ≡ Some q → (b : IsLoop q.body) (behind : Todo) → IsAfterControl d i behind → behind ≡ behind_of q.body b
+behind_is : (d : Parts) (i : ℕ) (q : Process) → slice_get d.processes i ≡ Some q → (b : IsLoop q.body) (behind : Todo) → IsAfterControl d i behind → behind ≡ todo_after_control q.body b
 behind_is d i q is b behind h = waits_once q.body b h.control behind h.number h.terms (subst (λ (f : Todo). Point f h.control) (begins_with d i q is) h.point) h.goes
 
-there_is : (d : Parts) (i : ℕ) (q : Process) → slice_get d.processes i ≡ Some q → (b : IsLoop q.body) → IsAfterControl d i (behind_of q.body b)
+there_is : (d : Parts) (i : ℕ) (q : Process) → slice_get d.processes i ≡ Some q → (b : IsLoop q.body) → IsAfterControl d i (todo_after_control q.body b)
 there_is d i q is b =
     let w = waits_there q.body b in
     record { control = w.at; number = b.control; terms = b.terms.items; point = subst (λ (f : Todo). Point f w.at) (sym (begins_with d i q is)) w.point; goes = w.goes }
@@ -55,7 +55,7 @@ there_is d i q is b =
 
 -- what a run from the start, past two steps, says of one from after the control
 pub ran : (d : Parts) (i : ℕ) (q : Process) → slice_get d.processes i ≡ Some q → is_combinational q ≡ true → (body : Statement) (old settled : Store) → body ≡ q.body → old ≡ settled →
-    (most : ℕ) (arrives : Bool) (new : Store) → ((behind : Todo) → ComesTo body old behind → store_if arrives new ≡ run_alone most behind old) →
+    (most : ℕ) (arrives : Bool) (new : Store) → ((behind : Todo) → ReachesControl body old behind → store_if arrives new ≡ run_alone most behind old) →
     (behind : Todo) → IsAfterControl d i behind → store_if arrives new ≡ run_alone most behind settled
 ran d i q is shape body old settled same copied most arrives new told behind h =
     let b = loop_of q shape in
@@ -66,7 +66,7 @@ pub run_sized : (d : Parts) (i : ℕ) (q : Process) → slice_get d.processes i 
     ((behind : Todo) → IsAfterControl d i behind → store_if arrives new ≡ run_alone most behind settled) → sizes new ≡ sizes (start_store d)
 run_sized d i q is shape settled sized most arrives does new told =
     let b = loop_of q shape in
-    alone_sized most (behind_of q.body b) settled new (sym (told (behind_of q.body b) (there_is d i q is b)) ∙ ap (λ (x : Bool). store_if x new) does) ∙ sized
+    alone_sized most (todo_after_control q.body b) settled new (sym (told (todo_after_control q.body b) (there_is d i q is b)) ∙ ap (λ (x : Bool). store_if x new) does) ∙ sized
 
 pub stays_is : (d : Parts) (i : ℕ) (settled start : Store) → start ≡ start_store d → (most : ℕ) (arrives : Bool) → arrives ≡ true → (new : Store) →
     ((behind : Todo) → IsAfterControl d i behind → store_if arrives new ≡ run_alone most behind settled) → (t : Bool) → (IsTrue t ↔ SameWritten d i new start) →
@@ -96,7 +96,7 @@ one_stays d i lt shape all = by_process (slice_get d.processes i) refl
     by_process (Some q) at =
         let b = loop_of q (shape q at) in
         let h = there_is d i q at b in
-        (behind_of q.body b, h, all h.control (behind_of q.body b) h.number h.terms h.point h.goes)
+        (todo_after_control q.body b, h, all h.control (todo_after_control q.body b) h.number h.terms h.point h.goes)
 
 pub each_is : (d : Parts) (i : ℕ) → i < length d.processes → ((q : Process) → slice_get d.processes i ≡ Some q → is_combinational q ≡ true) → (start : Store) (settled : Option Store) → AreFirst d start settled →
     (first : Store) → settled ≡ Some first → (t : Bool) → ((behind : Todo) → IsAfterControl d i behind → (IsTrue t ↔ StaysWithin 10000 d i behind first)) → (IsTrue t ↔ StaysAtEach d i)

@@ -119,8 +119,8 @@ pub loop_of : (p : Process) → is_combinational p ≡ true → IsLoop p.body
 loop_of p h = of_body p.body (out-Statement p.body) refl (and_parts (is_always p.kind) (is_block_body (out-Statement p.body)) h).1
 
 -- what is to be done after its control
-abbrev pub behind_of : (body : Statement) → IsLoop body → Todo
-behind_of body b = flat b.inner.value ++ perform body ∷ []
+abbrev pub todo_after_control : (body : Statement) → IsLoop body → Todo
+todo_after_control body b = flat b.inner.value ++ perform body ∷ []
 
 whole_is : (body : Statement) (b : IsLoop body) → flat body ≡ perform body ∷ []
 whole_is body b = flat-single body (ap is_block b.is)
@@ -139,7 +139,7 @@ data Stage (body : Statement) (b : IsLoop body) (k : Todo) : Type 0 where
 -- the ways from a point
 data Way (body : Statement) (b : IsLoop body) (n : Next) : Type 0 where
   stays : (l : Todo) → n ≡ on l → Stage body b l → Way body b n
-  waiting : n ≡ wait b.control b.terms.items (behind_of body b) → Way body b n
+  waiting : n ≡ wait b.control b.terms.items (todo_after_control body b) → Way body b n
 
 whole_way : (body : Statement) (b : IsLoop body) (n : Next) → Goes (perform body ∷ []) n → Way body b n
 whole_way body b n g =
@@ -172,7 +172,7 @@ never_delays body b number ticks l (stays m is s) = cc
 never_delays body b number ticks l (waiting is) = cc
 
 -- after a wait
-wait_behind : (body : Statement) (b : IsLoop body) (number : ℕ) (terms : List EventTerm) (l : Todo) → Way body b (wait number terms l) → l ≡ behind_of body b
+wait_behind : (body : Statement) (b : IsLoop body) (number : ℕ) (terms : List EventTerm) (l : Todo) → Way body b (wait number terms l) → l ≡ todo_after_control body b
 wait_behind body b number terms l (stays m is s) = cc
 wait_behind body b number terms l (waiting is) = cc
 
@@ -193,14 +193,14 @@ stage body b _ (r.Point.listens k l number terms p g) =
 stage body b _ (r.Point.skips i rest p) = skip body b i rest (stage body b (i ∷ rest) p)
 
 -- a control of the block leads to what comes after it
-pub waits_once : (body : Statement) (b : IsLoop body) (k l : Todo) (number : ℕ) (terms : List EventTerm) → Point (flat body) k → Goes k (wait number terms l) → l ≡ behind_of body b
+pub waits_once : (body : Statement) (b : IsLoop body) (k l : Todo) (number : ℕ) (terms : List EventTerm) → Point (flat body) k → Goes k (wait number terms l) → l ≡ todo_after_control body b
 waits_once body b k l number terms p g = wait_behind body b number terms l (way body b k (wait number terms l) (stage body b k p) g)
 
 -- and there is one
 pub record Waits (body : Statement) (b : IsLoop body) : Type 0 where
   pub at : Todo
   pub point : Point (flat body) at
-  pub goes : Goes at (wait b.control b.terms.items (behind_of body b))
+  pub goes : Goes at (wait b.control b.terms.items (todo_after_control body b))
 
 pub waits_there : (body : Statement) (b : IsLoop body) → Waits body b
 waits_there body b = record {
@@ -208,21 +208,21 @@ waits_there body b = record {
   point = subst (Point (flat body)) (ap (λ (t : Todo). t ++ perform body ∷ []) (event_is body b))
       (r.Point.goes_on (perform body ∷ []) (flat b.loop.value ++ perform body ∷ []) (subst (Point (flat body)) (whole_is body b) r.Point.begins)
       (subst (λ (f : Statement-F Statement). Among (on (flat b.loop.value ++ perform body ∷ [])) (statement_nexts body f [])) (sym b.is) (first [])));
-  goes = subst (λ (f : Statement-F Statement). Among (wait b.control b.terms.items (behind_of body b)) (statement_nexts b.loop.value f (perform body ∷ []))) (sym b.waits) (first []);
+  goes = subst (λ (f : Statement-F Statement). Among (wait b.control b.terms.items (todo_after_control body b)) (statement_nexts b.loop.value f (perform body ∷ []))) (sym b.waits) (first []);
 }
 
 -- ---- its first two steps
 
 -- in two steps it is at its control, the store as it was
-pub comes_in_two : (body : Statement) (b : IsLoop body) (store : Store) → arrival 2 (flat body) store ≡ arrived_if true (behind_of body b) store
+pub comes_in_two : (body : Statement) (b : IsLoop body) (store : Store) → arrival 2 (flat body) store ≡ arrived_if true (todo_after_control body b) store
 comes_in_two body b store =
     ap (λ (k : Todo). arrival 2 k store) (whole_is body b)
     ∙ by_step 1 (perform body ∷ []) store (on (flat b.loop.value ++ perform body ∷ [])) store (ap (λ (o : Out). o.next) first_step) (sym (ap (λ (o : Out). store_after store o.write) first_step))
     ∙ ap (λ (t : Todo). arrival 1 (t ++ perform body ∷ []) store) (event_is body b)
-    ∙ by_step 0 (perform b.loop.value ∷ perform body ∷ []) store (wait b.control b.terms.items (behind_of body b)) store (ap (λ (o : Out). o.next) second_step) (sym (ap (λ (o : Out). store_after store o.write) second_step))
+    ∙ by_step 0 (perform b.loop.value ∷ perform body ∷ []) store (wait b.control b.terms.items (todo_after_control body b)) store (ap (λ (o : Out). o.next) second_step) (sym (ap (λ (o : Out). store_after store o.write) second_step))
   where
     first_step : step (perform body ∷ []) store 0 ≡ goes (on (flat b.loop.value ++ perform body ∷ []))
     first_step = ap (λ (f : Statement-F Statement). statement_step body f [] store 0) b.is
 
-    second_step : step (perform b.loop.value ∷ perform body ∷ []) store 0 ≡ goes (wait b.control b.terms.items (behind_of body b))
+    second_step : step (perform b.loop.value ∷ perform body ∷ []) store 0 ≡ goes (wait b.control b.terms.items (todo_after_control body b))
     second_step = ap (λ (f : Statement-F Statement). statement_step b.loop.value f (perform body ∷ []) store 0) b.waits

@@ -24,7 +24,8 @@ use Rattle.vs_drivers.specs.vs_maps.specs.Inside.{along_in}
 use Rattle.vs_drivers.specs.vs_maps.specs.Ranges.{statement_at}
 use Rattle.vs_drivers.specs.vs_maps.specs.Walks.{AreMarked}
 use Rattle.vs_drivers.specs.vs_maps.proofs.Join.{only, head_in}
-use Rattle.vs_drivers.specs.vs_maps.proofs.Texts.{begins_with, pause_here, step_on, step_back, control_on}
+use Rattle.vs_rules.proofs.Texts.{begins_with}
+use Rattle.vs_drivers.specs.vs_maps.proofs.Texts.{pause_here, step_on, step_back, control_on}
 use Rattle.vs_rules.specs.Points.{Goes}
 use Rattle.vs_rules.specs.Blocks.{Begins, Missing, statement_update, todo_update}
 use Rattle.vs_rules_of_starts.specs.Missing.{MissingAt, unmarked, is_end, is_one, stops_here, IsSure}
@@ -50,27 +51,27 @@ led marked passing tos q m p h =
     subst (λ (x : Bool). Contains (if x then [] else (if passing then tos else [])) q) (sym m) (subst (λ (x : Bool). Contains (if x then tos else []) q) (sym p) h)
 
 -- marks of all places say what is done there
-record Told (t : Chart) (sort : ℕ → Type 0) (marks : List Bool) : Type 0 where
+record AreMarksOf (t : Chart) (sort : ℕ → Type 0) (marks : List Bool) : Type 0 where
   starts_in : t.start < places t
   leads_in : LeadsIn (places t) t.stops
   marked : AreMarked sort (places t) marks
 
-reached_below : (t : Chart) (sort : ℕ → Type 0) (marks : List Bool) → Told t sort marks → (p : ℕ) → Reached (unmarked marks t.stops) (t.start ∷ []) p → p < places t
+reached_below : (t : Chart) (sort : ℕ → Type 0) (marks : List Bool) → AreMarksOf t sort marks → (p : ℕ) → Reached (unmarked marks t.stops) (t.start ∷ []) p → p < places t
 reached_below t sort marks told _ (begins a h) = subst (λ (n : ℕ). n < places t) (only t.start a h) told.starts_in
 reached_below t sort marks told _ (goes_on a b r h) = unmarked_in marks (places t) t.stops told.leads_in a b h
 
-to_missing : (t : Chart) (sort : ℕ → Type 0) (marks : List Bool) → Told t sort marks → (p : ℕ) → Reached (unmarked marks t.stops) (t.start ∷ []) p → MissingAt t sort p
+to_missing : (t : Chart) (sort : ℕ → Type 0) (marks : List Bool) → AreMarksOf t sort marks → (p : ℕ) → Reached (unmarked marks t.stops) (t.start ∷ []) p → MissingAt t sort p
 to_missing t sort marks told _ (begins a h) = subst (MissingAt t sort) (only t.start a h) MissingAt.begins
 to_missing t sort marks told _ (goes_on a b r h) =
     let l = leads (slice_index_or marks a false) (passes (ZeroTime false) (pause_at t a)) (stops_tos t.stops a) b h in
     MissingAt.goes_on a b (to_missing t sort marks told a r)
     (λ done. true≢false (sym (is_true (slice_index_or marks a false) ((told.marked a (reached_below t sort marks told a r)).1 done)) ∙ l.0)) l.1 l.2
 
-missing_below : (t : Chart) (sort : ℕ → Type 0) (marks : List Bool) → Told t sort marks → (p : ℕ) → MissingAt t sort p → p < places t
+missing_below : (t : Chart) (sort : ℕ → Type 0) (marks : List Bool) → AreMarksOf t sort marks → (p : ℕ) → MissingAt t sort p → p < places t
 missing_below t sort marks told _ MissingAt.begins = told.starts_in
 missing_below t sort marks told _ (MissingAt.goes_on p q h free passing to) = told.leads_in.ways p q to
 
-from_missing : (t : Chart) (sort : ℕ → Type 0) (marks : List Bool) → Told t sort marks → (p : ℕ) → MissingAt t sort p → Reached (unmarked marks t.stops) (t.start ∷ []) p
+from_missing : (t : Chart) (sort : ℕ → Type 0) (marks : List Bool) → AreMarksOf t sort marks → (p : ℕ) → MissingAt t sort p → Reached (unmarked marks t.stops) (t.start ∷ []) p
 from_missing t sort marks told _ MissingAt.begins = begins t.start (head_in t.start [])
 from_missing t sort marks told _ (MissingAt.goes_on p q h free passing to) =
     goes_on p q (from_missing t sort marks told p h)
@@ -88,7 +89,7 @@ sure_is t sort marks reached starts leads_in marked n long exact b told = (
   λ sure. told.1 (λ p lt mark. sure p (to_missing t sort marks all p ((exact p (subst (λ (m : ℕ). p < m) long lt)).0 mark))),
 )
   where
-    all : Told t sort marks
+    all : AreMarksOf t sort marks
     all = record { starts_in = starts; leads_in = leads_in; marked = marked }
 
 -- ---- by paths of a text

@@ -16,7 +16,7 @@ use Rattle.vs_rules.specs.vs_process.proofs.ThreadLists.{contains_at}
 use Rattle.vs_claims.specs.vs_process.proofs.ProcessLists.{set_same, set_other, distinct_place}
 use Rattle.vs_claims.proofs.PlaceLemmas.{same_name}
 use Rattle.vs_rules.specs.Claims.{Claims, Name, assign_name, place_of, times_in}
-use Rattle.vs_rules.specs.Drivers.{Driver, assign, WritesBit, ComesBefore}
+use Rattle.vs_rules.specs.Drivers.{Driver, assign, WritesBit, Precedes}
 use Rattle.vs_rules.specs.Rules.{K1_Assign, K4, IsSelf}
 use Rattle.vs_rules_of_starts.specs.Settled.{Drives, IsDrivenBefore, IsInOrder}
 use Rattle.vs_rules_of_starts.specs.Order.{place_at, IsGrown, IsPut, IsPutWhere, AreAtPlaces}
@@ -187,7 +187,7 @@ in_order_is d c one four none table count all = record {
         written : WritesBit d (assign y) (record { signal = r.signal; word = w; place = n })
         written = record { range = found.1; writes = (by.assign, by.is, (contains_at (writes by.assign.target) found.0 found.1 found.2, tt)); has = found.3 }
 
-        by_before : (IsSelf (assign j) (assign y) ⊎ ComesBefore d c (assign y) (assign j)) → IsDrivenBefore d table i r.signal w n
+        by_before : (IsSelf (assign j) (assign y) ⊎ Precedes d c (assign y) (assign j)) → IsDrivenBefore d table i r.signal w n
         by_before (inl self) = absurd self
         by_before (inr before) =
             let one_is : before.one ≡ by.assign.name.items = same_Some before.one by.assign.name.items (sym before.is ∙ ap assign_name by.is) in

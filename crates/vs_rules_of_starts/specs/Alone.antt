@@ -32,5 +32,5 @@ store_if true store = Some store
 store_if false store = None
 
 -- a process with this text, run alone on a store, has come to an event control after two steps, the store as it was
-pub record ComesTo (body : Statement) (store : Store) (behind : Todo) : Type 0 where
+pub record ReachesControl (body : Statement) (store : Store) (behind : Todo) : Type 0 where
   pub is : arrival 2 (flat body) store ≡ arrived_if true behind store

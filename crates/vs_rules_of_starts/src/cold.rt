@@ -8,7 +8,7 @@ ghost use Rattle.vs_rules.specs.vs_process.specs.BlockDrivers.{IsSettledStart, s
 ghost use Rattle.vs_rules.specs.vs_process.specs.Executions.{is_combinational};
 ghost use Rattle.vs_rules.specs.Blocks.{run_alone};
 ghost use Rattle.vs_rules_of_starts.specs.Settled.{IsInOrder};
-ghost use Rattle.vs_rules_of_starts.specs.Alone.{store_if, ComesTo};
+ghost use Rattle.vs_rules_of_starts.specs.Alone.{store_if, ReachesControl};
 ghost use Rattle.vs_rules_of_starts.specs.Cold.{IsAfterControl, StaysWithin, StaysAtEach};
 
 use crate::alone::arrive;
@@ -46,13 +46,13 @@ impl<'a> Model for Beginning<'a> {
 
 /// Runs a process alone on a store, from after the control that its text comes to in two steps, for so many steps at most: whether it arrives at a
 /// control again.
-pub fn comes_back(
+pub fn returns_to_control(
     alloc: Global,
     code: &Code,
     store: &mut Store,
     most: u64,
 ) -> Result<bool, AllocError>
-    ensures { IfOk result (λ b. (behind : Todo) → ComesTo code.now store.old behind →
+    ensures { IfOk result (λ b. (behind : Todo) → ReachesControl code.now store.old behind →
         store_if b store.new ≡ run_alone most behind store.old) }
 {
     let mut cursor = Cursor::start(alloc, code)?;
@@ -82,7 +82,7 @@ fn stays_within(
 {
     let mut store = settled.copy(alloc)?;
     let code = compile(alloc, &design.processes()[i].body)?;
-    let arrives = comes_back(alloc, &code, &mut store, most)?;
+    let arrives = returns_to_control(alloc, &code, &mut store, most)?;
     if !arrives {
         return Ok(false);
     }

@@ -63,6 +63,9 @@ plan_in d r h = subst (λ (p : Plan). IsRun p.design p.terms r) (sym h.1.agrees.
 pub plan_out : {Q : Type 0} (d : Parts) (r new : RunState Q) → IsRunOf d r → IsRun (plan_of r).design (plan_of r).terms new → IsRunOf d new
 plan_out d r new h k = (h.0, subst (λ (p : Plan). IsRun p.design p.terms new) h.1.agrees.plan k)
 
+pub signals_of : {Q : Type 0} (d : Parts) (terms : List ProcessTerm) (r : RunState Q) → Agrees d terms r → r.design.now.signals ≡ d.signals
+signals_of d terms r h = ap (λ (p : Plan). p.design.signals) h.plan
+
 -- ---- where processes are
 
 -- the place of the process of a number
@@ -441,6 +444,14 @@ wrote_spot_state d terms r v spot value unknown ds h long is_value is_unknown st
     let same : digits_of_planes spot.width value unknown ≡ ds = planes_hold spot.width value unknown ds long is_value is_unknown in
     wrote_state d terms r v r.changes (spot_write spot ds) h (store ∙ ap (λ (l : List Digit). put r.watched.store (spot_write spot l)) same)
     (digits_made r.watched.tables r.watched.store spot (digits_of_planes spot.width value unknown) ds r.watched.events.assigns v.events.assigns r.watched.events.processes v.events.processes same makes)
+
+-- the write that they make up
+pub spot_same : (spot : Spot) (value unknown : ℕ) (ds : List Digit) (w : Write) → length ds ≡ spot.width → value ≡ value_plane ds → unknown ≡ unknown_plane ds → w ≡ spot_write spot ds →
+    spot_write spot (digits_of_planes spot.width value unknown) ≡ w
+spot_same spot value unknown ds w long is_value is_unknown is = ap (spot_write spot) (planes_hold spot.width value unknown ds long is_value is_unknown) ∙ sym is
+
+pub made_same : (tables : Tables) (store : Store) (v w : Write) (x y : List AssignState) (p q : List Process) → v ≡ w → Makes tables store v x p y q → Makes tables store w x p y q
+made_same tables store v w x y p q same h = subst (λ (z : Write). Makes tables store z x p y q) same h
 
 -- ---- counters in memory
 

@@ -19,6 +19,7 @@ use Rattle.vs_eval.specs.Meant.{Meaning}
 use Rattle.vs_process.specs.vs_strobe.specs.Lines.{full_line}
 use Rattle.vs_process.specs.declared.choice.Repeat.{Repeat}
 use Rattle.vs_process.specs.declared.choice.Turns.{Turns}
+use Rattle.vs_process.specs.declared.chosen_place.ChosenPlace.{ChosenPlace}
 use Rattle.vs_process.specs.declared.draft.Op.{Op}
 use Rattle.vs_process.specs.declared.script.Action.{Action}
 use Rattle.vs_process.specs.declared.script.Action.TheVariants as a
@@ -28,6 +29,7 @@ use Rattle.vs_process.specs.declared.switch.Switch.{Switch}
 use Rattle.std.specs.declared.alloc.Global.{Global}
 use Rattle.std.specs.declared.vec.Vec.{Vec}
 use Rattle.vs_process.specs.Choices.{index_of, repeat_lands, turns_lands}
+use Rattle.vs_process.specs.ChosenPlaces.{chosen_value, chosen_write}
 use Rattle.vs_process.specs.Landings.{Landing, turned}
 use Rattle.vs_process.specs.Places.{Place, Todo, going, inactive, sleeping}
 use Rattle.vs_process.specs.Scripts.{Does, IsScriptOf, IsStep, Steps, instruction_control, spot_value, todo_landed, todo_on, AreSwitchesOf, led_by}
@@ -58,9 +60,13 @@ pub known_by : (signals : List Signal) (c : Text) (index next : ℕ) (action : A
 known_by signals c index next a.Nothing does same = tt
 known_by signals c index next (a.Assign spot r) does same =
     subst (λ (l : List Signal). IsKnown l (a.Assign spot r)) same (does.0.inside, does.0.signals)
+known_by signals c index next (a.AssignChosen place r) does same =
+    subst (λ (l : List Signal). IsKnown l (a.AssignChosen place r)) same (does.0.inside, does.0.signals)
 known_by signals c index next (a.AssignAny t e) does same = tt
 known_by signals c index next (a.Update spot r) does same =
     subst (λ (l : List Signal). IsKnown l (a.Update spot r)) same (does.0.inside, does.0.signals)
+known_by signals c index next (a.UpdateChosen place r) does same =
+    subst (λ (l : List Signal). IsKnown l (a.UpdateChosen place r)) same (does.0.inside, does.0.signals)
 known_by signals c index next (a.UpdateAny ticks t e) does same = tt
 known_by signals c index next (a.Branch r other) does same = does.0 ∙ same
 known_by signals c index next (a.Case all) does same = subst (λ (l : List Signal). AreSwitchesOf l all.items) same does.0
@@ -77,8 +83,10 @@ control_by : (c : Text) (index : ℕ) (action : Action) (next : ℕ) (o : Option
 control_by c index (a.Wait n terms) next o at is = record { index = index; at = at ∙ is }
 control_by c index a.Nothing next o at is = tt
 control_by c index (a.Assign spot r) next o at is = tt
+control_by c index (a.AssignChosen place r) next o at is = tt
 control_by c index (a.AssignAny t e) next o at is = tt
 control_by c index (a.Update spot r) next o at is = tt
+control_by c index (a.UpdateChosen place r) next o at is = tt
 control_by c index (a.UpdateAny ticks t e) next o at is = tt
 control_by c index (a.Branch r other) next o at is = tt
 control_by c index (a.Case all) next o at is = tt
@@ -99,8 +107,10 @@ pub prints : (c : Text) (index next : ℕ) (action : Action) → Does c index ac
     text_of_line (step (todo_on c cs index) store time).line ≡ action_text action store time
 prints c index next a.Nothing does cs store time long = ap (λ (o : Out). text_of_line o.line) (does.takes cs store time long).out
 prints c index next (a.Assign spot r) does cs store time long = ap (λ (o : Out). text_of_line o.line) (does.1.takes cs store time long).out
+prints c index next (a.AssignChosen place r) does cs store time long = ap (λ (o : Out). text_of_line o.line) (does.1.takes cs store time long).out
 prints c index next (a.AssignAny t e) does cs store time long = ap (λ (o : Out). text_of_line o.line) (does.takes cs store time long).out
 prints c index next (a.Update spot r) does cs store time long = ap (λ (o : Out). text_of_line o.line) (does.1.takes cs store time long).out
+prints c index next (a.UpdateChosen place r) does cs store time long = ap (λ (o : Out). text_of_line o.line) (does.1.takes cs store time long).out
 prints c index next (a.UpdateAny ticks t e) does cs store time long = ap (λ (o : Out). text_of_line o.line) (does.takes cs store time long).out
 prints c index next (a.Branch r other) does cs store time long = ap (λ (o : Out). text_of_line o.line) (does.1.takes cs store time long).out
 prints c index next (a.Case all) does cs store time long = ap (λ (o : Out). text_of_line o.line) (does.1.takes cs store time long).out
@@ -135,15 +145,23 @@ pub record Turned {Q : Type 0} (number count : ℕ) (l : Landing) (old new : Run
   pub counters : counters_of new ≡ slice_set (counters_of old) number l.counters
   pub others : new ≡ record old { counters = new.counters }
 
+-- the write that gives a place that indices choose the value of an expression
+abbrev pub chosen_at : ChosenPlace → Meaning → Store → ℕ → Write
+chosen_at place r store time = chosen_write place (chosen_value place r store time) store time
+
 -- what each kind of instruction has done in a run, by its action
 abbrev pub Made : {Q : Type 0} → ℕ → Action → ℕ → RunState Q → RunState Q → Went → Type 0
 Made number a.Nothing next old new went = (new ≡ old) × (went ≡ On next)
 Made number (a.Assign spot r) next old new went = (counters_of new ≡ counters_of old) × (went ≡ On next)
     × (state_of new ≡ written (state_of old) (spot_write spot (spot_value spot r old.watched.store old.regions.time)))
+Made number (a.AssignChosen place r) next old new went = (counters_of new ≡ counters_of old) × (went ≡ On next)
+    × (state_of new ≡ written (state_of old) (chosen_at place r old.watched.store old.regions.time))
 Made number (a.AssignAny t e) next old new went = (counters_of new ≡ counters_of old) × (went ≡ On next)
     × (state_of new ≡ written (state_of old) (assignment t.now e.now old.watched.store old.regions.time))
 Made number (a.Update spot r) next old new went = (counters_of new ≡ counters_of old) × (went ≡ On next)
     × (state_of new ≡ record (state_of old) { updates = updates_after number old.regions.time (Some (0, spot_write spot (spot_value spot r old.watched.store old.regions.time))) old.regions.updates })
+Made number (a.UpdateChosen place r) next old new went = (counters_of new ≡ counters_of old) × (went ≡ On next)
+    × (state_of new ≡ record (state_of old) { updates = updates_after number old.regions.time (Some (0, chosen_at place r old.watched.store old.regions.time)) old.regions.updates })
 Made number (a.UpdateAny ticks t e) next old new went = (counters_of new ≡ counters_of old) × (went ≡ On next)
     × (state_of new ≡ record (state_of old) { updates = updates_after number old.regions.time (Some (ticks.count, assignment t.now e.now old.watched.store old.regions.time)) old.regions.updates })
 Made number (a.Branch r other) next old new went = (new ≡ old) × (went ≡ On (branch (truth (value_of r.expression old.watched.store old.regions.time)) next other))
@@ -214,6 +232,14 @@ acts_of number (a.Assign spot r) next old new went h = record {
       (done number c index old new (On next) (record (goes n) { write = Some v }) (does.1.takes (counters_at number old) old.watched.store old.regions.time long)
       (h.2 ∙ sym (left_write (state_of old) number n v)) (same_counters number c next old new h.0));
 }
+acts_of number (a.AssignChosen place r) next old new went h = record {
+  done = λ c index does control long.
+      let n : Next = on (todo_on c (counters_at number old) next) in
+      let v : Write = chosen_at place r old.watched.store old.regions.time in
+      led number c index old new went (On next) h.1
+      (done number c index old new (On next) (record (goes n) { write = Some v }) (does.1.takes (counters_at number old) old.watched.store old.regions.time long)
+      (h.2 ∙ sym (left_write (state_of old) number n v)) (same_counters number c next old new h.0));
+}
 acts_of number (a.AssignAny t e) next old new went h = record {
   done = λ c index does control long.
       let n : Next = on (todo_on c (counters_at number old) next) in
@@ -226,6 +252,14 @@ acts_of number (a.Update spot r) next old new went h = record {
   done = λ c index does control long.
       let n : Next = on (todo_on c (counters_at number old) next) in
       let v : Write = spot_write spot (spot_value spot r old.watched.store old.regions.time) in
+      led number c index old new went (On next) h.1
+      (done number c index old new (On next) (record (goes n) { update = Some (0, v) }) (does.1.takes (counters_at number old) old.watched.store old.regions.time long)
+      (h.2 ∙ sym (left_update (state_of old) number n 0 v)) (same_counters number c next old new h.0));
+}
+acts_of number (a.UpdateChosen place r) next old new went h = record {
+  done = λ c index does control long.
+      let n : Next = on (todo_on c (counters_at number old) next) in
+      let v : Write = chosen_at place r old.watched.store old.regions.time in
       led number c index old new went (On next) h.1
       (done number c index old new (On next) (record (goes n) { update = Some (0, v) }) (does.1.takes (counters_at number old) old.watched.store old.regions.time long)
       (h.2 ∙ sym (left_update (state_of old) number n 0 v)) (same_counters number c next old new h.0));

@@ -141,25 +141,25 @@ keeps_more d terms old now new h k = record {
 }
 
 -- what a step needs
-pub record Stands {Q : Type 0} (d : Parts) (terms : List ProcessTerm) (number : ℕ) (p : Process) (gait : Gait) (old : RunState Q) (script : List Instruction) : Type 0 where
+pub record MayStep {Q : Type 0} (d : Parts) (terms : List ProcessTerm) (number : ℕ) (p : Process) (gait : Gait) (old : RunState Q) (script : List Instruction) : Type 0 where
   pub at : slice_get old.watched.events.processes number ≡ Some p
   pub waits : p.wait ≡ w.Nothing gait
   pub is : IsScriptOf p.script.now script
 
 pub stands_so : {Q : Type 0} (d : Parts) (terms : List ProcessTerm) (number : ℕ) (p : Process) (gait : Gait) (old : RunState Q) (script : List Instruction) → slice_get old.watched.events.processes number ≡ Some p →
-    p.wait ≡ w.Nothing gait → IsScriptOf p.script.now script → Stands d terms number p gait old script
+    p.wait ≡ w.Nothing gait → IsScriptOf p.script.now script → MayStep d terms number p gait old script
 stands_so d terms number p gait old script at waits is = record { at = at; waits = waits; is = is }
 
 -- it is done
 did : {Q : Type 0} (d : Parts) (terms : List ProcessTerm) (number : ℕ) (p : Process) (gait : Gait) (old now new : RunState Q) (script : List Instruction) (index : ℕ) (x : Instruction) (went : Went) →
-    Stands d terms number p gait old script → slice_get script index ≡ Some x → Keeps d terms old now → Acts number x.action x.next now new went → IsStepDone number p.script.now index now new went
+    MayStep d terms number p gait old script → slice_get script index ≡ Some x → Keeps d terms old now → Acts number x.action x.next now new went → IsStepDone number p.script.now index now new went
 did d terms number p gait old now new script index x went s at keeps acts =
     acts.done p.script.now index (s.is.does index x at) (control_in p.script.now script index x s.is at)
     (script_there d terms number p gait old now s.at s.waits keeps).counted
 
 -- the process goes on
 pub stepping_on : {Q : Type 0} (d : Parts) (terms : List ProcessTerm) (number : ℕ) (p : Process) (gait : Gait) (old now new : RunState Q) (known mid last : Option (List ℕ)) (steps index next : ℕ) (script : List Instruction)
-    (x : Instruction) → Stands d terms number p gait old script → slice_get script index ≡ Some x → IsStepping d terms number p.script.now p.index gait old known steps index now mid →
+    (x : Instruction) → MayStep d terms number p gait old script → slice_get script index ≡ Some x → IsStepping d terms number p.script.now p.index gait old known steps index now mid →
     Appends mid last (action_text x.action now.watched.store now.regions.time) → Acts number x.action x.next now new (On next) → Keeps d terms now new →
     IsStepping d terms number p.script.now p.index gait old known (suc steps) next new last
 stepping_on d terms number p gait old now new known mid last steps index next script x s at h printed acts keeps =
@@ -180,7 +180,7 @@ stepping_on d terms number p gait old now new known mid last steps index next sc
 
 -- it waits
 pub stepping_rests : {Q : Type 0} (d : Parts) (terms : List ProcessTerm) (number : ℕ) (p : Process) (gait : Gait) (old now new : RunState Q) (known mid last : Option (List ℕ)) (steps index next : ℕ) (rest : Wait)
-    (script : List Instruction) (x : Instruction) → Stands d terms number p gait old script → slice_get script index ≡ Some x → IsStepping d terms number p.script.now p.index gait old known steps index now mid →
+    (script : List Instruction) (x : Instruction) → MayStep d terms number p gait old script → slice_get script index ≡ Some x → IsStepping d terms number p.script.now p.index gait old known steps index now mid →
     Appends mid last (action_text x.action now.watched.store now.regions.time) → Acts number x.action x.next now new (Rests next rest) →
     HaveTaken (suc steps) number (state_of old) (placed (state_of new) number (place_by rest (todo_on p.script.now (counters_at number new) next))) known last
 stepping_rests d terms number p gait old now new known mid last steps index next rest script x s at h printed acts =
@@ -199,7 +199,7 @@ stands_of c time w.Inactive h = h
 stands_of c time (w.Terms n terms) h = h
 
 pub rests_stand : {Q : Type 0} (d : Parts) (terms : List ProcessTerm) (number : ℕ) (p : Process) (gait : Gait) (old now new : RunState Q) (index next : ℕ) (rest : Wait) (script : List Instruction) (x : Instruction) →
-    Stands d terms number p gait old script → slice_get script index ≡ Some x → Keeps d terms old now → Acts number x.action x.next now new (Rests next rest) → IsValidWait p.script.now old.regions.time rest
+    MayStep d terms number p gait old script → slice_get script index ≡ Some x → Keeps d terms old now → Acts number x.action x.next now new (Rests next rest) → IsValidWait p.script.now old.regions.time rest
 rests_stand d terms number p gait old now new index next rest script x s at keeps acts =
     let done : IsStepDone number p.script.now index now new (Rests next rest) = did d terms number p gait old now new script index x (Rests next rest) s at keeps acts in
     subst (λ (t : ℕ). IsValidWait p.script.now t rest) keeps.time (stands_of p.script.now now.regions.time rest done.leads.0)
@@ -211,7 +211,7 @@ going_not c time w.Inactive todo h = refl
 going_not c time (w.Terms n terms) todo h = refl
 
 pub rests_stopped : {Q : Type 0} (d : Parts) (terms : List ProcessTerm) (number : ℕ) (p : Process) (gait : Gait) (old now new : RunState Q) (index next : ℕ) (rest : Wait) (script : List Instruction) (x : Instruction) (todo : Todo) →
-    Stands d terms number p gait old script → slice_get script index ≡ Some x → Keeps d terms old now → Acts number x.action x.next now new (Rests next rest) → is_going (place_by rest todo) ≡ false
+    MayStep d terms number p gait old script → slice_get script index ≡ Some x → Keeps d terms old now → Acts number x.action x.next now new (Rests next rest) → is_going (place_by rest todo) ≡ false
 rests_stopped d terms number p gait old now new index next rest script x todo s at keeps acts =
     let done : IsStepDone number p.script.now index now new (Rests next rest) = did d terms number p gait old now new script index x (Rests next rest) s at keeps acts in
     going_not p.script.now now.regions.time rest todo done.leads.0
@@ -232,7 +232,7 @@ stepping_ends d terms number c from gait old now known mid steps index script is
 
 -- and an active process has taken one
 pub stepping_some : {Q : Type 0} (d : Parts) (terms : List ProcessTerm) (number : ℕ) (p : Process) (gait : Gait) (old now : RunState Q) (known mid : Option (List ℕ)) (steps index : ℕ) (script : List Instruction) →
-    Stands d terms number p gait old script → slice_get script index ≡ None → IsStepping d terms number p.script.now p.index gait old known steps index now mid → is_active p ≡ true → 0 < steps
+    MayStep d terms number p gait old script → slice_get script index ≡ None → IsStepping d terms number p.script.now p.index gait old known steps index now mid → is_active p ≡ true → 0 < steps
 stepping_some d terms number p gait old now known mid zero index script s at h active =
     let none : slice_get script p.index ≡ None = ap (slice_get script) (sym (h.first refl)) ∙ at in
     let stopped : is_going (place_in p []) ≡ false =
@@ -261,7 +261,7 @@ text_at s number gait todo below =
     ∙ ap (λ (t : Todo). text_of_line (step t s.store s.time).line) (active_todo gait todo)
 
 pub stepping_part : {Q : Type 0} (d : Parts) (terms : List ProcessTerm) (number : ℕ) (p : Process) (gait : Gait) (old now : RunState Q) (known mid last : Option (List ℕ)) (limit steps index : ℕ) (script : List Instruction)
-    (x : Instruction) → Stands d terms number p gait old script → slice_get script index ≡ Some x → IsStepping d terms number p.script.now p.index gait old known steps index now mid → steps < limit →
+    (x : Instruction) → MayStep d terms number p gait old script → slice_get script index ≡ Some x → IsStepping d terms number p.script.now p.index gait old known steps index now mid → steps < limit →
     AppendsPart mid last (action_text x.action now.watched.store now.regions.time) → TakenPart limit number (state_of old) known last
 stepping_part d terms number p gait old now known mid last limit steps index script x s at h below part =
     let c : Text = p.script.now in
@@ -286,7 +286,7 @@ stepping_part d terms number p gait old now known mid last limit steps index scr
 
 -- one whose line was written
 pub stepping_lost : {Q : Type 0} (d : Parts) (terms : List ProcessTerm) (number : ℕ) (p : Process) (gait : Gait) (old now : RunState Q) (known mid last : Option (List ℕ)) (limit steps index : ℕ) (script : List Instruction)
-    (x : Instruction) → Stands d terms number p gait old script → slice_get script index ≡ Some x → IsStepping d terms number p.script.now p.index gait old known steps index now mid → steps < limit →
+    (x : Instruction) → MayStep d terms number p gait old script → slice_get script index ≡ Some x → IsStepping d terms number p.script.now p.index gait old known steps index now mid → steps < limit →
     Appends mid last (action_text x.action now.watched.store now.regions.time) → TakenPart limit number (state_of old) known last
 stepping_lost d terms number p gait old now known mid last limit steps index script x s at h below printed =
     stepping_part d terms number p gait old now known mid last limit steps index script x s at h below (part_all mid last (action_text x.action now.watched.store now.regions.time) printed)

@@ -8,7 +8,7 @@ use Rattle.vs_run_steps.specs.declared.assigns.Evaluated.TheVariants.{Same, Wait
 use Rattle.vs_run_steps.specs.Turns.{AreMade}
 
 -- its move was made; and that of its update too, where the value was written at once, as it may be
-abbrev pub HasCome : Bool → ℕ → Evaluated → State → State → Type 0
-HasCome at_once j Same s t = t ≡ apply (Evaluate j) s
-HasCome at_once j Waits s t = t ≡ apply (Evaluate j) s
-HasCome at_once j Written s t = (at_once ≡ true) × AreMade 2 s t
+abbrev pub HasOutcome : Bool → ℕ → Evaluated → State → State → Type 0
+HasOutcome at_once j Same s t = t ≡ apply (Evaluate j) s
+HasOutcome at_once j Waits s t = t ≡ apply (Evaluate j) s
+HasOutcome at_once j Written s t = (at_once ≡ true) × AreMade 2 s t

@@ -8,6 +8,7 @@ use Rattle.vs_process.specs.vs_strobe.specs.Lines.{full_line}
 use Rattle.vs_process.specs.declared.gait.Gait.{Gait}
 use Rattle.vs_process.specs.declared.script.Action.{Action}
 use Rattle.vs_process.specs.declared.script.Action.TheVariants as a
+use Rattle.vs_process.specs.ChosenPlaces.{IsChosenIn}
 use Rattle.vs_process.specs.Places.{Place, Todo, active_at, going, stepped_gait}
 use Rattle.vs_process.specs.Scripts.{AreSwitchesOf, Does, IsStep, todo_on}
 use Rattle.vs_process.specs.Spots.{IsSpotIn}
@@ -35,7 +36,9 @@ action_text _ store time = []
 -- the words that an instruction names are those of a design with these signals
 abbrev pub IsKnown : List Signal → Action → Type 0
 IsKnown signals (a.Assign spot r) = IsSpotIn signals spot × (r.signals ≡ signals)
+IsKnown signals (a.AssignChosen place r) = IsChosenIn signals place × (r.signals ≡ signals)
 IsKnown signals (a.Update spot r) = IsSpotIn signals spot × (r.signals ≡ signals)
+IsKnown signals (a.UpdateChosen place r) = IsChosenIn signals place × (r.signals ≡ signals)
 IsKnown signals (a.Branch r other) = r.signals ≡ signals
 IsKnown signals (a.Case all) = AreSwitchesOf signals all.items
 IsKnown signals _ = Unit {0}

@@ -4,7 +4,7 @@ ghost use Rattle.vs_design.specs.declared.design.Assign as design_assign;
 ghost use Rattle.vs_run_active.specs.vs_process.specs.Executions as executions;
 ghost use Rattle.vs_run_steps.specs.Evaluations.{IsEvaluation};
 ghost use Rattle.vs_run_steps.specs.Forms.{IsPlaceOf};
-ghost use Rattle.vs_run_steps.specs.Outcomes.{HasCome};
+ghost use Rattle.vs_run_steps.specs.Outcomes.{HasOutcome};
 ghost use Rattle.vs_run_steps.specs.Runs.{IsRunOf, marks_of, state_of};
 ghost use Rattle.vs_run_steps.specs.Turns.{AreMade};
 ghost use Rattle.vs_run_active.specs.Changes.{MarkChanges};
@@ -67,7 +67,7 @@ fn give<Q: EventQueue<Due>>(
     requires place { (a : design_assign.Assign) → slice_get forms.now.assigns assign ≡ Some a
         → IsPlaceOf forms.now.signals a.target spot.now }
     ensures run { OnOk result (IsRunOf forms.now run.new) }
-    ensures come { IfOk result (λ e. HasCome at_once assign e (state_of run.old) (state_of run.new)) }
+    ensures come { IfOk result (λ e. HasOutcome at_once assign e (state_of run.old) (state_of run.new)) }
     ensures marked { OnOk result (MarkChanges (marks_of run.old) (marks_of run.new) (state_of run.old).store (state_of run.new).store) }
 {
     if at_once {
@@ -89,7 +89,7 @@ fn evaluate_any<Q: EventQueue<Due>>(
     requires run { IsRunOf forms.now run.old }
     requires active { executions.is_enabled (state_of run.old) (Move.Evaluate assign) ≡ true }
     ensures run { OnOk result (IsRunOf forms.now run.new) }
-    ensures come { IfOk result (λ e. HasCome false assign e (state_of run.old) (state_of run.new)) }
+    ensures come { IfOk result (λ e. HasOutcome false assign e (state_of run.old) (state_of run.new)) }
     ensures marked { OnOk result (MarkChanges (marks_of run.old) (marks_of run.new) (state_of run.old).store (state_of run.new).store) }
 {
     let (digits, differs) = evaluation_any(run, forms, assign)?;
@@ -112,7 +112,7 @@ fn evaluate_placed<Q: EventQueue<Due>>(
     requires run { IsRunOf forms.now run.old }
     requires active { executions.is_enabled (state_of run.old) (Move.Evaluate assign) ≡ true }
     ensures run { OnOk result (IsRunOf forms.now run.new) }
-    ensures come { IfOk result (λ e. HasCome at_once assign e (state_of run.old) (state_of run.new)) }
+    ensures come { IfOk result (λ e. HasOutcome at_once assign e (state_of run.old) (state_of run.new)) }
     ensures marked { OnOk result (MarkChanges (marks_of run.old) (marks_of run.new) (state_of run.old).store (state_of run.new).store) }
 {
     let Some(placed) = spot_evaluation(run, forms, assign) else {
@@ -138,7 +138,7 @@ fn make_evaluation<Q: EventQueue<Due>>(
     requires run { IsRunOf forms.now run.old }
     requires active { executions.is_enabled (state_of run.old) (Move.Evaluate assign) ≡ true }
     ensures run { OnOk result (IsRunOf forms.now run.new) }
-    ensures come { IfOk result (λ e. HasCome at_once assign e (state_of run.old) (state_of run.new)) }
+    ensures come { IfOk result (λ e. HasOutcome at_once assign e (state_of run.old) (state_of run.new)) }
     ensures marked { OnOk result (MarkChanges (marks_of run.old) (marks_of run.new) (state_of run.old).store (state_of run.new).store) }
 {
     let Some(copied) = copy_evaluation(run, forms, assign) else {

@@ -1,11 +1,9 @@
 //! The moves of the continuous assignments of a group.
-ghost use Rattle.std.specs.Prelude.{◌≡◌, ◌<◌, ◌≤◌, true, slice_get, IfOk, OnOk};
+ghost use Rattle.std.specs.Prelude.{◌≡◌, ◌<◌, true, slice_get, IfOk};
 ghost use Rattle.vs_run_active.specs.vs_process.specs.Executions as executions;
 ghost use Rattle.vs_run_steps.specs.Members.{group_move, members_in};
-ghost use Rattle.vs_run_steps.specs.MembersMade.{HasBegun};
-ghost use Rattle.vs_run_steps.specs.Runs.{IsRunOf, marks_of, state_of};
-ghost use Rattle.vs_run_steps.specs.Turns.{AreMade};
-ghost use Rattle.vs_run_active.specs.Changes.{MarkChanges};
+ghost use Rattle.vs_run_steps.specs.MembersMade.{AreDone, HasBegun};
+ghost use Rattle.vs_run_steps.specs.Runs.{IsRunOf, state_of};
 
 use crate::RunState;
 use crate::assigns::{evaluate, evaluate_alone, is_pending, needs, update_member};
@@ -48,12 +46,9 @@ fn update_group<Q: EventQueue<Due>>(
 ) -> Result<u64, AllocError>
     requires limit { 0 < limit }
     requires run { IsRunOf forms.now run.old }
-    ensures run { OnOk result (IsRunOf forms.now run.new) }
     ensures some { IfOk result (λ taken.
         HasBegun (members_in run.old.watched.tables group) (λ j. Move.Propagate j) (state_of run.old) taken) }
-    ensures within { IfOk result (λ taken. taken ≤ limit) }
-    ensures made { IfOk result (λ taken. AreMade taken (state_of run.old) (state_of run.new)) }
-    ensures marked { OnOk result (MarkChanges (marks_of run.old) (marks_of run.new) (state_of run.old).store (state_of run.new).store) }
+    ensures done { IfOk result (λ taken. AreDone forms.now limit run.old taken run.new) }
 {
     let count = run.watched.tables.groups.members_of(group).len();
     let mut taken = 0;
@@ -81,12 +76,9 @@ fn evaluate_group<Q: EventQueue<Due>>(
 ) -> Result<u64, AllocError>
     requires limit { 0 < limit }
     requires run { IsRunOf forms.now run.old }
-    ensures run { OnOk result (IsRunOf forms.now run.new) }
     ensures some { IfOk result (λ taken.
         HasBegun (members_in run.old.watched.tables group) (λ j. Move.Evaluate j) (state_of run.old) taken) }
-    ensures within { IfOk result (λ taken. taken ≤ limit) }
-    ensures made { IfOk result (λ taken. AreMade taken (state_of run.old) (state_of run.new)) }
-    ensures marked { OnOk result (MarkChanges (marks_of run.old) (marks_of run.new) (state_of run.old).store (state_of run.new).store) }
+    ensures done { IfOk result (λ taken. AreDone forms.now limit run.old taken run.new) }
 {
     let count = run.watched.tables.groups.members_of(group).len();
     let mut differs = false;
@@ -122,12 +114,9 @@ fn copy_group<Q: EventQueue<Due>>(
 ) -> Result<u64, AllocError>
     requires limit { 0 < limit }
     requires run { IsRunOf forms.now run.old }
-    ensures run { OnOk result (IsRunOf forms.now run.new) }
     ensures some { IfOk result (λ taken.
         HasBegun (members_in run.old.watched.tables group) (λ j. Move.Evaluate j) (state_of run.old) taken) }
-    ensures within { IfOk result (λ taken. taken ≤ limit) }
-    ensures made { IfOk result (λ taken. AreMade taken (state_of run.old) (state_of run.new)) }
-    ensures marked { OnOk result (MarkChanges (marks_of run.old) (marks_of run.new) (state_of run.old).store (state_of run.new).store) }
+    ensures done { IfOk result (λ taken. AreDone forms.now limit run.old taken run.new) }
 {
     let count = run.watched.tables.groups.members_of(group).len();
     let mut taken = 0;
@@ -160,11 +149,8 @@ pub fn run_group<Q: EventQueue<Due>>(
     requires run { IsRunOf forms.now run.old }
     requires active { executions.is_enabled (state_of run.old)
         (group_move run.old.watched.tables run.old.watched.events.assigns group) ≡ true }
-    ensures run { OnOk result (IsRunOf forms.now run.new) }
     ensures some { IfOk result (λ taken. 0 < taken) }
-    ensures within { IfOk result (λ taken. taken ≤ limit) }
-    ensures made { IfOk result (λ taken. AreMade taken (state_of run.old) (state_of run.new)) }
-    ensures marked { OnOk result (MarkChanges (marks_of run.old) (marks_of run.new) (state_of run.old).store (state_of run.new).store) }
+    ensures done { IfOk result (λ taken. AreDone forms.now limit run.old taken run.new) }
 {
     let Some(first) = member_at(run, group, 0) else {
         return Ok(0);

@@ -24,7 +24,7 @@ use vs_vcd_writing::{Sink, WriterFault};
 
 /// What steps of a process have come to: how many were taken, the index where it stands after them, and what it waits for there.
 #[derive(Clone, Copy)]
-struct Taken<'a> {
+struct StepOutcome<'a> {
     steps: u64,
     index: usize,
     wait: Wait<'a>,
@@ -82,7 +82,7 @@ impl<'a, Q: EventQueue<Due>> RunState<'a, Q> {
         gait: Gait,
         limit: u64,
         lines: &mut L,
-    ) -> Result<Taken<'a>, WriterFault>
+    ) -> Result<StepOutcome<'a>, WriterFault>
         ghost plan: { Plan }
         requires agrees { Agrees plan.design plan.terms self.old }
         requires early { self.old.regions.time < 2 ^ 62 }
@@ -107,13 +107,13 @@ impl<'a, Q: EventQueue<Due>> RunState<'a, Q> {
         let mut index = process.index;
         for steps in 0..limit {
             let Some(x) = instructions.get(index) else {
-                return Ok(Taken { steps, index, wait });
+                return Ok(StepOutcome { steps, index, wait });
             };
             self.print(&x.action, lines)?;
             match self.act(number, x)? {
                 Went::On(next) => index = next,
                 Went::Rests(next, rest) => {
-                    return Ok(Taken {
+                    return Ok(StepOutcome {
                         steps: steps + 1,
                         index: next,
                         wait: rest,
@@ -121,7 +121,7 @@ impl<'a, Q: EventQueue<Due>> RunState<'a, Q> {
                 }
             }
         }
-        Ok(Taken {
+        Ok(StepOutcome {
             steps: limit,
             index,
             wait,

@@ -142,6 +142,10 @@ impl<'a, Q: EventQueue<Due>> RunState<'a, Q> {
                 self.write(spot, digits)?;
                 Ok(Went::On(x.next))
             }
+            Action::AssignChosen(place, e) => {
+                self.assign_chosen(place, e)?;
+                Ok(Went::On(x.next))
+            }
             Action::AssignAny(target, e) => {
                 self.assign_any(target, e)?;
                 Ok(Went::On(x.next))
@@ -149,6 +153,10 @@ impl<'a, Q: EventQueue<Due>> RunState<'a, Q> {
             Action::Update(spot, e) => {
                 let digits = e.cut_value(spot.width, &self.watched.store, time);
                 self.update(number, spot, digits)?;
+                Ok(Went::On(x.next))
+            }
+            Action::UpdateChosen(place, e) => {
+                self.update_chosen(number, place, e)?;
                 Ok(Went::On(x.next))
             }
             Action::UpdateAny(ticks, target, e) => {

@@ -1,6 +1,7 @@
 //! Writes in a run, and its nonblocking updates (IEEE 1364-2005, clauses 9.2 and 11.2).
 ghost use Rattle.std.specs.Prelude.{◌≡◌, ◌<◌, ◌^◌, [], Some, length, get_or, OnOk};
 ghost use Rattle.vs_design.specs.vs_logic4.specs.Planes.{ArePlanes, digits_of_planes};
+ghost use Rattle.vs_process.specs.ChosenPlaces.{IsChosenIn, chosen_value, chosen_write};
 ghost use Rattle.vs_process.specs.Spots.{IsSpotIn, spot_write};
 ghost use Rattle.vs_process.specs.Steps.{assignment};
 ghost use Rattle.vs_run_active.specs.vs_process.specs.States.{updates_after, written};
@@ -10,8 +11,8 @@ use crate::run::RunState;
 use std::alloc::AllocError;
 use vs_design::vs_logic4::Vec4;
 use vs_design::{Target, Ticks, Typed, Write};
-use vs_eval::{cut_value, write_of};
-use vs_process::Spot;
+use vs_eval::{Resolved, cut_value, write_of};
+use vs_process::{ChosenPlace, Spot, spot_of_part};
 use vs_run_regions::vs_time_wheel::EventQueue;
 use vs_run_regions::{Bits, Due};
 
@@ -58,7 +59,8 @@ impl<'a, Q: EventQueue<Due>> RunState<'a, Q> {
         ensures keeps { OnOk result (Keeps plan.design plan.terms self.old self.new) }
         ensures others { self.new ≡ record self.old { watched = self.new.watched; changes = self.new.changes } }
     {
-        self.watched.write_any(write, &mut self.changes)?;
+        self.watched
+            .write_any(self.design, write, &mut self.changes)?;
         Ok(())
     }
 
@@ -73,7 +75,8 @@ impl<'a, Q: EventQueue<Due>> RunState<'a, Q> {
         ensures others { self.new ≡ record self.old { watched = self.new.watched; changes = self.new.changes } }
     {
         let write = self.regions.write_of(number);
-        self.watched.write_any(write, &mut self.changes)?;
+        self.watched
+            .write_any(self.design, write, &mut self.changes)?;
         Ok(())
     }
 
@@ -91,6 +94,34 @@ impl<'a, Q: EventQueue<Due>> RunState<'a, Q> {
         let digits = cut_value(target, e, &self.watched.store, time);
         let write = write_of(self.alloc, target, digits, &self.watched.store, time)?;
         self.write_any(&write)?;
+        Ok(())
+    }
+
+    /// Gives a place that indices choose the value of an expression.
+    #[inline(never)]
+    pub(crate) fn assign_chosen(
+        &mut self,
+        place: &ChosenPlace,
+        e: &Resolved,
+    ) -> Result<(), AllocError>
+        ghost plan: { Plan }
+        requires agrees { Agrees plan.design plan.terms self.old }
+        requires place { IsChosenIn plan.design.signals place.now }
+        requires value { e.now.signals ≡ plan.design.signals }
+        ensures state { OnOk result (state_of self.new ≡ written (state_of self.old) (chosen_write place.now
+            (chosen_value place.now e.now self.old.watched.store self.old.regions.time) self.old.watched.store self.old.regions.time)) }
+        ensures keeps { OnOk result (Keeps plan.design plan.terms self.old self.new) }
+        ensures others { OnOk result (self.new ≡ record self.old { watched = self.new.watched; changes = self.new.changes }) }
+    {
+        let time = self.regions.time();
+        let value = e.cut_value(place.width, &self.watched.store, time);
+        let part = place.part(value, &self.watched.store, time);
+        let Some(found) = spot_of_part(self.design, &part) else {
+            let write = Write::one(self.alloc, part);
+            return self.write_any(&write);
+        };
+        let (spot, digits) = found;
+        self.write(&spot, digits)?;
         Ok(())
     }
 
@@ -118,6 +149,36 @@ impl<'a, Q: EventQueue<Due>> RunState<'a, Q> {
             unknown: digits.unknown_plane(),
         };
         self.regions.push_bits(process, bits)?;
+        Ok(())
+    }
+
+    /// A nonblocking update of a place that indices choose by a process, due in this slot.
+    #[inline(never)]
+    pub(crate) fn update_chosen(
+        &mut self,
+        process: usize,
+        place: &ChosenPlace,
+        e: &Resolved,
+    ) -> Result<(), AllocError>
+        ghost plan: { Plan }
+        requires agrees { Agrees plan.design plan.terms self.old }
+        requires place { IsChosenIn plan.design.signals place.now }
+        requires value { e.now.signals ≡ plan.design.signals }
+        ensures state { OnOk result (state_of self.new ≡ record (state_of self.old) {
+          updates = updates_after process self.old.regions.time (Some (
+            0,
+            chosen_write place.now
+                (chosen_value place.now e.now self.old.watched.store self.old.regions.time) self.old.watched.store self.old.regions.time,
+          )) self.old.regions.updates;
+        }) }
+        ensures keeps { OnOk result (Keeps plan.design plan.terms self.old self.new) }
+        ensures others { self.new ≡ record self.old { regions = self.new.regions } }
+    {
+        let time = self.regions.time();
+        let digits = e.cut_value(place.width, &self.watched.store, time);
+        let part = place.part(digits, &self.watched.store, time);
+        let write = Write::one(self.alloc, part);
+        self.regions.push_any(process, write)?;
         Ok(())
     }
 

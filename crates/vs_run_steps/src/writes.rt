@@ -13,8 +13,8 @@ ghost use Rattle.vs_run_steps.specs.Writes.{AreNamed, Follows, Makes, MakesWritt
 use crate::marks::{mark, mark_signals};
 use std::alloc::AllocError;
 use vs_design::vs_logic4::Vec4;
-use vs_design::{Store, Write};
-use vs_process::{Change, Spot, make};
+use vs_design::{Design, Store, Write};
+use vs_process::{Change, Spot, make, spot_of_write};
 use vs_run_active::vs_eval::WordChange;
 use vs_run_active::{Events, Tables};
 
@@ -104,9 +104,9 @@ impl<'a> Watched<'a> {
         Ok(())
     }
 
-    /// Makes a write of any kind; the words that it changes are noted in `changes`, in place of what was there.
+    /// Makes a write word by word; the words that it changes are noted in `changes`, in place of what was there.
     #[inline(never)]
-    pub fn write_any(&mut self, write: &Write, changes: &mut Vec<Change>) -> Result<(), AllocError>
+    fn write_words(&mut self, write: &Write, changes: &mut Vec<Change>) -> Result<(), AllocError>
         ghost signals: { List Signal }
         requires store { IsStoreOf signals self.old.store }
         requires rows { length signals ≡ length self.old.tables.rows.items }
@@ -122,6 +122,35 @@ impl<'a> Watched<'a> {
         let from = self.events.queue.len();
         self.wake_changes(changes)?;
         self.events.queue.sort_from(from);
+        Ok(())
+    }
+
+    /// Makes a write of any kind. Where it is one of bits of one word, all in range, no more is looked at; else `changes` has room for the words that
+    /// it changes.
+    #[inline(never)]
+    pub fn write_any(
+        &mut self,
+        design: &Design,
+        write: &Write,
+        changes: &mut Vec<Change>,
+    ) -> Result<(), AllocError>
+        ghost signals: { List Signal }
+        requires design { design.now.signals ≡ signals }
+        requires store { IsStoreOf signals self.old.store }
+        requires rows { length signals ≡ length self.old.tables.rows.items }
+        ensures store { OnOk result (self.new.store ≡ put self.old.store write.now) }
+        ensures tables { self.new.tables ≡ self.old.tables }
+        ensures made { OnOk result (Makes self.old.tables self.old.store write.now
+            self.old.events.assigns self.old.events.processes self.new.events.assigns self.new.events.processes) }
+        ensures marked { MarkChanges self.old.marks.items self.new.marks.items self.old.store self.new.store }
+    {
+        let Some(found) = spot_of_write(design, write) else {
+            return self.write_words(write, changes);
+        };
+        let (spot, digits) = found;
+        let value = digits.value_plane();
+        let unknown = digits.unknown_plane();
+        self.write(&spot, value, unknown)?;
         Ok(())
     }
 }

@@ -14,7 +14,6 @@ use Rattle.vs_design.specs.declared.design.Process.{Process}
 use Rattle.vs_design.specs.declared.signal.Signal.{Signal}
 use Rattle.vs_design.specs.declared.statement.EventTerm.{EventTerm}
 use Rattle.vs_design.specs.Parts.{Parts}
-use Rattle.vs_design.specs.Tables.{rows}
 use Rattle.vs_process.specs.Places.{Todo}
 use Rattle.vs_process.specs.Stops.{IsText}
 use Rattle.vs_process.specs.Ways.{Pause, none, delay, event, next_by}
@@ -38,7 +37,8 @@ use Rattle.vs_slots.specs.declared.runs.Runs.{Runs}
 use Rattle.vs_slots.specs.Firing.{RootFires}
 use Rattle.vs_slots.specs.Kept.{IsRunIn, AreAllRuns, AreBothRuns, AreClocks, AreFirings, AreTermsIn, AreWriteSlots, IsClockOf, IsFiring, IsFiringOf, IsKeptRun, IsPlaceWrite}
 use Rattle.vs_slots.specs.Kept.{IsTurned, IsWriteIn, RunsWhere, table_by}
-use Rattle.vs_slots.specs.Lists.{row, IsOneOf}
+use Rattle.vs_graph.specs.Rows.{row}
+use Rattle.vs_slots.specs.Lists.{IsOneOf}
 use Rattle.vs_slots.specs.Runs.{AreRuns, AreRunsBy, DelayEndsBy, DelayPauseEnds, EdgePauseEnds, HasRun, HasRunBy, TermsEnd}
 use Rattle.vs_slots.specs.Seen.{seen_by}
 use Rattle.vs_slots.specs.Terms.{TermsFire}
@@ -63,6 +63,11 @@ inside_of f i t maps is p place =
     let x = text_of f i q.0 t maps q.1 is in
     place_below (places t) t x.starts_in x.leads_in p place
 
+row_past : (xs : List (List ℕ)) (u r : ℕ) → length xs ≤ u → Contains (row xs u) r → ⊥
+row_past [] u r h c = omega (arith, c.1)
+row_past (x ∷ xs) zero r h c = omega (arith, h)
+row_past (x ∷ xs) (suc u) r h c = row_past xs u r (omega (arith, h)) c
+
 -- ---- run slots
 
 pub kept_runs : (can_end : Parts → Claims → ℕ → Pause → ℕ → Type 0) (f : Case) (runs : List Runs) (i : ℕ) (t : Chart) → AreCharts f.design f.charts → AreAllRuns can_end f runs →
@@ -71,22 +76,19 @@ kept_runs can_end f runs i t maps all is p r within = (
   λ y. (both y.0 y.1).0 y.2,
   λ h. let y = there_is runs i (subst (λ (n : ℕ). i < n) (maps.as_many ∙ sym all.long) (slice_get_within f.charts i t is)) in (y.0, y.1, (both y.0 y.1).1 h),
 ) where
-  both : (x : Runs) → slice_get runs i ≡ Some x → (IsOneOf (rows x.ends.items) (row x.before p) r ↔ HasRunBy (Plain (is_wide f.claims)) (can_end f.design f.claims i) t p r)
+  both : (x : Runs) → slice_get runs i ≡ Some x → (IsOneOf x.ends (row x.before p) r ↔ HasRunBy (Plain (is_wide f.claims)) (can_end f.design f.claims i) t p r)
   both x at = all.each i x at t is p r within
 
 -- ---- runs by lists and by terms
 
 nothing_runs : (before ends : List (List ℕ)) (p r : ℕ) → before ≡ [] → IsOneOf ends (row before p) r → ⊥
-nothing_runs before ends p r e y = let c = subst (λ (b : List (List ℕ)). Contains (row b p) y.0) e y.1 in none_in_row p y.0 c where
-  none_in_row : (p x : ℕ) → Contains (row [] p) x → ⊥
-  none_in_row zero x c = omega (arith, c.1)
-  none_in_row (suc p) x c = omega (arith, c.1)
+nothing_runs before ends p r e y = row_past [] p y.0 (omega arith) (subst (λ (b : List (List ℕ)). Contains (row b p) y.0) e y.1)
 
 -- a process in which no control can end so has no such runs
 pub no_runs : (can_end : Parts → Claims → ℕ → Pause → ℕ → Type 0) (f : Case) (i : ℕ) (x : Runs) → x.before ≡ [] → ((pause : Pause) (r : ℕ) → can_end f.design f.claims i pause r → ⊥) →
     RunsWhere can_end f i x
 no_runs can_end f i x empty never t is p r within =
-    (λ y. absurd (nothing_runs x.before (rows x.ends.items) p r empty y), λ w. absurd (never (pause_at t w.from) r w.starts))
+    (λ y. absurd (nothing_runs x.before x.ends p r empty y), λ w. absurd (never (pause_at t w.from) r w.starts))
 
 -- one without a chart has none either
 pub no_chart : (can_end : Parts → Claims → ℕ → Pause → ℕ → Type 0) (f : Case) (i : ℕ) (x : Runs) → slice_get f.charts i ≡ None → RunsWhere can_end f i x
@@ -220,13 +222,8 @@ writes_are f waiting fired u r maps both = (there, back) where
         ),
       )
 
-row_past : (xs : List (Vec ℕ Global)) (u r : ℕ) → length xs ≤ u → Contains (row (rows xs) u) r → ⊥
-row_past [] u r h c = omega (arith, c.1)
-row_past (x ∷ xs) zero r h c = omega (arith, h)
-row_past (x ∷ xs) (suc u) r h c = row_past xs u r (omega (arith, h)) c
-
 -- of a signal past the end too
-pub write_slots_are : (f : Case) (table : List (Vec ℕ Global)) (u r : ℕ) → AreWriteSlots f table → (Contains (row (rows table) u) r ↔ HasWriteSlot f.design f.claims u r)
+pub write_slots_are : (f : Case) (table : List (List ℕ)) (u r : ℕ) → AreWriteSlots f table → (Contains (row table u) r ↔ HasWriteSlot f.design f.claims u r)
 write_slots_are f table u r h = elim (cases_lt u (length f.design.signals)) [
   | inl l ↦ h.1 u r l
   | inr p ↦ (λ c. absurd (row_past table u r (omega (arith, p, h.0)) c), λ w. absurd (omega (arith, p, write_within f.design f.claims u r w)))
@@ -365,7 +362,7 @@ each_element P xs = (
 )
 
 -- the tables of the three sorts of edges
-pub firings : (f : Case) (x : Firing) → IsFiring f Any (rows x.any.items) → IsFiring f Posedge (rows x.posedge.items) → IsFiring f Negedge (rows x.negedge.items) → (edge : Edge) →
+pub firings : (f : Case) (x : Firing) → IsFiring f Any x.any → IsFiring f Posedge x.posedge → IsFiring f Negedge x.negedge → (edge : Edge) →
     IsFiring f edge (table_by x edge)
 firings f x a p n Any = a
 firings f x a p n Posedge = p

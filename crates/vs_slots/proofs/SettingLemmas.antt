@@ -20,7 +20,7 @@ use Rattle.vs_maps.specs.declared.sites.Use.{Use}
 use Rattle.vs_maps.specs.declared.sites.Use.TheVariants.{Now, Later, Reads, Shows, Waits}
 use Rattle.vs_maps.proofs.SiteLemmas.{AreSitesOf}
 use Rattle.vs_slots_constants.proofs.ConstantLemmas.{gives_by_places}
-use Rattle.vs_slots_constants.proofs.PointLemmas.{writer_there}
+use Rattle.vs_maps.specs.vs_rules.proofs.Texts.{writer_there}
 use Rattle.vs_slots_constants.proofs.TurnLemmas.{alike_writes}
 use Rattle.vs_claims.specs.Facts.{AreCharts}
 use Rattle.vs_design.specs.vs_logic4.proofs.Basics.{there as there_is}

@@ -1,14 +1,11 @@
 -- What is kept of the run slots of processes.
 use Rattle.std.specs.Prelude.{ℕ, ◌≡◌, ◌<◌, ◌⊎◌, ◌↔◌, Option, Some, None, List, length, get_or, slice_get}
 use Rattle.std.specs.List.{Contains}
-use Rattle.std.specs.declared.vec.Vec.{Vec}
-use Rattle.std.specs.declared.alloc.Global.{Global}
 use Rattle.vs_design.specs.vs_logic4.specs.declared.digit.Digit.{Digit}
 use Rattle.vs_design.specs.vs_logic4.specs.declared.edge.Edge.{Edge}
 use Rattle.vs_design.specs.vs_logic4.specs.declared.edge.Edge.TheVariants.{Any, Posedge, Negedge}
 use Rattle.vs_design.specs.declared.statement.EventTerm.{EventTerm}
 use Rattle.vs_design.specs.Parts.{Parts}
-use Rattle.vs_design.specs.Tables.{rows}
 use Rattle.vs_process.specs.Ways.{Pause}
 use Rattle.vs_maps.specs.vs_rules.specs.Claims.{Claims, IsDelay, IsRoot, IsRootOf, IsWriter, is_wide}
 use Rattle.vs_maps.specs.vs_rules.specs.Constants.{IsClock}
@@ -25,18 +22,19 @@ use Rattle.vs_claims.specs.Facts.{Case, AreCharts}
 use Rattle.vs_slots.specs.declared.roots.Firing.{Firing}
 use Rattle.vs_slots.specs.declared.runs.Runs.{Runs}
 use Rattle.vs_slots.specs.Firing.{CountsAt, InPhaseOf, RootFires, WritesAt}
-use Rattle.vs_slots.specs.Lists.{row, IsOneOf}
+use Rattle.vs_graph.specs.Rows.{row}
+use Rattle.vs_slots.specs.Lists.{IsOneOf}
 use Rattle.vs_slots.specs.Runs.{AreRuns, DelayPauseEnds, EdgePauseEnds}
 use Rattle.vs_slots.specs.Seen.{seen_by}
 
 -- a place of a process has a run slot, as runs are kept
 abbrev pub IsRunIn : List Runs → ℕ → ℕ → ℕ → Type 0
-IsRunIn runs i p r = (x : Runs) × (slice_get runs i ≡ Some x) × IsOneOf (rows x.ends.items) (row x.before p) r
+IsRunIn runs i p r = (x : Runs) × (slice_get runs i ≡ Some x) × IsOneOf x.ends (row x.before p) r
 
 -- these are the runs of a process, by its number, behind controls that can end so
 abbrev pub RunsWhere : (Parts → Claims → ℕ → Pause → ℕ → Type 0) → Case → ℕ → Runs → Type 0
 RunsWhere can_end f i x = (t : Chart) → slice_get f.charts i ≡ Some t →
-    AreRuns (Plain (is_wide f.claims)) (can_end f.design f.claims i) t x.before (rows x.ends.items)
+    AreRuns (Plain (is_wide f.claims)) (can_end f.design f.claims i) t x.before x.ends
 
 -- these are those of all processes, in their order
 pub record AreAllRuns (can_end : Parts → Claims → ℕ → Pause → ℕ → Type 0) (f : Case) (runs : List Runs) : Type 0 where
@@ -81,9 +79,9 @@ IsFiring f edge table = (root r : ℕ) → root < length f.design.signals →
     (Contains (row table root) r ↔ (IsRoot f.design f.claims root × RootFires f.design f.claims root edge r))
 
 abbrev pub table_by : Firing → Edge → List (List ℕ)
-table_by x Any = rows x.any.items
-table_by x Posedge = rows x.posedge.items
-table_by x Negedge = rows x.negedge.items
+table_by x Any = x.any
+table_by x Posedge = x.posedge
+table_by x Negedge = x.negedge
 
 -- the tables of all edges, and which signals show a variable inverted
 pub record AreFirings (f : Case) (x : Firing) : Type 0 where
@@ -124,12 +122,12 @@ abbrev pub IsWriteIn : Case → List Runs → List Runs → ℕ → ℕ → Type
 IsWriteIn f waiting fired u r = (i : ℕ) × IsWriter f.design f.claims u i × IsWriteBy f waiting fired u i r
 
 -- the write slots of each variable
-abbrev pub AreWriteSlots : Case → List (Vec ℕ Global) → Type 0
+abbrev pub AreWriteSlots : Case → List (List ℕ) → Type 0
 AreWriteSlots f table = (length table ≡ length f.design.signals) × ((u r : ℕ) → u < length f.design.signals →
-    (Contains (row (rows table) u) r ↔ HasWriteSlot f.design f.claims u r))
+    (Contains (row table u) r ↔ HasWriteSlot f.design f.claims u r))
 
 -- the slots of a design and a certificate, as they are kept
-pub record AreSlots (f : Case) (firing : Firing) (waiting fired : List Runs) (writes : List (Vec ℕ Global)) : Type 0 where
+pub record AreSlots (f : Case) (firing : Firing) (waiting fired : List Runs) (writes : List (List ℕ)) : Type 0 where
   pub maps_are : AreCharts f.design f.charts
   pub firing_are : AreFirings f firing
   pub runs_are : AreBothRuns f waiting fired

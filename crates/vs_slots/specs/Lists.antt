@@ -1,11 +1,8 @@
 -- Lists by numbers.
-use Rattle.std.specs.Prelude.{ℕ, List, [], get_or}
+use Rattle.std.specs.Prelude.{ℕ, List}
 use Rattle.std.specs.List.{Contains}
-
--- the list of a number; of one past the end, none
-abbrev pub row : List (List ℕ) → ℕ → List ℕ
-row rows i = get_or rows i []
+use Rattle.vs_graph.specs.Rows.{row}
 
 -- it is in the list of one of some numbers
 abbrev pub IsOneOf : List (List ℕ) → List ℕ → ℕ → Type 0
-IsOneOf rows numbers r = (i : ℕ) × Contains numbers i × Contains (row rows i) r
+IsOneOf table numbers r = (i : ℕ) × Contains numbers i × Contains (row table i) r

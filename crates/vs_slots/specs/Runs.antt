@@ -14,7 +14,8 @@ use Rattle.vs_claims.specs.vs_maps.specs.Reaches.{Chart, IsPlace, pause_at, plac
 use Rattle.vs_claims.specs.vs_maps.specs.Ranges.{pause_terms}
 use Rattle.vs_claims.specs.vs_maps.specs.Walks.{WalkFrom, IsControlBefore}
 use Rattle.vs_slots.specs.Terms.{TermsFire}
-use Rattle.vs_slots.specs.Lists.{row, IsOneOf}
+use Rattle.vs_graph.specs.Rows.{row}
+use Rattle.vs_slots.specs.Lists.{IsOneOf}
 
 -- a control of a process, which goes on so, can end at a residue
 abbrev pub PauseEnds : Parts → Claims → ℕ → Pause → ℕ → Type 0

@@ -10,6 +10,7 @@ use crate::settings::set_by;
 use std::alloc::{AllocError, Global};
 use vs_claims::Facts;
 use vs_design::vs_logic4::Digit;
+use vs_maps::writers;
 use vs_slots_constants::{Clock, clock_of, other};
 
 // Where clocks are wide, the 0 or 1 that each write of the one other process gives a signal by `=`, if they all give the same.
@@ -67,10 +68,12 @@ pub(crate) fn clocks<'a>(
 ) -> Result<Vec<Option<Clock>>, AllocError>
     ensures { IfOk result (λ all. AreClocks facts.entry.now all.items) }
 {
-    let uses = facts.uses();
+    facts.maps();
+    let sites = facts.sites();
     let mut all = Vec::new(alloc);
     for v in 0..facts.design().signals().len() {
-        let clock = clock_by(alloc, &*facts, uses.writers(v), v)?;
+        let writers = writers(alloc, sites.of_signal(v))?;
+        let clock = clock_by(alloc, &*facts, &writers, v)?;
         all.push(clock)?;
     }
     Ok(all)

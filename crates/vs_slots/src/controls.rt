@@ -1,18 +1,17 @@
 //! The residues at which delay controls can end.
 ghost use Rattle.std.specs.Prelude.{ℕ, ◌≡◌, ◌<◌, ◌↔◌, map, IfOk};
 ghost use Rattle.std.specs.List.{Contains};
-ghost use Rattle.vs_design.specs.Tables.{rows};
 ghost use Rattle.vs_maps.specs.vs_rules.specs.Certificates.{residues_from};
 ghost use Rattle.vs_maps.specs.vs_rules.specs.Controls.{list_of};
 ghost use Rattle.vs_claims.specs.vs_maps.specs.Reaches.{places, pause_at, pause_view, IsPlace};
-ghost use Rattle.vs_slots.specs.Lists.{row};
+ghost use Rattle.vs_graph.specs.Rows.{row};
 ghost use Rattle.vs_slots.specs.Controls.{list_by};
 ghost use Rattle.vs_slots.specs.Runs.{DelayEndsBy};
 
 use crate::listing::{Listing, table_of};
 use std::alloc::{AllocError, Global};
 use vs_claims::vs_maps::{Pause, Tables};
-use vs_graph::Numbers;
+use vs_graph::{Numbers, Rows};
 
 /// The lists of residues of a process that waits for times: one for each delay control of its text, in the order of the text.
 #[derive(Drop)]
@@ -86,8 +85,8 @@ pub(crate) fn delay_ends<'a>(
     alloc: Global,
     tables: &'a Tables<'a>,
     lists: &'a ControlLists<'a>,
-) -> Result<Vec<Vec<u64>>, AllocError>
-    ensures { IfOk result (λ ends. (q r : ℕ) → q < places tables.entry.now → (Contains (row (rows ends.items) q) r ↔
+) -> Result<Rows<u64>, AllocError>
+    ensures { IfOk result (λ ends. (q r : ℕ) → q < places tables.entry.now → (Contains (row ends q) r ↔
         (IsPlace tables.entry.now q × DelayEndsBy (list_by lists.entry.now) (pause_at tables.entry.now q) r))) }
 {
     let ends = DelayEnds { tables, lists };

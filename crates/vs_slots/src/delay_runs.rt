@@ -1,6 +1,5 @@
 //! The run slots behind delay controls.
 ghost use Rattle.std.specs.Prelude.{IfOk, map};
-ghost use Rattle.vs_design.specs.Tables.{rows};
 ghost use Rattle.vs_maps.specs.vs_rules.specs.Certificates.{residues_from};
 ghost use Rattle.vs_maps.specs.vs_rules.specs.Controls.{controls_in, list_of};
 ghost use Rattle.vs_claims.specs.vs_maps.specs.declared.along.Along.TheVariants.{Plain};
@@ -23,7 +22,7 @@ fn runs_by_lists<'a>(
     lists: &[Vec<u64>],
 ) -> Result<Runs, AllocError>
     ensures { IfOk result (λ x. AreRunsBy (Plain wide) (DelayEndsBy (list_of (controls_in body.now) (map residues_from lists.now)))
-        tables.entry.now x.before (rows x.ends.items)) }
+        tables.entry.now x.before x.ends) }
 {
     let controls = controls(alloc, body)?;
     let lists = ControlLists::new(&controls, lists);

@@ -1,7 +1,6 @@
 //! The run slots behind event controls.
 ghost use Rattle.std.specs.Prelude.{ℕ, ◌<◌, ◌↔◌, IfOk};
 ghost use Rattle.std.specs.List.{Contains};
-ghost use Rattle.vs_design.specs.Tables.{rows};
 ghost use Rattle.vs_claims.specs.vs_maps.specs.Ranges.{pause_terms};
 ghost use Rattle.vs_maps.specs.vs_rules.specs.Claims.{is_wide};
 ghost use Rattle.vs_claims.specs.vs_maps.specs.declared.along.Along.TheVariants.{Plain};
@@ -61,7 +60,7 @@ fn fired_runs<'a>(
 ) -> Result<Runs, AllocError>
     requires { AreFirings facts.now firing.now }
     ensures { IfOk result (λ x. AreRunsBy (Plain (is_wide facts.entry.now.claims))
-        (TermsEnd facts.entry.now.design facts.entry.now.claims) tables.entry.now x.before (rows x.ends.items)) }
+        (TermsEnd facts.entry.now.design facts.entry.now.claims) tables.entry.now x.before x.ends) }
 {
     let edges = EdgeEnds {
         facts,

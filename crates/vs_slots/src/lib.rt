@@ -9,7 +9,6 @@ mod firing;
 mod laws;
 mod listing;
 mod phases;
-mod residues;
 mod roots;
 mod runs;
 mod seen;

@@ -1,11 +1,11 @@
 //! A list of residues for each of some numbers.
-ghost use Rattle.std.specs.Prelude.{ℕ, ◌≡◌, ◌<◌, ◌↔◌, length, IfOk};
+ghost use Rattle.std.specs.Prelude.{ℕ, ◌≡◌, ◌<◌, ◌↔◌, ◌⊎◌, length, IfOk, OnOk};
 ghost use Rattle.std.specs.List.{Contains};
-ghost use Rattle.vs_design.specs.Tables.{rows};
-ghost use Rattle.vs_slots.specs.Lists.{row};
+ghost use Rattle.vs_graph.specs.Rows.{row};
+ghost use Rattle.vs_slots.specs.Lists.{IsOneOf};
 
 use std::alloc::{AllocError, Global};
-use vs_graph::Gathered;
+use vs_graph::{Gathered, Rows};
 
 /// A list of residues for each number.
 pub trait Listing {
@@ -17,15 +17,11 @@ pub trait Listing {
 }
 
 /// The lists of the numbers below one.
-pub fn table_of<L: Listing>(
-    alloc: Global,
-    listing: &L,
-    n: usize,
-) -> Result<Vec<Vec<u64>>, AllocError>
-    ensures len { IfOk result (λ table. length table.items ≡ n) }
-    ensures exact { IfOk result (λ table. (i r : ℕ) → i < n → (Contains (row (rows table.items) i) r ↔ L.has listing.now i r)) }
+pub fn table_of<L: Listing>(alloc: Global, listing: &L, n: usize) -> Result<Rows<u64>, AllocError>
+    ensures len { IfOk result (λ table. length table ≡ n) }
+    ensures exact { IfOk result (λ table. (i r : ℕ) → i < n → (Contains (row table i) r ↔ L.has listing.now i r)) }
 {
-    let mut table = Vec::new(alloc);
+    let mut table = Rows::none(alloc);
     for i in 0..n {
         let list = listing.list(alloc, i)?;
         table.push(list)?;
@@ -44,4 +40,19 @@ pub fn union_of<L: Listing>(alloc: Global, listing: &L, n: usize) -> Result<Vec<
         all.put(&list)?;
     }
     Ok(all.list())
+}
+
+/// Puts the residues of the lists of some numbers to others. It takes as long as the lists together are, times the logarithm of how many residues
+/// there are.
+pub(crate) fn put_residues(
+    out: &mut Gathered,
+    table: &Rows<u64>,
+    numbers: &[usize],
+) -> Result<(), AllocError>
+    ensures { OnOk result ((r : ℕ) → (Contains out.new r ↔ (Contains out.old r ⊎ IsOneOf table.now numbers.now r))) }
+{
+    for i in numbers {
+        out.put(table.row(*i))?;
+    }
+    Ok(())
 }

@@ -1,24 +1,21 @@
 //! When edges of roots, and terms, can fire.
 ghost use Rattle.std.specs.Prelude.{ℕ, ◌≡◌, ◌↔◌, ◌⊎◌, None, get_or, IfOk, OnOk};
 ghost use Rattle.std.specs.List.{Contains};
-ghost use Rattle.vs_design.specs.Tables.{rows};
 ghost use Rattle.vs_maps.specs.vs_rules.specs.Claims.{IsRoot, is_wide};
 ghost use Rattle.vs_slots_constants.specs.Inverted.{AreInverted};
 ghost use Rattle.vs_slots.specs.Kept.{AreAllRuns, AreClocks, AreFirings, AreTermsIn, IsFiring, IsFiringOf, IsTermIn, IsTurned, table_by};
-ghost use Rattle.vs_slots.specs.Lists.{row, IsOneOf};
 ghost use Rattle.vs_slots.specs.Runs.{DelayPauseEnds};
 
 use crate::clocks::clocks;
 use crate::firing::fires_of;
-use crate::listing::{Listing, table_of};
-use crate::residues::row_of;
+use crate::listing::{Listing, put_residues, table_of};
 use crate::runs::Runs;
 use crate::seen::seen_edge;
 use std::alloc::{AllocError, Global};
 use vs_claims::Facts;
 use vs_design::EventTerm;
 use vs_design::vs_logic4::Edge;
-use vs_graph::Gathered;
+use vs_graph::{Gathered, Rows};
 use vs_slots_constants::Clock;
 
 // What a signal is as a clock; one past the end is none.
@@ -56,11 +53,11 @@ impl<'a> Listing for RootFiring<'a> {
 #[derive(Drop)]
 pub(crate) struct Firing<'a> {
     /// Any change.
-    pub(crate) any: Vec<Vec<u64>>,
+    pub(crate) any: Rows<u64>,
     /// `posedge`.
-    pub(crate) posedge: Vec<Vec<u64>>,
+    pub(crate) posedge: Rows<u64>,
     /// `negedge`.
-    pub(crate) negedge: Vec<Vec<u64>>,
+    pub(crate) negedge: Rows<u64>,
     /// For each signal, whether it shows a variable inverted.
     pub(crate) inverted: &'a [bool],
 }
@@ -72,10 +69,10 @@ fn table_for<'a>(
     runs: &'a [Runs],
     clocks: &'a [Option<Clock>],
     edge: Edge,
-) -> Result<Vec<Vec<u64>>, AllocError>
+) -> Result<Rows<u64>, AllocError>
     requires runs { AreAllRuns DelayPauseEnds facts.now runs.now }
     requires clocks { AreClocks facts.now clocks.now }
-    ensures { IfOk result (λ table. IsFiring facts.entry.now edge (rows table.items)) }
+    ensures { IfOk result (λ table. IsFiring facts.entry.now edge table) }
 {
     facts.maps();
     let roots = RootFiring {
@@ -112,29 +109,18 @@ impl<'a> Firing<'a> {
         })
     }
 
-    // The residues at which an edge of a root can fire.
-    fn list(&self, edge: Edge, root: usize) -> &[u64]
-        ensures { result.now ≡ row (table_by self.now edge) root }
+    // The residues at which an edge of a root can fire, by the number of the root.
+    fn table(&self, edge: Edge) -> &Rows<u64>
+        ensures { result.now ≡ table_by self.now edge }
     {
         match edge {
-            Edge::Any => row_of(&self.any, root),
-            Edge::Posedge => row_of(&self.posedge, root),
-            Edge::Negedge => row_of(&self.negedge, root),
+            Edge::Any => &self.any,
+            Edge::Posedge => &self.posedge,
+            Edge::Negedge => &self.negedge,
         }
     }
 
-    // Puts the residues at which an edge of one of some roots can fire to others.
-    fn put(&self, out: &mut Gathered, edge: Edge, roots: &[usize]) -> Result<(), AllocError>
-        ensures { OnOk result ((r : ℕ) → (Contains out.new r ↔
-            (Contains out.old r ⊎ IsOneOf (table_by self.now edge) roots.now r))) }
-    {
-        for root in roots {
-            out.put(self.list(edge, *root))?;
-        }
-        Ok(())
-    }
-
-    // Puts those at which a term can fire.
+    // Puts the residues at which a term can fire to others.
     fn put_term(
         &self,
         alloc: Global,
@@ -146,7 +132,7 @@ impl<'a> Firing<'a> {
             (Contains out.old r ⊎ IsTermIn facts.entry.now self.now term r))) }
     {
         let roots = facts.roots(alloc, term.range.signal)?;
-        self.put(out, seen_edge(self.inverted, term), &roots)
+        put_residues(out, self.table(seen_edge(self.inverted, term)), &roots)
     }
 
     /// The residues at which one of some terms can fire.

@@ -1,11 +1,9 @@
 //! The run slots of the places of a process.
 ghost use Rattle.std.specs.Prelude.{ℕ, ◌≡◌, ◌↔◌, ◌⊎◌, [], IfOk, OnOk};
 ghost use Rattle.std.specs.List.{Contains};
-ghost use Rattle.vs_design.specs.Tables.{rows};
-ghost use Rattle.vs_slots.specs.Lists.{row, IsOneOf};
 ghost use Rattle.vs_slots.specs.Kept.{IsRunIn};
 
-use crate::residues::put_residues;
+use crate::listing::put_residues;
 use std::alloc::{AllocError, Global};
 use vs_graph::{Gathered, Rows};
 
@@ -15,32 +13,24 @@ pub(crate) struct Runs {
     /// The controls from which a walk without further control leads to a place.
     pub(crate) before: Rows<usize>,
     /// The residues at which the control of a place can end.
-    pub(crate) ends: Vec<Vec<u64>>,
+    pub(crate) ends: Rows<u64>,
 }
 
 impl Runs {
     /// Those of a process without places.
     pub(crate) fn none(alloc: Global) -> Runs
         ensures before { result.before ≡ [] }
-        ensures ends { result.ends.items ≡ [] }
+        ensures ends { result.ends ≡ [] }
     {
         Runs {
             before: Rows::none(alloc),
-            ends: Vec::new(alloc),
+            ends: Rows::none(alloc),
         }
-    }
-
-    /// Puts the run slots of a place to others. It takes as long as the lists of the controls before it, times the logarithm of how many residues
-    /// there are.
-    fn put(&self, out: &mut Gathered, place: usize) -> Result<(), AllocError>
-        ensures { OnOk result ((r : ℕ) → (Contains out.new r ↔
-            (Contains out.old r ⊎ IsOneOf (rows self.now.ends.items) (row self.now.before place) r))) }
-    {
-        put_residues(out, &self.ends, self.before.row(place))
     }
 }
 
-/// Puts the run slots of a place of a process, by its number, to others; of one past the end there are none.
+/// Puts the run slots of a place of a process, by its number, to others; of one past the end there are none. It takes as long as the lists of the
+/// controls before the place, times the logarithm of how many residues there are.
 pub(crate) fn put_runs(
     out: &mut Gathered,
     runs: &[Runs],
@@ -50,7 +40,8 @@ pub(crate) fn put_runs(
     ensures { OnOk result ((r : ℕ) → (Contains out.new r ↔ (Contains out.old r ⊎ IsRunIn runs.now i place r))) }
 {
     if i < runs.len() {
-        runs[i].put(out, place)
+        let run = &runs[i];
+        put_residues(out, &run.ends, run.before.row(place))
     } else {
         Ok(())
     }

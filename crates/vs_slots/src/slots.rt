@@ -12,14 +12,13 @@ ghost use Rattle.vs_slots.specs.Terms.{TermsFire};
 use crate::delay_runs::delay_runs;
 use crate::edge_runs::edge_runs;
 use crate::listing::{Listing, table_of, union_of};
-use crate::residues::row_of;
 use crate::roots::Firing;
 use crate::runs::{Runs, put_runs, runs_at};
 use std::alloc::{AllocError, Global};
 use std::marker::Model;
 use vs_claims::Facts;
 use vs_design::EventTerm;
-use vs_graph::Gathered;
+use vs_graph::{Gathered, Rows};
 use vs_maps::{Site, is_now};
 
 // The run slots of a place of a process, behind delay controls and behind event controls.
@@ -128,9 +127,9 @@ fn write_slots<'a>(
     facts: &'a Facts<'a>,
     delays: &'a [Runs],
     edges: &'a [Runs],
-) -> Result<Vec<Vec<u64>>, AllocError>
+) -> Result<Rows<u64>, AllocError>
     requires { AreBothRuns facts.now delays.now edges.now }
-    ensures { IfOk result (λ table. AreWriteSlots facts.entry.now table.items) }
+    ensures { IfOk result (λ table. AreWriteSlots facts.entry.now table) }
 {
     facts.maps();
     let variables = Variables {
@@ -149,7 +148,7 @@ pub struct Slots<'a> {
     firing: Firing<'a>,
     delays: Vec<Runs>,
     edges: Vec<Runs>,
-    writes: Vec<Vec<u64>>,
+    writes: Rows<u64>,
 }
 
 impl<'a> Model for Slots<'a> {
@@ -165,7 +164,7 @@ impl<'a> Model for Slots<'a> {
 
     ghost view = { λ x. x.facts.now };
 
-    ghost invariant = { λ x. AreSlots x.facts.now x.firing x.delays.items x.edges.items x.writes.items };
+    ghost invariant = { λ x. AreSlots x.facts.now x.firing x.delays.items x.edges.items x.writes };
 }
 
 impl<'a> Slots<'a> {
@@ -218,7 +217,7 @@ impl<'a> Slots<'a> {
     pub fn write_slots(&self, u: usize) -> &[u64]
         ensures { (r : ℕ) → (Contains result.now r ↔ HasWriteSlot self.now.design self.now.claims u r) }
     {
-        row_of(&self.writes, u)
+        self.writes.row(u)
     }
 
     /// The residues at which one of some terms can fire, each once.

@@ -3,5 +3,4 @@ pub mod OtherLemmas
 pub mod WholeLemmas
 pub mod Cores
 pub mod ClockLemmas
-pub mod PointLemmas
 pub mod TurnLemmas

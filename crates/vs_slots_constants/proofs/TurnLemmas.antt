@@ -22,13 +22,13 @@ use Rattle.vs_design.specs.Parts.{Parts}
 use Rattle.vs_process.specs.Drafts.{flat_all, is_block}
 use Rattle.vs_process.specs.Nexts.{statement_nexts}
 use Rattle.vs_process.specs.Places.{perform, Todo, flat}
-use Rattle.vs_process.specs.Steps.{Next, on, after}
+use Rattle.vs_process.specs.Steps.{on, after}
 use Rattle.vs_process.proofs.Shapes.{flat-Block, flat-single}
 use Rattle.vs_rules.specs.Points.{Among, Point, first_todo}
 use Rattle.vs_rules.specs.Paths.{Bit, IsPoint, Writes, WritesNow, statement_now}
-use Rattle.vs_rules.specs.Constants.{bit_of, given, given_by, is_nothing, statement_assigns, Gives, IsBare, itself, inside, IsInverseLayer, IsNegationLayer, InvertsLayer, IsTurn, IsWhole, IsWholeLayer, IsWholeSelect, IsWholeTarget, SetsAlike, Turns, TurnsForever}
+use Rattle.vs_rules.specs.Constants.{bit_of, given, given_by, is_nothing, statement_assigns, Gives, IsBare, itself, inside, IsInverseLayer, IsNegationLayer, InvertsLayer, IsTurn, IsWhole, IsWholeLayer, IsWholeSelect, SetsAlike, Turns, TurnsForever}
 use Rattle.vs_slots_constants.specs.Clocks.{IsBodyOf}
-use Rattle.vs_slots_constants.proofs.PointLemmas.{first_is, point_writes, writer_there}
+use Rattle.vs_rules.proofs.Texts.{begins_with, writes_now, writer_there}
 
 -- ---- an inverse reads
 
@@ -136,7 +136,7 @@ turned_point d wide v i half p is h = record {
     three = bare_flat turn.inner.value (Statement-F.Assign turn.assigns turn.target turn.value) turn.body refl
 
     at_loop : IsPoint d i (perform one.bare ∷ [])
-    at_loop = subst (Point (first_todo d i)) (first_is d.processes i p is ∙ one.flat_is) Point.begins
+    at_loop = subst (Point (first_todo d i)) (begins_with d i p is ∙ one.flat_is) Point.begins
 
     at_delay : IsPoint d i (perform two.bare ∷ perform one.bare ∷ [])
     at_delay = subst (IsPoint d i) (ap (λ (todo : Todo). todo ++ perform one.bare ∷ []) two.flat_is)
@@ -152,7 +152,7 @@ turned_point d wide v i half p is h = record {
 
 -- what sets a signal alike writes it
 pub alike_writes : (d : Parts) (v j : ℕ) (digit : Digit) → SetsAlike d v digit j → Writes d j v
-alike_writes d v j digit h = point_writes d j h.at v h.point h.writes
+alike_writes d v j digit h = writes_now d j h.at v h.point h.writes
 
 -- and doesn't turn it
 pub alike_apart : (d : Parts) (wide : Bool) (v i half : ℕ) (digit : Digit) (body : Statement) → IsBodyOf d i body → TurnsForever d wide v half body → SetsAlike d v digit i → ⊥

@@ -11,11 +11,11 @@ use Rattle.vs_strobe.specs.declared.fault.FormatReason.TheVariants.{TooFewArgume
 use Rattle.vs_strobe.specs.Pieces.{joined, wanted, fault_for, directive_of, pieces_of, pieces_from, after_percent, after_percent_zero}
 
 -- pieces before others, where those are good
-abbrev pub behind : List FormatPiece → Option (List FormatPiece) → Option (List FormatPiece)
-behind ps rest = option_map (λ qs. ps ++ qs) rest
+abbrev pub pieces_before : List FormatPiece → Option (List FormatPiece) → Option (List FormatPiece)
+pieces_before ps rest = option_map (λ qs. ps ++ qs) rest
 
 -- one more piece is read
-pub behind_more : (ps : List FormatPiece) (p : FormatPiece) (rest : Option (List FormatPiece)) → behind ps (joined (Some p) rest) ≡ behind (ps ++ p ∷ []) rest
+pub behind_more : (ps : List FormatPiece) (p : FormatPiece) (rest : Option (List FormatPiece)) → pieces_before ps (joined (Some p) rest) ≡ pieces_before (ps ++ p ∷ []) rest
 behind_more ps p None = refl
 behind_more ps p (Some qs) = ap Some (sym (append_assoc ps (p ∷ []) qs))
 
@@ -33,12 +33,12 @@ wanted-le (Path ∷ ps) = omega (arith, wanted-le ps)
 wanted-le (Shown s b ∷ ps) = omega (arith, wanted-le ps)
 
 -- none before
-pub behind_none : (rest : Option (List FormatPiece)) → rest ≡ behind [] rest
+pub behind_none : (rest : Option (List FormatPiece)) → rest ≡ pieces_before [] rest
 behind_none None = refl
 behind_none (Some qs) = refl
 
 -- where no byte is left, the pieces before are all
-pub behind_all : (ps : List FormatPiece) (rest : List ℕ) → (length rest == 0) ≡ true → behind ps (pieces_of rest) ≡ Some ps
+pub behind_all : (ps : List FormatPiece) (rest : List ℕ) → (length rest == 0) ≡ true → pieces_before ps (pieces_of rest) ≡ Some ps
 behind_all ps [] h = ap Some (append-nil ps)
 behind_all ps (b ∷ bs) h = absurd (omega (arith, eqb-true (length (b ∷ bs)) 0 h))
 

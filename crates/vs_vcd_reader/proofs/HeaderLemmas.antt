@@ -22,7 +22,7 @@ use Rattle.vs_vcd_reader.specs.declared.header.Header.{Header}
 use Rattle.vs_vcd_reader.specs.Plain.{plain_declaration, plain_variable, PlainDeclaration, PlainVariable}
 use Rattle.vs_vcd_reader.specs.Plain.{PlainDeclaration as d}
 use Rattle.vs_vcd_reader.specs.Layout.{variable_text, widths_of, IsPlainVariable}
-use Rattle.vs_vcd_reader.specs.Headers.{declared, depth_with, header_items, header_place, item_for, own_with, Goes, IsBegun, IsClosed, IsHeader, IsHeaderFault, IsTaken, MayOccur}
+use Rattle.vs_vcd_reader.specs.Headers.{declared, depth_with, header_items, header_place, item_for, own_with, Goes, IsBegun, IsClosed, IsHeader, IsHeaderFault, IsExtendedBy, MayOccur}
 use Rattle.vs_vcd_reader.specs.Steps.{Item, Place, Step, Steps, Follows, declared_items, line_of, text_from}
 use Rattle.vs_vcd_reader.specs.Steps.{Item as i, Place as p, Step as s, Steps as t}
 use Rattle.vs_vcd_reader.specs.Stops.{GoesOn, IsKindAt, IsReportedAt, IsUnended}
@@ -60,7 +60,7 @@ one_item n v.Upscope = refl
 
 pub taken : (old new : Header) (x : Declaration) → IsHeader old → new.declarations.items ≡ old.declarations.items ++ x ∷ []
     → Step (header_place old) (item_for (length old.widths.items) x) (header_place new) → new.widths.items ≡ old.widths.items ++ widths_of (plain_declaration x ∷ [])
-    → new.depth ≤ old.depth + 1 → IsTaken old x new
+    → new.depth ≤ old.depth + 1 → IsExtendedBy old x new
 taken old new x kept pushed step sizes deep =
     let plain : declared new ≡ declared old ++ plain_declaration x ∷ [] = ap (map plain_declaration) pushed ∙ plain_more old.declarations.items x in
     let number : 0 + length (widths_of (declared old)) ≡ length old.widths.items = let same = ap length (sym kept.widths) in omega (arith, same) in
@@ -285,7 +285,7 @@ closed_made text rest line after h b cut closed is =
 
 pub taken_all : (old new : Header) (x : Declaration) → IsHeader old → 0 < old.depth → MayOccur old.own x → IsDeclaration x
     → new.declarations.items ≡ old.declarations.items ++ x ∷ [] → new.widths.items ≡ old.widths.items ++ widths_of (plain_declaration x ∷ [])
-    → new.depth ≡ depth_with old.depth x → new.own ≡ own_with old.own x → IsTaken old x new
+    → new.depth ≡ depth_with old.depth x → new.own ≡ own_with old.own x → IsExtendedBy old x new
 taken_all old new (v.Scope kind name) kept deep may good pushed sizes depth own =
     taken old new (v.Scope kind name) kept pushed
     (step_scope old.widths.items new.widths.items old.depth new.depth old.own new.own kind name.items (sizes ∙ append-nil old.widths.items) deep depth own good) sizes

@@ -141,13 +141,13 @@ kind_once before line f.Line f.Line h k = refl
 -- ---- faults
 
 -- a bad line of a text, of the kind of a fault
-record IsToldBy (text : List ℕ) (fault : VcdFault) : Type 0 where
+record IsBadLineOf (text : List ℕ) (fault : VcdFault) : Type 0 where
   pub before : List (List ℕ)
   pub line : List ℕ
   pub bad : IsBadLine text before line
   pub kind : IsOfKind before line fault
 
-told_by : (text : List ℕ) (fault : VcdFault) → IsFault text fault → (fault ≡ f.Memory → ⊥) → ((fault ≡ f.Cut) × IsCutShort text) ⊎ IsToldBy text fault
+told_by : (text : List ℕ) (fault : VcdFault) → IsFault text fault → (fault ≡ f.Memory → ⊥) → ((fault ≡ f.Cut) × IsCutShort text) ⊎ IsBadLineOf text fault
 told_by text f.Memory h other = absurd (other refl)
 told_by text f.Cut h other = inl (refl, h)
 told_by text f.Header h other = inr (record { before = h.before; line = h.line; bad = h.bad; kind = h.header })
@@ -155,7 +155,7 @@ told_by text f.Time h other = inr (record { before = h.before; line = h.line; ba
 told_by text f.Code h other = inr (record { before = h.before; line = h.line; bad = h.bad; kind = (h.body, h.kind) })
 told_by text f.Line h other = inr (record { before = h.before; line = h.line; bad = h.bad; kind = (h.body, h.kind.0, h.kind.1) })
 
-told_once : (text : List ℕ) (a b : VcdFault) → IsToldBy text a → IsToldBy text b → a ≡ b
+told_once : (text : List ℕ) (a b : VcdFault) → IsBadLineOf text a → IsBadLineOf text b → a ≡ b
 told_once text a b h k =
     let same = bad_once text h.before k.before h.line k.line h.bad k.bad in
     kind_once k.before k.line a b (subst (λ l. IsOfKind k.before l a) same.1 (subst (λ ls. IsOfKind ls h.line a) same.0 h.kind)) k.kind

@@ -50,7 +50,7 @@ item_for number (v.Variable x) = i.Variable (plain_variable x) number
 item_for number v.Upscope = i.Upscope
 
 -- the declarations with one more
-pub record IsTaken (old : Header) (x : Declaration) (new : Header) : Type 0 where
+pub record IsExtendedBy (old : Header) (x : Declaration) (new : Header) : Type 0 where
   pub kept : IsHeader new
   pub items : header_items new ≡ header_items old ++ item_for (length old.widths.items) x ∷ []
 

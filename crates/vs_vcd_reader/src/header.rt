@@ -4,7 +4,7 @@ ghost use Rattle.vs_vcd_lines.specs.Lines.{IsDeclaration};
 ghost use Rattle.vs_vcd_reader.specs.declared.fault.VcdFault.TheVariants.{Cut, Header as HeaderFault, Memory};
 ghost use Rattle.vs_vcd_reader.specs.Plain.{plain_declaration};
 ghost use Rattle.vs_vcd_reader.specs.Layout.{widths_of};
-ghost use Rattle.vs_vcd_reader.specs.Headers.{depth_with, own_with, Goes, IsBegun, IsClosed, IsHeader, IsHeaderFault, IsTaken, MayOccur};
+ghost use Rattle.vs_vcd_reader.specs.Headers.{depth_with, own_with, Goes, IsBegun, IsClosed, IsHeader, IsHeaderFault, IsExtendedBy, MayOccur};
 ghost use Rattle.vs_vcd_reader.specs.Steps.{Item as i, Place as p, text_from};
 ghost use Rattle.vs_vcd_reader.specs.Stops.{IsReportedAt};
 
@@ -84,7 +84,7 @@ impl Header {
         requires fits { MayOccur self.old.own declaration }
         requires good { IsDeclaration declaration }
         requires kept { IsHeader self.old }
-        ensures { MatchResult result (λ _. IsTaken self.old declaration self.new) (λ f. f ≡ Memory) }
+        ensures { MatchResult result (λ _. IsExtendedBy self.old declaration self.new) (λ f. f ≡ Memory) }
     {
         push_width(&mut self.widths, &declaration)?;
         self.depth = depth_after(self.depth, &declaration);

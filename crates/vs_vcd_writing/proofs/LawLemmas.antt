@@ -19,7 +19,7 @@ use Rattle.vs_vcd_writing.proofs.CodeTableLemmas.{place_found}
 use Rattle.vs_vcd_writing.proofs.LineLemmas.{text_of-append}
 use Rattle.vs_vcd_writing.proofs.OneLineLemmas.{dump_lines-text_of, all-append, header_one_line, slots_one_line}
 use Rattle.vs_vcd_writing.proofs.ExtendLemmas.{extended-shortened}
-use Rattle.vs_vcd_writing.proofs.ChangeLemmas.{written, told, IsSilent, told_whole, slot_at-cons, slot_at-before}
+use Rattle.vs_vcd_writing.proofs.ChangeLemmas.{written, last_of_code, IsSilent, told_whole, slot_at-cons, slot_at-before}
 
 -- ---- past the header
 
@@ -70,7 +70,7 @@ shows_slots d text tail (s ∷ ss) time signal body quiet r k =
             number = place.0;
             digits = written current.store signal;
             coded = place.1;
-            last = ap (λ ls. told time place.0 0 ls) body ∙ told_whole time place.0 (shown d) signal s ss tail place.2 r quiet there;
+            last = ap (λ ls. last_of_code time place.0 0 ls) body ∙ told_whole time place.0 (shown d) signal s ss tail place.2 r quiet there;
             size = size;
             extends = extended-shortened (length value) (reverse value) (sym (length-reverse value));
           } in

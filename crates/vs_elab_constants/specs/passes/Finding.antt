@@ -124,7 +124,7 @@ pub record IsStuck (env : Environment) (gs : List Given) (vs : List (Option Cons
   pub waiting : AreWaiting env gs vs w (length gs)
 
 -- a parameter whose value is found next; or none, for each is found; or none, for each other has a fault
-abbrev pub Comes : Environment → Environment → List Given → List (Option Const) → Round → Type 0
-Comes around env gs vs x.Nothing = AreAll vs
-Comes around env gs vs (x.Value k c) = IsNext around env gs vs k c
-Comes around env gs vs (x.Stuck w) = IsStuck env gs vs w
+abbrev pub IsRoundOutcome : Environment → Environment → List Given → List (Option Const) → Round → Type 0
+IsRoundOutcome around env gs vs x.Nothing = AreAll vs
+IsRoundOutcome around env gs vs (x.Value k c) = IsNext around env gs vs k c
+IsRoundOutcome around env gs vs (x.Stuck w) = IsStuck env gs vs w

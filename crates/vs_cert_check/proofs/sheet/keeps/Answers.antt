@@ -7,18 +7,18 @@ use Rattle.vs_cert_check.proofs.sheet.keeps.Goals as goal
 
 pub returns-in-Signal : goal.returns-in-Signal
 returns-in-Signal c =
-    let d = c.args.sheet.now.facts.now.design in
-    let n = c.args.sheet.now.facts.now.claims in
+    let d = c.args.sheet.now.design in
+    let n = c.args.sheet.now.claims in
     subst (λ (s : Subject). IfOk c.keeps_of_signal.result (λ b. (IsTrue b ↔ Keeps d n (rule_of c.args.rule) (subject_view s)))) (sym c.in-Signal.is) c.keeps_of_signal.ensures
 
 pub returns-in-Assign : goal.returns-in-Assign
 returns-in-Assign c =
-    let d = c.args.sheet.now.facts.now.design in
-    let n = c.args.sheet.now.facts.now.claims in
+    let d = c.args.sheet.now.design in
+    let n = c.args.sheet.now.claims in
     subst (λ (s : Subject). IfOk c.keeps_of_assign.result (λ b. (IsTrue b ↔ Keeps d n (rule_of c.args.rule) (subject_view s)))) (sym c.in-Assign.is) c.keeps_of_assign.ensures
 
 pub returns-in-Process : goal.returns-in-Process
 returns-in-Process c =
-    let d = c.args.sheet.now.facts.now.design in
-    let n = c.args.sheet.now.facts.now.claims in
+    let d = c.args.sheet.now.design in
+    let n = c.args.sheet.now.claims in
     subst (λ (s : Subject). IfOk c.keeps_of_process.result (λ b. (IsTrue b ↔ Keeps d n (rule_of c.args.rule) (subject_view s)))) (sym c.in-Process.is) c.keeps_of_process.ensures

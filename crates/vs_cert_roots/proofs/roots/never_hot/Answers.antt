@@ -4,7 +4,8 @@ use Rattle.vs_rules.specs.Claims.{IsDelay, IsWriter, is_wide}
 use Rattle.vs_rules_of_signals.specs.vs_claims.specs.Facts.{Case}
 use Rattle.vs_rules_of_signals.specs.Places.{NeverHotIn}
 use Rattle.vs_cert_roots.proofs.HotLemmas.{past_never_hot, roots_by_places}
-use Rattle.vs_cert_roots.proofs.TermLemmas.{chart_is, no_chart}
+use Rattle.vs_drivers.specs.vs_maps.proofs.TermLemmas.{chart_is}
+use Rattle.vs_cert_roots.proofs.TermLemmas.{no_chart}
 use Rattle.vs_cert_roots.proofs.roots.never_hot.Goals as goal
 
 pub returns-in-None : goal.returns-in-None

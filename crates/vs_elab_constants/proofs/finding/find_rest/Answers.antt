@@ -3,7 +3,7 @@ use Rattle.std.proofs.lemmas.List.{length-map, length-set}
 use Rattle.std.proofs.lemmas.Result.{err_from_is_err_and}
 use Rattle.vs_widths.specs.Names.{meaning_of, nested_names}
 use Rattle.vs_scopes.specs.scopes_passes.Parts.{read_given}
-use Rattle.vs_elab_constants.specs.passes.Finding.{Comes, IsNext}
+use Rattle.vs_elab_constants.specs.passes.Finding.{IsRoundOutcome, IsNext}
 use Rattle.vs_elab_constants.proofs.FindingLemmas.{count_less, found_then}
 use Rattle.vs_elab_constants.proofs.FoundLemmas.{stuck_refused}
 use Rattle.vs_elab_constants.proofs.SearchLemmas.{refused_outside}
@@ -21,7 +21,7 @@ pub returns-in-Nothing-clause-all : goal.returns-in-Nothing-clause-all
 returns-in-Nothing-clause-all c =
     let around = meaning_of c.args.around.now in
     let env = meaning_of (c.loop-reason.known ++ nested_names c.args.outer.now) in
-    (c.loop-reason.invariant.all, subst (Comes around env (map read_given c.args.list.now) c.loop-reason.values.items) c.in-Nothing.is (rw c.deref.ensures.value at c.in_ok-next_value.ensures.ok))
+    (c.loop-reason.invariant.all, subst (IsRoundOutcome around env (map read_given c.args.list.now) c.loop-reason.values.items) c.in-Nothing.is (rw c.deref.ensures.value at c.in_ok-next_value.ensures.ok))
 
 pub returns-in-Nothing-clause-found : goal.returns-in-Nothing-clause-found
 returns-in-Nothing-clause-found c = c.loop-reason.invariant.found
@@ -32,7 +32,7 @@ keep-requires c =
     let env = meaning_of (c.loop-reason.known ++ nested_names c.args.outer.now) in
     let gs = map read_given c.args.list.now in
     let vs = c.loop-reason.values.items in
-    let next : IsNext around env gs vs c.in-Value.number c.in-Value.constant = subst (Comes around env gs vs) c.in-Value.is (rw c.deref.ensures.value at c.in_ok-next_value.ensures.ok) in
+    let next : IsNext around env gs vs c.in-Value.number c.in-Value.constant = subst (IsRoundOutcome around env gs vs) c.in-Value.is (rw c.deref.ensures.value at c.in_ok-next_value.ensures.ok) in
     record { within = omega (arith, next.within, length-map c.args.list.now read_given); all = c.loop-reason.invariant.all; numbers = c.requires.numbers }
 
 pub returns-in-Stuck-clause-fault : goal.returns-in-Stuck-clause-fault
@@ -43,7 +43,7 @@ returns-in-Stuck-clause-fault c env h =
     let vs = c.loop-reason.values.items in
     let known = c.loop-reason.known in
     stuck_refused around env outward gs vs known (omega (arith, c.loop-reason.invariant.all, length-map c.args.list.now read_given)) (c.loop-reason.invariant.found env h) c.in-Stuck.reason
-    (subst (Comes around (meaning_of (known ++ outward)) gs vs) c.in-Stuck.is (rw c.deref.ensures.value at c.in_ok-next_value.ensures.ok))
+    (subst (IsRoundOutcome around (meaning_of (known ++ outward)) gs vs) c.in-Stuck.is (rw c.deref.ensures.value at c.in_ok-next_value.ensures.ok))
 
 pub loop-reason-smaller : goal.loop-reason-smaller
 loop-reason-smaller c =
@@ -51,7 +51,7 @@ loop-reason-smaller c =
     let env = meaning_of (c.loop-reason.known ++ nested_names c.args.outer.now) in
     let gs = map read_given c.args.list.now in
     let vs = c.loop-reason.values.items in
-    let next : IsNext around env gs vs c.in-Value.number c.in-Value.constant = subst (Comes around env gs vs) c.in-Value.is (rw c.deref.ensures.value at c.in_ok-next_value.ensures.ok) in
+    let next : IsNext around env gs vs c.in-Value.number c.in-Value.constant = subst (IsRoundOutcome around env gs vs) c.in-Value.is (rw c.deref.ensures.value at c.in_ok-next_value.ensures.ok) in
     count_less vs c.keep.new.values.items c.in-Value.number c.in-Value.constant next.new c.in_ok-keep-in-Value.ensures.values
 
 pub loop-reason-preserved : goal.loop-reason-preserved
@@ -62,7 +62,7 @@ loop-reason-preserved c =
     let gs = map read_given c.args.list.now in
     let vs = c.loop-reason.values.items in
     let ws = c.keep.new.values.items in
-    let next : IsNext around here gs vs c.in-Value.number c.in-Value.constant = subst (Comes around here gs vs) c.in-Value.is (rw c.deref.ensures.value at c.in_ok-next_value.ensures.ok) in
+    let next : IsNext around here gs vs c.in-Value.number c.in-Value.constant = subst (IsRoundOutcome around here gs vs) c.in-Value.is (rw c.deref.ensures.value at c.in_ok-next_value.ensures.ok) in
     let made = c.in_ok-keep-in-Value.ensures in
     record {
       all = ap length made.values ∙ length-set vs c.in-Value.number (Some c.in-Value.constant) ∙ c.loop-reason.invariant.all;

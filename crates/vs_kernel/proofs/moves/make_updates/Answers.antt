@@ -30,15 +30,15 @@ pub returns-then-not-made-clause-some : goal.returns-then-not-made-clause-some
 returns-then-not-made-clause-some g c = positive c.loop-taken.taken
     (λ none. true≢false (sym (c.in_ok-made.ensures.active (still_active c.args.run.now c.loop-taken.run (c.loop-taken.invariant.first none) e.Updates c.requires.active)) ∙ c.if-not-made.true))
 
-pub returns-then-not-made-clause-made : goal.returns-then-not-made-clause-made
-returns-then-not-made-clause-made g c =
-    subst (λ (s : State). AreMade c.loop-taken.taken (state_of c.args.run.now) s) (sym (c.in_ok-made.ensures.none c.if-not-made.true)) c.loop-taken.invariant.made
-
-pub returns-then-not-made-clause-run : goal.returns-then-not-made-clause-run
-returns-then-not-made-clause-run g c = run_of_own c.args.run.now.design.now c.loop-taken.run c.make_next.new.run c.loop-taken.invariant.run c.in_ok-made.ensures.run
-
-pub returns-then-not-made-clause-marked : goal.returns-then-not-made-clause-marked
-returns-then-not-made-clause-marked g c = changes_more _ _ _ _ _ _ c.loop-taken.invariant.marked c.in_ok-made.ensures.marked
+pub returns-then-not-made-clause-done : goal.returns-then-not-made-clause-done
+returns-then-not-made-clause-done g c =
+    let h = c.loop-taken.invariant in
+    record {
+      run = run_of_own c.args.run.now.design.now c.loop-taken.run c.make_next.new.run h.run c.in_ok-made.ensures.run;
+      within = h.within;
+      made = subst (λ (s : State). AreMade c.loop-taken.taken (state_of c.args.run.now) s) (sym (c.in_ok-made.ensures.none c.if-not-made.true)) h.made;
+      marked = changes_more _ _ _ _ _ _ h.marked c.in_ok-made.ensures.marked;
+    }
 
 pub returns-clause-some : goal.returns-clause-some
 returns-clause-some g c = omega (arith, c.loop-taken-test.false, c.requires.limit)

@@ -70,7 +70,7 @@ returns-in_ok-made-in-Evaluate-clause-ok g c = λ blocks.
 pub returns-in_ok-made-in-Group-clause-ok : goal.returns-in_ok-made-in-Group-clause-ok
 returns-in_ok-made-in-Group-clause-ok g c = λ blocks.
     event_made blocks c.args.limit c.in_ok-made-in-Group.made (state_of c.args.run.now) (state_of c.run_group.new.run) (g.L.Sink.bytes c.args.lines.now) c.requires.going
-    c.in_ok-made-in-Group.ensures.within c.in_ok-made-in-Group.ensures.made
+    c.in_ok-made-in-Group.ensures.done.within c.in_ok-made-in-Group.ensures.done.made
 
 pub returns-in_ok-propagate-in-Propagate-clause-ok : goal.returns-in_ok-propagate-in-Propagate-clause-ok
 returns-in_ok-propagate-in-Propagate-clause-ok g c = λ blocks.
@@ -114,12 +114,12 @@ pub make_updates-requires-clause-active : goal.make_updates-requires-clause-acti
 make_updates-requires-clause-active g c = subst (IsActive c.args.run.now) c.in-Updates.is c.requires.active
 
 pub returns-in_ok-made-in-Updates-clause-run : goal.returns-in_ok-made-in-Updates-clause-run
-returns-in_ok-made-in-Updates-clause-run g c = run_of_own c.args.forms.now c.args.run.now c.make_updates.new.run c.requires.run c.in_ok-made-in-Updates.ensures.run
+returns-in_ok-made-in-Updates-clause-run g c = run_of_own c.args.forms.now c.args.run.now c.make_updates.new.run c.requires.run c.in_ok-made-in-Updates.ensures.done.run
 
 pub returns-in_ok-made-in-Updates-clause-ok : goal.returns-in_ok-made-in-Updates-clause-ok
 returns-in_ok-made-in-Updates-clause-ok g c = λ blocks.
     event_made blocks c.args.limit c.in_ok-made-in-Updates.made (state_of c.args.run.now) (state_of c.make_updates.new.run) (g.L.Sink.bytes c.args.lines.now) c.requires.going
-    c.in_ok-made-in-Updates.ensures.within c.in_ok-made-in-Updates.ensures.made
+    c.in_ok-made-in-Updates.ensures.done.within c.in_ok-made-in-Updates.ensures.done.made
 
 pub returns-in_err-made-in-Updates-clause-err : goal.returns-in_err-made-in-Updates-clause-err
 returns-in_err-made-in-Updates-clause-err g c =

@@ -12,7 +12,7 @@ use Rattle.vs_program_words.specs.Options.{AreOptions}
 use Rattle.vs_program_words.proofs.Given.{words_given}
 use Rattle.vs_program_words.proofs.Tables.{are_simple, are_simple_and_free}
 use Rattle.vs_program_words.specs.Given.{AreAllGiven}
-use Rattle.vs_program_words.specs.Asks.{AreTaken, AsksFor, CallFails, IsInVain, Lists, Values, lists_of, name_of, values_of, words_of}
+use Rattle.vs_program_words.specs.Asks.{AreAccepted, AsksFor, CallFails, IsInVain, Lists, Values, lists_of, name_of, values_of, words_of}
 use Rattle.vs_program_words.specs.declared.words.WordsFault.{WordsFault}
 use Rattle.vs_program_words.specs.declared.words.WordsFault.TheVariants.{Memory, Misused, NoOrder, NoUntil, OrderOfCertified, Refused, TwoDumps, Unread}
 use Rattle.vs_program_words.proofs.words.read_loose.Goals as goal
@@ -43,7 +43,7 @@ all_given : (a : App) → AreOptions false a → (words : List Text) → fault_o
 all_given a o words e name f found = subst (λ (X : Type 0). X) (sym (same_values (AreAllGiven (name_of name)) f)) (words_given a o words e name (rows_of f) found)
 
 -- values that ask for nothing
-in_vain : (words : List Text) (t : AreTaken words) (f : WordsFault) → CallFails f (name_of t.name) (words_of t) (values_of t) (lists_of t) → IsInVain words f
+in_vain : (words : List Text) (t : AreAccepted words) (f : WordsFault) → CallFails f (name_of t.name) (words_of t) (values_of t) (lists_of t) → IsInVain words f
 in_vain words t OrderOfCertified h = record { taken = t; vain = h }
 in_vain words t TwoDumps h = record { taken = t; vain = h }
 in_vain words t (Refused e) h = absurd h
@@ -72,7 +72,7 @@ returns-clause-err c =
     let name = c.unwrap.result.0.now in
     let f = found_of c.unwrap.result.1.now in
     let found = sym (c.in_ok-matches.ensures.matches (are_simple _ options)).1 ∙ met _ _ _ c.unwrap.ensures c.subcommand.ensures.name c.subcommand.ensures.rows in
-    let taken : AreTaken words = record {
+    let taken : AreAccepted words = record {
       app = app_of c.in_ok-vsim_command.field-0;
       options = options;
       taken = c.in_ok-matches.ensures.kinds (are_simple_and_free _ options);

@@ -11,8 +11,8 @@ is_same_written-requires-clause-sized c =
     let q = c.index-processes-i.result in
     let is = process_at c.args.design.now.processes c.processes.result.now c.args.i q c.processes.ensures c.requires.within c.index-processes-i.is in
     let shape = c.requires.shape q is in
-    run_sized c.args.design.now c.args.i q is shape c.args.settled.now c.requires.settled c.args.most c.in_ok-arrives.arrives c.if-not-arrives.false c.comes_back.new.store
-    (ran c.args.design.now c.args.i q is shape c.in_ok-code.code c.in_ok-store.store c.args.settled.now (c.in_ok-code.ensures ∙ ap (λ (x : Process). x.body) (sym c.index-processes-i.is)) c.in_ok-store.ensures c.args.most c.in_ok-arrives.arrives c.comes_back.new.store c.in_ok-arrives.ensures)
+    run_sized c.args.design.now c.args.i q is shape c.args.settled.now c.requires.settled c.args.most c.in_ok-arrives.arrives c.if-not-arrives.false c.returns_to_control.new.store
+    (ran c.args.design.now c.args.i q is shape c.in_ok-code.code c.in_ok-store.store c.args.settled.now (c.in_ok-code.ensures ∙ ap (λ (x : Process). x.body) (sym c.index-processes-i.is)) c.in_ok-store.ensures c.args.most c.in_ok-arrives.arrives c.returns_to_control.new.store c.in_ok-arrives.ensures)
 
 pub returns : goal.returns
 returns c =
@@ -20,10 +20,10 @@ returns c =
     let is = process_at c.args.design.now.processes c.processes.result.now c.args.i q c.processes.ensures c.requires.within c.index-processes-i.is in
     let shape = c.requires.shape q is in
     IfOk-weaker c.is_same_written.result
-    (λ t. (IsTrue t ↔ SameWritten c.args.design.now c.args.i c.comes_back.new.store c.args.start.now))
+    (λ t. (IsTrue t ↔ SameWritten c.args.design.now c.args.i c.returns_to_control.new.store c.args.start.now))
     (λ t. (behind : Todo) → IsAfterControl c.args.design.now c.args.i behind → (IsTrue t ↔ StaysWithin c.args.most c.args.design.now c.args.i behind c.args.settled.now))
-    (stays_is c.args.design.now c.args.i c.args.settled.now c.args.start.now c.requires.start c.args.most c.in_ok-arrives.arrives c.if-not-arrives.false c.comes_back.new.store
-    (ran c.args.design.now c.args.i q is shape c.in_ok-code.code c.in_ok-store.store c.args.settled.now (c.in_ok-code.ensures ∙ ap (λ (x : Process). x.body) (sym c.index-processes-i.is)) c.in_ok-store.ensures c.args.most c.in_ok-arrives.arrives c.comes_back.new.store c.in_ok-arrives.ensures))
+    (stays_is c.args.design.now c.args.i c.args.settled.now c.args.start.now c.requires.start c.args.most c.in_ok-arrives.arrives c.if-not-arrives.false c.returns_to_control.new.store
+    (ran c.args.design.now c.args.i q is shape c.in_ok-code.code c.in_ok-store.store c.args.settled.now (c.in_ok-code.ensures ∙ ap (λ (x : Process). x.body) (sym c.index-processes-i.is)) c.in_ok-store.ensures c.args.most c.in_ok-arrives.arrives c.returns_to_control.new.store c.in_ok-arrives.ensures))
     c.is_same_written.ensures
 
 pub returns-then-not-arrives : goal.returns-then-not-arrives
@@ -31,5 +31,5 @@ returns-then-not-arrives c =
     let q = c.index-processes-i.result in
     let is = process_at c.args.design.now.processes c.processes.result.now c.args.i q c.processes.ensures c.requires.within c.index-processes-i.is in
     let shape = c.requires.shape q is in
-    stays_not c.args.design.now c.args.i c.args.settled.now c.args.most c.in_ok-arrives.arrives c.if-not-arrives.true c.comes_back.new.store
-    (ran c.args.design.now c.args.i q is shape c.in_ok-code.code c.in_ok-store.store c.args.settled.now (c.in_ok-code.ensures ∙ ap (λ (x : Process). x.body) (sym c.index-processes-i.is)) c.in_ok-store.ensures c.args.most c.in_ok-arrives.arrives c.comes_back.new.store c.in_ok-arrives.ensures)
+    stays_not c.args.design.now c.args.i c.args.settled.now c.args.most c.in_ok-arrives.arrives c.if-not-arrives.true c.returns_to_control.new.store
+    (ran c.args.design.now c.args.i q is shape c.in_ok-code.code c.in_ok-store.store c.args.settled.now (c.in_ok-code.ensures ∙ ap (λ (x : Process). x.body) (sym c.index-processes-i.is)) c.in_ok-store.ensures c.args.most c.in_ok-arrives.arrives c.returns_to_control.new.store c.in_ok-arrives.ensures)

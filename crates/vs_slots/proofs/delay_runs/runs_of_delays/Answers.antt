@@ -4,7 +4,6 @@ use Rattle.std.proofs.lemmas.Option.{same_Some, slice_get-get_or}
 use Rattle.std.proofs.lemmas.Result.{IfOk-weaker}
 use Rattle.vs_design.specs.declared.design.Process.{Process}
 use Rattle.vs_design.specs.Parts.{Parts}
-use Rattle.vs_design.specs.Tables.{rows}
 use Rattle.vs_maps.specs.vs_rules.specs.Certificates.{residues_from}
 use Rattle.vs_maps.specs.vs_rules.specs.Claims.{is_wide}
 use Rattle.vs_maps.specs.vs_rules.specs.Controls.{controls_in, list_of}
@@ -35,11 +34,11 @@ returns c =
     subst (λ (l : List Process). slice_get l i ≡ Some q) (c.processes-processes.ensures ∙ ap (λ (d : Parts). d.processes) c.design.ensures)
     (slice_get-get_or c.processes-processes.result.now i c.index-processes-i.result (omega (arith, c.if-i-processes.false))) in
     IfOk-weaker c.runs_by_lists.result
-    (λ x. AreRunsBy (Plain (is_wide f.claims)) (DelayEndsBy (list_of (controls_in q.body) lists)) c.in-Some.tables.now x.before (rows x.ends.items))
+    (λ x. AreRunsBy (Plain (is_wide f.claims)) (DelayEndsBy (list_of (controls_in q.body) lists)) c.in-Some.tables.now x.before x.ends)
     (λ x. RunsWhere DelayPauseEnds f i x)
     (λ x h t chart.
     let same = same_Some c.in-Some.tables.now t (c.in-Some.ensures ∙ chart) in
-    listed_are f i q t lists x.before (rows x.ends.items) (subst (λ (s : Chart). (p : ℕ) → IsPlace s p → p < places s) same c.leads_in.ensures.points) is c.in-Some-lists.ensures
-    (subst (λ (s : Chart). AreRunsBy (Plain (is_wide f.claims)) (DelayEndsBy (list_of (controls_in q.body) lists)) s x.before (rows x.ends.items)) same h))
-    (subst (λ (wide : Bool). IfOk c.runs_by_lists.result (λ x. AreRunsBy (Plain wide) (DelayEndsBy (list_of (controls_in q.body) lists)) c.in-Some.tables.now x.before (rows x.ends.items)))
+    listed_are f i q t lists x.before x.ends (subst (λ (s : Chart). (p : ℕ) → IsPlace s p → p < places s) same c.leads_in.ensures.points) is c.in-Some-lists.ensures
+    (subst (λ (s : Chart). AreRunsBy (Plain (is_wide f.claims)) (DelayEndsBy (list_of (controls_in q.body) lists)) s x.before x.ends) same h))
+    (subst (λ (wide : Bool). IfOk c.runs_by_lists.result (λ x. AreRunsBy (Plain wide) (DelayEndsBy (list_of (controls_in q.body) lists)) c.in-Some.tables.now x.before x.ends))
     c.is_wide.ensures c.runs_by_lists.ensures)

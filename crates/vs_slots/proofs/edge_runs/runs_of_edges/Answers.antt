@@ -2,7 +2,6 @@ use Rattle.std.proofs.Common.{ℕ, ◌<◌, ◌∙◌, refl, subst}
 use Rattle.std.proofs.lemmas.Bool.{false≢true}
 use Rattle.std.proofs.lemmas.Option.{same_Some}
 use Rattle.std.proofs.lemmas.Result.{IfOk-weaker}
-use Rattle.vs_design.specs.Tables.{rows}
 use Rattle.vs_claims.specs.vs_maps.specs.declared.along.Along.TheVariants.{Plain}
 use Rattle.vs_claims.specs.vs_maps.specs.Reaches.{Chart, IsPlace, places}
 use Rattle.vs_maps.specs.vs_rules.specs.Claims.{is_wide}
@@ -20,10 +19,10 @@ pub returns-in-Some : goal.returns-in-Some
 returns-in-Some c =
     let f = c.args.facts.now in
     IfOk-weaker c.fired_runs.result
-    (λ x. AreRunsBy (Plain (is_wide f.claims)) (TermsEnd f.design f.claims) c.in-Some.tables.now x.before (rows x.ends.items))
+    (λ x. AreRunsBy (Plain (is_wide f.claims)) (TermsEnd f.design f.claims) c.in-Some.tables.now x.before x.ends)
     (λ x. RunsWhere EdgePauseEnds f c.args.i x)
     (λ x h t chart.
     let same = same_Some c.in-Some.tables.now t (c.in-Some.ensures ∙ chart) in
-    fired_are f c.args.i t x.before (rows x.ends.items) (subst (λ (s : Chart). (p : ℕ) → IsPlace s p → p < places s) same c.leads_in.ensures.points) (c.if-not-waits_for_edges.ensures.0 refl)
-    (subst (λ (s : Chart). AreRunsBy (Plain (is_wide f.claims)) (TermsEnd f.design f.claims) s x.before (rows x.ends.items)) same h))
+    fired_are f c.args.i t x.before x.ends (subst (λ (s : Chart). (p : ℕ) → IsPlace s p → p < places s) same c.leads_in.ensures.points) (c.if-not-waits_for_edges.ensures.0 refl)
+    (subst (λ (s : Chart). AreRunsBy (Plain (is_wide f.claims)) (TermsEnd f.design f.claims) s x.before x.ends) same h))
     c.fired_runs.ensures

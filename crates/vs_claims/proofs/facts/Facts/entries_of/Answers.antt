@@ -1,38 +1,5 @@
-use Rattle.std.proofs.Common.{◌≡◌, List, Some, slice_get, refl, sym, ◌∙◌, ap, subst, arith}
-use Rattle.std.proofs.lemmas.Option.{slice_get_read}
-use Rattle.vs_design.specs.declared.signal.Signal.{Signal}
-use Rattle.vs_claims.specs.vs_rules.specs.Claims.{Name, times_in}
-use Rattle.vs_claims.specs.Facts.{Case}
-use Rattle.vs_claims.specs.Places.{place_in}
-use Rattle.vs_claims.proofs.FactLemmas.{edge_signals_are}
-use Rattle.vs_claims.proofs.RootLemmas.{no_entries, one_entry}
+use Rattle.vs_claims.proofs.RootLemmas.{entries_are}
 use Rattle.vs_claims.proofs.facts.Facts.entries_of.Goals as goal
 
-pub returns-in-None : goal.returns-in-None
-returns-in-None c =
-    let s = c.index-signals-v.result in
-    let v = c.args.v in
-    let x = c.args.self.now in
-    let ns = c.self.inside.names.edges.signals in
-    let read : slice_get c.self.inside.design.now.signals v ≡ Some s =
-    subst (λ (ss : List Signal). slice_get ss v ≡ Some s) c.signals-signals.ensures
-    (slice_get_read c.signals-signals.result.now _ v s refl (omega arith) c.index-signals-v.is) in
-    let at : slice_get x.design.signals v ≡ Some s = subst (λ (x : Case). slice_get x.design.signals v ≡ Some s) c.self.view_is read in
-    let name = c.deref.ensures.value ∙ ap (λ (s : Signal). s.path.items) (sym c.index-signals-v.is) in
-    no_entries x.design x.claims v s ns at (edge_signals_are c.self.invariant x c.self.view_is) (ap (place_in ns) (sym name) ∙ sym c.in-None.ensures)
-
-pub returns-then-times-eq1 : goal.returns-then-times-eq1
-returns-then-times-eq1 c =
-    let s = c.index-signals-v.result in
-    let v = c.args.v in
-    let x = c.args.self.now in
-    let ns = c.self.inside.names.edges.signals in
-    let read : slice_get c.self.inside.design.now.signals v ≡ Some s =
-    subst (λ (ss : List Signal). slice_get ss v ≡ Some s) c.signals-signals.ensures
-    (slice_get_read c.signals-signals.result.now _ v s refl (omega arith) c.index-signals-v.is) in
-    let at : slice_get x.design.signals v ≡ Some s = subst (λ (x : Case). slice_get x.design.signals v ≡ Some s) c.self.view_is read in
-    let name = c.deref.ensures.value ∙ ap (λ (s : Signal). s.path.items) (sym c.index-signals-v.is) in
-    let again = c.deref-in-Some.ensures.value ∙ ap (λ (s : Signal). s.path.items) (sym c.index-signals-v.is) in
-    one_entry x.design x.claims v s ns c.in-Some.place at (edge_signals_are c.self.invariant x c.self.view_is)
-    (ap (place_in ns) (sym name) ∙ sym c.in-Some.ensures)
-    (ap (λ (n : Name). times_in n ns) (sym again) ∙ sym c.times.ensures ∙ c.if-times-eq1.true)
+pub returns : goal.returns
+returns c = entries_are c.self.invariant c.args.self.now c.self.view_is c.args.v c.row.result.now c.row.ensures

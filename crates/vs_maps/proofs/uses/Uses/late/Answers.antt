@@ -10,4 +10,4 @@ returns c t at =
     let u = c.self.inside in
     let here : slice_get u.sites.charts c.args.i ≡ Some t = subst (λ (x : Texts). slice_get x.charts c.args.i ≡ Some t) (sym c.self.view_is) at in
     subst (AreMarked (InLate t) (places t)) (sym (c.marks_of.ensures ∙ ap (λ l. marks_of l c.args.i) c.deref.ensures.value))
-    (c.self.invariant.late_are c.args.i t (slice_get_within u.sites.charts c.args.i t here) here)
+    (c.self.invariant c.args.i t (slice_get_within u.sites.charts c.args.i t here) here)

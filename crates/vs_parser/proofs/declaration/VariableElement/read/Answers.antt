@@ -30,15 +30,15 @@ returns-in_err-words c =
 pub returns-in_default : goal.returns-in_default
 returns-in_default c =
     let words =
-    subst (λ (u : Tree). Gets d.told c.args.depth (seen c.in_ok-name.after_name.now) u (seen c.in_ok-words.words.rest.now)) (d.told_range c.in_ok-words.words.tree)
+    subst (λ (u : Tree). Gets d.declarator_rest c.args.depth (seen c.in_ok-name.after_name.now) u (seen c.in_ok-words.words.rest.now)) (d.told_range c.in_ok-words.words.tree)
     (d.no_value c.args.depth _ _ _ c.in_default.ensures c.in_ok-words.ensures) in
     gets_part (gets_seq (c.in_ok-name.ensures c.args.depth) words)
 
 pub returns : goal.returns
 returns c =
-    let named = beyond_part name d.told c.args.depth (seen c.args.tokens.now) (seen c.in_ok-name.after_name.now) (name_tree c.in_ok-name.name.items) (c.in_ok-name.ensures c.args.depth) in
+    let named = beyond_part name d.declarator_rest c.args.depth (seen c.args.tokens.now) (seen c.in_ok-name.after_name.now) (name_tree c.in_ok-name.name.items) (c.in_ok-name.ensures c.args.depth) in
     let assigned = d.value_beyond c.args.depth (seen c.in_ok-name.after_name.now) (seen c.in-Some.after.now) c.in-Some.ensures in
     d.part_answers a_variable declarator_tree c.args.depth c.args.tokens.now _
-    (d.within_beyond (part an_expr) (name · d.told) declarator_tree _ c.args.depth c.args.tokens.now c.in-Some.after.now _
-    (beyond_behind (part an_expr) d.told (name · d.told) (both (leaf (a_mark m.Assign))) (both (name_tree c.in_ok-name.name.items)) c.args.depth _ _ _ named assigned)
+    (d.within_beyond (part an_expr) (name · d.declarator_rest) declarator_tree _ c.args.depth c.args.tokens.now c.in-Some.after.now _
+    (beyond_behind (part an_expr) d.declarator_rest (name · d.declarator_rest) (both (leaf (a_mark m.Assign))) (both (name_tree c.in_ok-name.name.items)) c.args.depth _ _ _ named assigned)
     c.initialised.ensures)

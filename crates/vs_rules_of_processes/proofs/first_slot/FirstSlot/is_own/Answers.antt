@@ -1,10 +1,7 @@
-use Rattle.std.proofs.Common.{◌≡◌, ℕ, ◌↔◌, Some, List, length, slice_get, refl, sym, ◌∙◌, ap, subst}
-use Rattle.std.specs.List.{Contains}
+use Rattle.std.proofs.Common.{◌≡◌, Some, List, length, slice_get, refl, sym, ◌∙◌, ap, subst}
 use Rattle.std.proofs.lemmas.Option.{slice_get_read}
 use Rattle.vs_design.specs.declared.signal.Signal.{Signal}
 use Rattle.vs_design.specs.Parts.{Parts}
-use Rattle.vs_maps.specs.vs_rules.specs.Paths.{Writes}
-use Rattle.vs_maps.specs.Texts.{Texts}
 use Rattle.vs_claims.specs.Facts.{Case, AreCharts}
 use Rattle.vs_rules_of_processes.proofs.FirstReads.{own_narrow, own_wide}
 use Rattle.vs_rules_of_processes.proofs.first_slot.FirstSlot.is_own.Goals as goal
@@ -24,10 +21,7 @@ returns-else-is_wide c =
     let v = c.args.v in
     let k = c.args.self.now in
     let s = c.in-Some.s.now in
-    let row = c.writers.result.now in
     let told = c.signals-signals.ensures ∙ ap (λ (e : Parts). e.signals) (c.design.ensures ∙ ap (λ (x : Case). x.design) c.self.view_is) in
     let is = subst (λ (l : List Signal). slice_get l v ≡ Some s) told
     (slice_get_read c.signals-signals.result.now (length c.signals-signals.result.now) v s refl c.in-Some.ensures.lookup.3.0 c.in-Some.ensures.lookup.1) in
-    let same = ap (λ (x : Texts). x.design) c.uses.ensures ∙ ap (λ (x : Case). x.design) c.self.view_is in
-    own_narrow k.design k.claims c.args.i v s row c.is_sole.result (sym c.is_wide.ensures ∙ c.if-is_wide.false) is (sym c.if-not-is_variable.ensures)
-    (subst (λ (e : Parts). (j : ℕ) → (Contains row j ↔ Writes e j v)) same c.writers.ensures) c.is_sole.ensures
+    own_narrow k.design k.claims c.args.i v s c.is_sole.result (sym c.is_wide.ensures ∙ c.if-is_wide.false) is (sym c.if-not-is_variable.ensures) c.is_sole.ensures

@@ -1,14 +1,23 @@
-use Rattle.std.proofs.Common.{◌↔◌, subst}
-use Rattle.std.specs.List.{Contains}
-use Rattle.vs_maps.specs.Texts.{Texts, WaitsFor}
-use Rattle.vs_rules_of_signals.proofs.Parts.{none_as}
-use Rattle.vs_rules_of_signals.proofs.Private.{no_waiters}
+use Rattle.std.proofs.Common.{◌<◌, inl, inr, not, true, length, refl, sym, ◌∙◌, ap, subst}
+use Rattle.std.proofs.lemmas.Bool.{cases_Bool, false≢true}
+use Rattle.vs_maps.specs.Texts.{Texts}
+use Rattle.vs_maps.proofs.SiteLemmas.{AreSitesOf}
+use Rattle.vs_maps.proofs.TermLemmas.{terms_so}
 use Rattle.vs_rules_of_signals.proofs.writers.Claimed.no_term_names.Goals as goal
+
+pub of_signal-requires : goal.of_signal-requires
+of_signal-requires c = subst (λ (x : Texts). c.args.v < length x.design.signals) (sym c.sites.ensures) c.requires
 
 pub returns : goal.returns
 returns c =
     let x = c.args.self.now.facts.now in
-    let none = none_as (Contains c.waiters.result.now) (λ j. WaitsFor x.charts j c.args.v)
-    (λ j. subst (λ (y : Texts). (Contains c.waiters.result.now j ↔ WaitsFor y.charts j c.args.v)) c.args.self.now.same (c.waiters.ensures j)) c.are_none.result c.are_none.ensures in
-    let terms = no_waiters x.design x.charts c.args.v c.maps.ensures in
-    (λ told. terms.0 (none.0 told), λ all. none.1 (terms.1 all))
+    let are = subst (λ (y : Texts). AreSitesOf y.charts c.args.v c.of_signal.result.now) c.sites.ensures c.of_signal.ensures in
+    let so = terms_so x.design x.charts c.maps.ensures c.args.v c.of_signal.result.now are (λ edge. true) in (
+      λ told j t has of.
+          let waits = so.1 (record { process = j; term = t; has = has; of = of; passes = refl }) in
+          absurd (false≢true (sym (ap not (c.any_waits.ensures ∙ waits)) ∙ told)),
+      λ none. elim (cases_Bool c.any_waits.result) [
+        | inl hit ↦ let y = so.0 (sym c.any_waits.ensures ∙ hit) in absurd (none y.process y.term y.has y.of)
+        | inr miss ↦ ap not miss
+      ],
+    )

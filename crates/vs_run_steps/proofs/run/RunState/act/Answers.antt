@@ -1,6 +1,6 @@
-use Rattle.std.proofs.Common.{ℕ, refl, ap}
+use Rattle.std.proofs.Common.{ℕ, Some, refl, ◌∙◌, ap}
 use Rattle.vs_run_steps.specs.declared.step.Went.TheVariants.{On}
-use Rattle.vs_run_steps.specs.Runs.{counters_of}
+use Rattle.vs_run_steps.specs.Runs.{counters_of, state_of}
 use Rattle.vs_run_steps.proofs.StepsLemmas.{acts_as, assigned_as, cased_as, delayed_as, repeat_keeps, turn_keeps, updated_as}
 use Rattle.vs_run_steps.proofs.run.RunState.act.Goals as goal
 
@@ -12,6 +12,14 @@ returns-in_ok-write-in-Assign-clause-acts g c =
     assigned_as c.args.number c.args.x.now.next c.time-time.result c.args.x.now.action _ _ c.args.self.now c.write.new.self c.cut_value-digits.result c.in-Assign.is c.write.ensures.others c.in_ok-write-in-Assign.ensures.state
     c.cut_value-digits.ensures c.time-time.ensures
 
+pub returns-in_ok-assign_chosen-in-AssignChosen-clause-acts : goal.returns-in_ok-assign_chosen-in-AssignChosen-clause-acts
+returns-in_ok-assign_chosen-in-AssignChosen-clause-acts g c =
+    acts_as c.args.number c.args.x.now.action _ c.args.x.now.next c.args.self.now c.assign_chosen.new.self _ c.in-AssignChosen.is (
+      ap (λ r. counters_of r) c.in_ok-assign_chosen-in-AssignChosen.ensures.others,
+      refl,
+      c.in_ok-assign_chosen-in-AssignChosen.ensures.state,
+    )
+
 pub returns-in_ok-assign_any-in-AssignAny-clause-acts : goal.returns-in_ok-assign_any-in-AssignAny-clause-acts
 returns-in_ok-assign_any-in-AssignAny-clause-acts g c =
     acts_as c.args.number c.args.x.now.action _ c.args.x.now.next c.args.self.now c.assign_any.new.self _ c.in-AssignAny.is
@@ -21,6 +29,14 @@ pub returns-in_ok-update-in-Update-clause-acts : goal.returns-in_ok-update-in-Up
 returns-in_ok-update-in-Update-clause-acts g c =
     updated_as c.args.number c.args.x.now.next c.time-time.result c.args.x.now.action _ _ c.args.self.now c.update.new.self c.cut_value-digits-in-Update.result c.in-Update.is c.update.ensures.others c.in_ok-update-in-Update.ensures.state
     c.cut_value-digits-in-Update.ensures c.time-time.ensures
+
+pub returns-in_ok-update_chosen-in-UpdateChosen-clause-acts : goal.returns-in_ok-update_chosen-in-UpdateChosen-clause-acts
+returns-in_ok-update_chosen-in-UpdateChosen-clause-acts g c =
+    acts_as c.args.number c.args.x.now.action _ c.args.x.now.next c.args.self.now c.update_chosen.new.self _ c.in-UpdateChosen.is (
+      ap (λ r. counters_of r) c.update_chosen.ensures.others,
+      refl,
+      c.in_ok-update_chosen-in-UpdateChosen.ensures.state,
+    )
 
 pub returns-in_ok-update_any-in-UpdateAny-clause-acts : goal.returns-in_ok-update_any-in-UpdateAny-clause-acts
 returns-in_ok-update_any-in-UpdateAny-clause-acts g c =

@@ -1,9 +1,0 @@
-use Rattle.std.proofs.Common.{ℕ, ◌⊎◌, ◌↔◌}
-use Rattle.std.specs.List.{Contains}
-use Rattle.vs_design.specs.Tables.{rows}
-use Rattle.vs_slots.specs.Lists.{row}
-use Rattle.vs_slots.proofs.Unions.{SomeBefore}
-use Rattle.vs_slots.proofs.residues.put_residues.Given as goal
-
-abbrev pub invariant-loop-i : goal.invariant-loop-i
-invariant-loop-i l = (r : ℕ) → (Contains l.out r ↔ (Contains l.fn.out r ⊎ SomeBefore l.numbers l.i-index (λ (i : ℕ). Contains (row (rows l.table) i) r)))
