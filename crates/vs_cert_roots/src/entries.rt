@@ -8,7 +8,6 @@ ghost use Rattle.vs_cert_roots.specs.First.{WakesSignal, WakesSite};
 ghost use Rattle.vs_cert_roots.specs.Entries.{HasEntries, is_from_x, is_proper};
 ghost use Rattle.vs_drivers.specs.vs_maps.specs.Sites.{waits_by};
 
-use crate::early::is_at_start;
 use std::alloc::{AllocError, Global};
 use std::marker::Model;
 use vs_design::vs_logic4::{Digit, Edge};
@@ -58,7 +57,7 @@ fn wakes(facts: &Facts, site: Site, digit: Digit, except: Option<usize>) -> bool
     if except == Some(site.process) {
         return false;
     }
-    is_at_start(facts, true, site)
+    facts.is_slot0(true, site.process, site.place)
 }
 
 // Whether none of some sites does.

@@ -13,7 +13,6 @@ ghost use Rattle.vs_drivers.specs.vs_maps.specs.declared.sites.Site.{Site};
 ghost use Rattle.vs_rules_of_signals.specs.vs_claims.specs.Facts.{NamesRoot};
 ghost use Rattle.vs_cert_roots.specs.First.{IsFirst, SiteAt, HasSite, IsSilent, StartsSilently, StartsWellIn, StartsWell, WakesEntry, left_out, shown_by};
 
-use crate::early::is_at_start;
 use crate::entries::Entries;
 use std::alloc::{AllocError, Global};
 use std::marker::Model;
@@ -31,7 +30,7 @@ fn is_first(facts: &Facts, site: Site) -> bool
     if !is_write(site.usage) {
         return false;
     }
-    is_at_start(facts, facts.is_wide(), site)
+    facts.is_slot0(facts.is_wide(), site.process, site.place)
 }
 
 // Whether a site of a process is one.
@@ -78,7 +77,8 @@ fn first_places(
     Ok(all)
 }
 
-/// The entries of a certificate, and which signals show a variable inverted. A contract sees the design, what the certificate claims of it, and the maps of the texts of the processes.
+/// The entries of a certificate, and which signals show a variable inverted. A contract sees the design, what the certificate claims of it, and the
+/// maps of the texts of the processes.
 #[derive(Drop)]
 pub struct FirstWrites<'a> {
     entries: &'a Entries<'a>,

@@ -1,7 +1,6 @@
 //! The rules on the roots of edge terms: K6, and K10 of signals.
 #![tactic(auto)]
 
-mod early;
 mod entries;
 mod first;
 mod laws;

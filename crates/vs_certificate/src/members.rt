@@ -1,7 +1,8 @@
 //! What a certificate holds.
 
-ghost use Rattle.std.specs.Prelude.{◌≡◌};
+ghost use Rattle.std.specs.Prelude.{◌≡◌, ◌↔◌, IsTrue};
 ghost use Rattle.vs_certificate.specs.JsonValue.{grain_word, kind_word, start_word, mode_word, version_number};
+ghost use Rattle.vs_certificate.specs.declared.members.Rules.TheVariants.{Wide};
 ghost use Rattle.vs_certificate.specs.Versions as Versions;
 
 /// A claim about a design, by which a checker can tell that no choice of the simulator matters.
@@ -60,6 +61,15 @@ pub enum Rules {
     Narrow,
     /// Version 3 too.
     Wide,
+}
+
+impl Rules {
+    /// Whether version 3 is read too.
+    pub fn is_wide(self) -> bool
+        ensures { IsTrue result ↔ self ≡ Wide }
+    {
+        matches!(self, Rules::Wide)
+    }
 }
 
 /// How finely processes may be interleaved.

@@ -11,6 +11,7 @@ use Rattle.vs_eval.specs.declared.node.Array.{Array}
 use Rattle.vs_eval.specs.declared.node.Change.{Change}
 use Rattle.vs_eval.specs.declared.node.Field.{Field}
 use Rattle.vs_eval.specs.declared.node.Index.{Index}
+use Rattle.vs_eval.specs.declared.node.Range.{Range}
 use Rattle.vs_eval.specs.declared.node.Node.{Node, Node-F}
 use Rattle.vs_eval.specs.declared.node.Node.TheOpen as f
 use Rattle.vs_eval.specs.declared.node.Node.TheVariants as v
@@ -43,12 +44,13 @@ module _ (store : Store) (time : ℕ) where
   pub in_bit : (array : Array) (x : Box Node Global) → planes_in (v.Bit array x) store time ≡ bit_planes array (planes_in x.value store time) store
   in_bit array x = node_layer (v.Bit array x) store time (f.Bit array x) (v.rolls-Bit array x)
 
-  pub in_indexed : (array : Array) (index : Index) (x : Box Node Global) → planes_in (v.Indexed array index x) store time ≡ indexed_planes array index (planes_in x.value store time) store
+  pub in_indexed : (array : Array) (index : Box Index Global) (x : Box Node Global) →
+      planes_in (v.Indexed array index x) store time ≡ indexed_planes array index.value (planes_in x.value store time) store
   in_indexed array index x = node_layer (v.Indexed array index x) store time (f.Indexed array index x) (v.rolls-Indexed array index x)
 
-  pub in_ranged : (array : Array) (index : Index) (size : Size) (x : Box Node Global) →
-      planes_in (v.Ranged array index size x) store time ≡ ranged_planes array index size (planes_in x.value store time) store
-  in_ranged array index size x = node_layer (v.Ranged array index size x) store time (f.Ranged array index size x) (v.rolls-Ranged array index size x)
+  pub in_ranged : (array : Array) (range : Box Range Global) (x : Box Node Global) →
+      planes_in (v.Ranged array range x) store time ≡ ranged_planes array range.value (planes_in x.value store time) store
+  in_ranged array range x = node_layer (v.Ranged array range x) store time (f.Ranged array range x) (v.rolls-Ranged array range x)
 
   pub in_unary : (operator : Unary) (size : Size) (x : Box Node Global) → planes_in (v.Unary operator size x) store time ≡ unary_planes operator size (planes_in x.value store time)
   in_unary operator size x = node_layer (v.Unary operator size x) store time (f.Unary operator size x) (v.rolls-Unary operator size x)

@@ -28,6 +28,7 @@ use Rattle.vs_eval.specs.Values.{bits_value, operand_value, selection_value, val
 use Rattle.vs_eval.specs.declared.node.Array.{Array}
 use Rattle.vs_eval.specs.declared.node.Field.{Field}
 use Rattle.vs_eval.specs.declared.node.Index.{Index}
+use Rattle.vs_eval.specs.declared.node.Range.{Range}
 use Rattle.vs_eval.specs.declared.node.Node.{Node}
 use Rattle.vs_eval.specs.declared.node.Node.TheVariants as v
 use Rattle.vs_eval.specs.declared.node.Planes.{Planes}
@@ -233,13 +234,13 @@ module _ (signals : List Signal) (signal : ℕ) (values : Values) (a : Array) (a
         ∙ ap (λ n. planes_of (bits_value (pos 0) n (word_of store signal (word_place axis (values store time))))) c.width;
   }
 
-  pub indexed_means : (index : Index) → index.axis ≡ axis → index.size ≡ size →
+  pub indexed_means : (index : Box Index Global) → index.value.axis ≡ axis → index.value.size ≡ size →
       Means signals (λ store time. word_value signal a.width axis store (values store time)) (v.Indexed a index x) a.width
   indexed_means index by long = record {
     sized = λ store time is. bits_long (pos 0) a.width (word_of store signal (word_place axis (values store time)));
     same = λ store time is.
         in_indexed store time a index x
-        ∙ ap₂ (λ b p. nth_planes a (word_place b (digits_of index.size p)) store) by (of_index store time is)
+        ∙ ap₂ (λ b p. nth_planes a (word_place b (digits_of index.value.size p)) store) by (of_index store time is)
         ∙ ap (λ n. nth_planes a (word_place axis (digits_of n (planes_of (values store time)))) store) long
         ∙ ap (λ ds. nth_planes a (word_place axis ds) store) (own_digits size (values store time) (m.sized store time is))
         ∙ nth_same signals signal a r store is (word_place axis (values store time));
@@ -256,16 +257,19 @@ module _ (signals : List Signal) (signal : ℕ) (values : Values) (a : Array) (a
         ∙ ap (λ n. planes_of (bits_value (place_of axis n (values store time)) n (word_of store signal 0))) (sym one);
   }
 
-  pub ranged_means : (index : Index) (width : Size) → index.axis ≡ axis → index.size ≡ size →
-      Means signals (λ store time. part_value signal width.width axis store (values store time)) (v.Ranged a index width x) width.width
-  ranged_means index width by long = record {
-    sized = λ store time is. bits_long (place_of axis width.width (values store time)) width.width (word_of store signal 0);
+  abbrev part : Store → Axis → ℕ → List Digit → Planes
+  part store b n ds = planes_of (selected (place_of b n ds) n (digits_of a.width (word_planes store a.first)))
+
+  pub ranged_means : (range : Box Range Global) (width : ℕ) → range.value.index.axis ≡ axis → range.value.index.size ≡ size → range.value.width ≡ width →
+      Means signals (λ store time. part_value signal width axis store (values store time)) (v.Ranged a range x) width
+  ranged_means range width by long wide = record {
+    sized = λ store time is. bits_long (place_of axis width (values store time)) width (word_of store signal 0);
     same = λ store time is.
-        in_ranged store time a index width x
-        ∙ ap₂ (λ b p. planes_of (selected (place_of b width.width (digits_of index.size p)) width.width (digits_of a.width (word_planes store a.first)))) by (of_index store time is)
-        ∙ ap (λ n. planes_of (selected (place_of axis width.width (digits_of n (planes_of (values store time)))) width.width (digits_of a.width (word_planes store a.first)))) long
-        ∙ ap (λ ds. planes_of (selected (place_of axis width.width ds) width.width (digits_of a.width (word_planes store a.first)))) (own_digits size (values store time) (m.sized store time is))
-        ∙ part_same signals signal a r store is axis width.width (values store time);
+        in_ranged store time a range x
+        ∙ ap₂ (λ b p. part store b range.value.width (digits_of range.value.index.size p)) by (of_index store time is)
+        ∙ ap₂ (λ n m. part store axis n (digits_of m (planes_of (values store time)))) wide long
+        ∙ ap (part store axis width) (own_digits size (values store time) (m.sized store time is))
+        ∙ part_same signals signal a r store is axis width (values store time);
   }
 
 -- ---- what two indices choose

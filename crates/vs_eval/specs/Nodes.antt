@@ -18,6 +18,7 @@ use Rattle.vs_eval.specs.declared.node.Array.{Array}
 use Rattle.vs_eval.specs.declared.node.Change.{Change}
 use Rattle.vs_eval.specs.declared.node.Field.{Field}
 use Rattle.vs_eval.specs.declared.node.Index.{Index}
+use Rattle.vs_eval.specs.declared.node.Range.{Range}
 use Rattle.vs_eval.specs.declared.node.Node.{Node, Node-F, fold-Node}
 use Rattle.vs_eval.specs.declared.node.Node.TheOpen as n
 use Rattle.vs_eval.specs.declared.node.Planes.{Planes}
@@ -63,10 +64,10 @@ nth_planes a n store = if nat_lt n a.count then word_planes store (a.first + n) 
 abbrev pub indexed_planes : Array → Index → Planes → Store → Planes
 indexed_planes a i p store = nth_planes a (word_place i.axis (digits_of i.size p)) store
 
--- so many bits of the first word that any index chooses
-abbrev pub ranged_planes : Array → Index → Size → Planes → Store → Planes
-ranged_planes a i size p store =
-    planes_of (selected (place_of i.axis size.width (digits_of i.size p)) size.width (digits_of a.width (word_planes store a.first)))
+-- the bits of the first word that any index chooses
+abbrev pub ranged_planes : Array → Range → Planes → Store → Planes
+ranged_planes a r p store =
+    planes_of (selected (place_of r.index.axis r.width (digits_of r.index.size p)) r.width (digits_of a.width (word_planes store a.first)))
 
 -- what an operator gives of an operand of this size
 abbrev pub unary_planes : Unary → Size → Planes → Planes
@@ -107,8 +108,8 @@ planes_step store time (n.Word number) = word_planes store number
 planes_step store time (n.Bits field) = field_planes field store
 planes_step store time (n.Element array x) = element_planes array x.value store
 planes_step store time (n.Bit array x) = bit_planes array x.value store
-planes_step store time (n.Indexed array index x) = indexed_planes array index x.value store
-planes_step store time (n.Ranged array index size x) = ranged_planes array index size x.value store
+planes_step store time (n.Indexed array index x) = indexed_planes array index.value x.value store
+planes_step store time (n.Ranged array range x) = ranged_planes array range.value x.value store
 planes_step store time (n.Unary operator size x) = unary_planes operator size x.value
 planes_step store time (n.Two sides x y) = combined x.value (sides, y.value)
 planes_step store time (n.Chain x links) = chained x.value links.items

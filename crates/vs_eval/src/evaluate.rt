@@ -6,7 +6,7 @@ ghost use Rattle.vs_eval.specs.Values.{value_of};
 ghost use Rattle.vs_eval.specs.PlanesOf.{planes_of, digits_of};
 ghost use Rattle.vs_eval.specs.Nodes.{planes_in, word_planes, field_planes, element_planes, bit_planes, indexed_planes, ranged_planes, counted, combined, chained, chosen, unary_planes, changed_planes, joined, repeated};
 
-use crate::node::{Array, Change, Field, Index, Node, Planes, Sides, Size};
+use crate::node::{Array, Change, Field, Index, Node, Planes, Range, Sides, Size};
 use crate::{place_of, value, word_place};
 use vs_design::vs_logic4::{Binary, Digit, Unary, Vec4};
 use vs_design::{Count, Store, Typed};
@@ -65,9 +65,7 @@ pub(crate) fn planes_at(node: &Node, store: &Store, time: u64) -> Planes
             quick_planes(x, store, time),
             store,
         ),
-        Node::Ranged(array, index, size, x) => {
-            ranged(array, index, *size, quick_planes(x, store, time), store)
-        }
+        Node::Ranged(array, range, x) => ranged(array, range, quick_planes(x, store, time), store),
         Node::Unary(operator, size, x) => unary(*operator, *size, quick_planes(x, store, time)),
         Node::Two(sides, x, y) => {
             let left = quick_planes(x, store, time);
@@ -222,14 +220,15 @@ fn indexed(array: &Array, index: &Index, p: Planes, store: &Store) -> Planes
     }
 }
 
-/// So many bits of a word that any index chooses.
+/// The bits of a word that any index chooses.
 #[inline(never)]
-fn ranged(array: &Array, index: &Index, size: Size, p: Planes, store: &Store) -> Planes
-    ensures { result ≡ ranged_planes array.now index.now size p store.now }
+fn ranged(array: &Array, range: &Range, p: Planes, store: &Store) -> Planes
+    ensures { result ≡ ranged_planes array.now range.now p store.now }
 {
-    let place = place_of(index.axis, size.width, vector(index.size, p));
+    let index = range.index;
+    let place = place_of(index.axis, range.width, vector(index.size, p));
     let all = vector(array.width, word(array.first, store));
-    planes(all.select(place, size.width))
+    planes(all.select(place, range.width))
 }
 
 /// What an operator gives of an operand of this size.

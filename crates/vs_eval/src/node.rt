@@ -59,6 +59,14 @@ pub(crate) struct Index {
     pub ghost sized: { (0 < size) × (size ≤ 64) },
 }
 
+/// How an index chooses so many bits.
+#[derive(Clone, Copy)]
+pub(crate) struct Range {
+    pub index: Index,
+    pub width: u32,
+    pub ghost sized: { (0 < width) × (width ≤ 64) },
+}
+
 /// An operator, and the sizes at which it takes what stands on its left and on its right.
 #[derive(Clone, Copy)]
 pub(crate) struct Sides {
@@ -96,9 +104,9 @@ pub(crate) enum Node {
     /// A bit of the first word of an array, by an index whose value counts them.
     Bit(Array, Box<Node>),
     /// A word of an array, by any index.
-    Indexed(Array, Index, Box<Node>),
-    /// So many bits of the first word of an array, by any index.
-    Ranged(Array, Index, Size, Box<Node>),
+    Indexed(Array, Box<Index>, Box<Node>),
+    /// Bits of the first word of an array, by any index.
+    Ranged(Array, Box<Range>, Box<Node>),
     /// An operator and its operand, which has this size.
     Unary(Unary, Size, Box<Node>),
     /// An operator and its operands.
@@ -126,7 +134,7 @@ impl Drop for Node {
             | Self::Element(_, _)
             | Self::Bit(_, _)
             | Self::Indexed(_, _, _)
-            | Self::Ranged(_, _, _, _)
+            | Self::Ranged(_, _, _)
             | Self::Unary(_, _, _)
             | Self::Two(_, _, _)
             | Self::Chain(_, _)

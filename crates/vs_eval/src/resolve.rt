@@ -15,7 +15,7 @@ ghost use Rattle.vs_eval.specs.PlanesOf.{planes_of};
 
 use crate::copy::boxed;
 use crate::evaluate::planes;
-use crate::node::{Array, Change, Field, Index, Node, Sides, Size};
+use crate::node::{Array, Change, Field, Index, Node, Range, Sides, Size};
 use crate::place_of;
 use std::alloc::{AllocError, Global};
 use vs_design::vs_logic4::{Sizing, Unary, Vec4};
@@ -252,6 +252,7 @@ fn word_by(alloc: Global, array: Array, axis: Axis, x: (Node, Size)) -> Result<N
         axis,
         size: own.width,
     };
+    let index = Box::new(alloc, index)?;
     Ok(Node::Indexed(array, index, x))
 }
 
@@ -271,11 +272,15 @@ fn bits_by(
     if size.width == 1 && is_plain(axis, array.width) {
         return Ok(Node::Bit(counting(array, axis), x));
     }
-    let index = Index {
-        axis,
-        size: own.width,
+    let range = Range {
+        index: Index {
+            axis,
+            size: own.width,
+        },
+        width: size.width,
     };
-    Ok(Node::Ranged(array, index, size, x))
+    let range = Box::new(alloc, range)?;
+    Ok(Node::Ranged(array, range, x))
 }
 
 /// The bits that two indices choose: a word of an array or a bit of a word, else any bits.

@@ -2,7 +2,7 @@
 
 use std::alloc::{AllocError, Global};
 use vs_design::vs_logic4::Edge;
-use vs_explain_facts::{Facts, Term, TextKind, driven_by, set_mark};
+use vs_explain_facts::{Facts, Term, TextKind, driven_by, mark};
 use vs_explain_races::vs_explain_writers::Site;
 
 /// The first control of a process.
@@ -83,10 +83,10 @@ fn block_at(facts: &Facts, signal: usize) -> Option<usize> {
 /// Puts a signal at a list's end, where it wasn't passed.
 pub(crate) fn push_new(
     list: &mut Vec<usize>,
-    passed: &mut [bool],
+    passed: &mut Vec<bool>,
     signal: usize,
 ) -> Result<(), AllocError> {
-    if set_mark(passed, signal) {
+    if mark(passed, signal) {
         list.push(signal)?;
     }
     Ok(())
@@ -98,7 +98,7 @@ pub(crate) fn reached_block(
     alloc: Global,
     facts: &Facts,
     from: usize,
-    passed: &mut [bool],
+    passed: &mut Vec<bool>,
 ) -> Result<Option<Reached>, AllocError> {
     let mut todo = Vec::new(alloc);
     push_new(&mut todo, passed, from)?;

@@ -5,7 +5,7 @@ use crate::coverage::{Gap, GapAt, gap_of};
 use std::alloc::{AllocError, Global};
 use vs_design::{CallKind, Statement};
 use vs_explain_facts::vs_certificate::ClaimedGrain;
-use vs_explain_facts::{Question, TextFacts, TextKind, set_mark};
+use vs_explain_facts::{Question, TextFacts, TextKind, mark};
 use vs_explain_outline::{Page, put_marked};
 use vs_explain_races::vs_explain_writers::{
     Site, Story, mark_site, name_of, put_anew, put_story, put_subject,
@@ -58,11 +58,11 @@ fn unawaited_of(
 ) -> Result<Option<Fault>, AllocError> {
     let mut awaited = vec![in alloc; false; asked.design.signals().len()]?;
     for term in &text.terms {
-        set_mark(&mut awaited, term.term.range.signal);
+        mark(&mut awaited, term.term.range.signal);
     }
     for point in &text.points {
         for signal in &point.writes {
-            set_mark(&mut awaited, *signal);
+            mark(&mut awaited, *signal);
         }
     }
     for (number, point) in text.points.iter().enumerate() {

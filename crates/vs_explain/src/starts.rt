@@ -3,7 +3,7 @@
 use crate::awaiting::{control_in, push_new};
 use std::alloc::{AllocError, Global};
 use vs_design::{Statement, Typed};
-use vs_explain_facts::{Facts, Part, Question, TextFacts, TextKind, set_mark};
+use vs_explain_facts::{Facts, Part, Question, TextFacts, TextKind, mark};
 use vs_explain_outline::{Page, ordinal_of, put_marked};
 use vs_explain_races::vs_explain_writers::{
     Site, Story, mark_site, name_of, put_anew, put_maybe, put_story, put_subject, unsized_of,
@@ -32,7 +32,7 @@ fn inputs_of(alloc: Global, facts: &Facts, text: &TextFacts) -> Result<Vec<usize
     let mut inputs = Vec::new(alloc);
     for point in &text.points {
         for signal in &point.writes {
-            set_mark(&mut seen, *signal);
+            mark(&mut seen, *signal);
         }
     }
     for term in &text.terms {

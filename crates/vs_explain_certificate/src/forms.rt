@@ -178,7 +178,7 @@ impl Form {
 fn is_kind(rules: Rules, text: &str) -> bool {
     match text.as_bytes() {
         b"comb" | b"delay" | b"edge" => true,
-        b"mixed" => matches!(rules, Rules::Wide),
+        b"mixed" => rules.is_wide(),
         _ => false,
     }
 }
@@ -187,7 +187,7 @@ fn is_kind(rules: Rules, text: &str) -> bool {
 fn is_mode(rules: Rules, text: &str) -> bool {
     match text.as_bytes() {
         b"net" | b"unwritten" | b"comb" | b"nonblocking" | b"blocking" | b"private" => true,
-        b"both" => matches!(rules, Rules::Wide),
+        b"both" => rules.is_wide(),
         _ => false,
     }
 }
@@ -196,7 +196,7 @@ fn is_mode(rules: Rules, text: &str) -> bool {
 fn is_version(rules: Rules, number: &str) -> bool {
     match number.as_bytes() {
         b"1" | b"2" => true,
-        b"3" => matches!(rules, Rules::Wide),
+        b"3" => rules.is_wide(),
         _ => false,
     }
 }

@@ -93,12 +93,12 @@ fn put_at(page: &mut Page, place: usize) {
 }
 
 /// Puts why a certificate is no JSON text.
-fn put_reason(page: &mut Page, certificate: &[u8], stands: CertificatePlace, at: Break) {
+fn put_reason(page: &mut Page, certificate: &[u8], place: CertificatePlace, at: Break) {
     if certificate.is_empty() {
         return page.put("This line is empty, and a certificate is wanted.\n");
     }
     if looks_like_source(certificate) {
-        return page.put(stands.wanted());
+        return page.put(place.wanted());
     }
     let is_text = certificate.get(at.place) == Some(&b'"');
     page.put(match (at.reason, is_text) {
@@ -117,7 +117,7 @@ fn put_reason(page: &mut Page, certificate: &[u8], stands: CertificatePlace, at:
 }
 
 /// Puts where and why bytes are no JSON text.
-fn put_no_json(page: &mut Page, certificate: &[u8], stands: CertificatePlace) {
+fn put_no_json(page: &mut Page, certificate: &[u8], place: CertificatePlace) {
     if certificate.len() > LENGTH_LIMIT {
         put_at(page, LENGTH_LIMIT);
         return page.put("The certificate has more than 16777216 bytes, the most that are read.\n");
@@ -131,11 +131,11 @@ fn put_no_json(page: &mut Page, certificate: &[u8], stands: CertificatePlace) {
         Err(_) => return page.leave_out(),
     };
     put_at(page, at.place);
-    put_reason(page, certificate, stands, at);
+    put_reason(page, certificate, place, at);
     page.put(if looks_like_source(certificate) {
-        stands.instead()
+        place.instead()
     } else {
-        stands.form()
+        place.form()
     });
 }
 
@@ -248,11 +248,11 @@ pub fn explain_malformed(
     page: &mut Page,
     certificate: &[u8],
     rules: Rules,
-    stands: CertificatePlace,
+    place: CertificatePlace,
     fault: CertFault,
 ) {
     match fault {
-        CertFault::NotJson => put_no_json(page, certificate, stands),
+        CertFault::NotJson => put_no_json(page, certificate, place),
         CertFault::Memory => {}
         _ => put_refused(page, certificate, rules, fault),
     }

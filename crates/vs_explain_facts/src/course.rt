@@ -1,7 +1,8 @@
 //! Exact times: the processes with delays run alone, without nets, and without what waits for events.
 
 use crate::facts::Facts;
-use crate::lists::{empty_lists, note, set_mark};
+use crate::lists::{empty_lists, note};
+use crate::mark;
 use crate::points::Point;
 use crate::texts::{TextFacts, TextKind};
 use std::alloc::{AllocError, Global};
@@ -401,7 +402,7 @@ fn watched_of(alloc: Global, facts: &Facts) -> Result<Vec<bool>, AllocError> {
     let mut marks = vec![in alloc; false; facts.design.signals().len()]?;
     for text in &facts.texts {
         for term in &text.terms {
-            set_mark(&mut marks, facts.root(term.term.range.signal));
+            mark(&mut marks, facts.root(term.term.range.signal));
         }
     }
     Ok(marks)

@@ -1,6 +1,7 @@
 //! What the parts of a design do to its signals.
 
-use crate::lists::{empty_lists, note, set_mark};
+use crate::lists::{empty_lists, note};
+use crate::mark;
 use crate::points::{Point, signals_of};
 use crate::texts::{TextFacts, TextKind, text_of};
 use std::alloc::{AllocError, Global};
@@ -112,7 +113,7 @@ pub struct Cone {
 impl Cone {
     /// Comes to a signal.
     fn add_signal(&mut self, signal: usize, from: usize) -> Result<(), AllocError> {
-        if set_mark(&mut self.signals, signal) {
+        if mark(&mut self.signals, signal) {
             if let Some(entry) = self.from.get_mut(signal) {
                 *entry = from;
             }
@@ -137,7 +138,7 @@ impl Cone {
         signal: usize,
     ) -> Result<(), AllocError> {
         for number in facts.drivers_of(signal) {
-            if set_mark(&mut self.assigns, *number) {
+            if mark(&mut self.assigns, *number) {
                 if let Some(assign) = facts.design.assigns().get(*number) {
                     self.add_signals(&read_by(alloc, assign)?, signal)?;
                 }
@@ -151,7 +152,7 @@ impl Cone {
         let Some(number) = facts.block_of(signal) else {
             return Ok(());
         };
-        if !set_mark(&mut self.blocks, number) {
+        if !mark(&mut self.blocks, number) {
             return Ok(());
         }
         let Some(text) = facts.texts.get(number) else {

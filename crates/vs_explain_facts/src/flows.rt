@@ -1,6 +1,7 @@
 //! The ways through the text of a process.
 
-use crate::lists::{empty_lists, set_mark};
+use crate::lists::empty_lists;
+use crate::mark;
 use crate::points::{Moment, Point};
 use std::alloc::{AllocError, Global};
 use vs_design::{Statement, Typed, has_control};
@@ -239,11 +240,11 @@ impl Walk {
             Arrival::FirstSlot => {
                 moment.is_first = true;
                 moment.is_late = true;
-                set_mark(&mut self.after_zero, place)
+                mark(&mut self.after_zero, place)
             }
             Arrival::Late => {
                 moment.is_late = true;
-                set_mark(&mut self.after_time, place)
+                mark(&mut self.after_time, place)
             }
         };
         if is_new {

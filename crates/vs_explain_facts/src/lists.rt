@@ -1,4 +1,4 @@
-//! Lists by numbers, and marks.
+//! Lists by numbers.
 
 use std::alloc::{AllocError, Global};
 
@@ -23,16 +23,4 @@ pub(crate) fn note<T: Copy + PartialEq + Drop>(
         }
     }
     Ok(())
-}
-
-/// Sets a mark. Whether it was not set.
-pub fn set_mark(marks: &mut [bool], number: usize) -> bool {
-    match marks.get_mut(number) {
-        Some(mark) => {
-            let is_new = !*mark;
-            *mark = true;
-            is_new
-        }
-        None => false,
-    }
 }

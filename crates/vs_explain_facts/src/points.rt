@@ -1,8 +1,8 @@
 //! The statements of a process's text, by their numbers.
 
 use std::alloc::{AllocError, Global};
-use vs_design::{BitRange, Statement, Target, reads, statement_reads, writes};
-use vs_drivers::vs_maps::push_signals;
+use vs_design::{BitRange, Statement, statement_reads};
+use vs_drivers::vs_maps::{own_reads, push_signals, statement_later, statement_now};
 
 /// When a statement can run, over all ways through its text.
 #[derive(Clone, Copy, PartialEq, Eq)]
@@ -78,41 +78,19 @@ pub(crate) fn signals_of(alloc: Global, ranges: &[BitRange]) -> Result<Vec<usize
     Ok(signals)
 }
 
-/// The signals that a statement reads itself.
+/// The signals that a statement reads itself, arguments of any call among them.
 fn read_at(alloc: Global, statement: &Statement) -> Result<Vec<usize>, AllocError> {
     match statement {
-        Statement::Assign(_, _, _) | Statement::Later(_, _, _, _) | Statement::Call(_, _) => {
-            signals_of(alloc, &statement_reads(alloc, statement)?)
-        }
-        Statement::If(_, e, _, _) | Statement::While(_, e, _) | Statement::Repeat(_, _, e, _) => {
-            signals_of(alloc, &reads(alloc, e)?)
-        }
-        Statement::Case(_, _, e, items) => {
-            let mut signals = signals_of(alloc, &reads(alloc, e)?)?;
-            for (labels, _) in items {
-                for label in labels {
-                    push_signals(&mut signals, &reads(alloc, label)?)?;
-                }
-            }
-            Ok(signals)
-        }
-        _ => Ok(Vec::new(alloc)),
+        Statement::Call(_, _) => signals_of(alloc, &statement_reads(alloc, statement)?),
+        _ => signals_of(alloc, &own_reads(alloc, statement)?),
     }
-}
-
-/// The signals of a target.
-fn written_at(alloc: Global, target: &Target) -> Result<Vec<usize>, AllocError> {
-    signals_of(alloc, &writes(alloc, target)?)
 }
 
 /// The signals that a statement writes itself.
 fn write_at(alloc: Global, statement: &Statement) -> Result<Vec<usize>, AllocError> {
-    match statement {
-        Statement::Assign(_, target, _) | Statement::Later(_, _, target, _) => {
-            written_at(alloc, target)
-        }
-        _ => Ok(Vec::new(alloc)),
-    }
+    let mut signals = signals_of(alloc, &statement_now(alloc, statement)?)?;
+    push_signals(&mut signals, &statement_later(alloc, statement)?)?;
+    Ok(signals)
 }
 
 /// Puts a statement, without those in it.

@@ -47,13 +47,6 @@ fn roots_of(alloc: Global, facts: &Facts, text: &TextFacts) -> Result<Vec<usize>
     Ok(roots)
 }
 
-/// Whether a process waits for one of some roots.
-fn shares_root(facts: &Facts, text: &TextFacts, roots: &[usize]) -> bool {
-    text.terms
-        .iter()
-        .any(|t| roots.contains(&facts.root(t.term.range.signal)))
-}
-
 /// Whether a process writes one of some signals behind a control: what only starts a clock doesn't.
 fn writes_one(text: &TextFacts, signals: &[usize]) -> bool {
     signals.iter().any(|s| text.writes_late(*s))

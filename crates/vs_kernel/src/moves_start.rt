@@ -47,25 +47,18 @@ fn marks_for(alloc: Global, recorder: &Recorder, design: &Design) -> Result<Vec<
     Ok(Vec::new(alloc))
 }
 
-/// Of each continuous assignment whether it is silent: so where the first event is always chosen.
-fn silent_of(alloc: Global, forms: &Forms, chooses: bool) -> Result<Vec<bool>, AllocError> {
-    if chooses {
-        return Ok(Vec::new(alloc));
-    }
-    forms.silent(alloc)
-}
-
-/// Of each whether it is a copy that may be woken with others as one: so where the first event is always chosen.
-fn copies_of(
+/// Of each continuous assignment whether it is silent, and whether it is a copy that may be woken with others as one. Where a policy chooses, none is.
+fn silent_and_copies(
     alloc: Global,
     forms: &Forms,
-    silent: &[bool],
     chooses: bool,
-) -> Result<Vec<bool>, AllocError> {
+) -> Result<(Vec<bool>, Vec<bool>), AllocError> {
     if chooses {
-        return Ok(Vec::new(alloc));
+        return Ok((Vec::new(alloc), Vec::new(alloc)));
     }
-    forms.copies(alloc, silent)
+    let silent = forms.silent(alloc)?;
+    let copies = forms.copies(alloc, &silent)?;
+    Ok((silent, copies))
 }
 
 /// The list of a policy that chooses, at the start of a run.
@@ -115,8 +108,7 @@ impl<'a, Q: EventQueue<Due>> Run<'a, Q> {
     {
         let blocks = blocks_of(alloc, design.processes())?;
         let forms = Forms::of(alloc, design)?;
-        let silent = silent_of(alloc, &forms, chooses)?;
-        let copies = copies_of(alloc, &forms, &silent, chooses)?;
+        let (silent, copies) = silent_and_copies(alloc, &forms, chooses)?;
         let recorder = Recorder::start(alloc, vcd, design)?;
         let marks = marks_for(alloc, &recorder, design)?;
         let mut running = running_of(alloc, design, scripts, wheel, &copies, silent, marks)?;

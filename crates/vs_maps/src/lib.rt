@@ -21,6 +21,7 @@ pub use delays::controls;
 pub use laws::{maps_are_exact, texts_are_exact};
 pub use paths::tos_by_turn;
 pub use pauses::{Pause, takes_no_time};
+pub use ranges::{own_reads, statement_later, statement_now};
 pub use readings::text_reads;
 pub use signals::{has_signal, push_signals};
 pub use sites::{

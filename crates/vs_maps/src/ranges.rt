@@ -18,7 +18,8 @@ use vs_design::{
 
 // ---- of a statement
 
-fn statement_now(alloc: Global, s: &Statement) -> Result<Vec<BitRange>, AllocError>
+/// The ranges that a statement writes by `=`, without those in it.
+pub fn statement_now(alloc: Global, s: &Statement) -> Result<Vec<BitRange>, AllocError>
     ensures { IfOk result (λ rs. rs.items ≡ statement_now (out-Statement s.now)) }
 {
     match s {
@@ -27,7 +28,8 @@ fn statement_now(alloc: Global, s: &Statement) -> Result<Vec<BitRange>, AllocErr
     }
 }
 
-fn statement_later(alloc: Global, s: &Statement) -> Result<Vec<BitRange>, AllocError>
+/// The ranges that a statement writes by `<=`, without those in it.
+pub fn statement_later(alloc: Global, s: &Statement) -> Result<Vec<BitRange>, AllocError>
     ensures { IfOk result (λ rs. rs.items ≡ statement_later (out-Statement s.now)) }
 {
     match s {
@@ -64,7 +66,8 @@ pub(crate) fn case_reads(
     Ok(out)
 }
 
-fn own_reads(alloc: Global, s: &Statement) -> Result<Vec<BitRange>, AllocError>
+/// The ranges that a statement reads, without those in it: indices of targets and labels are read too. Arguments of calls and event terms are none.
+pub fn own_reads(alloc: Global, s: &Statement) -> Result<Vec<BitRange>, AllocError>
     ensures { IfOk result (λ rs. rs.items ≡ own_reads (out-Statement s.now)) }
 {
     match s {

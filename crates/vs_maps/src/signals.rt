@@ -3,11 +3,8 @@ ghost use Rattle.std.specs.Prelude.{ℕ, ◌↔◌, ◌⊎◌, OnOk, IsTrue};
 ghost use Rattle.std.specs.List.{Contains};
 ghost use Rattle.vs_maps.specs.Ranges.{HasSignal};
 
-use crate::text_reads;
-use crate::vs_graph::Family;
-use std::alloc::{AllocError, Global};
-use vs_design::{BitRange, Design};
-use vs_process::statement_writes;
+use std::alloc::AllocError;
+use vs_design::BitRange;
 
 /// Puts the signals of ranges at a list's end.
 pub fn push_signals(out: &mut Vec<usize>, ranges: &[BitRange]) -> Result<(), AllocError>

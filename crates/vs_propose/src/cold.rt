@@ -1,12 +1,9 @@
 //! Trial runs of combinational blocks on the store in which executions begin.
 
 use std::alloc::{AllocError, Global};
-use vs_cert_check::vs_rules_of_starts::{make_all, returns_to_control};
+use vs_cert_check::vs_rules_of_starts::{MAX_COLD_STEPS, make_all, returns_to_control};
 use vs_design::{BitRange, Design, Part, Store};
 use vs_process::compile;
-
-/// How many steps a run of a block may take.
-const MAX_STEPS: u64 = 10_000;
 
 /// The store in which executions of a design begin, and that store with the continuous assignments settled.
 #[derive(Drop)]
@@ -69,7 +66,7 @@ impl<'a> Trial<'a> {
             return Ok(false);
         };
         let code = compile(alloc, &process.body)?;
-        let mut stays = returns_to_control(alloc, &code, &mut self.settled, MAX_STEPS)?;
+        let mut stays = returns_to_control(alloc, &code, &mut self.settled, MAX_COLD_STEPS)?;
         for range in written {
             if !self.put_back(range.signal) {
                 stays = false;

@@ -78,7 +78,7 @@ fn writes_marked(text: &TextFacts, marks: &[bool]) -> bool {
 
 // Whether a text turns a signal over as a clock is: by wide rules `!` does it too.
 fn turns_clocks(timing: Timing, rules: Rules) -> bool {
-    timing.turns_over || (timing.negates && matches!(rules, Rules::Wide))
+    timing.turns_over || (timing.negates && rules.is_wide())
 }
 
 // The time of a turn of a text; of two, where it turns a signal that is marked over: after one turn that has its other edge.

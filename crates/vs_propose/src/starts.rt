@@ -30,7 +30,7 @@ fn waits_for_sources(signals: &[SignalPlan], written: &[BitRange], terms: &[Even
 fn is_of_starters(kind: TextKind, rules: Rules) -> bool {
     match kind {
         TextKind::Block => false,
-        TextKind::Edge => matches!(rules, Rules::Wide),
+        TextKind::Edge => rules.is_wide(),
         TextKind::Mixed | TextKind::Delay => true,
     }
 }

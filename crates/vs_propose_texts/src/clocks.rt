@@ -26,11 +26,6 @@ pub(crate) fn is_in_phase(clock: Clock, edge: Edge, modulus: u64, residue: u64) 
     residue as u128 % period == first_edge(clock, edge) % period
 }
 
-// Whether clocks are wide.
-fn is_wide(rules: Rules) -> bool {
-    matches!(rules, Rules::Wide)
-}
-
 /// The second of a signal.
 #[derive(Clone, Copy)]
 pub struct Second {
@@ -63,7 +58,7 @@ fn of_turned(
     body: &Statement,
     second: Option<Second>,
 ) -> Result<Option<Clock>, AllocError> {
-    let Some(half) = turns_forever(design, is_wide(rules), v, body) else {
+    let Some(half) = turns_forever(design, rules.is_wide(), v, body) else {
         return Ok(None);
     };
     let Some(second) = second else {
@@ -88,7 +83,7 @@ fn of_initial(
     body: &Statement,
     second: Option<Second>,
 ) -> Result<Option<Clock>, AllocError> {
-    match sets_and_turns(alloc, design, is_wide(rules), v, body)? {
+    match sets_and_turns(alloc, design, rules.is_wide(), v, body)? {
         Some(clock) => Ok(Some(clock)),
         None => match rules {
             Rules::Narrow => Ok(None),

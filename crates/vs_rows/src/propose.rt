@@ -63,7 +63,7 @@ fn put_proposal(
             } else {
                 b"lost"
             });
-            if matches!(rules, Rules::Wide) {
+            if rules.is_wide() {
                 text.put(b" of version ");
                 text.put_shown(certificate.version.number());
             }

@@ -19,6 +19,9 @@ use std::marker::Model;
 use vs_design::{Design, Store};
 use vs_rules::vs_process::{Code, Cursor, compile};
 
+/// How many steps a block that starts cold may take to arrive at its control again.
+pub const MAX_COLD_STEPS: u64 = 10_000;
+
 /// A design, the store in which its executions begin, and that store with the continuous assignments settled, where it can be settled. A contract
 /// sees the design.
 #[derive(Drop)]
@@ -118,7 +121,14 @@ impl<'a> Beginning<'a> {
     {
         match &self.settled {
             None => Ok(false),
-            Some(settled) => stays_within(alloc, self.design, i, settled, &self.start, 10_000),
+            Some(settled) => stays_within(
+                alloc,
+                self.design,
+                i,
+                settled,
+                &self.start,
+                MAX_COLD_STEPS,
+            ),
         }
     }
 }

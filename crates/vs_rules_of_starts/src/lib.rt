@@ -15,7 +15,7 @@ mod starter;
 mod starts;
 
 pub use apart::Starts;
-pub use cold::{Beginning, returns_to_control};
+pub use cold::{Beginning, MAX_COLD_STEPS, returns_to_control};
 pub use order::in_order;
 pub use settled::{make_all, settled_start};
 pub use starts::keeps_start_by;

@@ -51,14 +51,14 @@ planes_at-returns-in-Bit t c =
 pub planes_at-returns-in-Indexed : goal.planes_at-returns-in-Indexed
 planes_at-returns-in-Indexed t c =
     c.indexed.ensures
-    ∙ ap (λ p. indexed_planes c.in-Indexed.array c.in-Indexed.index p c.args.store.now) (c.quick_planes-in-Indexed.ensures ∙ ap (λ x. planes_in x c.args.store.now c.args.time) c.deref-in-Indexed.ensures)
+    ∙ ap₂ (λ i p. indexed_planes c.in-Indexed.array i p c.args.store.now) c.deref-in-Indexed.ensures (c.quick_planes-in-Indexed.ensures ∙ ap (λ x. planes_in x c.args.store.now c.args.time) c.deref-in-Indexed-2.ensures)
     ∙ sym (node_layer c.args.node.now c.args.store.now c.args.time (layer.Indexed c.in-Indexed.array c.in-Indexed.index c.in-Indexed.x) (rolls-Indexed c.in-Indexed.array c.in-Indexed.index c.in-Indexed.x ∙ sym c.in-Indexed.is))
 
 pub planes_at-returns-in-Ranged : goal.planes_at-returns-in-Ranged
 planes_at-returns-in-Ranged t c =
     c.ranged.ensures
-    ∙ ap (λ p. ranged_planes c.in-Ranged.array c.in-Ranged.index c.in-Ranged.size p c.args.store.now) (c.quick_planes-in-Ranged.ensures ∙ ap (λ x. planes_in x c.args.store.now c.args.time) c.deref-in-Ranged.ensures)
-    ∙ sym (node_layer c.args.node.now c.args.store.now c.args.time (layer.Ranged c.in-Ranged.array c.in-Ranged.index c.in-Ranged.size c.in-Ranged.x) (rolls-Ranged c.in-Ranged.array c.in-Ranged.index c.in-Ranged.size c.in-Ranged.x ∙ sym c.in-Ranged.is))
+    ∙ ap₂ (λ r p. ranged_planes c.in-Ranged.array r p c.args.store.now) c.deref-in-Ranged.ensures (c.quick_planes-in-Ranged.ensures ∙ ap (λ x. planes_in x c.args.store.now c.args.time) c.deref-in-Ranged-2.ensures)
+    ∙ sym (node_layer c.args.node.now c.args.store.now c.args.time (layer.Ranged c.in-Ranged.array c.in-Ranged.range c.in-Ranged.x) (rolls-Ranged c.in-Ranged.array c.in-Ranged.range c.in-Ranged.x ∙ sym c.in-Ranged.is))
 
 pub planes_at-returns-in-Unary : goal.planes_at-returns-in-Unary
 planes_at-returns-in-Unary t c =

@@ -1,4 +1,4 @@
-use Rattle.std.proofs.Common.{refl}
+use Rattle.std.proofs.Common.{ap}
 use Rattle.vs_eval.proofs.WordLemmas.{bit_means, ranged_means}
 use Rattle.vs_eval.proofs.resolve.bits_by.Goals as goal
 
@@ -9,4 +9,5 @@ returns-then-is_plain c = λ signals signal values r m.
 
 pub returns : goal.returns
 returns c = λ signals signal values r m.
-    ranged_means signals signal values c.args.array c.args.axis c.in_ok-x.x c.args.x.0 c.args.x.1.width c.in_ok-x.ensures.ok m r _ c.args.size refl refl
+    ranged_means signals signal values c.args.array c.args.axis c.in_ok-x.x c.args.x.0 c.args.x.1.width c.in_ok-x.ensures.ok m r c.in_ok-range.range c.args.size.width
+    (ap (λ t. t.index.axis) c.in_ok-range.ensures.ok) (ap (λ t. t.index.size) c.in_ok-range.ensures.ok) (ap (λ t. t.width) c.in_ok-range.ensures.ok)

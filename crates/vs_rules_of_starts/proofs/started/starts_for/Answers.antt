@@ -17,9 +17,9 @@ returns-in-Some c =
     let f = c.args.facts.now in
     let named = c.args.named.now in
     let t = c.in-Some.tables.now in
-    IfOk-weaker c.on_tables.result
+    IfOk-weaker c.starts_surely.result
     (λ b. (IsTrue b ↔ StartsSurely c.design.result.now named c.args.g t))
     (λ b. (i : ℕ) → AreNamed f.design i c.args.g named → (IsTrue b ↔ StartsFor f.design i c.args.g c.args.w))
     (λ b h. starts_by_map f.design f.charts c.maps.ensures c.args.w c.requires t (sym c.tables.ensures ∙ ap seen c.in-Some.is) c.args.g named b
     (subst (λ (p : Parts). (IsTrue b ↔ StartsSurely p named c.args.g t)) c.design.ensures h))
-    c.on_tables.ensures
+    c.starts_surely.ensures
